@@ -198,47 +198,47 @@ run_lacks form remaining left old new ran =
 -- ---- a log that is shown
 
 -- a status for a refusal says which one it is, and that its line was written after those of the events before, and nothing else
-pub shown_refusal_is_printed : {E : Type 0} (text_of : List Placed → List ℕ) (remaining left old middle new : Option (List ℕ)) (refusal : Refusal) (status : Result ℕ E)
-    → IfSome remaining (λ log. Shows text_of log left (Err (run_faults.Refused refusal)) old middle)
+pub shown_refusal_is_printed : {E : Type 0} (text_of : List ℕ → List Placed → List ℕ) (remaining left old middle new : Option (List ℕ)) (refusal : Refusal) (status : Result ℕ E)
+    → IfSome remaining (λ log. Shows (text_of log) log left (Err (run_faults.Refused refusal)) old middle)
     → OnOk status (IsOfLog refusal) → OnOk status (Appends middle new (refused_line refusal))
-    → IfOk status (λ s. s ≡ 2 → IfSome remaining (λ log. RefusesShow text_of log old new))
+    → IfOk status (λ s. s ≡ 2 → IfSome remaining (λ log. RefusesShow (text_of log) log old new))
 shown_refusal_is_printed text_of remaining left old middle new refusal (Ok s) shown own written = λ is.
-    for_log remaining (λ log. Shows text_of log left (Err (run_faults.Refused refusal)) old middle) (λ log. RefusesShow text_of log old new)
-    (λ log h. (refusal, own_refusal log left refusal own h.0, appends-then old middle new (text_of (events h.0.taken)) (refused_line refusal) h.1 written)) shown
+    for_log remaining (λ log. Shows (text_of log) log left (Err (run_faults.Refused refusal)) old middle) (λ log. RefusesShow (text_of log) log old new)
+    (λ log h. (refusal, own_refusal log left refusal own h.0, appends-then old middle new (text_of log (events h.0.taken)) (refused_line refusal) h.1 written)) shown
 shown_refusal_is_printed text_of remaining left old middle new refusal (Err e) shown own written = tt
 
 -- where it can't be told, that is why
-pub shown_refusal_stops : (text_of : List Placed → List ℕ) (remaining left old middle new : Option (List ℕ)) (refusal : Refusal) (status : Result ℕ Failure)
-    → IfSome remaining (λ log. Shows text_of log left (Err (run_faults.Refused refusal)) old middle)
+pub shown_refusal_stops : (text_of : List ℕ → List Placed → List ℕ) (remaining left old middle new : Option (List ℕ)) (refusal : Refusal) (status : Result ℕ Failure)
+    → IfSome remaining (λ log. Shows (text_of log) log left (Err (run_faults.Refused refusal)) old middle)
     → IfErr status (λ failure. (failure ≡ failure_of refusal) ⊎ ((failure ≡ failures.Memory) × LacksJsonMemory Text refusal middle new))
     → IfErr status (λ _. BeginsRefusal Text refusal middle new)
-    → IfErr status (λ failure. IfSome remaining (λ log. StopsShow text_of failure log left old new))
+    → IfErr status (λ failure. IfSome remaining (λ log. StopsShow (text_of log) failure log left old new))
 shown_refusal_stops text_of remaining left old middle new refusal (Ok s) shown failed begun = tt
 shown_refusal_stops text_of remaining left old middle new refusal (Err failure) shown (inr (is, lacks)) begun = absurd (text_is_text lacks.0)
   where
     text_is_text : Text ≡ Json → ⊥
     text_is_text e = cc
 shown_refusal_stops text_of remaining left old middle new refusal (Err failure) shown (inl failed) begun =
-    for_log remaining (λ log. Shows text_of log left (Err (run_faults.Refused refusal)) old middle) (λ log. StopsShow text_of failure log left old new)
-    (λ log h. subst (λ f. StopsShow text_of f log left old new) (sym failed) (on_log refusal log h.0 h.1 begun)) shown
+    for_log remaining (λ log. Shows (text_of log) log left (Err (run_faults.Refused refusal)) old middle) (λ log. StopsShow (text_of log) failure log left old new)
+    (λ log h. subst (λ f. StopsShow (text_of log) f log left old new) (sym failed) (on_log refusal log h.0 h.1 begun)) shown
   where
-    on_log : (r : Refusal) (log : List ℕ) (stops : IsRefusedAt default_limit log left r) → Appends old middle (text_of (events stops.taken))
-        → BeginsRefusal Text r middle new → StopsShow text_of (failure_of r) log left old new
-    on_log (refusals.Read at) log stops lines (inl kept) = (at, stops, Appends-kept old middle new (text_of (events stops.taken)) lines kept)
+    on_log : (r : Refusal) (log : List ℕ) (stops : IsRefusedAt default_limit log left r) → Appends old middle (text_of log (events stops.taken))
+        → BeginsRefusal Text r middle new → StopsShow (text_of log) (failure_of r) log left old new
+    on_log (refusals.Read at) log stops lines (inl kept) = (at, stops, Appends-kept old middle new (text_of log (events stops.taken)) lines kept)
     on_log (refusals.Read at) log stops lines (inr (own, part)) = absurd own
-    on_log (refusals.Memory at) log stops lines (inl kept) = (at, stops, Appends-kept old middle new (text_of (events stops.taken)) lines kept)
+    on_log (refusals.Memory at) log stops lines (inl kept) = (at, stops, Appends-kept old middle new (text_of log (events stops.taken)) lines kept)
     on_log (refusals.Memory at) log stops lines (inr (own, part)) = absurd own
     on_log r log stops lines (inl kept) =
-        inr (inr (r, own_refusal log left r tt stops, part-after old middle new (text_of (events stops.taken)) (refused_line r) lines (part-kept middle new (refused_line r) kept)))
+        inr (inr (r, own_refusal log left r tt stops, part-after old middle new (text_of log (events stops.taken)) (refused_line r) lines (part-kept middle new (refused_line r) kept)))
     on_log r log stops lines (inr (own, part)) =
-        inr (inr (r, own_refusal log left r own stops, part-after old middle new (text_of (events stops.taken)) (refused_line r) lines part))
+        inr (inr (r, own_refusal log left r own stops, part-after old middle new (text_of log (events stops.taken)) (refused_line r) lines part))
 
 -- all lines were written, and then not flushed
-pub lines_stop : (text_of : List Placed → List ℕ) (remaining left old middle new : Option (List ℕ)) (status : Result ℕ Failure)
-    → IfSome remaining (λ log. Shows text_of log left (Ok tt) old middle) → Keeps middle new → IfErr status (λ failure. failure ≡ failures.Write)
-    → IfErr status (λ failure. IfSome remaining (λ log. StopsShow text_of failure log left old new))
+pub lines_stop : (text_of : List ℕ → List Placed → List ℕ) (remaining left old middle new : Option (List ℕ)) (status : Result ℕ Failure)
+    → IfSome remaining (λ log. Shows (text_of log) log left (Ok tt) old middle) → Keeps middle new → IfErr status (λ failure. failure ≡ failures.Write)
+    → IfErr status (λ failure. IfSome remaining (λ log. StopsShow (text_of log) failure log left old new))
 lines_stop text_of remaining left old middle new (Ok s) shown kept failed = tt
 lines_stop text_of remaining left old middle new (Err failure) shown kept failed =
-    for_log remaining (λ log. Shows text_of log left (Ok tt) old middle) (λ log. StopsShow text_of failure log left old new)
-    (λ log h. subst (λ f. StopsShow text_of f log left old new) (sym failed)
-    (inr (inl (h.0, Appends-kept old middle new (text_of (events log)) h.1 kept)))) shown
+    for_log remaining (λ log. Shows (text_of log) log left (Ok tt) old middle) (λ log. StopsShow (text_of log) failure log left old new)
+    (λ log h. subst (λ f. StopsShow (text_of log) f log left old new) (sym failed)
+    (inr (inl (h.0, Appends-kept old middle new (text_of log (events log)) h.1 kept)))) shown

@@ -9,6 +9,7 @@ use Rattle.mq_cli.specs.declared.command_line.Work.TheVariants.{Once, Twice}
 use Rattle.mq_cli.specs.declared.failure.Failure.{Failure}
 use Rattle.mq_cli.specs.declared.failure.Failure.TheVariants as failures
 use Rattle.mq_cli.specs.declared.trouble.Trouble.TheVariants as troubles
+use Rattle.mq_judge.specs.Display.{is_timed}
 use Rattle.mq_cli.specs.CommandLine.{path_of, reads_log}
 use Rattle.mq_cli.specs.Given.{Given, bytes_at}
 use Rattle.mq_cli.specs.Messages.{FailsMisnamed, StopsCheck, StopsShow, StopsTask, form_of, text_for}
@@ -45,7 +46,7 @@ stops_kept : (failure : Failure) (task : Task) (log read left old new : Option (
     → StopsTask failure task log left old new
 stops_kept failure (Check file json summary) log read left old new k h =
     known_kept log read (λ bytes. StopsCheck (form_of json summary) failure bytes left old new) k h
-stops_kept failure (Show file long) log read left old new k h = known_kept log read (λ bytes. StopsShow (text_for long) failure bytes left old new) k h
+stops_kept failure (Show file long) log read left old new k h = known_kept log read (λ bytes. StopsShow (text_for (is_timed bytes) long) failure bytes left old new) k h
 stops_kept failure (Packet hex) log read left old new k h = h
 stops_kept failure (Rules role) log read left old new k h = h
 stops_kept failure (Explain code) log read left old new k h = h

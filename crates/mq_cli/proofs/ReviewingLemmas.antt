@@ -15,7 +15,7 @@ use Rattle.mq_judge.specs.declared.Refusal.{Refusal}
 use Rattle.mq_judge.specs.declared.Refusal.TheVariants as refusals
 use Rattle.mq_judge.specs.Report.{refused_line, refused_report}
 use Rattle.mq_judge.specs.Runner.{IsJudged, IsVerdictOn, default_limit}
-use Rattle.mq_judge.specs.Display.{annotated}
+use Rattle.mq_judge.specs.Display.{annotated, is_timed}
 use Rattle.mq_judge.specs.Stopping.{IsRefusedAt}
 use Rattle.mq_cli.specs.declared.failure.Failure.{Failure}
 use Rattle.mq_cli.specs.declared.failure.Failure.TheVariants as failures
@@ -80,13 +80,14 @@ for_file (Some log) (Some first) (Some second) R k l h = subst (λ x. R log x) l
 -- ---- a log that was judged, and is shown
 
 -- the text of events with these faults
-abbrev text_with : Plan → Role → FaultMap → List Placed → List ℕ
-text_with plan role faults = annotated (record { role = role; faults = map.entries faults; around = plan.around; long = plan.long })
+abbrev text_with : Plan → Role → FaultMap → (shown : List ℕ) → List Placed → List ℕ
+text_with plan role faults shown = annotated (is_timed shown) (record { role = role; faults = map.entries faults; around = plan.around; long = plan.long })
 
 -- it is the text with the faults of the log that they were found in
-text_is : (plan : Plan) (role : Role) (count : ℕ) (faults : FaultMap) (log : List ℕ) → IsVerdictOn log role count faults → text_with plan role faults ≡ reviewed plan log
-text_is plan role count faults log v =
-    ap₂ (λ r f. annotated (record { role = r; faults = f; around = plan.around; long = plan.long })) v.role_is v.faults_are
+text_is : (plan : Plan) (role : Role) (count : ℕ) (faults : FaultMap) (log shown : List ℕ) → IsVerdictOn log role count faults
+    → text_with plan role faults shown ≡ reviewed plan log shown
+text_is plan role count faults log shown v =
+    ap₂ (λ r f. annotated (is_timed shown) (record { role = r; faults = f; around = plan.around; long = plan.long })) v.role_is v.faults_are
 
 -- both of these hold of what is known
 both_known : (o : Option (List ℕ)) (P Q : List ℕ → Type 0) → IfSome o P → IfSome o Q → IfSome o (λ log. P log × Q log)
@@ -95,33 +96,33 @@ both_known (Some log) P Q p q = (p, q)
 
 pub review_passes : {E : Type 0} (plan : Plan) (role : Role) (count : ℕ) (faults : FaultMap) (judged shown old new : Option (List ℕ)) (status : Result ℕ E)
     → IfSome judged (λ log. IsVerdictOn log role count faults) → IfOk status (λ s. s ≡ 0 → IfSome shown IsJudged)
-    → IfOk status (λ s. s ≡ 0 → IfSome shown (λ log. Appends old new (text_with plan role faults (events log))))
+    → IfOk status (λ s. s ≡ 0 → IfSome shown (λ log. Appends old new (text_with plan role faults log (events log))))
     → IfOk status (λ s. s ≡ 0 → IfBoth judged shown (λ first second. IsReviewed plan first second old new))
 review_passes plan role count faults judged shown old new (Err e) v passed written = tt
 review_passes plan role count faults judged shown old new (Ok s) v passed written = λ is.
-    for_both judged shown (λ log. IsVerdictOn log role count faults) (λ log. IsJudged log × Appends old new (text_with plan role faults (events log)))
+    for_both judged shown (λ log. IsVerdictOn log role count faults) (λ log. IsJudged log × Appends old new (text_with plan role faults log (events log)))
     (λ first second. IsReviewed plan first second old new)
-    (λ first second w h. (w.judged, h.0, subst (λ text. Appends old new (text (events second))) (text_is plan role count faults first w) h.1))
-    v (both_known shown IsJudged (λ log. Appends old new (text_with plan role faults (events log))) (passed is) (written is))
+    (λ first second w h. (w.judged, h.0, subst (λ text. Appends old new (text (events second))) (text_is plan role count faults first second w) h.1))
+    v (both_known shown IsJudged (λ log. Appends old new (text_with plan role faults log (events log))) (passed is) (written is))
 
 pub review_is_refused : {E : Type 0} (plan : Plan) (role : Role) (count : ℕ) (faults : FaultMap) (judged shown old new : Option (List ℕ)) (status : Result ℕ E)
-    → IfSome judged (λ log. IsVerdictOn log role count faults) → IfOk status (λ s. s ≡ 2 → IfSome shown (λ log. RefusesShow (text_with plan role faults) log old new))
+    → IfSome judged (λ log. IsVerdictOn log role count faults) → IfOk status (λ s. s ≡ 2 → IfSome shown (λ log. RefusesShow (text_with plan role faults log) log old new))
     → IfOk status (λ s. s ≡ 2 → IfBoth judged shown (λ first second. RefusesPlan plan first second old new))
 review_is_refused plan role count faults judged shown old new (Err e) v refused = tt
 review_is_refused plan role count faults judged shown old new (Ok s) v refused = λ is.
-    for_both judged shown (λ log. IsVerdictOn log role count faults) (λ log. RefusesShow (text_with plan role faults) log old new)
+    for_both judged shown (λ log. IsVerdictOn log role count faults) (λ log. RefusesShow (text_with plan role faults log) log old new)
     (λ first second. RefusesPlan plan first second old new)
-    (λ first second w h. inr (w.judged, subst (λ text. RefusesShow text second old new) (text_is plan role count faults first w) h)) v (refused is)
+    (λ first second w h. inr (w.judged, subst (λ text. RefusesShow text second old new) (text_is plan role count faults first second w) h)) v (refused is)
 
 pub review_stops : (plan : Plan) (role : Role) (count : ℕ) (faults : FaultMap) (judged shown judged_left shown_left old new : Option (List ℕ)) (status : Result ℕ Failure)
     → IfSome judged (λ log. IsVerdictOn log role count faults)
-    → IfErr status (λ failure. IfSome shown (λ log. StopsShow (text_with plan role faults) failure log shown_left old new))
+    → IfErr status (λ failure. IfSome shown (λ log. StopsShow (text_with plan role faults log) failure log shown_left old new))
     → IfErr status (λ failure. IfBoth judged shown (λ first second. StopsPlan plan failure first second judged_left shown_left old new))
 review_stops plan role count faults judged shown judged_left shown_left old new (Ok s) v stops = tt
 review_stops plan role count faults judged shown judged_left shown_left old new (Err failure) v stops =
-    for_both judged shown (λ log. IsVerdictOn log role count faults) (λ log. StopsShow (text_with plan role faults) failure log shown_left old new)
+    for_both judged shown (λ log. IsVerdictOn log role count faults) (λ log. StopsShow (text_with plan role faults log) failure log shown_left old new)
     (λ first second. StopsPlan plan failure first second judged_left shown_left old new)
-    (λ first second w h. inr (w.judged, subst (λ text. StopsShow text failure second shown_left old new) (text_is plan role count faults first w) h)) v stops
+    (λ first second w h. inr (w.judged, subst (λ text. StopsShow text failure second shown_left old new) (text_is plan role count faults first second w) h)) v stops
 
 -- ---- a log that is refused while it is judged
 

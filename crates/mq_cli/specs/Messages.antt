@@ -9,7 +9,7 @@ use Rattle.mq_judge.specs.declared.Refusal.TheVariants as refusals
 use Rattle.mq_judge.specs.OnePacket.{IsOnePacket, packet_report}
 use Rattle.mq_judge.specs.Report.{refused_line, refused_report, report}
 use Rattle.mq_judge.specs.Runner.{IsFaultless, IsJudged, default_limit}
-use Rattle.mq_judge.specs.Display.{WritesBeginning, annotated, short_lines_of, long_lines_of}
+use Rattle.mq_judge.specs.Display.{WritesBeginning, annotated, is_timed, short_lines_of, long_lines_of}
 use Rattle.mq_judge.specs.Stopping.{IsRefusedAt, IsRefusedNext}
 use Rattle.mq_trace.specs.Events.{Placed, events}
 use Rattle.mq_trace.specs.Refusals.{refused}
@@ -89,15 +89,15 @@ form_of false false = Text
 abbrev pub RefusesCheck : Form → List ℕ → (old new : Option (List ℕ)) → Type 0
 RefusesCheck form log old new = (refusal : Refusal) × IsRefusedBy log refusal × Appends old new (refused_report form refusal)
 
--- the lines of events, long or short
-abbrev pub text_for : (long : Bool) → List Placed → List ℕ
-text_for false = short_lines_of
-text_for true = long_lines_of
+-- the lines of events, long or short, with moments if the records of the log have them
+abbrev pub text_for : (timed long : Bool) → List Placed → List ℕ
+text_for timed false = short_lines_of timed
+text_for timed true = long_lines_of timed
 
 -- the text of events by a view of them
-abbrev pub text_in_view : View → List Placed → List ℕ
-text_in_view (Lines long) = text_for long
-text_in_view (Faults faults role around long) = annotated (record { role = role; faults = map.entries faults.now; around = around; long = long })
+abbrev pub text_in_view : (timed : Bool) → View → List Placed → List ℕ
+text_in_view timed (Lines long) = text_for timed long
+text_in_view timed (Faults faults role around long) = annotated timed (record { role = role; faults = map.entries faults.now; around = around; long = long })
 
 -- Showing the log by this text of events was refused: the text of the events that are complete before the refused byte was written, then the line on
 -- the refusal, and nothing else.
@@ -177,7 +177,7 @@ HasFailed (Explain code) input = ⊥
 -- 0 and 1: the report was written, or the lines of the log's events, the line on the packet, the lines of the statements, or the explanation of one, and nothing else
 abbrev pub IsReportedOn : Task → Option (List ℕ) → Option (List ℕ) → Option (List ℕ) → Type 0
 IsReportedOn (Check file json summary) input old new = IfSome input (λ log. Appends old new (report (form_of json summary) log))
-IsReportedOn (Show file long) input old new = IfSome input (λ log. Appends old new (text_for long (events log)))
+IsReportedOn (Show file long) input old new = IfSome input (λ log. Appends old new (text_for (is_timed log) long (events log)))
 IsReportedOn (Packet hex) input old new = AppendsLineOf (string_bytes hex) old new
 IsReportedOn (Rules role) input old new = Prints (listed_for (option_map string_bytes role)) old new
 IsReportedOn (Explain code) input old new = Prints (explained_for (string_bytes code)) old new
@@ -185,7 +185,7 @@ IsReportedOn (Explain code) input old new = Prints (explained_for (string_bytes 
 -- 2: the log is refused, and the line that says so was written: alone by a check, after the lines of the preceding events if the log is shown
 abbrev pub IsRefusedOn : Task → (input old new : Option (List ℕ)) → Type 0
 IsRefusedOn (Check file json summary) input old new = IfSome input (λ log. RefusesCheck (form_of json summary) log old new)
-IsRefusedOn (Show file long) input old new = IfSome input (λ log. RefusesShow (text_for long) log old new)
+IsRefusedOn (Show file long) input old new = IfSome input (λ log. RefusesShow (text_for (is_timed log) long) log old new)
 IsRefusedOn (Packet hex) input old new = ⊥
 IsRefusedOn (Rules role) input old new = ⊥
 IsRefusedOn (Explain code) input old new = ⊥
@@ -231,7 +231,7 @@ StopsText text line old new (obstacles.Misused misuse) = (text ≡ None) × (mis
 -- 4: what failed, and what had been written
 abbrev pub StopsTask : Failure → Task → (input left old new : Option (List ℕ)) → Type 0
 StopsTask failure (Check file json summary) input left old new = IfSome input (λ log. StopsCheck (form_of json summary) failure log left old new)
-StopsTask failure (Show file long) input left old new = IfSome input (λ log. StopsShow (text_for long) failure log left old new)
+StopsTask failure (Show file long) input left old new = IfSome input (λ log. StopsShow (text_for (is_timed log) long) failure log left old new)
 StopsTask failure (Packet hex) input left old new = StopsPacket failure (string_bytes hex) old new
 StopsTask failure (Rules role) input left old new = StopsPrinting failure (listed_for (option_map string_bytes role)) old new
 StopsTask failure (Explain code) input left old new = StopsPrinting failure (explained_for (string_bytes code)) old new

@@ -10,7 +10,7 @@ use Rattle.mq_judge.specs.declared.Refusal.{Refusal}
 use Rattle.mq_judge.specs.declared.Refusal.TheVariants as refusals
 use Rattle.mq_judge.specs.Report.{refused_line}
 use Rattle.mq_judge.specs.Runner.{IsJudged, default_limit, found_in}
-use Rattle.mq_judge.specs.Display.{annotated}
+use Rattle.mq_judge.specs.Display.{annotated, is_timed}
 use Rattle.mq_judge.specs.Stopping.{IsRefusedAt}
 use Rattle.mq_rules.specs.Notes.{tested_by}
 use Rattle.mq_trace.specs.Events.{Placed, events}
@@ -64,18 +64,18 @@ plan_of review = if review.faults then plan_around (path_named (option_map strin
 
 -- ---- what each status means for the log that was judged and the one that was shown: one log, unless its file changed between the two readings
 
--- the text of events with the faults of the log that was judged
-abbrev pub reviewed : Plan → (judged : List ℕ) → List Placed → List ℕ
-reviewed plan judged = annotated (record { role = (tested_by judged).role; faults = found_in judged; around = plan.around; long = plan.long })
+-- the text of events with the faults of the log that was judged, with moments if the records of the log that is shown have them
+abbrev pub reviewed : Plan → (judged shown : List ℕ) → List Placed → List ℕ
+reviewed plan judged shown = annotated (is_timed shown) (record { role = (tested_by judged).role; faults = found_in judged; around = plan.around; long = plan.long })
 
 -- 0: both can be judged, and the text of the events was written and nothing else
 abbrev pub IsReviewed : Plan → (judged shown : List ℕ) → (old new : Option (List ℕ)) → Type 0
-IsReviewed plan judged shown old new = IsJudged judged × IsJudged shown × Appends old new (reviewed plan judged (events shown))
+IsReviewed plan judged shown old new = IsJudged judged × IsJudged shown × Appends old new (reviewed plan judged shown (events shown))
 
 -- 2: the log is refused while it is judged, and the line that says so was written and nothing else; or it is refused only while it is shown, and that line was
 -- written after the text of the preceding events
 abbrev pub RefusesPlan : Plan → (judged shown : List ℕ) → (old new : Option (List ℕ)) → Type 0
-RefusesPlan plan judged shown old new = RefusesCheck forms.Text judged old new ⊎ (IsJudged judged × RefusesShow (reviewed plan judged) shown old new)
+RefusesPlan plan judged shown old new = RefusesCheck forms.Text judged old new ⊎ (IsJudged judged × RefusesShow (reviewed plan judged shown) shown old new)
 
 -- 4, while the log was judged: reading it failed, or memory ran out, and nothing was written; or part of the line on its refusal was
 abbrev pub StopsJudging : Failure → List ℕ → (left old new : Option (List ℕ)) → Type 0
@@ -86,7 +86,7 @@ StopsJudging failures.Write log left old new = (refusal : Refusal) × IsRefusedB
 -- 4: what failed, while the log was judged or while it was shown, and what had been written; the two readers have these bytes left
 abbrev pub StopsPlan : Plan → Failure → (judged shown : List ℕ) → (judged_left shown_left old new : Option (List ℕ)) → Type 0
 StopsPlan plan failure judged shown judged_left shown_left old new = StopsJudging failure judged judged_left old new
-    ⊎ (IsJudged judged × StopsShow (reviewed plan judged) failure shown shown_left old new)
+    ⊎ (IsJudged judged × StopsShow (reviewed plan judged shown) failure shown shown_left old new)
 
 -- this holds for the bytes of the log that was judged and of the one that was shown, if they are known
 abbrev pub IfBoth : (judged shown : Option (List ℕ)) → (List ℕ → List ℕ → Type 0) → Type 0

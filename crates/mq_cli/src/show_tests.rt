@@ -64,7 +64,7 @@ const LINES_OF_ALL: &str = "1 record 1 OPEN\n\
     22 record 18 RECV LOST\n";
 
 // A log, and what is shown of it.
-static ROWS: [(&[u8], &str, u8); 6] = [
+static ROWS: [(&[u8], &str, u8); 8] = [
     (WHOLE_LOG, WHOLE_LINES, PASSED),
     (LOG_OF_ALL, LINES_OF_ALL, PASSED),
     (b"MQTR\x01\x00\x01\x00", "", PASSED),
@@ -73,6 +73,17 @@ static ROWS: [(&[u8], &str, u8); 6] = [
     (
         b"MQTR\x01\x00\x01\x00\x01\x00\x00\x00\x00\x02\x00\x00\x00\x05\x30\xff\xff\xff\x7f",
         "1 record 1 OPEN\nrefused 11 TooLarge at 22\n",
+        REFUSED,
+    ),
+    // Version 2, whose records have moments.
+    (
+        b"MQTR\x02\x00\x01\x00\x01\x00\x00\x00\x00\x00\x00\x00\x00\x00\x00\x00\x00\x04\x00\x00\x00\x00\xff\xff\xff\xff\xff\xff\xff\xff",
+        "1 record 1 moment 0 OPEN\n2 record 2 moment 18446744073709551615 CLOSE\n",
+        PASSED,
+    ),
+    (
+        b"MQTR\x02\x00\x01\x00\x01\x00\x00\x00\x00\x00\x00\x00\x00\x00\x00\x00\x07\x01",
+        "1 record 1 moment 7 OPEN\nrefused 7 Nested at 21\n",
         REFUSED,
     ),
 ];

@@ -11,7 +11,7 @@ ghost use Rattle.mq_cli.specs.Streams.{AppendsPart, no_role_line, no_statement_l
 ghost use Rattle.mq_judge.specs.OnePacket.{IsOnePacket, packet_report};
 ghost use Rattle.mq_judge.specs.Report.{refused_report, report};
 ghost use Rattle.mq_judge.specs.Runner.{IsFaultless, IsJudged};
-ghost use Rattle.mq_judge.specs.Display.{Shows};
+ghost use Rattle.mq_judge.specs.Display.{Shows, is_timed};
 ghost use Rattle.mq_trace.specs.Events.{events};
 
 use crate::citations::explanations_cited;
@@ -162,11 +162,11 @@ pub fn show_log<R: Read, W: Write>(
 ) -> Result<u8, Failure>
     ensures passed { IfOk result (λ status. status ≡ PASSED → IfSome (R.remaining input.old) IsJudged) }
     ensures shown { IfOk result (λ status. status ≡ PASSED → IfSome (R.remaining input.old)
-        (λ log. Appends (W.contents output.old) (W.contents output.new) (text_in_view view.entry (events log)))) }
+        (λ log. Appends (W.contents output.old) (W.contents output.new) (text_in_view (is_timed log) view.entry (events log)))) }
     ensures refused { IfOk result (λ status. status ≡ REFUSED → IfSome (R.remaining input.old)
-        (λ log. RefusesShow (text_in_view view.entry) log (W.contents output.old) (W.contents output.new))) }
+        (λ log. RefusesShow (text_in_view (is_timed log) view.entry) log (W.contents output.old) (W.contents output.new))) }
     ensures stops { IfErr result (λ failure. IfSome (R.remaining input.old)
-        (λ log. StopsShow (text_in_view view.entry) failure log (R.remaining input.new) (W.contents output.old) (W.contents output.new))) }
+        (λ log. StopsShow (text_in_view (is_timed log) view.entry) failure log (R.remaining input.new) (W.contents output.old) (W.contents output.new))) }
     ensures statuses { IfOk result (λ status. (status ≡ PASSED) ⊎ (status ≡ REFUSED)) }
 {
     match show_lines(alloc, view, input, output) {
@@ -184,7 +184,7 @@ fn show_lines<R: Read, W: Write>(
     input: &mut R,
     output: &mut W,
 ) -> Result<(), RunFault>
-    ensures { IfSome (R.remaining input.old) (λ log. Shows (text_in_view view.entry) log (R.remaining input.new) result
+    ensures { IfSome (R.remaining input.old) (λ log. Shows (text_in_view (is_timed log) view.entry) log (R.remaining input.new) result
         (W.contents output.old) (W.contents output.new)) }
 {
     match view {
