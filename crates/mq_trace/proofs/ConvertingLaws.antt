@@ -806,12 +806,16 @@ still_whole limit log is e =
     let rest : (records (timed log)).rest ≡ [] = sym (part_context (timed log)) ∙ ap (λ (c : Context). c.part) is.kept ∙ ap with_moment (part_context log ∙ e) ∙ with_few [] (omega arith) in
     ap (λ b. b || nat_lt 0 (length (records (timed log)).rest)) (le-ltb (length (timed log)) 8 (omega arith)) ∙ ap (λ (l : List ℕ). nat_lt 0 (length l)) rest
 
--- A log of version 1 that isn't refused isn't refused once it is converted, and has the same events.
+-- its header is the same, but for its version
+same_header : (limit : ℕ) (log : List ℕ) → IsTimed limit log → header_by (timed log) ≡ record (header_by log) { version = 2 }
+same_header limit log is = sym (header_context (timed log)) ∙ ap (λ (c : Context). c.header) is.kept ∙ ap (λ (h : Header). record h { version = 2 }) (header_context log)
+
+-- A log of version 1 that isn't refused isn't refused once it is converted, and has the same header, but for its version, and the same events.
 pub converted_same : (limit : ℕ) (log : List ℕ) → slice_index log 4 ≡ 1 → refused limit log ≡ None → is_cut_short log ≡ false
-    → (refused limit (converted log) ≡ None) × ((is_cut_short (converted log) ≡ false) × (events (converted log) ≡ events log))
+    → (refused limit (converted log) ≡ None) × (is_cut_short (converted log) ≡ false) × (header_by (converted log) ≡ record (header_by log) { version = 2 }) × (events (converted log) ≡ events log)
 converted_same limit log first none whole =
     let parts = whole_log log whole in
     let is = timed_log limit log parts.0 none first in
     let all = copied_whole log (all_converted limit log none (λ more. first)) in
-    subst (λ (l : List ℕ). (refused limit (timed l) ≡ None) × ((is_cut_short (timed l) ≡ false) × (events (timed l) ≡ events log))) (sym all)
-    (is.none, (still_whole limit log is (no_bytes (records log).rest parts.1), is.same))
+    subst (λ (l : List ℕ). (refused limit (timed l) ≡ None) × (is_cut_short (timed l) ≡ false) × (header_by (timed l) ≡ record (header_by log) { version = 2 }) × (events (timed l) ≡ events log)) (sym all)
+    (is.none, still_whole limit log is (no_bytes (records log).rest parts.1), same_header limit log is, is.same)
