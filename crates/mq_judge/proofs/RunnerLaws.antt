@@ -34,10 +34,10 @@ abbrev pub SaysOf : List ℕ → ℕ → FaultMap → Type 0
 SaysOf log count faults = (is_cut_short log ≡ false) × (count ≡ length (events log)) × AreFaultsOf log faults
 
 -- a verdict on a log that was fed whole, with the role of the end that was judged
-judge-ends : {first : ℕ} {x y : Option (List ℕ)} {judge : Judge} (count : ℕ) (faults : FaultMap) (role : Role)
-    → FedAll {S = Unit {0}} (λ j. j.limit) (λ j _. Follows j) first x y judge tt → first ≡ default_limit → ((log : List ℕ) → Follows judge log → SaysOf log count faults)
+judge-ends : {S : Type 0} {first : ℕ} {x y : Option (List ℕ)} {judge : Judge} {sink : S} (count : ℕ) (faults : FaultMap) (role : Role)
+    → FedAll (λ j. j.limit) (λ j (_ : S). Follows j) first x y judge sink → first ≡ default_limit → ((log : List ℕ) → Follows judge log → SaysOf log count faults)
     → ((log : List ℕ) → Follows judge log → role ≡ (tested_by log).role) → IfSome x (λ log. IsVerdictOn log role count faults)
-judge-ends {first} {x} {y} {judge} count faults role took default verdict named =
+judge-ends {S} {first} {x} {y} {judge} {sink} count faults role took default verdict named =
     let log = took.log in
     let v : SaysOf log count faults = verdict log took.followed in
     whole-taken x y log (λ l. IsVerdictOn l role count faults) took.consumed took.ended (record {
@@ -48,9 +48,9 @@ judge-ends {first} {x} {y} {judge} count faults role took default verdict named 
     })
 
 -- a log that was fed whole, and that the judge refused at its end
-run-refused-at-end : {first : ℕ} {x y : Option (List ℕ)} {judge : Judge} (refusal : Refusal) → FedAll {S = Unit {0}} (λ j. j.limit) (λ j _. Follows j) first x y judge tt → first ≡ default_limit
+run-refused-at-end : {S : Type 0} {first : ℕ} {x y : Option (List ℕ)} {judge : Judge} {sink : S} (refusal : Refusal) → FedAll (λ j. j.limit) (λ j (_ : S). Follows j) first x y judge sink → first ≡ default_limit
     → ((log : List ℕ) → Follows judge log → IsRefusedEnd log refusal) → IfSome x (λ log. IsRefusedAt default_limit log y refusal)
-run-refused-at-end {first} {x} {y} refusal took default why =
+run-refused-at-end {S} {first} {x} {y} refusal took default why =
     let log = took.log in
     whole-taken x y log (λ l. IsRefusedAt default_limit l y refusal) took.consumed took.ended (record {
       taken = log;
@@ -61,8 +61,8 @@ run-refused-at-end {first} {x} {y} refusal took default why =
     })
 
 -- what finishing a judge gives that was fed a whole log
-pub judge-finishes : {V : Type 0} (count_in : V → ℕ) (faults_in : V → FaultMap) {first : ℕ} {x y : Option (List ℕ)} {judge : Judge} (result : Result (V × Role) Refusal)
-    → FedAll {S = Unit {0}} (λ j. j.limit) (λ j _. Follows j) first x y judge tt → first ≡ default_limit
+pub judge-finishes : {V : Type 0} (count_in : V → ℕ) (faults_in : V → FaultMap) {S : Type 0} {first : ℕ} {x y : Option (List ℕ)} {judge : Judge} {sink : S} (result : Result (V × Role) Refusal)
+    → FedAll (λ j. j.limit) (λ j (_ : S). Follows j) first x y judge sink → first ≡ default_limit
     → ((log : List ℕ) → Follows judge log → Finishes (λ (answer : V × Role). count_in answer.0) (λ (answer : V × Role). faults_in answer.0) log result)
     → ((log : List ℕ) → Follows judge log → IfOk result (λ answer. answer.1 ≡ (tested_by log).role))
     → IfSome x (λ log. JudgesOver count_in faults_in log y result)
@@ -107,9 +107,9 @@ run-stops-writing x y form w z count faults role fault judged stopped =
     (λ log v. stops-with form log y w z fault v.judged (subst (λ (t : List ℕ). FailsToReport form w z t fault) (report-is form log role count faults v) stopped)) judged
 
 -- a run that was stopped while it was feeding the judge
-pub run-stopped : {first : ℕ} {x y : Option (List ℕ)} {judge : Judge} (refusal : Refusal) → FedBefore {S = Unit {0}} (λ j. j.limit) (λ j _. Follows j) (λ l j _. RefusesIn l j) first x y judge tt refusal → first ≡ default_limit
+pub run-stopped : {S : Type 0} {first : ℕ} {x y : Option (List ℕ)} {judge : Judge} {sink : S} (refusal : Refusal) → FedBefore (λ j. j.limit) (λ j (_ : S). Follows j) (λ l j _. RefusesIn l j) first x y judge sink refusal → first ≡ default_limit
     → IfSome x (λ log. IsRefusedAt default_limit log y refusal)
-run-stopped {first} {x} {y} {judge} refusal fed default =
+run-stopped {S} {first} {x} {y} {judge} {sink} refusal fed default =
     some-taken x y (fed.log ++ fed.piece) (λ l left. IsRefusedAt default_limit l left refusal) fed.consumed (λ left. by_why left fed.why)
   where
     by_why : (left : List ℕ) → RefusesIn first judge fed.log fed.piece refusal

@@ -6,6 +6,7 @@ ghost use Rattle.mq_judge.specs.Watching.{IsWatching};
 ghost use Rattle.mq_rules.specs.Notes.{tested_by, seen_in};
 ghost use Rattle.mq_trace.specs.Tracing.{IsTracedTo};
 
+use super::progress::Progress;
 use super::watching::{End, Judging, Watching};
 use mq_rules::{Faults, Role, Tested};
 use mq_trace::{Feed, Refusal, Tracer};
@@ -182,7 +183,7 @@ fn take_events<K: End>(
     tracer.feed(piece, judging)
 }
 
-impl Feed<(), Refusal> for Judge {
+impl<P: Progress> Feed<P, Refusal> for Judge {
     ghost use Rattle.mq_judge.specs.Judging.{Follows, RefusesIn};
 
     ghost limit = { λ judge. judge.limit };
@@ -191,7 +192,13 @@ impl Feed<(), Refusal> for Judge {
 
     ghost stops = { λ limit judge _. RefusesIn limit judge };
 
-    fn feed(&mut self, _sink: &mut (), piece: &[u8]) -> Result<(), Refusal> {
-        Judge::feed(self, piece)
+    fn feed(&mut self, progress: &mut P, piece: &[u8]) -> Result<(), Refusal> {
+        match Judge::feed(self, piece) {
+            Ok(()) => {
+                progress.advance(piece.len(), self.known().len());
+                Ok(())
+            }
+            Err(refusal) => Err(refusal),
+        }
     }
 }

@@ -7,6 +7,7 @@ mod judge;
 mod laws;
 mod lines;
 mod packet_line;
+mod progress;
 mod report;
 mod runner;
 mod watching;
@@ -17,10 +18,11 @@ pub use laws::{converted_logs_have_the_same_report, known_faults_stay};
 pub use mq_rules::{Fault, FaultKey, Faults, Memory, Role, Rule, Tested};
 pub use mq_trace::{ConvertFault, Refusal, convert};
 pub use packet_line::write_packet;
+pub use progress::Progress;
 pub use report::json::write_json;
 pub use report::summing::write_summary;
 pub use report::{Form, Outcome, RunFault, write_refused, write_text};
-pub use runner::{judge_reader, run, run_bounded};
+pub use runner::{judge_reader, run, run_bounded, run_watched};
 
 #[cfg(test)]
 mod debts_tests;

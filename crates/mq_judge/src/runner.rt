@@ -10,6 +10,7 @@ ghost use Rattle.mq_judge.specs.Runner.{JudgesOver, RunsOver};
 
 use super::feeding::feed_log;
 use super::judge::{Judge, Options, Verdict};
+use super::progress::Progress;
 use super::report::json::write_json;
 use super::report::summing::write_summary;
 use super::report::{Form, Outcome, RunFault, write_text};
@@ -45,6 +46,24 @@ pub fn run<R: Read, W: Write>(
     run_bounded(alloc, reader, writer, form, u32::MAX)
 }
 
+/// The same, and tells `progress` after each turn how many bytes it gave, and how many faults are known. It is told nothing once the log is refused.
+///
+/// # Errors
+///
+/// As `run_bounded`.
+pub fn run_watched<R: Read, W: Write, P: Progress>(
+    alloc: Global,
+    reader: &mut R,
+    writer: &mut W,
+    form: Form,
+    progress: &mut P,
+) -> Result<Outcome, RunFault>
+    ensures runs { IfSome (R.remaining reader.old) (λ log. RunsOver form log (R.remaining reader.new) result (W.contents writer.old) (W.contents writer.new)) }
+    ensures unwritten { (refusal : AnyRefusal) → result ≡ Err (run_faults.Refused refusal) → writer.new ≡ writer.old }
+{
+    run_all(alloc, reader, writer, form, u32::MAX, progress)
+}
+
 /// Judges the log that a reader gives, and writes the report on it in this form. It reads at most `turns` times, counting interrupted reads, and at most 8,192
 /// bytes each time.
 ///
@@ -64,7 +83,25 @@ pub fn run_bounded<R: Read, W: Write>(
     ensures unwritten { (refusal : AnyRefusal) → result ≡ Err (run_faults.Refused refusal) → writer.new ≡ writer.old }
     ensures few { TakesAtMost (8192 * turns) (R.remaining reader.old) (R.remaining reader.new) }
 {
-    let (verdict, role) = judge_bounded(alloc, reader, turns)?;
+    run_all(alloc, reader, writer, form, turns, &mut ())
+}
+
+/// The same, and tells `progress` how far it is.
+fn run_all<R: Read, W: Write, P: Progress>(
+    alloc: Global,
+    reader: &mut R,
+    writer: &mut W,
+    form: Form,
+    turns: u32,
+    progress: &mut P,
+) -> Result<Outcome, RunFault>
+    ensures runs { IfSome (R.remaining reader.old) (λ log. RunsOver form log (R.remaining reader.new) result (W.contents writer.old) (W.contents writer.new)) }
+    ensures unwritten { (refusal : AnyRefusal) → result ≡ Err (run_faults.Refused refusal) → writer.new ≡ writer.old }
+    ensures few { TakesAtMost (8192 * turns) (R.remaining reader.old) (R.remaining reader.new) }
+{
+    let judged = judge_bounded(alloc, reader, turns, progress);
+    progress.end();
+    let (verdict, role) = judged?;
     write_report(alloc, &verdict, role, form, writer)?;
     Ok(outcome(&verdict))
 }
@@ -86,21 +123,22 @@ pub fn run_bounded<R: Read, W: Write>(
 pub fn judge_reader<R: Read>(alloc: Global, reader: &mut R) -> Result<(Verdict, Role), Refusal>
     ensures { IfSome (R.remaining reader.old) (λ log. JudgesOver (λ v. v.events) (λ v. v.faults) log (R.remaining reader.new) result) }
 {
-    judge_bounded(alloc, reader, u32::MAX)
+    judge_bounded(alloc, reader, u32::MAX, &mut ())
 }
 
-/// The same in at most `turns` turns.
-fn judge_bounded<R: Read>(
+/// The same in at most `turns` turns, telling `progress` how far it is.
+fn judge_bounded<R: Read, P: Progress>(
     alloc: Global,
     reader: &mut R,
     turns: u32,
+    progress: &mut P,
 ) -> Result<(Verdict, Role), Refusal>
     ensures judges { IfSome (R.remaining reader.old) (λ log. JudgesOver (λ v. v.events) (λ v. v.faults) log (R.remaining reader.new) result) }
     ensures few { TakesAtMost (8192 * turns) (R.remaining reader.old) (R.remaining reader.new) }
 {
     let mut judge = Judge::new(alloc, Options::default());
     let mut buffer = [0; 8192];
-    feed_log(&mut judge, &mut (), reader, &mut buffer, turns)?;
+    feed_log(&mut judge, progress, reader, &mut buffer, turns)?;
     judge.finish_with_role()
 }
 

@@ -167,26 +167,26 @@ impl Watching {
         self.take_in(place, &note)
     }
 
-    /// The same of a packet.
+    /// Makes a note of a packet, and takes it in. It takes the packet by value: one that a call looks at lies in memory on all ways to it.
     #[inline(never)]
     fn take_packet(
         &mut self,
         place: Place3,
         direction: Direction,
         size: u32,
-        packet: &Packet<'_>,
+        packet: Packet<'_>,
     ) -> Result<(), Memory>
         ensures tested { self.new.tested ≡ self.old.tested }
-        ensures ok { OnOk result (TakesIn self.old self.new place (note_of (item_event direction (packet_item size (view packet.now))))) }
-        ensures memory { OnErr result (LeavesOut self.old self.new place (note_of (item_event direction (packet_item size (view packet.now))))) }
+        ensures ok { OnOk result (TakesIn self.old self.new place (note_of (item_event direction (packet_item size (view packet.entry))))) }
+        ensures memory { OnErr result (LeavesOut self.old self.new place (note_of (item_event direction (packet_item size (view packet.entry))))) }
     {
-        let Ok(note) = Note::of_packet(self.alloc, direction, size, packet) else {
+        let Ok(note) = Note::of_packet(self.alloc, direction, size, &packet) else {
             return Err(Memory);
         };
         self.take_in(place, &note)
     }
 
-    /// The same of a PUBLISH that has these fields, a short Topic Name, and no properties.
+    /// Makes a note of a PUBLISH that has these fields, a short Topic Name, and no properties, and takes it in.
     #[inline(never)]
     fn take_bare_publish(
         &mut self,
@@ -218,13 +218,13 @@ impl Watching {
         place: Place3,
         direction: Direction,
         size: u32,
-        packet: &Packet<'_>,
+        packet: Packet<'_>,
     ) -> Result<(), Memory>
         ensures tested { self.new.tested ≡ self.old.tested }
-        ensures ok { OnOk result (TakesIn self.old self.new place (note_of (item_event direction (packet_item size (view packet.now))))) }
-        ensures memory { OnErr result (LeavesOut self.old self.new place (note_of (item_event direction (packet_item size (view packet.now))))) }
+        ensures ok { OnOk result (TakesIn self.old self.new place (note_of (item_event direction (packet_item size (view packet.entry))))) }
+        ensures memory { OnErr result (LeavesOut self.old self.new place (note_of (item_event direction (packet_item size (view packet.entry))))) }
     {
-        if self.pass_ping(place, direction, size, packet) {
+        if self.pass_ping(place, direction, size, &packet) {
             return Ok(());
         }
         self.take_packet(place, direction, size, packet)
@@ -319,10 +319,7 @@ impl<K: End> Sink for Judging<K> {
         size: u32,
         packet: Packet<'_>,
     ) -> Result<(), Refusal> {
-        match self
-            .watching
-            .receive_packet(place, direction, size, &packet)
-        {
+        match self.watching.receive_packet(place, direction, size, packet) {
             Ok(()) => Ok(()),
             Err(Memory) => Err(Refusal::Memory(0)),
         }

@@ -1,7 +1,7 @@
 use Rattle.std.proofs.Common.{None}
 use Rattle.std.proofs.lemmas.Result.{err_from_is_err_and}
 use Rattle.mq_judge.proofs.RunnerLaws.{run-reports, run-stops-writing}
-use Rattle.mq_judge.proofs.runner.run_bounded.Goals as goal
+use Rattle.mq_judge.proofs.runner.run_all.Goals as goal
 
 pub returns-in_err-write_report-clause-runs : goal.returns-in_err-write_report-clause-runs
 returns-in_err-write_report-clause-runs g c =

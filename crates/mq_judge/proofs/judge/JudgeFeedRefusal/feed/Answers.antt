@@ -1,5 +1,5 @@
 use Rattle.mq_judge.proofs.JudgeLaws.{refuses-where-err}
-use Rattle.mq_judge.proofs.judge.JudgeFeedUnitRefusal.feed.Goals as goal
+use Rattle.mq_judge.proofs.judge.JudgeFeedRefusal.feed.Goals as goal
 
 pub returns-clause-stops : goal.returns-clause-stops
 returns-clause-stops c = λ log follows.
