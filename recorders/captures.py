@@ -26,6 +26,7 @@ from dataclasses import dataclass, field
 from pathlib import Path
 
 from arguments import Parser, counted, seconds
+from log_format import NEWEST
 from recording import CONNECT, End, Framer, Recorder, read_connect, write_to_standard_error
 
 FIN, SYN, RST, ACK = 0x01, 0x02, 0x04, 0x10
@@ -100,7 +101,7 @@ class Segment:
     """A TCP segment, as the capture has it."""
 
     stream: int
-    time: float
+    time: float  # in seconds since 1970-01-01 UTC
     sender: End
     client: str
     server: str
@@ -116,6 +117,11 @@ class Segment:
 
     def has(self, flag: int) -> bool:
         return bool(self.flags & flag)
+
+    @property
+    def moment(self) -> int:
+        """Its time in whole microseconds."""
+        return round(self.time * 1_000_000)
 
     @property
     def first(self) -> int:
@@ -298,13 +304,17 @@ class Stream:
         recorders: dict[End, Recorder],
         warn: Callable[[str], None],
         named: Callable[[Stream, bytes], None],
+        passed: Callable[[Segment], None],
     ) -> None:
-        """`named` is called with the Client Identifier of the CONNECT, before that packet is recorded."""
+        """`named` is called with the Client Identifier of the CONNECT, before that packet is recorded.
+
+        `passed` is called with each segment before what it says is recorded.
+        """
         self.key = first.stream
         self.is_over = False
         self.is_lost = False
         self._names = f"{first.client} to {first.server}"
-        self._recorders, self._warn, self._named = recorders, warn, named
+        self._recorders, self._warn, self._named, self._passed = recorders, warn, named, passed
         self._halves = {end: Half() for end in End}
         self._blocked: dict[End, deque[Segment]] = {end: deque() for end in End}
         self._blocked_since: float | None = None
@@ -444,6 +454,7 @@ class Stream:
 
     def _pass(self, segment: Segment) -> None:
         """Records what a segment says: first how much its sender had received, then what it sent."""
+        self._passed(segment)
         sender = segment.sender
         mine, peers = self._halves[sender], self._halves[PEER[sender]]
         for data in peers.acknowledge(self._acknowledged(segment)):
@@ -548,15 +559,18 @@ class Capture:
         ends: Iterable[End],
         rest_after: float | None,
         warn: Callable[[str], None] = write_to_standard_error,
+        log_version: int = NEWEST,
     ) -> None:
         self.connections = 0
         self.left_out = 0
         self._now = 0.0
+        self._moment = 0  # of the segment that is being recorded, in microseconds
         self._looked_at = 0.0
         self._rest_after, self._warn = rest_after, warn
         self._warned: OrderedDict[str, None] = OrderedDict()
         self._recorders = {
-            end: Recorder(folder, frozenset({end}), rest_after, clock=lambda: self._now, warn=self._warn_once)
+            end: Recorder(folder, frozenset({end}), rest_after, clock=lambda: self._now, warn=self._warn_once,
+                          log_version=log_version, moment=lambda: self._moment)
             for end in ends
         }
         self._streams: dict[int, Stream | None] = {}  # None: it is over
@@ -571,9 +585,10 @@ class Capture:
     def take(self, segment: Segment) -> None:
         """Takes in the next segment of the capture."""
         self._now = max(self._now, segment.time)
+        self._time(segment)
         self._look_for_rest()
         if segment.stream not in self._streams:
-            self._streams[segment.stream] = Stream(segment, self._recorders, self._warn_once, self._name)
+            self._streams[segment.stream] = Stream(segment, self._recorders, self._warn_once, self._name, self._time)
             self.connections += 1
         stream = self._streams[segment.stream]
         if stream is not None:
@@ -598,6 +613,10 @@ class Capture:
             for key in self._busy:
                 recorder.stirred(key)
             recorder.tick()
+
+    def _time(self, segment: Segment) -> None:
+        """What is recorded now has this segment's time."""
+        self._moment = segment.moment
 
     def _name(self, stream: Stream, identifier: bytes) -> None:
         """Takes in the Client Identifier of a stream. Older ones that may have had the same can't go on now."""
@@ -645,6 +664,7 @@ def parse_arguments(words: list[str] | None) -> argparse.Namespace:
     parser.add_argument("--end", choices=("client", "server", "both"), default="both", help="whose logs are written")
     parser.add_argument("--rest", metavar="SECONDS", type=seconds, help="silence after which an end is at rest")
     parser.add_argument("--tshark", metavar="PROGRAM", default="tshark", help="the tshark that reads the capture")
+    parser.add_log_version()
     return parser.parse_args(words)
 
 
@@ -686,7 +706,7 @@ def main(words: list[str] | None = None) -> int:
     if problem:
         write_to_standard_error(f"from-capture: {problem}")
         return 1
-    capture = Capture(arguments.out, ends, arguments.rest)
+    capture = Capture(arguments.out, ends, arguments.rest, log_version=arguments.log_version)
     command = tshark_command(arguments.tshark, arguments.file, arguments.server, arguments.keylog)
     status = 0
     try:

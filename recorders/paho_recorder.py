@@ -36,6 +36,7 @@ except ModuleNotFoundError as error:
         name=error.name,
     ) from None
 
+from log_format import NEWEST, VERSIONS
 from recording import End, Recorder
 
 DISCONNECT = 0xE0  # the first byte of the packet
@@ -69,9 +70,11 @@ class RecordedSocket:
 class ClientRecording:
     """The recording of one client. It refers to the client weakly: the client goes when the program lets it go."""
 
-    def __init__(self, client: paho.Client, folder: Path, from_start: bool) -> None:
+    def __init__(self, client: paho.Client, folder: Path, from_start: bool, log_version: int) -> None:
         self._client = weakref.ref(client)
-        self._recorder = Recorder(folder, frozenset({End.CLIENT}), None, releases=True, from_start=from_start)
+        self._recorder = Recorder(
+            folder, frozenset({End.CLIENT}), None, releases=True, from_start=from_start, log_version=log_version
+        )
         self._lock = threading.Lock()  # for all below, and so that nothing is written between a send and its record
         self._socket: RecordedSocket | None = None
         self._is_handling = False  # something was read, and paho isn't done with it
@@ -204,12 +207,17 @@ class ClientRecording:
         return all(message.state in SENT_STATES for message in messages)
 
 
-def record(client: paho.Client, folder: Path | str, *, from_start: bool = True) -> ClientRecording:
+def record(
+    client: paho.Client, folder: Path | str, *, from_start: bool = True, log_version: int = NEWEST
+) -> ClientRecording:
     """Records all connections of a client that hasn't connected yet, in a folder that is made where it isn't there.
 
     A client of paho's has its session in its memory, so a new one has none: where a server resumes a session with it,
     the log says so and the client is judged for it. With `from_start=False` such a session is left out instead.
+    With `log_version=1` the logs are for old readers, and have no times.
     """
+    if log_version not in VERSIONS:
+        raise ValueError(f"there is no version {log_version} of logs")
     unknown = [name for name in ATTRIBUTES if not hasattr(client, name)]
     unknown += [name for name in METHODS if not callable(getattr(type(client), name, None))]
     if unknown:
@@ -222,4 +230,4 @@ def record(client: paho.Client, folder: Path | str, *, from_start: bool = True) 
         raise ValueError("the client is recorded already")
     with contextlib.suppress(OSError):  # the recorder says it where no log can be written
         Path(folder).mkdir(parents=True, exist_ok=True)
-    return ClientRecording(client, Path(folder), from_start)
+    return ClientRecording(client, Path(folder), from_start, log_version)

@@ -3,23 +3,24 @@ from __future__ import annotations
 
 import importlib
 import queue
-import re
 import socket
 import subprocess
 import sys
 import threading
 from collections.abc import Callable, Iterator
-from contextlib import ExitStack, contextmanager
+from contextlib import ExitStack, contextmanager, suppress
 from dataclasses import dataclass, field
 from pathlib import Path
 from types import ModuleType
 from typing import Any
 
+from log_format import Record, records
 from testing import HOST, PATIENCE, process, wait_until
 
 HERE = Path(__file__).resolve().parent
 REST_SECONDS = 1.0
-RECEIVED_SUBACK = re.compile(rb"\x03\0\0\0.\x90", re.DOTALL)
+SENT, RECV = 2, 3
+SUBACK = b"\x90"  # the first byte of the packet
 
 
 class Trouble(Exception):
@@ -71,13 +72,28 @@ class Bench:
     def start(self, identifier: str, program: str, *words: object) -> subprocess.Popen[bytes]:
         """Starts a program that subscribes, and waits for its SUBACK. It is stopped at the end."""
         child = self.stack.enter_context(process(program, *self.options(identifier), *words))
-        wait_until(lambda: RECEIVED_SUBACK.search(self.log(identifier)), f"{program} gets its SUBACK")
+        wait_until(lambda: self.begins(identifier, RECV, SUBACK), f"{program} gets its SUBACK")
         return child
 
-    def log(self, identifier: str, end: str = "client") -> bytes:
-        """What the first log of this end has so far."""
-        path = self.folder / f"{identifier}.1.{end}.log"
-        return path.read_bytes() if path.exists() else b""
+    def log(self, identifier: str, end: str = "client") -> list[Record]:
+        """The records that the first log of this end has so far."""
+        path, found = self.folder / f"{identifier}.1.{end}.log", []
+        with suppress(FileNotFoundError, ValueError):  # it isn't there yet, or is just being written
+            for record in records(path.read_bytes()):
+                found.append(record)
+        return found
+
+    def begins(self, identifier: str, kind: int, first: bytes) -> bool:
+        """Whether a record of this kind in the client's log begins with these bytes."""
+        return any(record.kind == kind and record.body.startswith(first) for record in self.log(identifier))
+
+    def carried(self, identifier: str) -> bytes:
+        """The bytes of both directions in the client's log."""
+        return b"".join(record.body for record in self.log(identifier))
+
+    def ends_with(self, kind: int, identifier: str, end: str = "client") -> bool:
+        """Whether the log's last record is of this kind."""
+        return [record.kind for record in self.log(identifier, end)[-1:]] == [kind]
 
     def printed(self) -> str:
         """What the proxy has printed so far."""

@@ -21,9 +21,10 @@ from collections.abc import Callable, Hashable
 from dataclasses import dataclass, field
 from enum import Enum, IntEnum
 from pathlib import Path
-from typing import Concatenate, ParamSpec
+from typing import Concatenate, NamedTuple, ParamSpec
 
-RECORD_MOST = 1_048_576  # bytes of a record's body
+from log_format import NEWEST, VERSIONS, Version
+
 KEPT_MOST = 1_048_576  # bytes of a connection that are kept until it is known whose they are
 KEPT_MOST_IN_ALL = 64 * KEPT_MOST
 KEPT_PRICE = 64  # bytes that keeping an item costs by itself
@@ -62,7 +63,14 @@ class Kind(IntEnum):
 
 
 SENT, RECV = 2, 3
-Item = tuple[Kind, bytes]
+
+
+class Item(NamedTuple):
+    """What happened, and when: its moment, in microseconds since 1970-01-01 UTC."""
+
+    kind: Kind
+    data: bytes
+    moment: int
 
 
 # ---- packets: as little of them as is needed
@@ -247,21 +255,17 @@ def file_name(identifier: bytes) -> str:
     return f"{name[:NAME_MOST]}~{hashlib.sha256(identifier).hexdigest()[:32]}"
 
 
-def log_header(end: End, releases: bool) -> bytes:
-    return b"MQTR" + bytes((1, int(end is End.SERVER), int(releases), 0))
-
-
 class LogFile:
     """A log on the disk. Each record is written whole by one call; what a failed one left of it is taken back."""
 
-    def __init__(self, folder: Path, name: str, end: End, releases: bool) -> None:
+    def __init__(self, folder: Path, name: str, end: End, releases: bool, version: Version) -> None:
         """Makes a file of a new name: none that is there is ever written over."""
-        self.end = end
+        self.end, self._version = end, version
         self._file = -1
         self.path = self._create(folder, name)
         self._size = 0
         try:
-            self._write(log_header(end, releases))
+            self._write(version.header(end is End.SERVER, releases))
         except OSError:
             self.path.unlink(missing_ok=True)
             raise
@@ -277,24 +281,21 @@ class LogFile:
                 number += 1
 
     def write(self, item: Item) -> None:
-        """Appends an item as a record, or as several if it has more bytes than a record may have."""
-        kind, data = item
+        """Appends an item as a record, or as several of one moment if it has more bytes than a record may have."""
+        kind, data, moment = item
         if kind in (Kind.FROM_CLIENT, Kind.FROM_SERVER):
             is_sent = (kind is Kind.FROM_CLIENT) == (self.end is End.CLIENT)
-            kind_byte = SENT if is_sent else RECV
-            for at in range(0, len(data), RECORD_MOST):
-                self._record(kind_byte, data[at : at + RECORD_MOST])
+            most = self._version.longest_body
+            for at in range(0, len(data), most):
+                self._write(self._version.record(SENT if is_sent else RECV, data[at : at + most], moment))
         else:
-            self._record(kind, data)
+            self._write(self._version.record(kind, data, moment))
 
     def pause(self) -> None:
         """Gives the file back to the system until there is more to write."""
         if self._file >= 0:
             os.close(self._file)
             self._file = -1
-
-    def _record(self, kind: int, body: bytes) -> None:
-        self._write(bytes((kind,)) + len(body).to_bytes(4, "big") + body)
 
     def _write(self, data: bytes) -> None:
         if self._file < 0:
@@ -404,6 +405,11 @@ def write_to_standard_error(line: str) -> None:
         pass
 
 
+def microseconds_now() -> int:
+    """The time, in microseconds since 1970-01-01 UTC."""
+    return time.time_ns() // 1_000
+
+
 class Recorder:
     """Puts connections together into logs.
 
@@ -416,6 +422,8 @@ class Recorder:
     `from_start` says that no end had a session before the recording. Without it a session that is resumed, though its
     beginning wasn't recorded, is left out: judged alone, it would seem to have faults. `made` is called with the path
     of each log that is begun.
+
+    `moment` gives the time of what is recorded, in microseconds since 1970-01-01 UTC, for logs of version 2.
     """
 
     def __init__(
@@ -429,9 +437,12 @@ class Recorder:
         from_start: bool = False,
         warn: Callable[[str], None] = write_to_standard_error,
         made: Callable[[Path], None] = lambda _: None,
+        log_version: int = NEWEST,
+        moment: Callable[[], int] = microseconds_now,
     ) -> None:
         self._folder, self._ends, self._rest_after, self._releases = folder, ends, rest_after, releases
         self._clock, self._from_start, self._warn, self._made = clock, from_start, warn, made
+        self._version, self._moment = VERSIONS[log_version], moment
         self.connections = 0  # that a log has
         self._connections: dict[Hashable, Connection] = {}
         self._logs: OrderedDict[str, SessionLog] = OrderedDict()  # of each Client Identifier the latest
@@ -448,7 +459,7 @@ class Recorder:
             self.closed(key)
         connection = Connection(stirred_at=self._clock())
         self._connections[key] = connection
-        self._put(connection, (Kind.OPEN, b""))
+        self._put(connection, self._item(Kind.OPEN))
 
     @guarded
     def from_client(self, key: Hashable, data: bytes) -> None:
@@ -474,7 +485,7 @@ class Recorder:
     @guarded
     def released(self, key: Hashable, identifier: int) -> None:
         """The tested end released the QoS 2 message of this Packet Identifier; only where releases are recorded."""
-        item = (Kind.RELEASE, (identifier & 0xFFFF).to_bytes(2, "big"))
+        item = self._item(Kind.RELEASE, (identifier & 0xFFFF).to_bytes(2, "big"))
         if not self._releases:
             return
         if (connection := self._connections.get(key)) is not None:
@@ -554,7 +565,7 @@ class Recorder:
             return
         data = bytes(data)
         connection.stirred_at, connection.has_rest = self._clock(), False
-        self._put(connection, (kind, data))
+        self._put(connection, self._item(kind, data))
         framer = connection.client if kind is Kind.FROM_CLIENT else connection.server
         for packet, body in framer.feed(data):
             self._look(connection, kind, packet, body)
@@ -580,6 +591,10 @@ class Recorder:
             who = file_name(connect.identifier or b"") or UNNAMED
             self._leave_out(connection, f"{who} uses {file_name(connect.protocol)} version {connect.version}")
 
+    def _item(self, kind: Kind, data: bytes = b"") -> Item:
+        """What happens now."""
+        return Item(kind, data, self._moment())
+
     def _put(self, connection: Connection, item: Item) -> None:
         """Writes an item to the connection's log, or keeps it until it is known which one that is."""
         if connection.is_left_out:
@@ -588,8 +603,8 @@ class Recorder:
             connection.log.write(item)
             return
         connection.kept.append(item)
-        connection.kept_bytes += len(item[1]) + KEPT_PRICE
-        self._kept_bytes += len(item[1]) + KEPT_PRICE
+        connection.kept_bytes += len(item.data) + KEPT_PRICE
+        self._kept_bytes += len(item.data) + KEPT_PRICE
 
     def _check_kept(self, connection: Connection) -> None:
         """Sees to it that not too much is kept of connections of which it isn't known yet where they belong."""
@@ -652,7 +667,7 @@ class Recorder:
         ends = sorted(self._ends, key=lambda end: end.value)
         log = SessionLog([])
         for end in ends:
-            log.files.append(LogFile(self._folder, name, end, self._releases))
+            log.files.append(LogFile(self._folder, name, end, self._releases, self._version))
             self._made(log.files[-1].path)
         if name != UNNAMED:
             self._drop_released(self._logs.get(name))
@@ -677,11 +692,11 @@ class Recorder:
         """Closes the open connection of a log: another one took its session over. What it still sends is left out."""
         old = log.current
         if old is not None:
-            log.write((Kind.CLOSE, b""))
+            log.write(self._item(Kind.CLOSE))
             old.is_left_out, old.log, log.current = True, None, None
         self._write_waiting(log)
         if (waiting := log.current) is not None:
-            log.write((Kind.CLOSE, b""))
+            log.write(self._item(Kind.CLOSE))
             waiting.is_left_out, waiting.log, log.current = True, None, None
         log.pause()
 
@@ -702,7 +717,7 @@ class Recorder:
 
     def _end(self, connection: Connection) -> None:
         connection.is_over = True
-        self._put(connection, (Kind.CLOSE, b""))
+        self._put(connection, self._item(Kind.CLOSE))
         if (log := connection.log) is not None:
             if connection.is_unanswered:
                 log.may_have_session = True
@@ -715,7 +730,7 @@ class Recorder:
 
     def _rest(self, connection: Connection) -> None:
         connection.has_rest = True
-        self._put(connection, (Kind.REST, b""))
+        self._put(connection, self._item(Kind.REST))
 
     # -- bounds
 

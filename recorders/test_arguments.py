@@ -55,6 +55,20 @@ class Misuse(Case):
                 self.assertTrue(line.endswith(f"argument --rest: {value!r} isn't a number of seconds above 0"), line)
         self.assertEqual([*self.place.iterdir()], [])
 
+    def test_no_version_of_logs(self) -> None:
+        for value in ("0", "3", "newest"):
+            calls = [
+                ("preload/run", "-o", self.logs, "--log-version", value, "--", "touch", self.place / "began"),
+                ("preload/assemble", self.logs, "--log-version", value),
+                ("from-capture", "none.pcap", "--server", ":1883", "--out", self.logs, "--log-version", value),
+                (*PROXY, self.logs, "--log-version", value),
+            ]
+            for script, *words in calls:
+                status, line = self.called(script, *words)
+                self.assertEqual(status, MISUSE, script)
+                self.assertIn("argument --log-version: invalid", line)
+        self.assertEqual([*self.place.iterdir()], [])
+
     def test_the_dashes_before_a_program(self) -> None:
         status, line = self.called("preload/run", "-o", self.logs, "touch", self.place / "began")
         self.assertEqual((status, line), (MISUSE, "run: -- is missing: it goes before the program and its arguments"))

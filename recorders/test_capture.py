@@ -24,6 +24,7 @@ from pathlib import Path
 sys.dont_write_bytecode = True  # the repository stays as it is
 sys.path.insert(0, str(Path(__file__).resolve().parent))
 import captures
+import log_format
 from captures import ACK, FIN, RST, SYN, Capture, End, Half, Piece, Segment, parse_server
 from testing import PAHO, accepts, find, free_port, joined, make_certificate, missing, mosquitto, verdict, wait_until
 
@@ -200,6 +201,22 @@ class ByHand(Case):
         self.assertEqual(self.log("c.1.server"), swapped)
         self.assertEqual((self.warnings, self.printed), ([], "1 connection, 0 of them incomplete\n"))
         self.assertEqual({verdict(path) for path in self.logs.iterdir()}, {"pass"})
+
+    def test_records_have_the_times_of_the_packets(self) -> None:
+        self.wire.now = 1_700_000_000.0
+        Conversation(self.wire, "10.0.0.2").accepted()
+        self.convert()
+        times = [int(at) * 1_000_000 + int(at % 1 * 1e6) for at, _ in self.wire.packets]
+        # The CONNECT is in the fourth packet. What an end received is acknowledged by the next one that it sends.
+        for end, packets in (("client", (3, 3, 5, 5, 7)), ("server", (3, 4, 4, 6, 6))):
+            records = log_format.records((self.logs / f"c.1.{end}.log").read_bytes())
+            self.assertEqual([record.moment for record in records], [times[packet] for packet in packets])
+
+    def test_logs_for_old_readers(self) -> None:
+        Conversation(self.wire, "10.0.0.2").accepted().close()
+        self.convert("--log-version", "1")
+        self.assertEqual({path.read_bytes()[:5] for path in self.logs.iterdir()}, {b"MQTR\1"})
+        self.assertEqual(self.log("c.1.client")[: len(OPENED)], OPENED)
 
     def test_ipv6_and_a_server_without_a_host(self) -> None:
         Conversation(self.wire, "fd00::2", "fd00::1").accepted("six").close()

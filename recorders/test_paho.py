@@ -141,7 +141,7 @@ class Scripted(Case):
     def test_header_and_first_records(self) -> None:
         self.connected()
         log = self.log().read_bytes()
-        self.assertEqual(log[:8].hex(), "4d51545201000100")
+        self.assertEqual(log[:8].hex(), "4d51545202000100")
         self.assertEqual([word.split()[0] for word in joined(log)[:3]], ["OPEN", "SENT", "RECV"])
         self.assertEqual(joined(log)[2], f"RECV {CONNACK}")
 
@@ -381,6 +381,22 @@ class Scripted(Case):
             gc.enable()
         with self.assertRaises((EOFError, ConnectionResetError)):
             self.server.take(1)
+
+
+class Versions(Case):
+    def test_a_log_for_old_readers(self) -> None:
+        server, client = Server(), self.client()
+        self.addCleanup(server.close)
+        record(client, self.logs, log_version=1)
+        client.connect("127.0.0.1", server.port)
+        server.accept(CONNACK)
+        wait_until(lambda: client.loop(0.05) is not None and client.is_connected())
+        self.assertEqual(self.log().read_bytes()[:8].hex(), "4d51545201000100")
+        self.assertEqual(joined(self.log().read_bytes())[2], f"RECV {CONNACK}")
+
+    def test_a_version_that_is_none(self) -> None:
+        with self.assertRaisesRegex(ValueError, "no version 3"):
+            record(self.client(), self.logs, log_version=3)
 
 
 class Refused(Case):

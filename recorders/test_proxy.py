@@ -5,6 +5,7 @@ usage: recorders/test_proxy.py
 """
 from __future__ import annotations
 
+import contextlib
 import socket
 import struct
 import subprocess
@@ -17,6 +18,7 @@ from pathlib import Path
 
 sys.dont_write_bytecode = True  # the repository stays as it is
 sys.path.insert(0, str(Path(__file__).resolve().parent))
+import log_format
 from test_recording import PINGREQ, PINGRESP, connack, connect, packet, records, text
 
 PROXY = Path(__file__).resolve().parent / "proxy"
@@ -34,10 +36,11 @@ def receive(connection: socket.socket, count: int) -> bytes:
 
 def whole_records(log: bytes) -> int:
     """How many records a log has, but for a last one that was being written when the proxy was killed."""
-    count, at = 0, 8
-    while (at := at + 5 + int.from_bytes(log[at + 1 : at + 5], "big")) <= len(log):
-        count += 1
-    return count
+    found = []
+    with contextlib.suppress(ValueError):
+        for record in log_format.records(log):
+            found.append(record.kind)
+    return len(found)
 
 
 class Case(unittest.TestCase):
@@ -127,6 +130,22 @@ class Connections(Case):
         self.pair(b"a")
         self.assertEqual(self.stop(), 0)
         self.assertEqual([path.name for path in self.folder.iterdir()], ["a.1.server.log"])
+
+
+class Versions(Case):
+    def test_times_or_none(self) -> None:
+        for words, number in (((), 2), (("--log-version", "2"), 2), (("--log-version", "1"), 1)):
+            begun = time.time() * 1_000_000
+            self.start("--end", "client", *words)
+            self.pair(b"v%d" % len(words) + bytes((48 + number,)))
+            self.stop()
+            log = (self.folder / f"v{len(words)}{number}.1.client.log").read_bytes()
+            moments = [record.moment for record in log_format.records(log)]
+            self.assertEqual((log[4], len(moments)), (number, 4))
+            if number == 1:
+                self.assertEqual(moments, [None] * 4)
+            else:
+                self.assertTrue(all(begun - 1 <= moment <= time.time() * 1_000_000 for moment in moments), moments)
 
 
 class Rest(Case):

@@ -9,16 +9,18 @@ import errno
 import os
 import sys
 import tempfile
+import time
 import unittest
 from pathlib import Path
 from unittest import mock
 
 sys.dont_write_bytecode = True  # the repository stays as it is
 sys.path.insert(0, str(Path(__file__).resolve().parent))
+import log_format
 import recording
 from recording import End, Framer, Recorder, file_name
+from testing import words as records
 
-NAMES = {1: "OPEN", 2: "SENT", 3: "RECV", 4: "CLOSE", 5: "REST", 6: "RELEASE"}
 BOTH = frozenset(End)
 
 
@@ -47,18 +49,6 @@ def connack(reason: int = 0, present: bool = False, properties: bytes = b"") -> 
 
 PINGREQ, PINGRESP = bytes.fromhex("C000"), bytes.fromhex("D000")
 CLIENT_DISCONNECT, TAKEN_OVER = bytes.fromhex("E000"), bytes.fromhex("E0028E00")
-
-
-def records(log: bytes) -> list[str]:
-    """The records of a log as words: SENT and RECV with their bodies in hexadecimal digits."""
-    words, at = [], 8
-    while at < len(log):
-        size = int.from_bytes(log[at + 1 : at + 5], "big")
-        body = log[at + 5 : at + 5 + size]
-        assert len(body) == size
-        words.append(NAMES[log[at]] + (f" {body.hex()}" if body else ""))
-        at += 5 + size
-    return words
 
 
 class Case(unittest.TestCase):
@@ -102,8 +92,8 @@ class Sessions(Case):
         client = [*opening(b"a"), "SENT c000", "RECV d000", "CLOSE"]
         swapped = [word.replace("SENT", "-").replace("RECV", "SENT").replace("-", "RECV") for word in client]
         self.assertEqual(self.logs(), {"a.1.client.log": client, "a.1.server.log": swapped})
-        self.assertEqual((self.folder / "a.1.client.log").read_bytes()[:8].hex(), "4d51545201000000")
-        self.assertEqual((self.folder / "a.1.server.log").read_bytes()[:8].hex(), "4d51545201010000")
+        self.assertEqual((self.folder / "a.1.client.log").read_bytes()[:8].hex(), "4d51545202000000")
+        self.assertEqual((self.folder / "a.1.server.log").read_bytes()[:8].hex(), "4d51545202010000")
 
     def test_a_resumed_session_goes_on_and_a_clean_start_begins_a_log(self) -> None:
         recorder = self.recorder()
@@ -400,7 +390,7 @@ class Releases(Case):
         recorder.closed(1)
         recorder.released(1, 258)
         self.assertEqual(self.log("a.1.client.log"), [*opening(b"a"), "RELEASE 0007", "CLOSE", "RELEASE 0102"])
-        self.assertEqual((self.folder / "a.1.client.log").read_bytes()[:8].hex(), "4d51545201000100")
+        self.assertEqual((self.folder / "a.1.client.log").read_bytes()[:8].hex(), "4d51545202000100")
 
     def test_a_new_session_has_none_of_the_old_one(self) -> None:
         recorder = self.recorder(releases=True)
@@ -412,6 +402,73 @@ class Releases(Case):
         self.assertEqual(self.log("a.1.client.log"), [*opening(b"a"), "CLOSE"])
 
 
+class Versions(Case):
+    """Logs of both versions, byte by byte as docs/LOG_FORMAT.md says."""
+
+    def moments(self, name: str) -> list[int | None]:
+        return [record.moment for record in log_format.records((self.folder / name).read_bytes())]
+
+    def test_a_log_of_each(self) -> None:
+        opened, pinged = "01 00000000{} 02 00000010{} 100e 0004 4d515454 05 02 003c 00 0001 61", "02 00000002{} c000"
+        accepted, marked = "03 00000005{} 2003000000", "06 00000002{} 0102 05 00000000{} 04 00000000{}"
+        for version in (1, 2):
+            ticks = iter(range(1_000_000, 9_000_000, 1_000_000))
+            recorder = self.recorder(releases=True, log_version=version, moment=lambda: next(ticks))
+            self.accept(recorder, 1, b"a")
+            recorder.from_client(1, PINGREQ)
+            recorder.released(1, 258)
+            recorder.rested(1)
+            recorder.closed(1)
+            told = ["" if version == 1 else f"{moment:016x}" for moment in range(1_000_000, 8_000_000, 1_000_000)]
+            text = f"4d515452 {version:02x} 00 01 00 {opened} {accepted} {pinged} {marked}".format(*told)
+            self.assertEqual((self.folder / f"a.{version}.client.log").read_bytes().hex(), text.replace(" ", ""))
+
+    def test_what_is_kept_has_the_moment_at_which_it_came(self) -> None:
+        recorder = self.recorder(moment=lambda: int(self.now))
+        recorder.opened(1)
+        for self.now, data in ((5, connect(b"a")), (7, PINGREQ)):
+            recorder.from_client(1, data)
+        self.now = 2  # the clock was set back
+        recorder.from_server(1, connack())
+        self.assertEqual(self.moments("a.1.client.log"), [0, 5, 7, 2])
+
+    def test_moments_are_times_unless_the_recorder_says_others(self) -> None:
+        begun = time.time() * 1_000_000
+        self.accept(self.recorder(), 1, b"a")
+        moments = self.moments("a.1.client.log")
+        self.assertEqual(len(moments), 3)
+        for moment in moments:
+            self.assertTrue(begun - 1 <= moment <= time.time() * 1_000_000 + 1, (begun, moments))
+
+    def test_a_moment_that_no_record_can_have(self) -> None:
+        for number, (moment, told) in enumerate(((-1, 0), (1 << 64, (1 << 64) - 1)), 1):
+            self.accept(self.recorder(moment=lambda: moment), 1, b"a")
+            self.assertEqual(set(self.moments(f"a.{number}.client.log")), {told})
+
+    def test_long_bodies_are_cut_into_records_of_one_moment(self) -> None:
+        wanted = {1: [1_048_576] * 17 + [174_213], 2: [16_777_216, 1_222_789]}
+        for version, sizes in wanted.items():
+            ticks = iter(range(9))
+            recorder = self.recorder(log_version=version, moment=lambda: next(ticks))
+            self.accept(recorder, 1, b"a")
+            recorder.from_client(1, packet(0x30, bytes(18_000_000)))
+            records = [*log_format.records((self.folder / f"a.{version}.client.log").read_bytes())][3:]
+            self.assertEqual([len(record.body) for record in records], sizes)
+            self.assertEqual({record.moment for record in records}, {None if version == 1 else 3})
+
+    def test_reading_a_log(self) -> None:
+        self.accept(self.recorder(), 1, b"a")
+        log = (self.folder / "a.1.client.log").read_bytes()
+        ends = [8, 21, 21 + 13 + len(connect(b"a")), len(log)]  # of the header, and of the records
+        for size in range(len(log) + 1):
+            if size in ends:
+                self.assertEqual(len([*log_format.records(log[:size])]), ends.index(size))
+            else:
+                self.assertRaises(ValueError, list, log_format.records(log[:size]))
+        for header in (log[:4] + b"\0" + log[5:8], log[:4] + b"\3" + log[5:8], b"MQTS" + log[4:8]):
+            self.assertRaises(ValueError, list, log_format.records(header + log[8:]))
+
+
 class Safety(Case):
     def test_client_identifiers_make_no_paths_and_stay_apart(self) -> None:
         self.assertEqual(file_name(b"../../a b"), "%2E%2E%2F%2E%2E%2Fa%20b")
@@ -420,13 +477,6 @@ class Safety(Case):
         long = [file_name(b"x" * 65_000 + bytes((end,))) for end in b"yz"]
         self.assertNotEqual(long[0], long[1])
         self.assertLess(max(map(len, long)), 120)
-
-    def test_records_are_cut(self) -> None:
-        recorder = self.recorder()
-        self.accept(recorder, 1, b"a")
-        recorder.from_client(1, bytes(2_500_000))
-        sizes = [len(word.partition(" ")[2]) // 2 for word in self.log("a.1.client.log")[3:]]
-        self.assertEqual(sizes, [1_048_576, 1_048_576, 402_848])
 
     def test_what_is_kept_is_bounded(self) -> None:
         recorder = self.recorder(*BOTH)

@@ -28,7 +28,8 @@ from xml.etree import ElementTree
 
 sys.dont_write_bytecode = True  # the repository stays as it is
 sys.path.insert(0, str(Path(__file__).resolve().parent))
-from peers import REST_SECONDS, Bench, Trouble, proxy, receive_packet
+from log_format import records
+from peers import REST_SECONDS, SENT, Bench, Trouble, proxy, receive_packet
 from testing import (
     PAHO,
     PATIENCE,
@@ -42,7 +43,7 @@ from testing import (
 )
 
 HERE = Path(__file__).resolve().parent
-CLOSE, REST = b"\x04\0\0\0\0", b"\x05\0\0\0\0"
+CLOSE, REST = 4, 5
 MOSQUITTO, TOOLS, PAHO_C, OPENSSL = "mosquitto", "mosquitto_pub", "paho_c_pub", "openssl"
 
 
@@ -71,10 +72,10 @@ def paho_c(bench: Bench) -> None:
     subscriber = bench.start("sub", "paho_c_sub", "-t", "c/#", "-q", 2, *will)
     for qos in (0, 1, 2):
         bench.run("paho_c_pub", *bench.options(f"pub{qos}"), "-t", "c/a", "-q", qos, "-m", f"at {qos}")
-        wait_until(lambda: b"at %d" % qos in bench.log("sub"), "paho_c_sub gets the message")
+        wait_until(lambda: b"at %d" % qos in bench.carried("sub"), "paho_c_sub gets the message")
     bench.run("paho_c_pub", *bench.options("keeper"), "-t", "c/kept", "-q", 1, "-r", "-m", "kept")
     bench.start("late", "paho_c_sub", "-t", "c/kept", "-q", 1)
-    wait_until(lambda: b"kept" in bench.log("late"), "the retained message comes")
+    wait_until(lambda: b"kept" in bench.carried("late"), "the retained message comes")
     pause()
     subscriber.kill()
     watcher()
@@ -170,9 +171,9 @@ def sent_again(bench: Bench) -> None:
     bench.broker.send_signal(signal.SIGSTOP)  # so that it can't acknowledge anything
     for number in range(4):
         client.client.publish("again", b"number %d" % number, 1 + number % 2)
-    wait_until(lambda: bench.log("again").count(b"number") == 4, "all are sent")
+    wait_until(lambda: bench.carried("again").count(b"number") == 4, "all are sent")
     client.cut()
-    wait_until(lambda: bench.log("again").endswith(CLOSE), "the connection is over")
+    wait_until(lambda: bench.ends_with(CLOSE, "again"), "the connection is over")
     bench.broker.send_signal(signal.SIGCONT)
     client.connect(clean_start=False, expiry=600)
     pause()
@@ -230,7 +231,7 @@ def flood(bench: Bench) -> None:
     client = bench.client("flood").connect()
     bench.broker.send_signal(signal.SIGSTOP)  # so that it can't acknowledge anything yet
     sent = [client.client.publish("flood", b"number %d" % number, 1) for number in range(9)]
-    wait_until(lambda: bench.log("flood").count(b"number") == 9, "all are sent")
+    wait_until(lambda: bench.carried("flood").count(b"number") == 9, "all are sent")
     bench.broker.send_signal(signal.SIGCONT)
     for message in sent:
         message.wait_for_publish(PATIENCE)
@@ -241,10 +242,10 @@ def limits(bench: Bench) -> None:
     """The broker takes packets of 100 bytes, and QoS 1 at most: paho-mqtt 1.6.1 looks at neither limit."""
     large = bench.client("large").connect()
     large.client.publish("limits", bytes(200), 1)
-    wait_until(lambda: b"\x32" in bench.log("large")[60:], "the large one is sent")
+    wait_until(lambda: bench.begins("large", SENT, b"\x32"), "the large one is sent")
     two = bench.client("two").connect()
     two.client.publish("limits", b"x", 2)
-    wait_until(lambda: b"\x34" in bench.log("two")[60:], "QoS 2 is sent")
+    wait_until(lambda: bench.begins("two", SENT, b"\x34"), "QoS 2 is sent")
     pause()
 
 
@@ -263,7 +264,7 @@ def silent(bench: Bench) -> None:
     take_packets(connection, "90")
     connection.sendall(bytes.fromhex("32 07 0001 73 0002 00 78"))  # PUBLISH to s at QoS 1
     take_packets(connection, "40", "32")
-    wait_until(lambda: bench.log("sil").endswith(REST), "the client is at rest")
+    wait_until(lambda: bench.ends_with(REST, "sil"), "the client is at rest")
 
 
 def killed(bench: Bench) -> None:
@@ -280,12 +281,12 @@ def killed(bench: Bench) -> None:
     take_packets(first, "32")
     bench.broker.kill()
     bench.broker.wait(PATIENCE)
-    wait_until(lambda: bench.log("old", "server").endswith(CLOSE), "the connection ends")
+    wait_until(lambda: bench.ends_with(CLOSE, "old", "server"), "the connection ends")
     bench.stack.enter_context(process(*bench.broker.args))
     wait_until(lambda: accepts(bench.broker_port), "mosquitto listens again")
     second = bench.raw(resume)
     take_packets(second, "20")
-    wait_until(lambda: bench.log("old", "server").endswith(REST), "the broker is at rest")
+    wait_until(lambda: bench.ends_with(REST, "old", "server"), "the broker is at rest")
     bench.publish("pub", "k", "-q", 1, "-m", "two")
     second.sendall(bytes.fromhex("40 02") + receive_packet(second)[5:7])  # its PUBACK: the topic has one byte
     second.sendall(bytes.fromhex("E0 00"))
@@ -425,15 +426,13 @@ def differences(wanted: dict[str, str], found: dict[str, str]) -> list[str]:
 
 def streams(path: Path) -> list[tuple[bytes, bytes]]:
     """What the client and what the server sent, for each connection of a log."""
-    log, at, connections = path.read_bytes(), 8, []
+    log, connections = path.read_bytes(), []
     is_server = log[5]
-    while at < len(log):
-        kind, size = log[at], int.from_bytes(log[at + 1 : at + 5], "big")
+    for kind, body, _ in records(log):
         if kind == 1:
             connections.append((bytearray(), bytearray()))
         elif kind in (2, 3):
-            connections[-1][(kind == 3) ^ is_server].extend(log[at + 5 : at + 5 + size])
-        at += 5 + size
+            connections[-1][(kind == 3) ^ is_server].extend(body)
     return [(bytes(client), bytes(server)) for client, server in connections]
 
 

@@ -13,6 +13,8 @@ from collections.abc import Callable, Iterable, Iterator
 from pathlib import Path
 from typing import IO, Any
 
+from log_format import records
+
 TOP = Path(__file__).resolve().parent.parent
 BUILT = TOP / "crates/mq_cli/out/mq_cli"
 PROGRAM_VARIABLE = "MQJUDGE"  # in the environment: the program that judges
@@ -133,14 +135,7 @@ def make_certificate(key: Path, certificate: Path) -> None:
 
 def words(log: bytes) -> list[str]:
     """The records of a log as words: SENT, RECV and RELEASE with their bodies in hexadecimal digits."""
-    found, at = [], 8
-    while at < len(log):
-        size = int.from_bytes(log[at + 1 : at + 5], "big")
-        body = log[at + 5 : at + 5 + size]
-        assert len(body) == size
-        found.append(KINDS[log[at]] + (f" {body.hex()}" if body else ""))
-        at += 5 + size
-    return found
+    return [KINDS[record.kind] + (f" {record.body.hex()}" if record.body else "") for record in records(log)]
 
 
 def joined(log: bytes) -> list[str]:

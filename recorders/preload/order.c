@@ -28,11 +28,21 @@ void forget_thread(void)
     kept_thread = 0;
 }
 
-uint64_t clock_now(void)
+static uint64_t read_clock(clockid_t clock)
 {
     struct timespec now;
-    clock_gettime(CLOCK_MONOTONIC, &now);
+    clock_gettime(clock, &now);
     return (uint64_t)now.tv_sec * 1000000000u + (uint64_t)now.tv_nsec;
+}
+
+uint64_t clock_now(void)
+{
+    return read_clock(CLOCK_MONOTONIC);
+}
+
+uint64_t time_of_stamp(uint64_t stamp)
+{
+    return read_clock(CLOCK_REALTIME) - (clock_now() - stamp);
 }
 
 uint64_t next_stamp(void)

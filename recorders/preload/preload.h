@@ -88,6 +88,9 @@ uint64_t clock_now(void);
 /* The time in nanoseconds, and more than any stamp of this process before. */
 uint64_t next_stamp(void);
 
+/* When a stamp was, in nanoseconds since 1970-01-01 UTC, by the clocks as they are now. */
+uint64_t time_of_stamp(uint64_t stamp);
+
 /* The number of this thread. */
 int this_thread(void);
 

@@ -18,6 +18,7 @@ MARK = b"MQRW"
 RECORD_MOST = 1 << 20
 PIECE = 1024  # bytes that are read at once: most records are short
 LINE_MOST = 256  # bytes of an opening line
+WORDS = {("mqtt-raw", "1"): 6, ("mqtt-raw", "2"): 7}  # in it, by what it begins with
 OPEN_MOST = 128  # files that are open at a time
 LONG_CALL = 1_000_000  # nanoseconds: the return of a call that took longer is an event of its own
 RETURN = 1 << 62  # marks the place of a record whose call's return is meant
@@ -81,8 +82,9 @@ class RawFile:
     is_accepted: bool
     own: str
     peer: str
-    opened: int
+    opened: int  # the stamp
     start: int  # where the records begin
+    time: int | None = None  # of that stamp, in nanoseconds since 1970-01-01 UTC; raw files of version 1 have none
 
     @classmethod
     def read(cls, path: Path) -> RawFile | None:
@@ -90,11 +92,12 @@ class RawFile:
         with path.open("rb") as file:
             line = file.readline(LINE_MOST)
         words = line.decode("ascii", "replace").split()
-        if not line.endswith(b"\n") or len(words) != 6 or words[:2] != ["mqtt-raw", "1"] or not words[5].isdecimal():
+        if not line.endswith(b"\n") or len(words) != WORDS.get(tuple(words[:2])):
             return None
-        if words[2] not in ("accepted", "connected"):
+        if words[2] not in ("accepted", "connected") or not all(word.isdecimal() for word in words[5:]):
             return None
-        return cls(path, words[2] == "accepted", words[3], words[4], int(words[5]), len(line))
+        opened, *time = map(int, words[5:])
+        return cls(path, words[2] == "accepted", words[3], words[4], opened, len(line), *time)
 
 
 class Index:

@@ -132,8 +132,8 @@ static bool write_opening(int file, const struct connection *connection, int des
     address_text(descriptor, false, own);
     address_text(descriptor, true, peer);
     const char *side = connection->side == ACCEPTED ? "accepted" : "connected";
-    unsigned long long opened = connection->opened;
-    int length = snprintf(line, sizeof line, "mqtt-raw 1 %s %s %s %llu\n", side, own, peer, opened);
+    unsigned long long opened = connection->opened, time = time_of_stamp(connection->opened);
+    int length = snprintf(line, sizeof line, "mqtt-raw 2 %s %s %s %llu %llu\n", side, own, peer, opened, time);
     struct iovec piece = {line, (size_t)length};
     return write_whole(file, &piece, 1, (size_t)length);
 }

@@ -1,0 +1,73 @@
+"""The format of logs by its versions (docs/LOG_FORMAT.md): the header, and the heads of records.
+
+All that writes or reads logs here has from this file how long a head and a body may be.
+"""
+from __future__ import annotations
+
+from collections.abc import Iterator
+from dataclasses import dataclass
+from typing import NamedTuple
+
+MARK = b"MQTR"  # the first bytes of each log
+HEADER_SIZE = 8
+VERSION_AT = 4
+LENGTH_SIZE, MOMENT_SIZE = 4, 8
+LARGEST_MOMENT = (1 << 8 * MOMENT_SIZE) - 1
+
+
+@dataclass(frozen=True)
+class Version:
+    """A version of the format."""
+
+    number: int
+    longest_body: int  # bytes
+    has_moments: bool
+
+    @property
+    def head_size(self) -> int:
+        """How many bytes a record has before its body."""
+        return 1 + LENGTH_SIZE + (MOMENT_SIZE if self.has_moments else 0)
+
+    def header(self, is_server: bool, has_releases: bool) -> bytes:
+        return MARK + bytes((self.number, is_server, has_releases, 0))
+
+    def record(self, kind: int, body: bytes, moment: int) -> bytes:
+        """A record as it is written. A moment that eight bytes can't say is the nearest that they can."""
+        told = min(max(moment, 0), LARGEST_MOMENT).to_bytes(MOMENT_SIZE, "big") if self.has_moments else b""
+        return bytes((kind,)) + len(body).to_bytes(LENGTH_SIZE, "big") + told + body
+
+
+VERSIONS = {1: Version(1, 1_048_576, False), 2: Version(2, 16_777_216, True)}
+NEWEST = max(VERSIONS)
+
+
+class Record(NamedTuple):
+    kind: int
+    body: bytes
+    moment: int | None  # None where the version has none
+
+
+def version_of(header: bytes) -> Version | None:
+    """The version that a log has by its header; None where there is no such version, or no whole header."""
+    is_whole = len(header) >= HEADER_SIZE and header.startswith(MARK)
+    return VERSIONS.get(header[VERSION_AT]) if is_whole else None
+
+
+def body_size(head: bytes) -> int:
+    """How many bytes the body has that comes after a record's head."""
+    return int.from_bytes(head[1 : 1 + LENGTH_SIZE], "big")
+
+
+def records(log: bytes) -> Iterator[Record]:
+    """The records of a log. It raises a ValueError where the log is of no known version, or ends inside a record."""
+    version = version_of(log)
+    if version is None:
+        raise ValueError(f"no log of a known version: {log[:HEADER_SIZE].hex()}")
+    at = HEADER_SIZE
+    while at < len(log):
+        head, begin = log[at : at + version.head_size], at + version.head_size
+        at = begin + body_size(head)
+        if len(head) < version.head_size or at > len(log):
+            raise ValueError("the log ends inside a record")
+        moment = int.from_bytes(head[-MOMENT_SIZE:], "big") if version.has_moments else None
+        yield Record(head[0], log[begin:at], moment)
