@@ -18,6 +18,7 @@ from xml.etree import ElementTree
 
 sys.dont_write_bytecode = True  # the repository stays as it is
 sys.path.insert(0, str(Path(__file__).resolve().parent))
+import log_format
 from testing import PATIENCE, TOP, judge_program, wait_until
 
 JUDGE = Path(__file__).resolve().parent / "judge"
@@ -344,18 +345,30 @@ class Cut(Case):
     """Logs that end inside a record, as a recorder may leave them that was killed. The judge itself judges them."""
 
     def test_they_are_judged_up_to_their_last_whole_record(self) -> None:
+        self.cut_anywhere((TOP / "examples/pass.log").read_bytes(), [8, 13, 33, 43, 57, 66, 71, 76])
+
+    def test_so_are_those_of_version_2(self) -> None:
+        """With moments whose bytes would be kinds and lengths, if they were taken for such."""
         log = (TOP / "examples/pass.log").read_bytes()
-        borders = [8, 13, 33, 43, 57, 66, 71, 76]
+        moments = (0, 0x0100000000040000, 0x0200000001030000, (1 << 64) - 1, 0x0500000000, 4, 1)
+        made = log_format.VERSIONS[2].header(False, True)
+        for record, moment in zip(log_format.records(log), moments, strict=True):
+            made += log_format.VERSIONS[2].record(record.kind, record.body, moment)
+        self.cut_anywhere(made, [8, 21, 49, 67, 89, 106, 119, 132])
+
+    def cut_anywhere(self, log: bytes, borders: list[int]) -> None:
+        """Of a log that passes, with these places after its header and after each record."""
         for size in range(8, len(log)):
-            (self.logs / f"{size:02}.log").write_bytes(log[:size])
+            (self.logs / f"{size:03}.log").write_bytes(log[:size])
         status, printed, _ = self.judged(program=judge_program())
         wanted = []
         for size in sorted(set(range(8, len(log))) - set(borders)):
             whole = max(border for border in borders if border < size)
             note = f"  it ends inside a record: judged are its first {whole} bytes"
-            wanted += [f"pass {self.logs}/{size:02}.log", f"  pass {borders.index(whole)} events", note]
+            wanted += [f"pass {self.logs}/{size:03}.log", f"  pass {borders.index(whole)} events", note]
         self.assertEqual(printed.splitlines()[: len(wanted)], wanted)
-        last = "68 logs: 68 pass (35 of them too short to say anything), 0 fail, 0 refused, 0 failed"
+        count, short = len(log) - 8, borders[3] - 8
+        last = f"{count} logs: {count} pass ({short} of them too short to say anything), 0 fail, 0 refused, 0 failed"
         self.assertEqual((status, printed.splitlines()[-1]), (0, last))
 
     def test_faults_before_the_cut_are_found(self) -> None:
@@ -368,12 +381,13 @@ class Cut(Case):
         self.assertIn("it ends inside a record", ElementTree.parse(report).findtext(".//failure") or "")
 
     def test_no_header_is_no_log(self) -> None:
-        for size in range(8):
-            (self.logs / f"{size}.log").write_bytes(b"MQTR\x01\0\0\0"[:size])
-        status, printed, _ = self.judged(program=judge_program())
-        self.assertEqual((status, printed.splitlines()[-1]), (2, "4 logs: 0 pass, 0 fail, 4 refused, 0 failed"))
-        status, printed, _ = self.judged(*self.logs.iterdir(), program=judge_program())
-        self.assertEqual((status, printed.splitlines()[-1]), (2, "8 logs: 0 pass, 0 fail, 8 refused, 0 failed"))
+        for header in (b"MQTR\x01\0\0\0", b"MQTR\x02\0\0\0"):
+            for size in range(8):
+                (self.logs / f"{size}.log").write_bytes(header[:size])
+            status, printed, _ = self.judged(program=judge_program())
+            self.assertEqual((status, printed.splitlines()[-1]), (2, "4 logs: 0 pass, 0 fail, 4 refused, 0 failed"))
+            status, printed, _ = self.judged(*self.logs.iterdir(), program=judge_program())
+            self.assertEqual((status, printed.splitlines()[-1]), (2, "8 logs: 0 pass, 0 fail, 8 refused, 0 failed"))
 
 
 class Examples(unittest.TestCase):

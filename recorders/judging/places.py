@@ -5,7 +5,8 @@ from collections.abc import Iterable
 from dataclasses import dataclass, field
 from pathlib import Path
 
-MARK = b"MQTR"  # the first bytes of each log
+from log_format import MARK
+
 CAPTURE = "it is a capture: recorders/from-capture makes logs of it"
 COMPRESSED = "it is compressed by gzip: unpack it first"
 OTHERS = {  # what else a file may be, by its first bytes

@@ -14,12 +14,12 @@ from typing import IO, BinaryIO
 from judging.places import what_else
 from judging.story import Teller, choose, end_of
 from judging.verdict import FAILED, FAULTS, REFUSED, TOO_SHORT, Verdict
+from log_format import HEADER_SIZE, body_size, version_of
 
 STATUSES = (0, 1, 2, 4)
 CUT = "refused 10 Cut "
 NO_LOG = "refused 1 Header "
 HINT = "mqjudge: it is "  # what the program says beside that of some files: `what_else` says it of them
-HEADER, RECORD_HEADER = 8, 5  # sizes in bytes (docs/LOG_FORMAT.md)
 CHUNK = 1 << 20
 AROUND = 2  # events before and after a fault that are shown
 IDENTIFIER = re.compile(
@@ -182,7 +182,7 @@ def end_of_log(log: Path) -> str:
     """Which end a log is about, by its header; empty where it has none."""
     try:
         with log.open("rb") as file:
-            return end_of(file.read(HEADER))
+            return end_of(file.read(HEADER_SIZE))
     except OSError:
         return ""
 
@@ -196,18 +196,26 @@ def learn_sentence(verdict: Verdict, line: str) -> None:
 
 def copy_whole_records(path: Path, room: IO[bytes] | BinaryIO) -> int:
     """Copies a log up to its last whole record, and gives the number of bytes; 0 where not even its header is whole."""
-    size, at = path.stat().st_size, HEADER
     with path.open("rb") as log:
-        while at + RECORD_HEADER <= size:
-            log.seek(at)
-            end = at + RECORD_HEADER + int.from_bytes(log.read(RECORD_HEADER)[1:], "big")
-            if end > size:
-                break
-            at = end
+        left = whole = size_of_whole_records(log, path.stat().st_size)
         log.seek(0)
-        left = at if at <= size else 0
         while left and (piece := log.read(min(left, CHUNK))):
             room.write(piece)
             left -= len(piece)
     room.flush()
-    return at if at <= size else 0
+    return whole
+
+
+def size_of_whole_records(log: BinaryIO, size: int) -> int:
+    """How many bytes of a log of this size are its header and whole records; 0 where not even its header is whole."""
+    version = version_of(log.read(HEADER_SIZE))
+    if version is None:
+        return 0
+    at = HEADER_SIZE
+    while at + version.head_size <= size:
+        log.seek(at)
+        end = at + version.head_size + body_size(log.read(version.head_size))
+        if end > size:
+            break
+        at = end
+    return at

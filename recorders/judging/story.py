@@ -12,12 +12,12 @@ from functools import cached_property
 from typing import NamedTuple
 
 from judging.events import Event, identifier_in, read_event
+from log_format import HEADER_SIZE
 
 NEAR = 6  # events before and after one that is told of that are kept
 MATES = 100  # events under one Packet Identifier that are kept before a fault, and after it
 TOLD = 250  # faults of a log that are shown with all that there is to say of them
 LAST = 8  # events before a refusal
-HEADER = 8  # bytes of a log's header
 ENDS = {0: "client", 1: "server"}
 HANDSHAKES = {"client": ("SENT", "RECV"), "server": ("RECV", "SENT")}  # how CONNECT and CONNACK go, by the tested end
 NEW, RESUMED, VOID, UNDECIDED = "new", "resumed", "void", "undecided"
@@ -96,7 +96,7 @@ class Story:
 
 def end_of(header: bytes) -> str:
     """Which end a log is about, by its header."""
-    return ENDS.get(header[5], "") if len(header) >= HEADER else ""
+    return ENDS.get(header[5], "") if len(header) >= HEADER_SIZE else ""
 
 
 def choose(faults: list[Fault], overlooked: Iterable[str], most: int = TOLD) -> list[Fault]:
