@@ -6,6 +6,7 @@ from __future__ import annotations
 
 from collections.abc import Iterator
 from dataclasses import dataclass
+from datetime import UTC, datetime, timedelta
 from typing import NamedTuple
 
 MARK = b"MQTR"  # the first bytes of each log
@@ -13,6 +14,10 @@ HEADER_SIZE = 8
 VERSION_AT = 4
 LENGTH_SIZE, MOMENT_SIZE = 4, 8
 LARGEST_MOMENT = (1 << 8 * MOMENT_SIZE) - 1
+EPOCH = datetime(1970, 1, 1, tzinfo=UTC)
+MICROSECOND = timedelta(microseconds=1)
+TIMES = range((datetime(2000, 1, 1, tzinfo=UTC) - EPOCH) // MICROSECOND,
+              (datetime(2100, 1, 1, tzinfo=UTC) - EPOCH) // MICROSECOND)  # moments that are taken for times
 
 
 @dataclass(frozen=True)
@@ -71,3 +76,14 @@ def records(log: bytes) -> Iterator[Record]:
             raise ValueError("the log ends inside a record")
         moment = int.from_bytes(head[-MOMENT_SIZE:], "big") if version.has_moments else None
         yield Record(head[0], log[begin:at], moment)
+
+
+def time_of(moment: int | None) -> datetime | None:
+    """The time in UTC that a moment says, if it can be one of this century in microseconds since 1970."""
+    return EPOCH + moment * MICROSECOND if moment is not None and moment in TIMES else None
+
+
+def time_text(moment: int | None) -> str:
+    """The same in words, as `2026-11-26 17:03:21.123456 UTC`; empty where it says no time."""
+    time = time_of(moment)
+    return f"{time:%Y-%m-%d %H:%M:%S.%f} UTC" if time else ""

@@ -390,6 +390,44 @@ class Cut(Case):
             self.assertEqual((status, printed.splitlines()[-1]), (2, "8 logs: 0 pass, 0 fail, 8 refused, 0 failed"))
 
 
+class Times(Case):
+    """Logs of version 2, by what the stand-in shows of them."""
+
+    FAULTS = {5: "fault 5 S01 MQTT-2.2.1-3 decided 5 record 5 offset -",
+              7: "fault 7 W09 sec-2.2.1 decided 7 record 6 offset 2"}
+
+    def times(self, moments: dict[int, int], *words: object) -> list[str]:
+        """The fault lines that are printed of a log whose events have these moments."""
+        (self.logs / "a.log").write_text(f"MQTR\x02\0\0\0\n{FAIL}")
+        events = [f"{at} record {at} moment {moments.get(at, 0)} SENT PINGREQ size 2\n" for at in range(1, 10)]
+        (self.logs / "a.log.show").write_text("".join(events))
+        printed = self.judged(self.logs, *words)[1].splitlines()
+        return [line.strip() for line in printed if line.strip().startswith("fault ")]
+
+    def test_beside_each_fault_that_is_shown(self) -> None:
+        first, second = self.FAULTS.values()
+        wanted = [f"{first} at 2026-11-26 12:04:05.000001 UTC", f"{second} at 2026-11-26 12:04:06.500000 UTC"]
+        moments = {5: 1_795_694_645_000_001, 7: 1_795_694_646_500_000}
+        self.assertEqual(self.times(moments), wanted)
+        self.assertEqual(self.times(moments, "--ignore", "S01,W09"), wanted)
+        self.assertEqual(self.times(moments, "--most", "1"), wanted[:1])
+        report = self.folder / "report.xml"
+        self.times(moments, "--junit", report)
+        self.assertIn(wanted[1], ElementTree.parse(report).findtext(".//failure") or "")
+
+    def test_moments_that_are_no_times(self) -> None:
+        first, second = self.FAULTS.values()
+        for moment in (0, 1, 946_684_799_999_999, 4_102_444_800_000_000, 1_795_694_645_000_001_000, (1 << 64) - 1):
+            self.assertEqual(self.times({5: moment, 7: moment}), [first, second])
+        wanted = [f"{first} at 2000-01-01 00:00:00.000000 UTC", f"{second} at 2099-12-31 23:59:59.999999 UTC"]
+        self.assertEqual(self.times({5: 946_684_800_000_000, 7: 4_102_444_799_999_999}), wanted)
+
+    def test_a_program_that_shows_no_moments(self) -> None:
+        (self.logs / "a.log").write_text(f"MQTR\x02\0\0\0\n{FAIL}")
+        (self.logs / "a.log.show").write_text("".join(f"{at} record {at} SENT PINGREQ size 2\n" for at in range(1, 10)))
+        self.assertNotIn("UTC", self.judged()[1])
+
+
 class Examples(unittest.TestCase):
     """The sessions that are kept as examples."""
 

@@ -283,6 +283,28 @@ class Moments(Case):
         self.assertIn("<dt>Time<dd>moment 20", page)
         self.assertNotIn("UTC", page)
 
+    def test_moments_of_many_digits(self) -> None:
+        page = self.told((1 << 64) - 6, 1)
+        self.assertIn("<dt>Time<dd>moment 18446744073709551613", page)
+        self.assertIn("<text class=t>…073709551613</text>", page)
+
+    def test_moments_that_are_all_0(self) -> None:
+        page = self.told(0, 0)
+        self.assertNotIn("<dt>Time", page)
+        self.assertNotIn('<svg class="chart timed"', page)
+
+    def test_reports_for_code_hosts(self) -> None:
+        self.told(1_795_694_645_000_001, 1500)
+        place = self.folder / "report.sarif"
+        _, printed, _ = run(self.logs, "--sarif", place, "--github", program=self.folder / "program")
+        report = json.loads(place.read_text())
+        self.assertEqual(problems(report), [])
+        time = "2026-11-26 12:04:05.004501 UTC"
+        wanted = f"S01 MQTT-2.2.1-3 at event 4, record 4, {time}, decided at event 6: "
+        self.assertEqual(report["runs"][0]["results"][0]["message"]["text"], wanted)
+        self.assertIn(f"::1 fault, the first at event 4, {time}: ", printed)
+        self.assertIn(f"fault 4 S01 MQTT-2.2.1-3 decided 6 record 4 offset - at {time}\n", printed)
+
 
 class Sizes(unittest.TestCase):
     """Many logs with many faults, from lines as the program prints them."""

@@ -8,6 +8,7 @@ from judging.events import Bytes, Event, Text
 from judging.explain import Explanation
 from judging.markup import counted, escaped, isolated, number
 from judging.story import Fault, Scene
+from log_format import time_text
 
 FIELDS = 40  # of a packet that are shown
 MATES, LEAN_MATES = 30, 6  # events under the same Packet Identifier that are listed
@@ -67,7 +68,7 @@ class Cards:
             facts = [("What", f"{facts[0][1]}; {short_fields(event)}")]
         return [
             *facts,
-            ("Time", time_in_words(event)),
+            ("Time", self._time(event)),
             ("Decided", self._decided(fault)),
             ("Limit", self._limit(fault, scene)),
             ("Bytes", bytes_shown(event.bytes, fault.offset) if event.bytes else ""),
@@ -88,9 +89,13 @@ class Cards:
             return ""
         scene = self._story.scenes.get(fault.decided)
         what = f": {escape(label(scene.event))}" if scene else ""
-        time = f", {time_in_words(scene.event)}" if scene and scene.event.moment is not None else ""
+        time = self._time(scene.event) if scene else ""
         link = self._link(fault.decided, f"event {fault.decided}")
-        return f"{link}{what}{time}. Only this later event shows the fault"
+        return f"{link}{what}{', ' if time else ''}{time}. Only this later event shows the fault"
+
+    def _time(self, event: Event) -> str:
+        """The time of an event, or its moment where that is none; empty where the log has no moments but 0."""
+        return time_text(event.moment) or f"moment {event.moment}" if self._drawing.is_timed else ""
 
     def _limit(self, fault: Fault, scene: Scene) -> str:
         """The limit that the peer announced, and the event that announced it."""
@@ -162,12 +167,6 @@ def advice(explanation: Explanation, end: str) -> str:
 
 def ignored_by(way: str | None) -> str:
     return f' <span class="way">ignored by {way}</span>' if way else ""
-
-
-def time_in_words(event: Event) -> str:
-    if event.moment is None:
-        return ""
-    return f"{event.time:%Y-%m-%d %H:%M:%S.%f} UTC" if event.time else f"moment {event.moment}"
 
 
 def short_fields(event: Event) -> str:

@@ -12,6 +12,7 @@ from html import escape
 from judging.events import CUT, Event
 from judging.markup import attribute, counted, number
 from judging.story import NEW, RESUMED, UNDECIDED, VOID, Connection, Fault, Scene, Story
+from log_format import time_text
 
 TOP = 34  # above the first row
 ROW, CODES, TIME = 28, 14, 10  # what a row takes, and codes or a time under it
@@ -19,6 +20,7 @@ GAP = 30
 LINE = 18  # of an arrow, from the top of its row
 LANE, LANES = 7, 4  # lines to what shows a fault are beside each other
 LONGEST_TITLE = 240
+LONGEST_MOMENT, KEPT_DIGITS = 15, 12  # characters, as a time of day has; of a longer moment the last ones are shown
 PEERS = {"client": "server", "server": "client"}
 FATES = {NEW: "new session", RESUMED: "session resumed", UNDECIDED: "undecided"}
 FULL, LEAN, SHORT = 2, 1, 0  # how much is said of each event and fault
@@ -39,6 +41,11 @@ class Drawing:
 
     def __post_init__(self) -> None:
         self.scenes = choose_scenes(self.story, self.context, self.most)
+
+    @property
+    def is_timed(self) -> bool:
+        """Whether moments say something: those of a log that was converted are all 0."""
+        return any(scene.event.moment for scene in self.scenes)
 
     def place(self, position: int) -> str:
         """The name of an event in the page."""
@@ -132,7 +139,7 @@ def title(scene: Scene) -> str:
     """What is said of an event where a pointer rests on it."""
     event = scene.event
     where = f", connection {scene.connection.number}" if scene.connection else ""
-    time = f", {event.time:%Y-%m-%d %H:%M:%S.%f} UTC" if event.time else ""
+    time = f", {time_text(event.moment) or f'moment {event.moment}'}" if event.moment else ""
     words = f"{WORDS.get(event.kind, event.kind)} {event.rest.replace(CUT, ' … ')}".strip()
     words = words if len(words) <= LONGEST_TITLE else f"{words[:LONGEST_TITLE]} …"
     return attribute(f"Event {event.position}, record {event.record}{where}{time}: {words}")
@@ -152,7 +159,7 @@ class Chart:
         self._rows: list[str] = []
         self._begun: tuple[Connection, int] | None = None  # the band that isn't at its end, and where it begins
         self._height = TOP
-        self._is_timed = any(scene.event.moment is not None for scene in drawing.scenes)
+        self._is_timed = drawing.is_timed
 
     def draw(self) -> str:
         before: Scene | None = None
@@ -284,10 +291,12 @@ class Chart:
 
 
 def time_of(event: Event) -> str:
-    """The time of an event as it fits beside its position; its moment where that is no time."""
+    """The time of an event as it fits beside its position; its moment where that is no time, or the end of a long one."""
     if event.moment is None:
         return ""
-    return f"{event.time:%H:%M:%S.%f}" if event.time else str(event.moment)
+    digits = str(event.moment)
+    digits = digits if len(digits) <= LONGEST_MOMENT else f"…{digits[-KEPT_DIGITS:]}"
+    return f"{event.time:%H:%M:%S.%f}" if event.time else digits
 
 
 def draw(drawing: Drawing) -> str:

@@ -3,8 +3,10 @@ from __future__ import annotations
 
 import re
 from dataclasses import dataclass
-from datetime import UTC, datetime, timedelta
+from datetime import datetime
 from functools import cached_property
+
+from log_format import time_of
 
 LINE = re.compile(r"(\d+) record (\d+)(?: moment (\d+))? (OPEN|CLOSE|REST|RELEASE|SENT|RECV)(?: (.*))?", re.DOTALL)
 IDENTIFIER = re.compile(r"\S+ size \d+(?: qos \d dup \d)? id (\d+)")
@@ -17,9 +19,6 @@ CUT = "\0"  # where something was cut, with the size that it had in bytes: the p
 BROKEN = re.compile(r"BAD (\S+) offset (\d+)(?: type (\S+))?(?: bytes (.*))?")
 ESCAPE = re.compile(r'\\(?:x([0-9A-F]{2})|(["\\]))')
 OWN = {"PUBLISH", "PUBREL", "SUBSCRIBE", "UNSUBSCRIBE"}  # carry an identifier that their sender chose
-EPOCH = datetime(1970, 1, 1, tzinfo=UTC)
-FIRST_YEAR, LAST_YEAR = 2000, 2099  # of a moment that is taken for microseconds since 1970
-MICROSECONDS_OF_A_YEAR = 366 * 24 * 3600 * 1_000_000
 
 
 class Text(str):
@@ -95,11 +94,8 @@ class Event:
 
     @property
     def time(self) -> datetime | None:
-        """Its moment in UTC, if it can be one in microseconds since 1970."""
-        if self.moment is None or self.moment > 200 * MICROSECONDS_OF_A_YEAR:
-            return None
-        time = EPOCH + timedelta(microseconds=self.moment)
-        return time if FIRST_YEAR <= time.year <= LAST_YEAR else None
+        """Its moment in UTC, if it can be a time."""
+        return time_of(self.moment)
 
 
 def read_event(line: str) -> Event | None:

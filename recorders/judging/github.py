@@ -23,7 +23,9 @@ def of_log(verdict: Verdict, explanations: dict[str, Explanation]) -> list[str]:
     for code in sorted(counts):
         first = next(fault for fault in verdict.found if fault.code == code)
         way = verdict.overlooked.get(code)
-        text = f"{counted(counts[code], 'fault')}, the first at event {first.position}: {explanations[code].sentence}"
+        time = verdict.time_at(first.position)
+        place = f"event {first.position}, {time}" if time else f"event {first.position}"
+        text = f"{counted(counts[code], 'fault')}, the first at {place}: {explanations[code].sentence}"
         advice = explanations[code].advice(verdict.end)
         text += f"\n{advice}" if advice else ""
         lines.append(command("warning" if way else "error", verdict, f"{code} {first.citation}",

@@ -25,6 +25,7 @@ AROUND = 2  # events before and after a fault that are shown
 IDENTIFIER = re.compile(
     r"\d+ record \d+(?: moment \d+)? (?:(?:SENT|RECV) \S+ size \d+(?: qos \d dup \d)? id|RELEASE) (\d+)"
 )
+MOMENT = re.compile(r"\d+ record \d+ moment (\d+) ")
 FAULT_LINE = re.compile(r"\s+fault (\S+) \S+ (.*?)(?: \(decided at event \d+\))?(?: \(offset \d+\))?")
 
 
@@ -79,10 +80,11 @@ class Judge:
         if verdict.status == REFUSED and verdict.last.startswith(NO_LOG) and (note := what_else(log)):
             verdict.notes.append(note)
         identifiers: dict[int, int] = {}
-        if (verdict.status == FAULTS and verdict.positions) or (self._tells and verdict.found):
+        has_times = bool(verdict.shown) and has_moments(log)
+        if (verdict.status == FAULTS and verdict.positions) or (self._tells and verdict.found) or has_times:
             identifiers = self._explain(verdict, log)
         if self._keeps:
-            verdict.end = end_of_log(log)
+            verdict.end = end_of(header_of(log))
         if self._tells and (verdict.found or verdict.status in (REFUSED, TOO_SHORT)):
             self._tell(verdict, log, identifiers)
 
@@ -105,13 +107,14 @@ class Judge:
         return verdict
 
     def _explain(self, verdict: Verdict, log: Path) -> dict[int, int]:
-        """Asks what happened around the first fault of each code. A program that can't say it explains nothing.
+        """Asks what happened around the first fault of each code, and when each that is shown happened.
 
-        It gives the Packet Identifiers of the events at fault, by their positions.
+        It gives the Packet Identifiers of the events at fault, by their positions. A program that can't say all this
+        explains nothing.
         """
         wanted = {code: verdict.positions[code] for code in sorted(verdict.positions)}
         excerpts: dict[str, list[str]] = {code: [] for code in wanted}
-        at_fault = {fault.position for fault in verdict.found} if self._tells else set()
+        at_fault, moments = verdict.shown, verdict.moments
         identifiers: dict[int, int] = {}
         at = 0
 
@@ -122,6 +125,8 @@ class Judge:
             learn_sentence(verdict, line)
             if at in at_fault and (identifier := IDENTIFIER.match(line)):
                 identifiers[at] = int(identifier[1])
+            if at in at_fault and (moment := MOMENT.match(line)):
+                moments[at] = int(moment[1])
             for code, position in wanted.items():
                 if at and abs(at - position) <= AROUND and line != "..":
                     excerpts[code].append(line)
@@ -178,13 +183,18 @@ class Judge:
             self._running.discard(child)
 
 
-def end_of_log(log: Path) -> str:
-    """Which end a log is about, by its header; empty where it has none."""
+def header_of(log: Path) -> bytes:
+    """A log's header, as far as there is one."""
     try:
         with log.open("rb") as file:
-            return end_of(file.read(HEADER_SIZE))
+            return file.read(HEADER_SIZE)
     except OSError:
-        return ""
+        return b""
+
+
+def has_moments(log: Path) -> bool:
+    version = version_of(header_of(log))
+    return version is not None and version.has_moments
 
 
 def learn_sentence(verdict: Verdict, line: str) -> None:

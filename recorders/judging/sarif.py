@@ -55,8 +55,10 @@ def plain(text: str) -> str:
 def result(verdict: Verdict, fault: Fault, explanations: dict[str, Explanation], numbers: dict[str, int]) -> Json:
     """A fault. Code hosts want a line: a log has none, so it is 1, and the message says the event."""
     sentence = explanations[fault.code].sentence
+    time = verdict.time_at(fault.position)
     place = f"event {fault.position}, record {fault.record}"
     place += f", offset {fault.offset}" if fault.offset is not None else ""
+    place += f", {time}" if time else ""
     place += f", decided at event {fault.decided}" if fault.decided != fault.position else ""
     found: Json = {
         "ruleId": fault.code,

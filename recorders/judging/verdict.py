@@ -12,6 +12,7 @@ from judging.story import Fault, Story
 HERE = Path(__file__).resolve().parent
 sys.path.insert(0, str(HERE.parent))
 from arguments import counted  # noqa: E402
+from log_format import time_text  # noqa: E402
 
 PASSED, FAULTS, REFUSED, FAILED = 0, 1, 2, 4
 TOO_SHORT = 5  # no status of the program: a pass of too few events to say anything
@@ -48,6 +49,7 @@ class Verdict:
     notes: list[str] = field(default_factory=list)  # what else there is to say of it
     sentences: dict[str, str] = field(default_factory=dict)  # what each code says
     excerpts: dict[str, list[str]] = field(default_factory=dict)  # what happened around each code's first fault
+    moments: dict[int, int] = field(default_factory=dict)  # of the events at fault, where the log has moments
     keeps: bool = False  # whether each fault is kept, for a report that names all
     found: list[Fault] = field(default_factory=list)  # all faults, where they are kept
     overlooked: dict[str, str] = field(default_factory=dict)  # the codes that are ignored, and by which option
@@ -100,11 +102,28 @@ class Verdict:
         elif self.status == TOO_SHORT:
             kept = [self.headline]
         else:
-            kept = self.first + ([f"and {self.count - len(self.first)} more"] if self.count > len(self.first) else [])
+            kept = [self._with_time(line) for line in self.first]
+            kept += ([f"and {self.count - len(self.first)} more"] if self.count > len(self.first) else [])
         notes = [*(f"ignored: {text}" for text in self.ignored), *self.notes]
         if self.whole is not None:
             notes.append(f"it ends inside a record: judged are its first {self.whole} bytes")
         return kept + notes
+
+    @property
+    def shown(self) -> set[int]:
+        """The positions of the faults that are shown."""
+        lines = (FAULT.fullmatch(line) for line in self.first)
+        return {int(line[1]) for line in lines if line} | {fault.position for fault in self.found}
+
+    def time_at(self, position: int) -> str:
+        """When an event at fault happened; empty where that isn't known."""
+        return time_text(self.moments.get(position))
+
+    def _with_time(self, line: str) -> str:
+        """A line as the program printed it; that of a fault with the time of its record, if that is known."""
+        fault = FAULT.fullmatch(line)
+        time = self.time_at(int(fault[1])) if fault else ""
+        return f"{line} at {time}" if time else line
 
     def _explained(self, key: str) -> list[str]:
         """A code's faults: how many, what they mean, the first of them, and what happened around the very first."""
@@ -113,4 +132,5 @@ class Verdict:
         kept = [line for line in self.first if line.startswith("fault ") and line.split()[2] == code]
         more = [f"  and {count - len(kept)} more"] if count > len(kept) else []
         excerpt = [f"    {line}" for line in self.excerpts.get(code, ())]
-        return [f"{key} {counted(count, 'fault')}{sentence}", *(f"  {line}" for line in kept), *more, *excerpt]
+        faults = [f"  {self._with_time(line)}" for line in kept]
+        return [f"{key} {counted(count, 'fault')}{sentence}", *faults, *more, *excerpt]
