@@ -345,7 +345,8 @@ class Cut(Case):
     """Logs that end inside a record, as a recorder may leave them that was killed. The judge itself judges them."""
 
     def test_they_are_judged_up_to_their_last_whole_record(self) -> None:
-        self.cut_anywhere((TOP / "examples/pass.log").read_bytes(), [8, 13, 33, 43, 57, 66, 71, 76])
+        log = (TOP / "examples/pass.log").read_bytes()
+        self.cut_at(range(8, len(log)), log, [8, 13, 33, 43, 57, 66, 71, 76])
 
     def test_so_are_those_of_version_2(self) -> None:
         """With moments whose bytes would be kinds and lengths, if they were taken for such."""
@@ -354,21 +355,25 @@ class Cut(Case):
         made = log_format.VERSIONS[2].header(False, True)
         for record, moment in zip(log_format.records(log), moments, strict=True):
             made += log_format.VERSIONS[2].record(record.kind, record.body, moment)
-        self.cut_anywhere(made, [8, 21, 49, 67, 89, 106, 119, 132])
+        for sizes in (range(8, 49), range(49, 89), range(89, len(made))):
+            self.cut_at(sizes, made, [8, 21, 49, 67, 89, 106, 119, 132])
 
-    def cut_anywhere(self, log: bytes, borders: list[int]) -> None:
-        """Of a log that passes, with these places after its header and after each record."""
-        for size in range(8, len(log)):
+    def cut_at(self, sizes: range, log: bytes, borders: list[int]) -> None:
+        """Beginnings of these sizes, of a log that passes and has these places after its header and after each record."""
+        for path in self.logs.iterdir():
+            path.unlink()
+        for size in sizes:
             (self.logs / f"{size:03}.log").write_bytes(log[:size])
         status, printed, _ = self.judged(program=judge_program())
         wanted = []
-        for size in sorted(set(range(8, len(log))) - set(borders)):
+        for size in sorted(set(sizes) - set(borders)):
             whole = max(border for border in borders if border < size)
             note = f"  it ends inside a record: judged are its first {whole} bytes"
             wanted += [f"pass {self.logs}/{size:03}.log", f"  pass {borders.index(whole)} events", note]
         self.assertEqual(printed.splitlines()[: len(wanted)], wanted)
-        count, short = len(log) - 8, borders[3] - 8
-        last = f"{count} logs: {count} pass ({short} of them too short to say anything), 0 fail, 0 refused, 0 failed"
+        short = sum(size < borders[3] for size in sizes)
+        passed = f"{len(sizes)} pass" + (f" ({short} of them too short to say anything)" if short else "")
+        last = f"{len(sizes)} logs: {passed}, 0 fail, 0 refused, 0 failed"
         self.assertEqual((status, printed.splitlines()[-1]), (0, last))
 
     def test_faults_before_the_cut_are_found(self) -> None:
