@@ -23,7 +23,7 @@ mod tests;
 #[path = "baseline/text.rs"]
 mod text;
 
-use log::{Event, Item, Log, Sink, Stop};
+use log::{Event, Item, Log, Place, Sink, Stop};
 use packet::{Fault, Front};
 use std::env;
 use std::fs::File;
@@ -49,8 +49,8 @@ impl<W: Write> Show<W> {
 }
 
 impl<W: Write> Sink for Show<W> {
-    fn event(&mut self, position: u32, record: u32, event: &Event) -> io::Result<()> {
-        text::put_event(&mut self.text, position, record, event);
+    fn event(&mut self, place: &Place, event: &Event) -> io::Result<()> {
+        text::put_event(&mut self.text, place, event);
         if self.text.len() >= PIECE {
             self.flush()
         } else {
@@ -65,7 +65,7 @@ struct Count {
 }
 
 impl Sink for Count {
-    fn event(&mut self, _position: u32, _record: u32, _event: &Event) -> io::Result<()> {
+    fn event(&mut self, _place: &Place, _event: &Event) -> io::Result<()> {
         self.events += 1;
         Ok(())
     }

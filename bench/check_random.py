@@ -1,6 +1,7 @@
 #!/usr/bin/env python3
 """Compares what `mqjudge check` reports with what reference.py does: on random sessions, about half of which have packets before
-the CONNACK, and on logs with the most events that may come before a CONNACK, and one more.
+the CONNACK, and on logs with the most events that may come before a CONNACK, and one more. A third of the sessions are logs of
+version 2.
 
 A session on which they differ is made as short as it can be, and printed with both reports. Where there is no program reference.py
 alone judges the logs. The last line says how many of the faults were decided by a later event than their own.
@@ -16,6 +17,7 @@ import random_logs
 import reference
 from judges import BUILT, Judge, judge_by
 from shortening import shortest, words
+from versions import in_version_2
 
 SHORT = 5_000  # bytes of a log that is made shorter
 
@@ -59,11 +61,12 @@ def main() -> int:
     comparison = Comparison(judge_by(given.mqjudge) if is_there else None)
     for which in range(given.logs):
         comparison.compare(f"bench/random_logs.py {given.seed} {which}", random_logs.session(given.seed, which))
-    for name, log, is_refused in random_logs.crowded():
-        report = comparison.compare(name, log)
-        # The byte that completes the last event is the log's last one.
-        if is_refused != (report == f"refused 13 TooManyEarly at {len(log) - 1}\n"):
-            comparison.wrongly(f"{name}, by reference.py", report)
+    for name, first, is_refused in random_logs.crowded():
+        for version, log in ((1, first), (2, in_version_2(first))):
+            report = comparison.compare(f"{name}, version {version}", log)
+            # The byte that completes the last event is the log's last one.
+            if is_refused != (report == f"refused 13 TooManyEarly at {len(log) - 1}\n"):
+                comparison.wrongly(f"{name}, version {version}, by reference.py", report)
     print(f"{comparison.logs} logs, {comparison.faults} faults, {comparison.late} decided later, {comparison.wrong} wrong")
     return 1 if comparison.wrong else 0
 

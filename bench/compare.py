@@ -2,8 +2,8 @@
 """Compares what `mqjudge packet` and `mqjudge show` print with what the plain program of this folder prints.
 
 Both get the same packets and logs: those of packets.txt, changed in a few bytes; logs with the most events that may come before a
-CONNACK, and one more; and short logs of each kind that is measured. What differs is printed, with its bytes. Where there is no
-`mqjudge` the plain program alone is tried, which must always answer.
+CONNACK, and one more; and short logs of each kind that is measured: of both versions. What differs is printed, with its bytes. Where
+there is no `mqjudge` the plain program alone is tried, which must always answer.
 
 usage: bench/compare.py [--mqjudge PATH] [--packets 3000] [--logs 500] [--seed 1]
 """
@@ -23,6 +23,7 @@ import kinds
 from judges import BUILT
 from random_logs import EXAMPLES, change, crowded, streams
 from run import build_baseline
+from versions import HEAD_SIZES, in_version_2
 
 MADE_BYTES = 1_000_000  # of each log that is made, about
 PACKET_TEXT = re.compile(r"need more bytes|left over \d+ bytes|other version \d+|LOST|BAD W\d\d offset \d+|[A-Z]+ size .*")
@@ -42,9 +43,9 @@ def packets(draw: random.Random, count: int) -> Iterator[bytes]:
 
 
 def made(folder: Path) -> Iterator[Path]:
-    for kind in kinds.KINDS:
-        path = folder / f"{kind}.log"
-        kinds.write(path, kind, kinds.amount_for_bytes(kind, MADE_BYTES))
+    for kind, version in itertools.product(kinds.KINDS, HEAD_SIZES):
+        path = folder / f"{kind}-{version}.log"
+        kinds.write(path, kind, kinds.amount_for_bytes(kind, MADE_BYTES), version)
         yield path
 
 
@@ -108,7 +109,8 @@ def main() -> int:
         comparison = Comparison(given.mqjudge.absolute(), build_baseline(folder))
         packet_count = comparison.compare_packets(packets(draw, given.packets))
         random_ones = written(folder, (("one", log) for log in streams(draw, given.logs)))
-        long_ones = written(folder, ((name, log) for name, log, _ in crowded()))
+        many = [(name, log) for name, log, _ in crowded()]
+        long_ones = written(folder, [*many, *((f"{name}, version 2", in_version_2(log)) for name, log in many)])
         log_count = comparison.compare_logs(itertools.chain(random_ones, long_ones, made(folder)))
     print(f"{packet_count} packets, {log_count} logs, {comparison.differences} differences")
     return 1 if comparison.differences else 0

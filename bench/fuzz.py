@@ -2,10 +2,11 @@
 """Looks for logs on which the built program isn't right: makes logs by a seed, and compares what the program answers with what
 others do.
 
-The logs are those of hostile_logs.py: sessions in which the tested end does right, others, the same changed, and garbage. `check`,
-as text and as JSON, is compared with reference.py; `show` and `packet` with reference.py's reading and, where there is rustc, with
-the plain program of this folder. A log in which the tested end does right must pass. A divergence is printed with its seed, its
-number, and a log that is made as short as it can be, which is also written to a file. The last line says how many there were.
+The logs are those of hostile_logs.py: sessions in which the tested end does right, others, the same changed, and garbage; a third
+of them are of version 2, with moments of any kind, and records that are cut inside their heads. `check`, as text and as JSON, is
+compared with reference.py; `show` and `packet` with reference.py's reading and, where there is rustc, with the plain program of this
+folder. A log in which the tested end does right must pass. A divergence is printed with its seed, its number, and a log that is made
+as short as it can be, which is also written to a file. The last line says how many there were.
 
 With --seconds it ends after that time, and says how many logs it has tried; with --only it tries the log of one number.
 --self-test gives it programs that are wrong in one thing each, and looks whether it finds that.
@@ -249,6 +250,7 @@ FLAWS = {
     "a decided position in JSON": (r's/"decided":\([0-9]*\),/"decided":1\1,/', 40),
     "DUP as it is shown": ("s/dup 1/dup 0/", 40),
     "an offset of a packet": ("s/^BAD W13 offset 2/BAD W13 offset 3/", 12),
+    "a moment as it is shown": (r"s/ moment \([0-9]*\) / moment 1\1 /", 40),
     "a refusal's byte": (r"s/^refused 5 Kind at \(.*\)/refused 5 Kind at 1\1/", 40),
 }
 

@@ -5,7 +5,8 @@ same bytes.
 A log has one to four connections of a client or of a server. They are accepted, with a new session or the one before, or refused,
 or closed without a CONNACK. There are messages of all QoS in both directions, PUBLISHes and PUBRELs that are sent again,
 subscriptions, Topic Aliases, what the peer announces, packets before the CONNACK, RELEASEs and RESTs; and packets are split over
-records anywhere. A judge must pass each log: `bench/fuzz.py` looks at that, and at what it says of these logs when changed.
+records anywhere. A judge must pass each log: `bench/fuzz.py` looks at that, and at what it says of these logs when changed. A third
+of the logs are of version 2.
 
 usage: bench/honest_logs.py SEED NUMBER > FILE
 """
@@ -19,6 +20,7 @@ sys.dont_write_bytecode = True  # the repository stays as it is
 from make_log import CLOSE, OPEN, PINGREQ, PINGRESP, RECV, REST, SENT, record, varint
 from random_logs import EXPLANATIONS, Type
 from session_logs import CLIENT, RELEASE, SERVER, number, packet, text
+from versions import in_some_version
 
 IDENTIFIERS = range(1, 6)
 TOPICS = ("a", "b", "a/b", "a/b/c", "$x/y")
@@ -512,7 +514,8 @@ def split(draw: random.Random, kind: int, body: bytes) -> bytes:
 
 def session(seed: int, which: int) -> bytes:
     """The log of this number among those of the seed."""
-    return Honest(random.Random(f"honest {seed} {which}")).log()
+    draw = random.Random(f"honest {seed} {which}")
+    return in_some_version(draw, Honest(draw).log())
 
 
 def main() -> None:

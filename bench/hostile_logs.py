@@ -1,5 +1,7 @@
 """Makes logs of all kinds for `bench/fuzz.py`, by a seed: sessions in which the tested end does right, and others; the same, and
-worked logs, changed; and garbage, in records and in place of a header. The same seed and number always give the same bytes.
+worked logs, changed; and garbage, in records and in place of a header. A third of them are logs of version 2, with moments as
+recorders write them or with odd ones, and now and then cut or changed in a record's head. The same seed and number always give the
+same bytes.
 """
 import random
 from collections.abc import Callable
@@ -9,14 +11,17 @@ import check_rows
 import showing
 from honest_logs import Honest
 from make_log import CLOSE, CONNACK, CONNECT, OPEN, RECV, REST, SENT, record
-from random_logs import EXAMPLES, TELLING, Session, change, crowded, streams
+from random_logs import EXAMPLES, TELLING, Session, change, crowded, first_version_streams
 from session_logs import CLIENT, RELEASE, number, packet
-from shortening import HEADER_SIZE, packets, records
+from shortening import packets
+from versions import HEAD_SIZES, HEADER_SIZE, LENGTH_END, in_some_version, records, version_of
 
 HONEST = "honest"
 # What captures begin with, and what gzip compresses.
 MAGICS = (b"\xd4\xc3\xb2\xa1", b"\x4d\x3c\xb2\xa1", b"\x0a\x0d\x0d\x0a", b"\xa1\xb2\xc3\xd4", b"\x1f\x8b\x08")
+# (The longest bodies have 100000 bytes in version 1, and 1000000 in version 2, in hexadecimal digits.)
 LENGTHS = (b"\0\0\0\0", b"\0\0\0\1", b"\0\0\0\2", b"\0\x0f\xff\xff", b"\0\x10\0\0", b"\0\x10\0\1", b"\xff\xff\xff\xff")
+LENGTHS += (b"\0\xff\xff\xff", b"\1\0\0\0", b"\1\0\0\1")
 # Remaining Lengths: the greatest, those of a packet as large as the bound and of one byte more, over four bytes, needlessly long.
 REMAINING = (b"\xff\xff\xff\x7f", b"\xfb\xff\xff\x07", b"\xfc\xff\xff\x07", b"\xff\xff\xff\xff", b"\x80\0", b"\x85\x80\0")
 MARKS = (
@@ -191,6 +196,34 @@ def changed(draw: random.Random, log: bytes) -> bytes:
     return bytes(out)
 
 
+# ---- version 2
+
+
+def cut_head(draw: random.Random, log: bytes) -> bytes:
+    """A log that ends inside a record's head, mostly inside its moment, or from which a part of a moment is missing."""
+    parts = list(records(log))
+    if not parts:
+        return log
+    at = draw.randrange(len(parts))
+    size = draw.randint(LENGTH_END if draw.random() < 0.9 else 0, HEAD_SIZES[2])
+    rest = [parts[at][draw.randint(size, HEAD_SIZES[2]) :], *parts[at + 1 :]] if draw.random() < 0.3 else []
+    return log[:HEADER_SIZE] + b"".join([*parts[:at], parts[at][:size], *rest])
+
+
+def with_version(draw: random.Random, kind: str, log: bytes) -> bytes:
+    """The log, or a third of them in version 2. Then one that needn't pass may be cut or changed."""
+    log = in_some_version(draw, log)
+    if version_of(log) == 1 or kind == HONEST:
+        return log
+    if draw.random() < 0.1:
+        log = cut_head(draw, log)
+    if draw.random() < 0.05:
+        out = bytearray(log)
+        change(draw, out)
+        log = bytes(out)
+    return log
+
+
 # ---- garbage
 
 
@@ -249,7 +282,7 @@ KINDS: dict[str, tuple[Maker, int]] = {
     "random session": (lambda draw: Session(draw).log(), 16),
     "random session, changed": (lambda draw: changed(draw, Session(draw).log()), 8),
     "worked log, changed": (lambda draw: changed(draw, draw.choice(WORKED)), 14),
-    "packets of all types": (lambda draw: next(streams(draw, 1)), 4),
+    "packets of all types": (lambda draw: next(first_version_streams(draw, 1)), 4),
     "garbage in records": (garbage_in_records, 4),
     "garbage header": (garbage_header, 3),
     "long packet": (long_packet, 0.2),
@@ -272,5 +305,5 @@ def made(seed: int, which: int) -> Made:
     """The log of this number among those of the seed."""
     draw = random.Random(f"fuzz {seed} {which}")
     kind = draw.choices(list(KINDS), [often for _, often in KINDS.values()])[0]
-    log = KINDS[kind][0](draw)
+    log = with_version(draw, kind, KINDS[kind][0](draw))
     return Made(kind, log, some_packet(draw, log))

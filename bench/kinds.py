@@ -9,13 +9,13 @@ KINDS = (*make_log.KINDS, *session_logs.KINDS)
 SAMPLE = 10_000
 
 
-def log(kind: str, amount: int) -> Iterator[bytes]:
-    return make_log.log(kind, amount) if kind in make_log.KINDS else session_logs.log(kind, amount)
+def log(kind: str, amount: int, version: int = 1) -> Iterator[bytes]:
+    return (make_log if kind in make_log.KINDS else session_logs).log(kind, amount, version)
 
 
-def write(path: Path, kind: str, amount: int) -> None:
+def write(path: Path, kind: str, amount: int, version: int = 1) -> None:
     with open(path, "wb") as file:
-        file.writelines(log(kind, amount))
+        file.writelines(log(kind, amount, version))
 
 
 def events(kind: str, amount: int) -> int:

@@ -10,13 +10,18 @@ qos0        PUBLISH packets of 55 bytes at QoS 0 with a Topic Name of 20 bytes, 
 properties  the same with a Message Expiry Interval, a Content Type and a User Property
 pings       PINGREQ packets and their PINGRESPs
 
+With --log-version 2 the same records have moments: microseconds since 1970, which start over now and then.
+
 usage: bench/make_log.py N > FILE
-       bench/make_log.py --kind large --megabytes 200 > FILE
+       bench/make_log.py --kind large --megabytes 200 [--log-version 2] > FILE
 """
 import argparse
 import struct
 import sys
 from collections.abc import Callable, Iterator
+
+sys.dont_write_bytecode = True  # the repository stays as it is
+from versions import HEAD_SIZES, in_version
 
 OPEN, SENT, RECV, CLOSE, REST = 1, 2, 3, 4, 5
 HEADER = bytes.fromhex("4d51545201000100")
@@ -26,7 +31,7 @@ IDENTIFIERS = 65_535
 LARGEST_BODY = 1_048_576
 CUT = 37
 SMALLEST_PAYLOAD, LARGEST_PAYLOAD = 200_000, 2_000_000
-PUBLISH_SIZE, PUBACK_SIZE, RECORD_HEAD = 9, 4, 5
+PUBLISH_SIZE, PUBACK_SIZE, RECORD_HEAD = 9, 4, HEAD_SIZES[1]
 
 
 def record(kind: int, body: bytes = b"") -> bytes:
@@ -166,10 +171,14 @@ def events_of(kind: str, messages: int) -> int:
     return 5 + EVENTS[kind] * messages
 
 
-def log(kind: str, messages: int) -> Iterator[bytes]:
+def first_version(kind: str, messages: int) -> Iterator[bytes]:
     yield HEADER + record(OPEN) + record(SENT, CONNECT) + record(RECV, CONNACK)
     yield from KINDS[kind](messages)
     yield record(REST) + record(CLOSE)
+
+
+def log(kind: str, messages: int, version: int = 1) -> Iterator[bytes]:
+    return in_version(first_version(kind, messages), version)
 
 
 def main() -> None:
@@ -177,13 +186,14 @@ def main() -> None:
     arguments.add_argument("messages", nargs="?", type=int, metavar="N", help="how many messages")
     arguments.add_argument("--kind", choices=KINDS, default="small")
     arguments.add_argument("--megabytes", type=float, help="about how large, in 1,000,000 bytes, instead of N")
+    arguments.add_argument("--log-version", type=int, choices=HEAD_SIZES, default=1, help="of the log's format (default 1)")
     given = arguments.parse_args()
     if (given.messages is None) == (given.megabytes is None):
         arguments.error("one of N and --megabytes is needed")
     messages = given.messages
     if messages is None:
         messages = messages_for(given.kind, int(given.megabytes * 1_000_000))
-    sys.stdout.buffer.writelines(log(given.kind, messages))
+    sys.stdout.buffer.writelines(log(given.kind, messages, given.log_version))
 
 
 if __name__ == "__main__":

@@ -32,6 +32,15 @@ NESTED = HEADER + OPEN + OPEN
 PINGS = 70_000
 MANY = HEADER + OPEN + CONNECT + CONNACK + b"\x02" + (2 * PINGS).to_bytes(4, "big") + b"\xc0\x00" * PINGS
 
+# The faulty one in version 2, with moments; and one whose body is longer than it may be in version 1.
+TIMED = b"MQTR\x02\x00\x01\x00" + b"".join(
+    part[:5] + moment.to_bytes(8, "big") + part[5:]
+    for part, moment in zip((OPEN, CONNECT, CONNACK, PUBLISH, PUBLISH), (0, 1_764_176_601_123_456, 1 << 63, (1 << 64) - 1, 10))
+)
+LONG_PINGS = 600_000
+LONG_HEAD = b"\x02" + (2 * LONG_PINGS).to_bytes(4, "big")
+LONG = TIMED[: -2 * len(PUBLISH) - 16] + LONG_HEAD + bytes(8) + b"\xc0\x00" * LONG_PINGS
+
 PASS = "pass 4 events\n"
 FAIL = "fault 5 S01 MQTT-2.2.1-3 decided 5 record 5 offset -\nfail 1 faults 5 events\n"
 REFUSED = "refused 7 Nested at 13\n"
@@ -44,6 +53,14 @@ NEAR_LINES = """\
 5 record 5 SENT PUBLISH size 9 qos 1 dup 0 id 1
   fault S01 MQTT-2.2.1-3 A new PUBLISH, SUBSCRIBE or UNSUBSCRIBE takes no Packet Identifier that is in use.
 """
+TIMED_LINES = """\
+1 record 1 moment 0 OPEN
+2 record 2 moment 1764176601123456 SENT CONNECT size 15
+3 record 3 moment 9223372036854775808 RECV CONNACK size 5
+4 record 4 moment 18446744073709551615 SENT PUBLISH size 9 qos 1 dup 0 id 1
+5 record 5 moment 10 SENT PUBLISH size 9 qos 1 dup 0 id 1
+"""
+TIMED_NEAR = "..\n" + "".join(TIMED_LINES.splitlines(keepends=True)[3:]) + NEAR_LINES.splitlines(keepends=True)[3]
 WRITE_FAILED = "mqjudge: write failed\n"
 NOT_HEX = "mqjudge: not hex\n"
 NO_FILE = "mqjudge: --faults reads the log twice, so it needs a FILE, not standard input\n"
@@ -186,6 +203,7 @@ PCAPNG = b"\x0a\x0d\x0d\x0a\x1c\x00\x00\x00"
 GZIPPED = gzip.compress(GOOD)
 
 FILES = {"good.log": GOOD, "faulty.log": FAULTY, "nested.log": NESTED, "short.log": GOOD[:-1], "many.log": MANY, "-": FAULTY}
+FILES |= {"timed.log": TIMED, "long.log": LONG, "short-moment.log": TIMED[:20]}
 FILES |= {"a.pcap": PCAP, "fine.pcap": FINE_PCAP, "a.pcapng": PCAPNG, "good.log.gz": GZIPPED, "short.gz": GZIPPED[:2], "two.log": b"MQ"}
 
 RUNS = [
@@ -198,6 +216,13 @@ RUNS = [
     Run(["show", "good.log"], 0, LINES, stdin=NESTED),
     Run(["show", "nested.log"], 2, "1 record 1 OPEN\n" + REFUSED, stdin=GOOD),
     Run(["show", "many.log"], 0, MANY_LINES),
+    # Logs of version 2 have moments.
+    Run(["check", "timed.log"], 1, FAIL),
+    Run(["show", "timed.log"], 0, TIMED_LINES),
+    Run(["show", "--faults", "--around", "1", "timed.log"], 0, TIMED_NEAR),
+    Run(["check", "long.log"], 0, f"pass {LONG_PINGS + 3} events\n"),
+    Run(["check"], 2, "refused 6 Length at 17\n", stdin=HEADER + OPEN + LONG_HEAD + b"\xc0\x00" * LONG_PINGS),
+    Run(["check", "short-moment.log"], 2, "refused 10 Cut at 20\n"),
     # Without a file, or with `-`, standard input is.
     Run(["check"], 0, PASS, stdin=GOOD),
     Run(["check"], 1, FAIL, stdin=FAULTY),

@@ -9,6 +9,8 @@ to no session comes before it. `bench/check_random.py` compares the reports on t
 `streams` are for `bench/compare.py`, which looks at what is shown: packets of all kinds, those of packets.txt, in records that are
 cut anywhere. `crowded` gives both as many events before a CONNACK as there may be, and one more.
 
+A third of the sessions and of the streams are logs of version 2, with moments as recorders write them or with odd ones.
+
 usage: bench/random_logs.py SEED NUMBER > FILE
 """
 import argparse
@@ -22,6 +24,7 @@ sys.dont_write_bytecode = True  # the repository stays as it is
 import make_log
 from make_log import CLOSE, OPEN, RECV, REST, SENT, record, varint
 from session_logs import CLIENT, MOST_EARLY, RELEASE, SERVER, End, number, packet, publish, release, text
+from versions import in_some_version
 
 PACKETS = Path(__file__).resolve().parent / "packets.txt"
 TELLING = bytes.fromhex("0001020405 23262B2F 7F80C3FF 10 82")
@@ -350,7 +353,8 @@ class Session:
 
 def session(seed: int, which: int) -> bytes:
     """The log of this number among those of the seed."""
-    return Session(random.Random(f"{seed} {which}")).log()
+    draw = random.Random(f"{seed} {which}")
+    return in_some_version(draw, Session(draw).log())
 
 
 # ---- streams of packets of all kinds
@@ -372,6 +376,11 @@ def records(draw: random.Random, sent: bytes, received: bytes) -> bytes:
 
 def streams(draw: random.Random, count: int) -> Iterator[bytes]:
     """So many logs. In about half of them packets come before the CONNACK, or without one."""
+    for log in first_version_streams(draw, count):
+        yield in_some_version(draw, log)
+
+
+def first_version_streams(draw: random.Random, count: int) -> Iterator[bytes]:
     for _ in range(count):
         log = bytearray(b"MQTR\x01" + bytes([draw.randrange(2), 1, 0]))
         is_early = draw.random() < 0.5

@@ -6,7 +6,7 @@ goes on for ever, so it may end in the midst of an exchange. What a kind keeps o
 Identifiers in each direction: so an event that takes time in what is open shows itself when a log of four times as many events is
 judged. `bench/run.py --growth` measures that, and `bench/check_logs.py` holds each kind against `reference.py`.
 
-usage: bench/session_logs.py KIND EVENTS > FILE
+usage: bench/session_logs.py KIND EVENTS [--log-version 2] > FILE
 """
 import argparse
 import struct
@@ -18,6 +18,7 @@ from itertools import count, islice
 
 sys.dont_write_bytecode = True  # the repository stays as it is
 from make_log import CLOSE, OPEN, PINGREQ, PINGRESP, RECV, REST, SENT, record, varint
+from versions import HEAD_SIZES, in_version
 
 RELEASE = 6
 IDENTIFIERS = 65_535
@@ -494,18 +495,23 @@ KINDS: dict[str, Kind] = {
 }
 
 
-def log(kind: str, events: int) -> Iterator[bytes]:
-    """A log of this kind with exactly so many events. It records releases."""
-    yield b"MQTR" + bytes([KINDS[kind].role, 1, 0])
+def first_version(kind: str, events: int) -> Iterator[bytes]:
+    yield b"MQTR\x01" + bytes([KINDS[kind].role, 1, 0])
     yield from islice(KINDS[kind].records(events), events)
+
+
+def log(kind: str, events: int, version: int = 1) -> Iterator[bytes]:
+    """A log of this kind with exactly so many events. It records releases. In version 2 it has times as moments."""
+    return in_version(first_version(kind, events), version)
 
 
 def main() -> None:
     arguments = argparse.ArgumentParser(description="Writes a log of a session of one kind.")
     arguments.add_argument("kind", choices=KINDS, metavar="KIND", help=", ".join(KINDS))
     arguments.add_argument("events", type=int, metavar="EVENTS", help="how many events it has")
+    arguments.add_argument("--log-version", type=int, choices=HEAD_SIZES, default=1, help="of the log's format (default 1)")
     given = arguments.parse_args()
-    sys.stdout.buffer.writelines(log(given.kind, given.events))
+    sys.stdout.buffer.writelines(log(given.kind, given.events, given.log_version))
 
 
 if __name__ == "__main__":

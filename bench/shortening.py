@@ -5,8 +5,8 @@ from collections.abc import Callable, Iterator, Sequence
 from typing import TypeVar
 
 from make_log import CLOSE, OPEN, RECV, SENT, record
+from versions import HEAD_SIZES, HEADER_SIZE, LENGTH_END, body_size, head_size, in_version_1, in_version_2, records, version_of
 
-HEADER_SIZE, HEAD_SIZE = 8, 5
 KINDS = ("", "OPEN", "SENT", "RECV", "CLOSE", "REST", "RELEASE")
 MOST_TRIES = 1_500
 Part = TypeVar("Part")
@@ -16,26 +16,28 @@ Shows = Callable[[bytes], bool]
 # ---- taking apart
 
 
-def records(log: bytes) -> Iterator[bytes]:
-    """The records of a log, each whole, but for the last one if the log ends in it."""
-    at = HEADER_SIZE
-    while at < len(log):
-        end = at + HEAD_SIZE + int.from_bytes(log[at + 1 : at + HEAD_SIZE], "big")
-        yield log[at:end]
-        at = end
-
-
 def words(log: bytes) -> str:
-    """The log as words: its records, with their bodies in hexadecimal digits. What isn't the log of an end is digits alone."""
-    parts = list(records(log))
-    if log[:5] != b"MQTR\x01" or len(log) < HEADER_SIZE or any(not is_whole(part) for part in parts):
+    """The log as words: its records, in version 2 with their moments, and their bodies in hexadecimal digits. What isn't the log of an
+    end is digits alone."""
+    parts, head = list(records(log)), head_size(log)
+    if log[:5] not in (b"MQTR\x01", b"MQTR\x02") or len(log) < HEADER_SIZE or any(not is_whole(part, head) for part in parts):
         return log.hex()
     end = ("client", "server")[log[5] & 1] + ("" if log[6] else ", releases not recorded")
-    return " ".join([end, *(f"{KINDS[part[0]]} {part[HEAD_SIZE:].hex()}".rstrip() for part in parts)])
+    return " ".join([end, *(f"{KINDS[part[0]]}{moment_text(part, head)} {part[head:].hex()}".rstrip() for part in parts)])
 
 
-def is_whole(part: bytes) -> bool:
-    return len(part) >= HEAD_SIZE and 0 < part[0] < len(KINDS) and len(part) - HEAD_SIZE == int.from_bytes(part[1:HEAD_SIZE], "big")
+def moment_text(part: bytes, head: int) -> str:
+    return f"@{int.from_bytes(part[LENGTH_END:head], 'big')}" if head > LENGTH_END else ""
+
+
+def is_whole(part: bytes, head: int) -> bool:
+    """Whether a record is whole, where heads have so many bytes."""
+    return len(part) >= head and 0 < part[0] < len(KINDS) and len(part) - head == body_size(part)
+
+
+def with_body(part: bytes, head: int, body: bytes) -> bytes:
+    """A record with another body."""
+    return part[:1] + len(body).to_bytes(4, "big") + part[LENGTH_END:head] + body
 
 
 def first_packet(stream: bytes) -> int:
@@ -58,7 +60,8 @@ def in_packets(stream: bytes) -> list[bytes]:
 
 def packets(log: bytes) -> list[bytes]:
     """The packets of a log that begin and end with a record."""
-    return [one for part in records(log) if part[0] in (SENT, RECV) for one in in_packets(part[HEAD_SIZE:])]
+    head = head_size(log)
+    return [one for part in records(log) if part[0] in (SENT, RECV) for one in in_packets(part[head:])]
 
 
 # ---- making shorter
@@ -91,23 +94,28 @@ def fewest(parts: Sequence[Part], shows: Callable[[list[Part]], bool]) -> list[P
     return kept
 
 
-def by_packets(parts: list[bytes]) -> list[bytes]:
+def by_packets(parts: list[bytes], head: int) -> list[bytes]:
     """The same streams with a packet in each record, which is where the packet's last byte was."""
     out: list[bytes] = []
     left = {SENT: b"", RECV: b""}
+
+    def put_left(moment: bytes) -> None:
+        out.extend(with_body(bytes([way, 0, 0, 0, 0]) + moment, head, rest) for way, rest in left.items() if rest)
+        left.update({SENT: b"", RECV: b""})
+
     for part in parts:
-        kind = part[0] if is_whole(part) else 0
+        kind = part[0] if is_whole(part, head) else 0
         if kind not in left:
             if kind in (OPEN, CLOSE):
-                out += [record(way, rest) for way, rest in left.items() if rest]
-                left = {SENT: b"", RECV: b""}
+                put_left(part[LENGTH_END:head])
             out.append(part)
             continue
-        found = in_packets(left[kind] + part[HEAD_SIZE:])
+        found = in_packets(left[kind] + part[head:])
         is_ended = bool(found) and is_complete(found[-1])
         left[kind] = b"" if is_ended or not found else found.pop()
-        out += [record(kind, one) for one in found]
-    return out + [record(way, rest) for way, rest in left.items() if rest]
+        out += [with_body(part, head, one) for one in found]
+    put_left(bytes(head - LENGTH_END))
+    return out
 
 
 def is_complete(packet: bytes) -> bool:
@@ -115,26 +123,28 @@ def is_complete(packet: bytes) -> bool:
     return first_packet(packet + b"\0") == len(packet) or (len(packet) >= 5 and min(packet[1:5]) >= 0x80)
 
 
-def smaller_bodies(part: bytes) -> Iterator[bytes]:
+def smaller_bodies(part: bytes, head: int) -> Iterator[bytes]:
     """The record without one byte of its body, with the packet's Remaining Length right if that is one byte; or with a byte that is
-    0 or 1."""
-    body = part[HEAD_SIZE:]
+    0 or 1; or with the moment 0."""
+    body = part[head:]
+    if any(part[LENGTH_END:head]):
+        yield part[:LENGTH_END] + bytes(head - LENGTH_END) + body
     for at in reversed(range(len(body))):
         fewer = body[:at] + body[at + 1 :]
         if at >= 2 and body[1] == len(body) - 2:
-            yield record(part[0], fewer[:1] + bytes([len(fewer) - 2]) + fewer[2:])
+            yield with_body(part, head, fewer[:1] + bytes([len(fewer) - 2]) + fewer[2:])
         else:
-            yield record(part[0], fewer)
-        yield from (record(part[0], body[:at] + bytes([byte]) + body[at + 1 :]) for byte in (0, 1) if byte < body[at])
+            yield with_body(part, head, fewer)
+        yield from (with_body(part, head, body[:at] + bytes([byte]) + body[at + 1 :]) for byte in (0, 1) if byte < body[at])
 
 
-def with_less_in_bodies(header: bytes, parts: list[bytes], tries: Tries) -> list[bytes]:
+def with_less_in_bodies(header: bytes, parts: list[bytes], head: int, tries: Tries) -> list[bytes]:
     at = 0
     while at < len(parts) and tries.left > 0:
-        if not is_whole(parts[at]):
+        if not is_whole(parts[at], head):
             at += 1
             continue
-        for smaller in smaller_bodies(parts[at]):
+        for smaller in smaller_bodies(parts[at], head):
             if smaller != parts[at] and tries.ask(header + b"".join([*parts[:at], smaller, *parts[at + 1 :]])):
                 parts = [*parts[:at], smaller, *parts[at + 1 :]]
                 break
@@ -144,20 +154,26 @@ def with_less_in_bodies(header: bytes, parts: list[bytes], tries: Tries) -> list
 
 
 def shortest(log: bytes, shows: Shows) -> bytes:
-    """A log that shows the same: without any one record, packet or byte it doesn't, unless too many had to be tried."""
+    """A log that shows the same: without any one record, packet or byte it doesn't, unless too many had to be tried. It is one of
+    version 1, or has the moments 0, if it can be."""
     tries = Tries(shows)
-    header, parts = log[:HEADER_SIZE], list(records(log))
+    if version_of(log) == 2 and tries.ask(in_version_1(log)):
+        log = in_version_1(log)
+    elif version_of(log) == 2 and tries.ask(in_version_2(in_version_1(log))):
+        log = in_version_2(in_version_1(log))
+    header, parts, head = log[:HEADER_SIZE], list(records(log)), head_size(log)
     if len(header) < HEADER_SIZE:
         return bytes(fewest(log, lambda left: tries.ask(bytes(left))))
     parts = fewest(parts, lambda left: tries.ask(header + b"".join(left)))
-    if not all(map(is_whole, parts)):
+    if not all(is_whole(part, head) for part in parts):
         return header + bytes(fewest(b"".join(parts), lambda left: tries.ask(header + bytes(left))))
-    if tries.ask(header + b"".join(by_packets(parts))):
-        parts = fewest(by_packets(parts), lambda left: tries.ask(header + b"".join(left)))
-    return header + b"".join(with_less_in_bodies(header, parts, tries))
+    if tries.ask(header + b"".join(by_packets(parts, head))):
+        parts = fewest(by_packets(parts, head), lambda left: tries.ask(header + b"".join(left)))
+    return header + b"".join(with_less_in_bodies(header, parts, head, tries))
 
 
 def shortest_packet(packet: bytes, shows: Shows) -> bytes:
     """A packet that shows the same, by bytes."""
-    tries = Tries(lambda log: shows(log[HEAD_SIZE:]))
-    return with_less_in_bodies(b"", [record(SENT, packet)], tries)[0][HEAD_SIZE:]
+    head = HEAD_SIZES[1]
+    tries = Tries(lambda log: shows(log[head:]))
+    return with_less_in_bodies(b"", [record(SENT, packet)], head, tries)[0][head:]

@@ -39,7 +39,11 @@ def event_text(event: Event) -> str:
 def show(log: bytes) -> Answer:
     """What `show` answers."""
     read = Beginning(log)
-    lines = [f"{at} record {event.record} {event_text(event)}\n" for at, event in enumerate(read.events, 1)]
+    moments = [f" moment {event.moment}" if read.version == 2 else "" for event in read.events]
+    lines = [
+        f"{at} record {event.record}{moment} {event_text(event)}\n"
+        for at, (event, moment) in enumerate(zip(read.events, moments, strict=True), 1)
+    ]
     if read.refusal is not None:
         return 2, "".join([*lines, f"{read.refusal.text()}\n"])
     return 0, "".join(lines)

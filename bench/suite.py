@@ -25,7 +25,8 @@ import check_rows
 import reference
 from check_forms import as_json
 from judges import STATUSES
-from shortening import HEAD_SIZE, HEADER_SIZE, KINDS, records
+from shortening import KINDS
+from versions import HEAD_SIZES, HEADER_SIZE, records
 
 HERE = Path(__file__).resolve().parent
 ROWS = HERE / "suite_rows.txt"
@@ -133,7 +134,7 @@ def difference(broken: bytes, kept: bytes) -> tuple[int, str] | None:
 
 
 def record_text(record: bytes) -> str:
-    return f"`{KINDS[record[0]]} {record[HEAD_SIZE:].hex(' ').upper()}".rstrip() + "`"
+    return f"`{KINDS[record[0]]} {record[HEAD_SIZES[1] :].hex(' ').upper()}".rstrip() + "`"
 
 
 def difference_text(broken: bytes, kept: bytes) -> str:

@@ -1,4 +1,4 @@
-//! The log of one end of a session, version 1: its records, and the packets of each direction.
+//! The log of one end of a session, of both versions: its records, and the packets of each direction.
 
 use crate::packet::{self, Fault, Front, Summary};
 use std::fmt::{self, Display, Formatter};
@@ -6,7 +6,10 @@ use std::io;
 
 const MAGIC: [u8; 4] = *b"MQTR";
 const HEADER_SIZE: u64 = 8;
-const LARGEST_BODY: u32 = 1_048_576;
+const LARGEST_BODY: u32 = 1_048_576; // in version 1
+const LARGEST_TIMED_BODY: u32 = 16_777_216; // in version 2
+const LENGTH_SIZE: u8 = 4;
+const MOMENT_SIZE: u8 = 8;
 const LARGEST_PACKET: usize = 16_777_216;
 const MOST_EARLY: u32 = 4_096;
 
@@ -79,9 +82,16 @@ pub enum Event {
     Received(Item),
 }
 
+/// Where an event stands: its position, its record, and in version 2 that record's moment.
+pub struct Place {
+    pub position: u32,
+    pub record: u32,
+    pub moment: Option<u64>,
+}
+
 /// Takes the events of a log in their order.
 pub trait Sink {
-    fn event(&mut self, position: u32, record: u32, event: &Event) -> io::Result<()>;
+    fn event(&mut self, place: &Place, event: &Event) -> io::Result<()>;
 }
 
 #[derive(Clone, Copy, PartialEq)]
@@ -97,8 +107,22 @@ enum Kind {
 enum State {
     Header,
     Kind,
-    Length { kind: Kind, have: u8, value: u32 },
-    Body { kind: Kind, left: u32, value: u16 },
+    Length {
+        kind: Kind,
+        have: u8,
+        value: u32,
+    },
+    Moment {
+        kind: Kind,
+        length: u32,
+        have: u8,
+        value: u64,
+    },
+    Body {
+        kind: Kind,
+        left: u32,
+        value: u16,
+    },
 }
 
 // One direction of a connection: its unfinished packet, that packet's size once it is known, and whether it was lost.
@@ -122,6 +146,8 @@ pub struct Log<S> {
     sink: S,
     state: State,
     offset: u64,
+    has_moments: bool,
+    moment: Option<u64>, // of the record that is being read
     is_server: bool,
     has_releases: bool,
     is_open: bool,
@@ -139,6 +165,8 @@ impl<S: Sink> Log<S> {
             sink,
             state: State::Header,
             offset: 0,
+            has_moments: false,
+            moment: None,
             is_server: false,
             has_releases: false,
             is_open: false,
@@ -178,11 +206,34 @@ impl<S: Sink> Log<S> {
                     piece = after;
                     continue;
                 }
+                // A moment that is whole in the piece is read at once.
+                State::Moment {
+                    kind,
+                    length,
+                    have: 0,
+                    ..
+                } if piece.len() >= usize::from(MOMENT_SIZE) => {
+                    let (moment, after) = piece.split_at(usize::from(MOMENT_SIZE));
+                    let value = moment
+                        .iter()
+                        .fold(0, |sum, &byte| sum << 8 | u64::from(byte));
+                    self.offset += u64::from(MOMENT_SIZE) - 1;
+                    self.moment(kind, length, MOMENT_SIZE, value)?;
+                    self.offset += 1;
+                    piece = after;
+                    continue;
+                }
                 State::Header => self.header(byte)?,
                 State::Kind => self.kind(byte)?,
                 State::Length { kind, have, value } => {
                     self.length(kind, have + 1, value << 8 | u32::from(byte))?
                 }
+                State::Moment {
+                    kind,
+                    length,
+                    have,
+                    value,
+                } => self.moment(kind, length, have + 1, value << 8 | u64::from(byte))?,
                 State::Body { left, value, .. } => {
                     self.release(left - 1, value << 8 | u16::from(byte))?
                 }
@@ -204,7 +255,7 @@ impl<S: Sink> Log<S> {
     fn header(&mut self, byte: u8) -> Result<(), Stop> {
         let (number, is_right) = match self.offset {
             place @ 0..=3 => (1, byte == MAGIC[place as usize]),
-            4 => (2, byte == 1),
+            4 => (2, byte == 1 || byte == 2),
             5 => (3, byte <= 1),
             6 => (4, byte <= 1),
             _ => (4, byte == 0),
@@ -213,6 +264,7 @@ impl<S: Sink> Log<S> {
             return refuse(number, self.offset);
         }
         match self.offset {
+            4 => self.has_moments = byte == 2,
             5 => self.is_server = byte == 1,
             6 => self.has_releases = byte == 1,
             _ => {}
@@ -249,19 +301,52 @@ impl<S: Sink> Log<S> {
     }
 
     fn length(&mut self, kind: Kind, have: u8, value: u32) -> Result<(), Stop> {
-        if have < 4 {
+        if have < LENGTH_SIZE {
             self.state = State::Length { kind, have, value };
             return Ok(());
         }
+        let largest = if self.has_moments {
+            LARGEST_TIMED_BODY
+        } else {
+            LARGEST_BODY
+        };
         let is_right = match kind {
-            Kind::Sent | Kind::Received => value <= LARGEST_BODY,
+            Kind::Sent | Kind::Received => value <= largest,
             Kind::Release => value == 2,
             Kind::Open | Kind::Close | Kind::Rest => value == 0,
         };
         if !is_right {
             return refuse(6, self.offset);
         }
-        self.state = match value {
+        if self.has_moments {
+            self.state = State::Moment {
+                kind,
+                length: value,
+                have: 0,
+                value: 0,
+            };
+            return Ok(());
+        }
+        self.begin_body(kind, value)
+    }
+
+    fn moment(&mut self, kind: Kind, length: u32, have: u8, value: u64) -> Result<(), Stop> {
+        if have < MOMENT_SIZE {
+            self.state = State::Moment {
+                kind,
+                length,
+                have,
+                value,
+            };
+            return Ok(());
+        }
+        self.moment = Some(value);
+        self.begin_body(kind, length)
+    }
+
+    // The head of a record is whole. One without a body is an event here.
+    fn begin_body(&mut self, kind: Kind, length: u32) -> Result<(), Stop> {
+        self.state = match length {
             0 => State::Kind,
             left => State::Body {
                 kind,
@@ -312,7 +397,12 @@ impl<S: Sink> Log<S> {
             return refuse(14, byte);
         };
         self.events = events;
-        Ok(self.sink.event(events, self.records, event)?)
+        let place = Place {
+            position: events,
+            record: self.records,
+            moment: self.moment,
+        };
+        Ok(self.sink.event(&place, event)?)
     }
 
     fn direction(&mut self, kind: Kind) -> &mut Direction {

@@ -189,7 +189,7 @@ fn refuses_at_the_first_byte_that_shows_it() {
     .concat();
     for (hex, text) in [
         ("00".to_string(), "1 Header at 0"),
-        ("4D51545202".into(), "2 Version at 4"),
+        ("4D51545203".into(), "2 Version at 4"),
         ("4D5154520102".into(), "3 Role at 5"),
         ("4D51545201000200".into(), "4 Flags at 6"),
         ("4D51545201000101".into(), "4 Flags at 7"),
@@ -228,6 +228,36 @@ fn refuses_at_the_first_byte_that_shows_it() {
         ),
     ] {
         assert_eq!(last_line(&bytes(&hex)), format!("refused {text}"), "{hex}");
+    }
+}
+
+#[test]
+fn reads_version_2() {
+    let opened = "4D51545202000100 01 00000000 0000000000000000";
+    let whole = bytes(&format!(
+        "{opened} 02 0000000F 000640E1F8E7D6C5 {CONNECT} 06 00000002 FFFFFFFFFFFFFFFF 0102 04 00000000 0000000000000001"
+    ));
+    let lines = "1 record 1 moment 0 OPEN\n\
+        2 record 2 moment 1760189148026565 SENT CONNECT size 15\n\
+        3 record 3 moment 18446744073709551615 RELEASE 258\n\
+        4 record 4 moment 1 CLOSE\n";
+    for size in [1, 2, 3, 7, 37, usize::MAX] {
+        assert_eq!(shown(&whole, size), lines);
+    }
+    // It may end after the header and after each record: elsewhere it is cut.
+    for size in 0..whole.len() {
+        let text = shown(&whole[..size], usize::MAX);
+        let is_cut = text.ends_with(&format!("refused 10 Cut at {size}\n"));
+        assert_eq!(is_cut, ![8, 21, 49, 64].contains(&size), "{size}");
+    }
+    for (records, text) in [
+        ("02 01000000", "10 Cut at 26"),
+        ("02 01000001", "6 Length at 25"),
+        ("04 00000001", "6 Length at 25"),
+        ("01", "7 Nested at 21"),
+    ] {
+        let log = bytes(&format!("{opened} {records}"));
+        assert_eq!(last_line(&log), format!("refused {text}"), "{records}");
     }
 }
 
@@ -341,6 +371,20 @@ fn stays_whole_on_changed_packets() {
     assert!(valid > 60_000, "only {valid} are valid");
 }
 
+// A log of version 1 in version 2, with any moments.
+fn in_version_2(log: &[u8], draws: &mut Draws) -> Vec<u8> {
+    let mut out = [&log[..4], &[2], &log[5..8]].concat();
+    let mut rest = &log[8..];
+    while !rest.is_empty() {
+        let size = 5 + u32::from_be_bytes([rest[1], rest[2], rest[3], rest[4]]) as usize;
+        out.extend(&rest[..5]);
+        out.extend((0..8).map(|_| draws.byte()));
+        out.extend(&rest[5..size]);
+        rest = &rest[size..];
+    }
+    out
+}
+
 #[test]
 fn shows_the_same_in_any_pieces() {
     let mut draws = Draws(2);
@@ -349,8 +393,11 @@ fn shows_the_same_in_any_pieces() {
         log.extend([2 + (n % 2) as u8, 0, 0, 0, packet.len() as u8]);
         log.extend(packet);
     }
-    for _ in 0..3_000 {
+    for round in 0..6_000 {
         let mut log = log.clone();
+        if round % 2 == 1 {
+            log = in_version_2(&log, &mut draws);
+        }
         for _ in 0..draws.below(4) {
             draws.change(&mut log);
         }

@@ -1,6 +1,6 @@
 //! What is printed of packets and events. The text is put together by hand: `write!` takes four fifths of the time else.
 
-use crate::log::{Event, Item};
+use crate::log::{Event, Item, Place};
 use crate::packet::Summary;
 
 const NAMES: [&str; 16] = [
@@ -24,10 +24,13 @@ const NAMES: [&str; 16] = [
 const PUBLISH: u8 = 3;
 
 /// Appends the line of an event.
-pub fn put_event(out: &mut Vec<u8>, position: u32, record: u32, event: &Event) {
-    put_number(out, position);
-    put(out, " record ");
-    put_number(out, record);
+pub fn put_event(out: &mut Vec<u8>, place: &Place, event: &Event) {
+    put_number(out, u64::from(place.position));
+    put_field(out, " record ", place.record);
+    if let Some(moment) = place.moment {
+        put(out, " moment ");
+        put_number(out, moment);
+    }
     match event {
         Event::Open => put(out, " OPEN"),
         Event::Close => put(out, " CLOSE"),
@@ -46,7 +49,7 @@ pub fn put_item(out: &mut Vec<u8>, before: &str, item: &Item) {
         Item::Packet(packet) => put_packet(out, packet),
         Item::Bad { rule, at } => {
             put(out, if *rule < 10 { "BAD W0" } else { "BAD W" });
-            put_number(out, u32::from(*rule));
+            put_number(out, u64::from(*rule));
             put_field(out, " offset ", *at as u32);
         }
         Item::Lost => put(out, "LOST"),
@@ -67,15 +70,15 @@ fn put_packet(out: &mut Vec<u8>, packet: &Summary) {
 
 fn put_field(out: &mut Vec<u8>, name: &str, value: u32) {
     put(out, name);
-    put_number(out, value);
+    put_number(out, u64::from(value));
 }
 
 fn put(out: &mut Vec<u8>, text: &str) {
     out.extend_from_slice(text.as_bytes());
 }
 
-fn put_number(out: &mut Vec<u8>, mut value: u32) {
-    let mut digits = [0; 10];
+fn put_number(out: &mut Vec<u8>, mut value: u64) {
+    let mut digits = [0; 20];
     let mut first = digits.len();
     loop {
         first -= 1;
