@@ -463,7 +463,7 @@ BODIES: dict[int, Callable[[Packet, Reader], None]] = {
 # ---- the log: its records and events, and why it may be refused
 
 REFUSALS = ("", "Header", "Version", "Role", "Flags", "Kind", "Length", "Nested", "NotOpen", "ReleaseUnrecorded", "Cut", "TooLarge",
-            "OtherVersion", "TooManyEarly")
+            "OtherVersion", "TooManyEarly", "TooLong")
 MOST_EARLY = 4_096  # events of a connection before its CONNACK
 OPEN, SENT, RECV, CLOSE, REST, RELEASE = range(1, 7)
 MOST_IN_RECORD = {1: 1_048_576, 2: 16_777_216}  # by version
