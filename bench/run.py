@@ -13,9 +13,15 @@ With --growth it shows for each kind of log, also those of session_logs.py, whet
 costs in a log of some events, and in one of four times as many, and the ratio. The status is 1 if one isn't passed, or isn't
 linear.
 
+With --versions it shows how many instructions an event takes `check` and `show` in version 2 of the log, beside version 1 of the
+same events; the status is 1 if one takes more than 1.05 times as many. With --convert it shows what `convert` of a log of small
+records takes beside `show` of it; the status is 1 if that is more than twice the time, or its memory grows with the log.
+
 usage: bench/run.py [--mqjudge PATH] [--megabytes 200] [--rounds 1]
        bench/run.py --instructions [--mqjudge PATH] [--messages 4000]
        bench/run.py --growth [--mqjudge PATH] [--events 66000] [--by-time]
+       bench/run.py --versions [--mqjudge PATH] [--messages 4000]
+       bench/run.py --convert [--mqjudge PATH] [--megabytes 200] [--rounds 1]
 """
 import argparse
 import shutil
@@ -28,8 +34,9 @@ from pathlib import Path
 sys.dont_write_bytecode = True  # the repository stays as it is
 import kinds
 import make_log
+from costs import print_convert, print_versions, quickest
 from growth import print_growth
-from measuring import Bounds, Measure, counter, instructions, measure
+from measuring import Bounds, Measure, counter, instructions
 
 HERE = Path(__file__).resolve().parent
 COLUMNS = "{:<24} {:<15} {:>9} {:>9} {:>8} {:>12} {:>7} {:>9}  {}"
@@ -125,8 +132,7 @@ def print_speed(chosen: list[str], mqjudge: Path, megabytes: float, rounds: int,
             commands["sha256sum"] = ["sha256sum", str(log)]
             yardsticks = {}
             for program, command in commands.items():
-                # (A run that was stopped or failed took no time that counts.)
-                found = min((measure(command, folder, bounds) for _ in range(rounds)), key=lambda one: (one.status != "status 0", one.processor))
+                found = quickest(command, rounds, folder, bounds)
                 # (`check` prints no line for each event, and nor does `baseline count`)
                 yardstick = "baseline count" if program.endswith(("count", "check")) else "baseline"
                 yardsticks.setdefault(program, max(found.processor, 1e-6))
@@ -134,7 +140,7 @@ def print_speed(chosen: list[str], mqjudge: Path, megabytes: float, rounds: int,
             log.unlink()
 
 
-def main() -> int:
+def parse() -> argparse.Namespace:
     words = argparse.ArgumentParser(description="Measures mqjudge beside a plain program and sha256sum.")
     words.add_argument("--mqjudge", type=Path, default=HERE.parent / "crates/mq_cli/out/mq_cli")
     words.add_argument("--megabytes", type=float, default=200, help="of each log (default 200)")
@@ -147,7 +153,13 @@ def main() -> int:
     words.add_argument("--growth", action="store_true", help="show instead whether `check` is linear in the events")
     words.add_argument("--events", type=int, default=66_000, help="with --growth, of the shorter log of each kind (default 66000)")
     words.add_argument("--by-time", action="store_true", help="with --growth, measure processor time, and count no instructions")
-    given = words.parse_args()
+    words.add_argument("--versions", action="store_true", help="show instead what version 2 of the log costs")
+    words.add_argument("--convert", action="store_true", help="show instead what `convert` costs")
+    return words.parse_args()
+
+
+def main() -> int:
+    given = parse()
     signal.signal(signal.SIGTERM, lambda *_: sys.exit(143))
     mqjudge, bounds = given.mqjudge.absolute(), Bounds(given.seconds, given.gigabytes)
     if given.growth:
@@ -155,6 +167,10 @@ def main() -> int:
         chosen = given.kinds or [kind for kind in kinds.KINDS if kind != "large"]
         return 0 if mqjudge_tasks(mqjudge) and print_growth(mqjudge, chosen, given.events, bounds, given.by_time) else 1
     chosen = given.kinds or list(make_log.KINDS)
+    if given.versions:
+        return 0 if mqjudge_tasks(mqjudge) and print_versions(mqjudge, chosen, given.messages, bounds) else 1
+    if given.convert:
+        return 0 if mqjudge_tasks(mqjudge) and print_convert(mqjudge, given.megabytes, given.rounds, bounds) else 1
     if given.instructions:
         print_instructions(chosen, mqjudge, given.messages, bounds)
     else:

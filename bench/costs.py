@@ -1,0 +1,78 @@
+"""What version 2 of the log costs `check` and `show`, and what `convert` costs."""
+import tempfile
+from pathlib import Path
+
+import kinds
+from measuring import Bounds, Measure, counter, instructions, measure
+
+MOST_OF_VERSION_2 = 1.05  # instructions an event over those in version 1
+MOST_OF_CONVERT = 2.0  # its time over that of `show`
+MOST_GROWTH = 1.1  # its memory on a log of four times the size over that on the shorter one
+FACTOR = 4
+SHOWN = "small"  # the kind of log that is converted: each packet in a record of its own
+COLUMNS = "{:<24} {:<6} {:>12} {:>12} {:>6}  {}"
+
+
+def cost(kind: str, version: int, command: list[str], amount: int, folder: Path, bounds: Bounds) -> float | None:
+    """How many instructions an event takes: those of a log less those of half of it. None where they aren't known."""
+    counts, halves = [], (amount // 2, amount)
+    for number in halves:
+        log = folder / f"{kind}-{number}-{version}.log"
+        if not log.exists():
+            kinds.write(log, kind, number, version)
+        counts.append(instructions([*command, str(log)], folder, bounds)[0])
+    if None in counts:
+        return None
+    return (counts[1] - counts[0]) / (kinds.events(kind, halves[1]) - kinds.events(kind, halves[0]))
+
+
+def print_versions(mqjudge: Path, chosen: list[str], messages: int, bounds: Bounds) -> bool:
+    """Prints how many instructions an event takes in both versions, and says whether version 2 costs no more than it may."""
+    if counter() is None:
+        print("instructions can't be counted: perf can't, and there is no valgrind")
+        return False
+    above = 0
+    print(COLUMNS.format("log", "task", "version 1", "version 2", "ratio", f"instructions an event, by {counter()}"), flush=True)
+    with tempfile.TemporaryDirectory(prefix="mqjudge-bench-") as name:
+        for kind in chosen:
+            for task in ("check", "show"):
+                command, amount = [str(mqjudge), task], min(messages, 8) if kind == "large" else messages
+                costs = [cost(kind, version, command, amount, Path(name), bounds) for version in (1, 2)]
+                ratio = None if None in costs else costs[1] / max(costs[0], 1e-9)
+                is_above = ratio is None or ratio > MOST_OF_VERSION_2
+                above += is_above
+                figures = ["-" if one is None else f"{one:,.0f}" for one in costs] + ["-" if ratio is None else f"{ratio:.3f}"]
+                print(COLUMNS.format(kind, task, *figures, f"more than {MOST_OF_VERSION_2}" if is_above else "").rstrip(), flush=True)
+    print(f"{above} above {MOST_OF_VERSION_2}")
+    return above == 0
+
+
+def quickest(command: list[str], rounds: int, folder: Path, bounds: Bounds) -> Measure:
+    """The quickest of so many runs. One that was stopped or failed doesn't count, unless all did."""
+    return min((measure(command, folder, bounds) for _ in range(rounds)), key=lambda one: (one.status != "status 0", one.processor))
+
+
+def print_convert(mqjudge: Path, megabytes: float, rounds: int, bounds: Bounds) -> bool:
+    """Prints what `convert` takes beside `show`, on a log of small records and on one of four times the size, and says whether that
+    is no more than it may be."""
+    columns, peaks, wrong = "{:>9} {:>10} {:>10} {:>6} {:>11} {:>11}  {}", [], 0
+    print(columns.format("megabytes", "show", "convert", "ratio", "show peak", "peak", "processor time and most memory"), flush=True)
+    for size in (megabytes, FACTOR * megabytes):
+        with tempfile.TemporaryDirectory(prefix="mqjudge-bench-") as name:
+            log, out = Path(name) / "in.log", Path(name) / "out.log"
+            kinds.write(log, SHOWN, kinds.amount_for_bytes(SHOWN, int(size * 1_000_000)))
+            shown = quickest([str(mqjudge), "show", str(log)], rounds, Path(name), bounds)
+            made = quickest([str(mqjudge), "convert", str(log), str(out)], rounds, Path(name), bounds)
+        trouble = "; ".join(f"{one.status} {one.report}" for one in (shown, made) if one.status != "status 0")
+        ratio = made.processor / max(shown.processor, 1e-6)
+        peaks.append(made.peak_kib)
+        if not trouble and ratio > MOST_OF_CONVERT:
+            trouble = f"more than {MOST_OF_CONVERT} times as long"
+        if not trouble and made.peak_kib > MOST_GROWTH * peaks[0]:
+            trouble = "its memory grows with the log"
+        wrong += trouble != ""
+        figures = [f"{size:g}", *(f"{one.processor:.2f} s" for one in (shown, made)), f"{ratio:.2f}"]
+        figures += [f"{one.peak_kib / 1024:.1f} MiB" for one in (shown, made)]
+        print(columns.format(*figures, trouble).rstrip(), flush=True)
+    print(f"{wrong} above the bounds")
+    return wrong == 0
