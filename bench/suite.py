@@ -7,8 +7,8 @@ the log in words, and the report, with a semicolon between its lines. The report
 program judged the logs. The two logs of a statement differ in one record, which is changed, added or missing.
 
 With --check (or without options) it compares the files with the rows, byte by byte, and the reports with reference.py's. With
---program that program has to give the same reports for the files, as text and as JSON, with the right status. --write makes the
-files.
+--program that program has to give the same reports for the files, as text and as JSON, with the right status. The logs are of
+version 1; each must get the same report converted to version 2 by converting.py. --write makes the files.
 
 usage: bench/suite.py [--check] [--program PATH]
        bench/suite.py --write
@@ -16,6 +16,7 @@ usage: bench/suite.py [--check] [--program PATH]
 import argparse
 import subprocess
 import sys
+import tempfile
 from collections.abc import Iterator
 from dataclasses import dataclass
 from pathlib import Path
@@ -24,6 +25,7 @@ sys.dont_write_bytecode = True  # the repository stays as it is
 import check_rows
 import reference
 from check_forms import as_json
+from converting import converted
 from judges import STATUSES
 from shortening import KINDS
 from versions import HEAD_SIZES, HEADER_SIZE, records
@@ -32,6 +34,7 @@ HERE = Path(__file__).resolve().parent
 ROWS = HERE / "suite_rows.txt"
 FOLDER = HERE.parent / "examples/suite"
 BROKEN, KEPT = "broken", "kept"
+FORMS: tuple[tuple[list[str], str], ...] = (([], "report"), (["--json"], "json"))  # words, and which file has the report
 
 ABOUT = """\
 # The conformance suite
@@ -197,6 +200,8 @@ def wrong_reports() -> Iterator[str]:
         said = reference.report(row.log)
         if said != row.report:
             yield f"{row.code} {row.which}: wanted {row.report!r}, reference.py says {said!r}"
+        if (said := reference.report(in_second_version(row))) != row.report:
+            yield f"{row.code} {row.which}, version 2: wanted {row.report!r}, reference.py says {said!r}"
         may_break = row.code[0] == "W" and row.which == BROKEN
         for event in reference.Recording(row.log).events:
             if isinstance(event.item, (reference.Bad, reference.Lost)) and not may_break:
@@ -212,15 +217,26 @@ def wrong_files() -> Iterator[str]:
     yield from (f"examples/suite/{name} isn't what the rows say" for name in both if wanted[name] != there[name])
 
 
+def in_second_version(row: Row) -> bytes:
+    """The log of a row in version 2."""
+    made = converted(row.log)
+    assert made.refusal is None and made.written[:5] == b"MQTR\x02"
+    return made.written
+
+
 def wrong_answers(program: Path) -> Iterator[str]:
-    """The program has to say what is in the files."""
-    for row in rows():
-        path = FOLDER / f"{row.code}-{row.which}.log"
-        for words, kind in (([], "report"), (["--json"], "json")):
-            ran = subprocess.run([program, "check", *words, path], stdin=subprocess.DEVNULL, capture_output=True, check=False)
-            wanted = (STATUSES[row.report.splitlines()[-1].split()[0]], path.with_suffix(f".{kind}").read_bytes(), b"")
-            if (ran.returncode, ran.stdout, ran.stderr) != wanted:
-                yield f"{path.name}, {kind}: wanted {wanted}, {program} says {(ran.returncode, ran.stdout, ran.stderr)}"
+    """The program has to say what is in the files: of the logs that are there, and of the same in version 2."""
+    with tempfile.TemporaryDirectory(prefix="mqjudge-suite-") as folder:
+        second = Path(folder) / "second.log"
+        for row in rows():
+            path = FOLDER / f"{row.code}-{row.which}.log"
+            second.write_bytes(in_second_version(row))
+            for log, words, kind in ((log, *form) for log in (path, second) for form in FORMS):
+                ran = subprocess.run([program, "check", *words, log], stdin=subprocess.DEVNULL, capture_output=True, check=False)
+                wanted = (STATUSES[row.report.splitlines()[-1].split()[0]], path.with_suffix(f".{kind}").read_bytes(), b"")
+                if (ran.returncode, ran.stdout, ran.stderr) != wanted:
+                    name = path.name if log is path else f"{path.name} in version 2"
+                    yield f"{name}, {kind}: wanted {wanted}, {program} says {(ran.returncode, ran.stdout, ran.stderr)}"
 
 
 def main() -> int:
