@@ -20,9 +20,10 @@ from testing import PATIENCE, TOP
 BUILT = "crates/mq_cli/out/mq_cli"
 RUN = "recorders run"
 SUITE = f"bench/suite.py --check --program {BUILT}"
+CONVERTED = f"bench/check_convert.py --mqjudge {BUILT}"
 FUZZED = ["bench/fuzz.py --self-test", "bench/fuzz.py --seed 1 --count 20000"]
-TRIED = [SUITE, *FUZZED]
-NOT_TRIED = "bench/suite.py and bench/fuzz.py aren't run"
+TRIED = [SUITE, CONVERTED, *FUZZED]
+NOT_TRIED = "bench/suite.py, bench/check_convert.py and bench/fuzz.py aren't run"
 
 
 class Gate(unittest.TestCase):
@@ -40,10 +41,18 @@ class Gate(unittest.TestCase):
         path.chmod(0o755)
 
     def gate(
-        self, said: str, status: int, missing: str = "", recorders: int = 0, suite: int = 0, fuzz: int = 0, is_built: bool = True
+        self,
+        said: str,
+        status: int,
+        missing: str = "",
+        recorders: int = 0,
+        suite: int = 0,
+        convert: int = 0,
+        fuzz: int = 0,
+        is_built: bool = True,
     ) -> tuple[int, list[str]]:
         """The status and the lines of the gate, where `rt ci`, the recorders' tests and the others say this and end so."""
-        for name, ends in (("suite", suite), ("fuzz", fuzz)):
+        for name, ends in (("suite", suite), ("check_convert", convert), ("fuzz", fuzz)):
             self.script(f"bench/{name}.py", f'echo "bench/{name}.py $*"\nexit {ends}')
         if is_built:
             self.script(BUILT, "exit 1")
@@ -79,6 +88,7 @@ class Gate(unittest.TestCase):
     def test_the_program_is_wrong(self) -> None:
         said = "14 passed, 0 failed"
         self.assertEqual(self.gate(said, 0, suite=1), (1, [said, RUN, *TRIED, "14 passed, 1 failed"]))
+        self.assertEqual(self.gate(said, 0, convert=1), (1, [said, RUN, *TRIED, "14 passed, 1 failed"]))
         self.assertEqual(self.gate(said, 0, fuzz=1), (1, [said, RUN, *TRIED, "14 passed, 2 failed"]))
         self.assertEqual(self.gate(said, 0, recorders=1, suite=1, fuzz=1), (1, [said, RUN, *TRIED, "14 passed, 4 failed"]))
 
