@@ -20,6 +20,7 @@ from typing import Any
 
 sys.dont_write_bytecode = True  # the repository stays as it is
 sys.path.insert(0, str(Path(__file__).resolve().parent))
+import log_format
 from browser import CHROMIUM, Browser
 from judging.events import Bytes, bytes_of, read_event
 from judging.explain import Explanation
@@ -292,6 +293,19 @@ class Moments(Case):
         page = self.told(0, 0)
         self.assertNotIn("<dt>Time", page)
         self.assertNotIn('<svg class="chart timed"', page)
+
+    def test_a_log_that_the_judge_reads(self) -> None:
+        """An example in version 2, in which a record comes each second."""
+        version = log_format.VERSIONS[2]
+        made = version.header(False, True)
+        for place, one in enumerate(log_format.records((TOP / "examples/identifier-in-use.log").read_bytes())):
+            made += version.record(one.kind, one.body, 1_795_694_645_000_001 + 1_000_000 * place)
+        self.logs.joinpath("a.log").write_bytes(made)
+        page = self.page()
+        self.assertIn("<dt>Time<dd>2026-11-26 12:04:09.000001 UTC", page)
+        self.assertIn("<text class=t>12:04:10.000001</text>", page)
+        printed = run(self.logs)[1]
+        self.assertIn("record 5 offset - at 2026-11-26 12:04:09.000001 UTC\n", printed)
 
     def test_reports_for_code_hosts(self) -> None:
         self.told(1_795_694_645_000_001, 1500)
