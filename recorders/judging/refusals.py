@@ -18,7 +18,7 @@ REFUSALS = {
     "Header": Refusal(1, "The file doesn't begin with MQTR, so it is no log.",
                       "Name the log itself. recorders/from-capture makes logs of a capture of network packets."),
     "Version": Refusal(2, "The log has a version of the format that this program doesn't read.",
-                       "Use a newer program, or have the recorder write an older version."),
+                       "Use a newer program, or have the recorder write an older version (--log-version 1)."),
     "Role": Refusal(3, "The header doesn't say whether a client or a server is tested.", RECORDER),
     "Flags": Refusal(4, "The header has a flag that isn't defined.", RECORDER),
     "Kind": Refusal(5, "A record has a kind that isn't defined, or a record before it has a wrong length.", RECORDER),
