@@ -4,23 +4,29 @@
 usage: bench/check_forms.py PROGRAM [LOG ..]
 
 The text report of each log is made into the other forms here, in Python: each of the worked logs of check_rows.py, a log of
-3,000 faults, one of long packets that break a rule, refused logs, and the logs that are named. JSON is also read back by Python's
-json module. What `show --faults` is to print is made of the text report and of what `show` prints. The bytes of packets that break
-a rule are those that reference.py finds in the log.
+3,000 faults, one of long packets that break a rule, refused logs, some of all these in version 2, and the logs that are named. JSON
+is also read back by Python's json module. What `show --faults` is to print is made of the text report and of what `show` prints. The
+bytes of packets that break a rule are those that reference.py finds in the log. Each line of `show` is that of showing.py, and each of
+`show --long` begins with it.
 """
 import json
+import random
 import subprocess
 import sys
 import tempfile
 from collections import OrderedDict
+from itertools import zip_longest
 from pathlib import Path
 
 sys.dont_write_bytecode = True  # the repository stays as it is
 import check_rows
 import reference
+import showing
+from versions import clock, in_version_2
 
 CONNECT = bytes.fromhex("100D00044D5154540502003C000000")
 CONNACK = bytes.fromhex("2003000000")
+SELDOM = 20  # of so many worked logs one is tried in version 2 too
 
 
 def many_faults(count: int) -> bytes:
@@ -50,6 +56,10 @@ def logs(paths: list[str]) -> list[tuple[str, bytes]]:
     found.append(("3,000 faults", many_faults(3000)))
     found.append(("long packets that break a rule", long_broken()))
     found += [(f"{count} bytes", many_faults(1)[:count]) for count in range(0, 60)]
+    draw = random.Random("moments")
+    seconds = [*found[::SELDOM], ("20 faults", many_faults(20)), ("long packets that break a rule", long_broken())]
+    seconds += [(name, log) for name, log in found if name.startswith("examples/")]
+    found += [(f"{name}, version 2", in_version_2(log, clock(draw))) for name, log in seconds]
     found += [(path, Path(path).read_bytes()) for path in paths]
     return found
 
@@ -173,6 +183,14 @@ def wanted_of(program: str, log: bytes, path: str, sentences: dict[str, str]) ->
     return wanted
 
 
+def wrong_lines(program: str, log: bytes) -> list[str]:
+    """The lines of `show` that aren't those of showing.py, and those of `show --long` that don't begin with them."""
+    wanted = showing.show(log)[1].splitlines()
+    plain, long = (run(program, log, "show", *words)[1].splitlines() for words in ((), ("--long",)))
+    wrong = [line for line, one in zip_longest(plain, wanted, fillvalue="") if line != one]
+    return wrong + [line for line, one in zip_longest(long, wanted, fillvalue="") if not one or not line.startswith(one)]
+
+
 def is_compact(text: str) -> bool:
     return json.dumps(json.loads(text), sort_keys=True, separators=(",", ":")) + "\n" == text
 
@@ -185,6 +203,9 @@ def main() -> int:
         path = Path(folder) / "a.log"
         for name, log in logs(paths):
             path.write_bytes(log)
+            if lines := wrong_lines(program, log):
+                wrong += 1
+                print(f"{name} show", *(f"{line:.500}" for line in lines[:3]), sep="\n  ")
             for words, answer in wanted_of(program, log, str(path), sentences).items():
                 count += 1
                 given = run(program, log, *words)
