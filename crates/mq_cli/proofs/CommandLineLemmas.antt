@@ -1,5 +1,5 @@
 -- Words in which the definition finds no fault name a subcommand.
-use Rattle.std.proofs.Common.{◌≡◌, ◌∙◌, ◌&&◌, ◌||◌, Bool, true, false, true≢false, not, cond, refl, sym, ap, ap₂, subst, ◌⊎◌, ℕ, suc, arith, inl, inr, Result, Ok, Err, IfOk, MatchResult, List, [], ◌∷◌, fold, Option, Some, None, IsSomeAnd, is_some, codes, option_map, unwrap_or}
+use Rattle.std.proofs.Common.{◌≡◌, ◌∙◌, ◌&&◌, ◌||◌, Bool, true, false, true≢false, not, cond, refl, sym, ap, ap₂, subst, ◌⊎◌, ℕ, suc, arith, inl, inr, Result, Ok, Err, IfErr, IfOk, MatchResult, List, [], ◌∷◌, fold, Option, Some, None, IsSomeAnd, is_some, codes, option_map, unwrap_or}
 use Rattle.std.specs.Str.{bytes_eq}
 use Rattle.std.specs.List.{Any}
 use Rattle.std.proofs.lemmas.Slice.Eq.{bytes_eq-Decides}
@@ -22,7 +22,7 @@ use Rattle.mq_cli.specs.declared.command_line.EarlyExit.TheVariants.{Help, Memor
 use Rattle.clap.specs.Kinds.{FailsBy, HasKind, IsAmong, Kinds, or_else}
 use Rattle.clap.specs.Faults.{defaults_fault, turn_fault, walk_fault, word_fault, step_fault, entered_fault, settle_fault, check_fault, other_fault}
 use Rattle.clap.specs.declared.builder.range.ValueRange.{ValueRange}
-use Rattle.mq_cli.specs.CommandLine.{several, IsHelpOrVersion, StopsFor, check_request, explain_request, word_faults, is_true, mqjudge, packet_request, request_in, request_of, rules_request, show_request}
+use Rattle.mq_cli.specs.CommandLine.{several, IsHelpOrVersion, StopsFor, check_request, convert_request, explain_request, word_faults, is_true, mqjudge, packet_request, request_in, request_of, rules_request, show_request}
 
 -- ---- lists of kinds
 
@@ -141,21 +141,23 @@ subcommand_is_there rows false e = cc
 is_symmetric : (xs ys : List ℕ) → bytes_eq xs ys ≡ false → bytes_eq ys xs ≡ false
 is_symmetric xs ys e = false_from_ne_true _ (λ same. true≢false (sym ((bytes_eq-Decides xs ys).1 (sym ((bytes_eq-Decides ys xs).0 same))) ∙ e))
 
--- of `check`, `show`, `packet`, `rules`, `explain` and `help`, the one that was entered
-the_first : {X Y : Type 0} (g : X → Y) (b c d e f h : Bool) (v w x y z u : X) → h ≡ false
-    → is_some (option_map g (cond b (Some v) (cond c (Some w) (cond d (Some x) (cond e (Some y) (cond f (Some z) (cond h (Some u) None))))))) ≡ true
-    → (option_map g (cond b (Some v) (cond c (Some w) (cond d (Some x) (cond e (Some y) (cond f (Some z) (cond h (Some u) None)))))) ≡ Some (g v))
-    ⊎ ((option_map g (cond b (Some v) (cond c (Some w) (cond d (Some x) (cond e (Some y) (cond f (Some z) (cond h (Some u) None)))))) ≡ Some (g w))
-    ⊎ ((option_map g (cond b (Some v) (cond c (Some w) (cond d (Some x) (cond e (Some y) (cond f (Some z) (cond h (Some u) None)))))) ≡ Some (g x))
-    ⊎ ((option_map g (cond b (Some v) (cond c (Some w) (cond d (Some x) (cond e (Some y) (cond f (Some z) (cond h (Some u) None)))))) ≡ Some (g y))
-    ⊎ (option_map g (cond b (Some v) (cond c (Some w) (cond d (Some x) (cond e (Some y) (cond f (Some z) (cond h (Some u) None)))))) ≡ Some (g z)))))
-the_first g true c d e f h v w x y z u other some = inl refl
-the_first g false true d e f h v w x y z u other some = inr (inl refl)
-the_first g false false true e f h v w x y z u other some = inr (inr (inl refl))
-the_first g false false false true f h v w x y z u other some = inr (inr (inr (inl refl)))
-the_first g false false false false true h v w x y z u other some = inr (inr (inr (inr refl)))
-the_first g false false false false false true v w x y z u other some = absurd (true≢false other)
-the_first g false false false false false false v w x y z u other some = absurd (true≢false (sym some))
+-- of `check`, `show`, `packet`, `rules`, `explain`, `convert` and `help`, the one that was entered
+the_first : {X Y : Type 0} (g : X → Y) (b c d e f h k : Bool) (u v w x y z t : X) → k ≡ false
+    → is_some (option_map g (cond b (Some u) (cond c (Some v) (cond d (Some w) (cond e (Some x) (cond f (Some y) (cond h (Some z) (cond k (Some t) None)))))))) ≡ true
+    → (option_map g (cond b (Some u) (cond c (Some v) (cond d (Some w) (cond e (Some x) (cond f (Some y) (cond h (Some z) (cond k (Some t) None))))))) ≡ Some (g u))
+    ⊎ ((option_map g (cond b (Some u) (cond c (Some v) (cond d (Some w) (cond e (Some x) (cond f (Some y) (cond h (Some z) (cond k (Some t) None))))))) ≡ Some (g v))
+    ⊎ ((option_map g (cond b (Some u) (cond c (Some v) (cond d (Some w) (cond e (Some x) (cond f (Some y) (cond h (Some z) (cond k (Some t) None))))))) ≡ Some (g w))
+    ⊎ ((option_map g (cond b (Some u) (cond c (Some v) (cond d (Some w) (cond e (Some x) (cond f (Some y) (cond h (Some z) (cond k (Some t) None))))))) ≡ Some (g x))
+    ⊎ ((option_map g (cond b (Some u) (cond c (Some v) (cond d (Some w) (cond e (Some x) (cond f (Some y) (cond h (Some z) (cond k (Some t) None))))))) ≡ Some (g y))
+    ⊎ (option_map g (cond b (Some u) (cond c (Some v) (cond d (Some w) (cond e (Some x) (cond f (Some y) (cond h (Some z) (cond k (Some t) None))))))) ≡ Some (g z))))))
+the_first g true c d e f h k u v w x y z t other some = inl refl
+the_first g false true d e f h k u v w x y z t other some = inr (inl refl)
+the_first g false false true e f h k u v w x y z t other some = inr (inr (inl refl))
+the_first g false false false true f h k u v w x y z t other some = inr (inr (inr (inl refl)))
+the_first g false false false false true h k u v w x y z t other some = inr (inr (inr (inr (inl refl))))
+the_first g false false false false false true k u v w x y z t other some = inr (inr (inr (inr (inr refl))))
+the_first g false false false false false false true u v w x y z t other some = absurd (true≢false other)
+the_first g false false false false false false false u v w x y z t other some = absurd (true≢false (sym some))
 
 -- a subcommand that asks for something was met
 abbrev NamesTask : Option (Text × List Row) → Type 0
@@ -163,7 +165,8 @@ NamesTask met = ((rows : List Row) × (met ≡ Some (codes "check", rows)))
     ⊎ (((rows : List Row) × (met ≡ Some (codes "show", rows)))
     ⊎ (((rows : List Row) × (met ≡ Some (codes "packet", rows)))
     ⊎ (((rows : List Row) × (met ≡ Some (codes "rules", rows)))
-    ⊎ ((rows : List Row) × (met ≡ Some (codes "explain", rows))))))
+    ⊎ (((rows : List Row) × (met ≡ Some (codes "explain", rows)))
+    ⊎ ((rows : List Row) × (met ≡ Some (codes "convert", rows)))))))
 
 entered_names : (stop : Option (Text × List Text)) → StoppedElsewhere stop → is_some (entered (built mqjudge) stop) ≡ true
     → NamesTask (entered (built mqjudge) stop)
@@ -171,12 +174,14 @@ entered_names None e some = absurd (true≢false (sym some))
 entered_names (Some p) e some =
     let other : answers_to p.0 (codes "help", []) ≡ false = ap (λ (b : Bool). b || false) (is_symmetric p.0 (codes "help") e) in
     elim (the_first (λ s. rows_at s p.1) (answers_to p.0 (codes "check", [])) (answers_to p.0 (codes "show", [])) (answers_to p.0 (codes "packet", []))
-    (answers_to p.0 (codes "rules", [])) (answers_to p.0 (codes "explain", [])) (answers_to p.0 (codes "help", [])) _ _ _ _ _ _ other some) [
+    (answers_to p.0 (codes "rules", [])) (answers_to p.0 (codes "explain", [])) (answers_to p.0 (codes "convert", []))
+    (answers_to p.0 (codes "help", [])) _ _ _ _ _ _ _ other some) [
       | inl h ↦ inl (_, h)
       | inr (inl h) ↦ inr (inl (_, h))
       | inr (inr (inl h)) ↦ inr (inr (inl (_, h)))
       | inr (inr (inr (inl h))) ↦ inr (inr (inr (inl (_, h))))
-      | inr (inr (inr (inr h))) ↦ inr (inr (inr (inr (_, h))))
+      | inr (inr (inr (inr (inl h)))) ↦ inr (inr (inr (inr (inl (_, h)))))
+      | inr (inr (inr (inr (inr h)))) ↦ inr (inr (inr (inr (inr (_, h)))))
     ]
 
 -- words in which the definition finds no fault name a subcommand that asks for something
@@ -206,7 +211,8 @@ pub subcommand_is_named : (words : List Text) (m : ArgMatches) → word_faults w
     ⊎ ((subcommand_name_of m ≡ Some (codes "show"))
     ⊎ ((subcommand_name_of m ≡ Some (codes "packet"))
     ⊎ ((subcommand_name_of m ≡ Some (codes "rules"))
-    ⊎ (subcommand_name_of m ≡ Some (codes "explain")))))
+    ⊎ ((subcommand_name_of m ≡ Some (codes "explain"))
+    ⊎ (subcommand_name_of m ≡ Some (codes "convert"))))))
 subcommand_is_named words m none same =
     let named = sym (name_met (out-ArgMatches m).subcommand) ∙ ap (option_map (λ (p : Text × List Row). p.0)) same in
     elim (subcommand_is_met words none) [
@@ -214,7 +220,8 @@ subcommand_is_named words m none same =
       | inr (inl h) ↦ inr (inl (named ∙ ap (option_map (λ (p : Text × List Row). p.0)) h.1))
       | inr (inr (inl h)) ↦ inr (inr (inl (named ∙ ap (option_map (λ (p : Text × List Row). p.0)) h.1)))
       | inr (inr (inr (inl h))) ↦ inr (inr (inr (inl (named ∙ ap (option_map (λ (p : Text × List Row). p.0)) h.1))))
-      | inr (inr (inr (inr h))) ↦ inr (inr (inr (inr (named ∙ ap (option_map (λ (p : Text × List Row). p.0)) h.1))))
+      | inr (inr (inr (inr (inl h)))) ↦ inr (inr (inr (inr (inl (named ∙ ap (option_map (λ (p : Text × List Row). p.0)) h.1)))))
+      | inr (inr (inr (inr (inr h)))) ↦ inr (inr (inr (inr (inr (named ∙ ap (option_map (λ (p : Text × List Row). p.0)) h.1)))))
     ]
 
 -- a name and rows are what was met
@@ -276,6 +283,16 @@ request_is_explain words m explained same named rows =
     ap (option_map request_in) (met_by words m explained (codes "explain") same named rows)
     ∙ ap (λ (f : Option Text). Some (explain_request f)) (sym (first_value-rows (found_of explained) (codes "CODE")))
 
+pub same_convert : {log log' made made' : Option Text} → log ≡ log' → made ≡ made' → Some (convert_request log made) ≡ Some (convert_request log' made')
+same_convert {log} {log'} {made} {made'} l m = ap (λ (x : Option Text). Some (convert_request x made)) l ∙ ap (λ (x : Option Text). Some (convert_request log' x)) m
+
+pub request_is_convert : (words : List Text) (m converted : ArgMatches) → subcommand_rows_of m ≡ subcommand_of mqjudge words → subcommand_name_of m ≡ Some (codes "convert")
+    → option_map (λ p. p.1) (subcommand_rows_of m) ≡ Some (rows_of (found_of converted))
+    → request_of words ≡ Some (convert_request (first_value (found_of converted) (codes "IN")) (first_value (found_of converted) (codes "OUT")))
+request_is_convert words m converted same named rows =
+    ap (option_map request_in) (met_by words m converted (codes "convert") same named rows)
+    ∙ same_convert (sym (first_value-rows (found_of converted) (codes "IN"))) (sym (first_value-rows (found_of converted) (codes "OUT")))
+
 -- ---- kinds of error
 
 among : (P : ErrorKind → Type 0) (kinds : Kinds) (kind : ErrorKind) → IsAmong kind kinds → P kind → Any P kinds
@@ -304,6 +321,11 @@ StopsFor-misused error stop (Ok t) misused not_memory is kinds (inr h) = subst (
 pub taken-faultless : {T : Type 0} (kinds : Kinds) (r : Result T Error) → FailsBy kinds r → IfOk r (λ _. kinds ≡ [])
 taken-faultless kinds (Ok matches) h = h
 taken-faultless kinds (Err error) h = tt
+
+-- what is refused has one of the kinds
+pub refused-kind : {T : Type 0} (kinds : Kinds) (r : Result T Error) → FailsBy kinds r → IfErr r (HasKind kinds)
+refused-kind kinds (Ok matches) h = tt
+refused-kind kinds (Err error) h = h
 
 -- ---- how many values
 

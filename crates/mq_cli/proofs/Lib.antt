@@ -5,3 +5,4 @@ pub mod ReviewingLemmas
 pub mod MessageLaws
 pub mod StreamLaws
 pub mod BeginningLaws
+pub mod ConvertingLaws

@@ -5,15 +5,16 @@ use Rattle.clap.specs.Words.{Text}
 use Rattle.mq_cli.specs.declared.command_line.Task.{Task}
 use Rattle.mq_cli.specs.declared.command_line.Task.TheVariants.{Check, Show, Packet, Rules, Explain}
 use Rattle.mq_cli.specs.declared.command_line.Work.{Work}
-use Rattle.mq_cli.specs.declared.command_line.Work.TheVariants.{Once, Twice}
+use Rattle.mq_cli.specs.declared.command_line.Work.TheVariants.{Once, Twice, Convert}
 use Rattle.mq_cli.specs.declared.failure.Failure.{Failure}
 use Rattle.mq_cli.specs.declared.failure.Failure.TheVariants as failures
 use Rattle.mq_cli.specs.declared.trouble.Trouble.TheVariants as troubles
 use Rattle.mq_judge.specs.Display.{is_timed}
 use Rattle.mq_cli.specs.CommandLine.{path_of, reads_log}
+use Rattle.mq_cli.specs.Converting.{Files, files_of}
 use Rattle.mq_cli.specs.Given.{Given, bytes_at}
 use Rattle.mq_cli.specs.Messages.{FailsMisnamed, StopsCheck, StopsShow, StopsTask, form_of, text_for}
-use Rattle.mq_cli.specs.Program.{FailsLog, FailsRead, FailsTaskOn, IsHinted, Refuses, RefusesWork, input_of}
+use Rattle.mq_cli.specs.Program.{FailsLog, FailsRead, FailsTaskOn, IsHinted, Refuses, RefusesSource, RefusesWork, input_of}
 use Rattle.mq_cli.specs.Reviewing.{Plan, RefusesPlan, plan_of}
 use Rattle.mq_cli.specs.Streams.{IsTold, Stream, failure_line}
 use Rattle.mq_cli.specs.Troubles.{failure_in, place_of}
@@ -37,7 +38,7 @@ path_reads (Explain code) path named = cc
 
 -- ---- what a reader gives of a log is the log
 
-known_kept : (log read : Option (List ℕ)) (P : List ℕ → Type 0) → Keeps log read → IfSome read P → IfSome log P
+pub known_kept : (log read : Option (List ℕ)) (P : List ℕ → Type 0) → Keeps log read → IfSome read P → IfSome log P
 known_kept None read P k h = tt
 known_kept (Some bytes) None P k h = absurd k
 known_kept (Some bytes) (Some same) P k h = subst P k h
@@ -109,9 +110,15 @@ planned_hint : (given : Given) (plan : Result Plan Text) (old new : Option (List
 planned_hint given (Ok plan) old new error h = record { start = h.1.start; shows = tt; told = h.1.told }
 planned_hint given (Err line) old new error h = absurd h
 
+converted_hint : (given : Given) (files : Result Files Text) (old new : Option (List ℕ)) (error : Stream)
+    → IsOkAnd files (λ f. RefusesSource (bytes_at given f.log) old new error) → IsHinted None error
+converted_hint given (Ok files) old new error h = record { start = h.1.start; shows = tt; told = h.1.told }
+converted_hint given (Err line) old new error h = absurd h
+
 work_hint : (work : Work) (given : Given) (old new : Option (List ℕ)) (error : Stream) → RefusesWork given work old new error → IsHinted None error
 work_hint (Once task) given old new error h = record { start = h.1.start; shows = tt; told = h.1.told }
 work_hint (Twice review) given old new error h = planned_hint given (plan_of review) old new error h
+work_hint (Convert conversion) given old new error h = converted_hint given (files_of conversion) old new error h
 
 pub refusal_hint : (words : List Text) (given : Given) (old new : Option (List ℕ)) (error : Stream) → Refuses words given old new error → IsHinted None error
 refusal_hint words given old new error h = work_hint h.0 given old new error h.2

@@ -11,7 +11,7 @@ use Rattle.clap.specs.declared.error.kind.ErrorKind.{ErrorKind}
 use Rattle.clap.specs.declared.error.kind.ErrorKind.TheVariants.{DisplayHelp, DisplayVersion}
 use Rattle.mq_cli.specs.Digits.{spaced}
 use Rattle.mq_cli.specs.declared.command_line.Work.{Work}
-use Rattle.mq_cli.specs.declared.command_line.Work.TheVariants.{Once, Twice}
+use Rattle.mq_cli.specs.declared.command_line.Work.TheVariants.{Once, Twice, Convert}
 use Rattle.mq_cli.specs.declared.command_line.Task.{Task}
 use Rattle.mq_cli.specs.declared.command_line.Task.TheVariants.{Check, Show, Packet, Rules, Explain}
 use Rattle.mq_cli.specs.declared.command_line.EarlyExit.{EarlyExit}
@@ -46,13 +46,22 @@ packet_command = with_rule (new_app (codes "packet")) (record (new_rule (codes "
 abbrev pub rules_command : App
 rules_command = with_rule (new_app (codes "rules")) (record (new_rule (codes "role")) { long = Some (codes "role") })
 
+-- an operand of this name that has to be given
+abbrev pub required_operand : Text → Rule
+required_operand name = record (new_rule name) { required = true }
+
 -- `explain CODE`
 abbrev pub explain_command : App
-explain_command = with_rule (new_app (codes "explain")) (record (new_rule (codes "CODE")) { required = true })
+explain_command = with_rule (new_app (codes "explain")) (required_operand (codes "CODE"))
+
+-- `convert IN OUT`
+abbrev pub convert_command : App
+convert_command = with_rule (with_rule (new_app (codes "convert")) (required_operand (codes "IN"))) (required_operand (codes "OUT"))
 
 -- `mqjudge`, which has a version, and whose subcommand is required
 abbrev pub mqjudge : App
 mqjudge = with_subcommand
+    (with_subcommand
     (with_subcommand
     (with_subcommand
     (with_subcommand
@@ -62,9 +71,10 @@ mqjudge = with_subcommand
     show_command.top)
     packet_command.top)
     rules_command.top)
-    explain_command.top
+    explain_command.top)
+    convert_command.top
 
--- what a command line asks for: a subcommand, its operand, its flags, the number after `--around`, and the end that it is for
+-- what a command line asks for: a subcommand, its operand, its flags, the number after `--around`, the end that it is for, and the file that it makes
 pub record Request : Type 0 where
   pub subcommand : Text
   pub operand : Option Text
@@ -74,11 +84,12 @@ pub record Request : Type 0 where
   pub faults : Bool
   pub around : Option Text
   pub role : Option Text
+  pub made : Option Text
 
 -- a subcommand on this operand, with nothing else
 abbrev pub plain_request : Text → Option Text → Request
 plain_request subcommand operand =
-    record { subcommand = subcommand; operand = operand; json = false; summary = false; long = false; faults = false; around = None; role = None }
+    record { subcommand = subcommand; operand = operand; json = false; summary = false; long = false; faults = false; around = None; role = None; made = None }
 
 -- `check` on this file, with these flags
 abbrev pub check_request : Option Text → Bool → Bool → Request
@@ -104,6 +115,10 @@ rules_request role = record (plain_request (codes "rules") None) { role = role }
 abbrev pub explain_request : Option Text → Request
 explain_request code = plain_request (codes "explain") (Some (unwrap_or code []))
 
+-- `convert` of the log that this word names, into this file; both operands are required
+abbrev pub convert_request : (log made : Option Text) → Request
+convert_request log made = record (plain_request (codes "convert") (Some (unwrap_or log []))) { made = Some (unwrap_or made []) }
+
 -- the value of a flag is `true`
 abbrev pub is_true : Option Text → Bool
 is_true None = false
@@ -116,7 +131,8 @@ request_in met = if bytes_eq met.0 (codes "check") then check_request (first_of 
     (is_true (first_of (codes "faults") met.1)) (first_of (codes "N") met.1)
     else (if bytes_eq met.0 (codes "packet") then packet_request (all_of (codes "HEX") met.1)
     else (if bytes_eq met.0 (codes "rules") then rules_request (first_of (codes "role") met.1)
-    else explain_request (first_of (codes "CODE") met.1))))
+    else (if bytes_eq met.0 (codes "explain") then explain_request (first_of (codes "CODE") met.1)
+    else convert_request (first_of (codes "IN") met.1) (first_of (codes "OUT") met.1)))))
 
 -- what the words ask for, if they are a command line
 abbrev pub request_of : List Text → Option Request
@@ -134,11 +150,13 @@ request_by (Once (Packet hex)) = digits_request (string_bytes hex)
 request_by (Once (Rules role)) = rules_request (option_map string_bytes role)
 request_by (Once (Explain code)) = explain_request (Some (string_bytes code))
 request_by (Twice review) = show_request (option_map string_bytes review.file) review.long review.faults (option_map string_bytes review.around)
+request_by (Convert conversion) = convert_request (Some (string_bytes conversion.input)) (Some (string_bytes conversion.output))
 
 -- work that reads its log twice is asked for by `--faults` or by a number of positions; without them the log is read once
 abbrev pub ReadsAsAsked : Work → Type 0
 ReadsAsAsked (Once task) = ⊤
 ReadsAsAsked (Twice review) = (review.faults ≡ true) ⊎ IsSome review.around
+ReadsAsAsked (Convert conversion) = ⊤
 
 -- the kind asks for a text to be shown: help, or the version
 abbrev pub IsHelpOrVersion : ErrorKind → Type 0

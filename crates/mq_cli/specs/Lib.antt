@@ -1,5 +1,6 @@
 pub mod CommandLine
 pub mod Citing
+pub mod Converting
 pub mod Digits
 pub mod Explaining
 pub mod Given

@@ -3,15 +3,17 @@ use Rattle.std.specs.Prelude.{◌≡◌, ◌≢◌, ◌⊎◌, ℕ, Bool, true, 
 use Rattle.std.specs.Io.KnownBytes.{Appends, Keeps}
 use Rattle.clap.specs.Words.{Text}
 use Rattle.mq_cli.specs.declared.command_line.EarlyExit.{EarlyExit}
+use Rattle.mq_cli.specs.declared.command_line.Conversion.{Conversion}
 use Rattle.mq_cli.specs.declared.command_line.Review.{Review}
 use Rattle.mq_cli.specs.declared.command_line.Task.{Task}
 use Rattle.mq_cli.specs.declared.command_line.Work.{Work}
-use Rattle.mq_cli.specs.declared.command_line.Work.TheVariants.{Once, Twice}
+use Rattle.mq_cli.specs.declared.command_line.Work.TheVariants.{Once, Twice, Convert}
 use Rattle.mq_cli.specs.declared.command_line.EarlyExit.TheVariants as exits
 use Rattle.mq_cli.specs.declared.failure.Failure.TheVariants.{Memory}
 use Rattle.mq_cli.specs.declared.trouble.Trouble.{Trouble}
 use Rattle.mq_cli.specs.declared.trouble.Trouble.TheVariants as troubles
 use Rattle.mq_cli.specs.CommandLine.{ReadsAsAsked, StopsFor, word_faults, path_of, reads_log, request_by, request_of}
+use Rattle.mq_cli.specs.Converting.{FailsConverting, Files, IsConvertible, RefusesConverting, files_of}
 use Rattle.mq_cli.specs.Given.{Given, bytes_at}
 use Rattle.mq_cli.specs.Reviewing.{IfBoth, IsReviewed, Plan, RefusesPlan, StopsPlan, plan_of}
 use Rattle.mq_cli.specs.Messages.{FailsMisnamed, StopsTask, HasFailed, HasPassed, IsMisnamed, IsRefusedOn, IsReportedOn, IsShownOn, IsPrintedOn, misnamed_line}
@@ -53,10 +55,10 @@ FailsTaskOn task place log is_closed old new error = FailsOn task place log is_c
 abbrev pub FailsLog : Task → (place : Text) → (log : Option Text) → (is_closed : Bool) → (old new : Option (List ℕ)) → Stream → Type 0
 FailsLog task place log is_closed old new error = IsUnbegun place is_closed old new error ⊎ FailsTaskOn task place log is_closed old new error
 
--- The file that a task reads couldn't be opened: nothing was written, and it is said why, and which file it is.
-pub record IsUnopened (given : Given) (task : Task) (is_closed : Bool) (old new : Option (List ℕ)) (error : Stream) : Type 0 where
+-- The file that is named couldn't be opened: nothing was written, and it is said why, and which file it is.
+pub record IsUnopened (given : Given) (name : Option Text) (is_closed : Bool) (old new : Option (List ℕ)) (error : Stream) : Type 0 where
   pub path : Text
-  pub named : path_of task ≡ Some path
+  pub named : name ≡ Some path
   pub trouble : Trouble
   pub refused : given.unopened path trouble
   pub unwritten : Keeps old new
@@ -64,7 +66,7 @@ pub record IsUnopened (given : Given) (task : Task) (is_closed : Bool) (old new 
 
 -- 4: the task's file couldn't be opened, or the task reads a log and failed at that, or it reads none and failed
 abbrev pub FailsRead : Given → Task → (is_closed : Bool) → (old new : Option (List ℕ)) → Stream → Type 0
-FailsRead given task is_closed old new error = IsUnopened given task is_closed old new error
+FailsRead given task is_closed old new error = IsUnopened given (path_of task) is_closed old new error
     ⊎ (((reads_log task ≡ true) × FailsLog task (place_of (path_of task)) (input_of given task) is_closed old new error)
     ⊎ FailsTaskOn task (place_of (path_of task)) (input_of given task) is_closed old new error)
 
@@ -109,7 +111,7 @@ abbrev pub FailsFile : Given → Plan → (is_closed : Bool) → (old new : Opti
 FailsFile given plan is_closed old new error = IsUnopenedPlan given plan is_closed old new error
     ⊎ FailsReaders plan (given.file plan.path) (given.file plan.path) is_closed old new error
 
--- 4: there is nothing to show, and the line that says so couldn't be written to the error stream, or memory ran out for it
+-- 4: there is nothing to do, and the line that says so couldn't be written to the error stream, or memory ran out for it
 pub record FailsUnplanned (line : Text) (old new : Option (List ℕ)) (error : Stream) : Type 0 where
   pub unwritten : Keeps old new
   pub printed : IsCutOff error line ⊎ IsTold error (failure_line Memory)
@@ -119,33 +121,83 @@ abbrev pub FailsReview : Given → Review → (is_closed : Bool) → (old new : 
 FailsReview given review is_closed old new error = IsOkAnd (plan_of review) (λ plan. FailsFile given plan is_closed old new error)
     ⊎ IsErrAnd (plan_of review) (λ line. FailsUnplanned line old new error)
 
+-- ---- a log that is converted. The file that was made is gone when the program ends, so nothing is said of it here.
+
+-- for some bytes that the file that was made held before and after, each if known
+abbrev pub ForSomeFile : (Option (List ℕ) → Option (List ℕ) → Type 0) → Type 0
+ForSomeFile P = (made_old : Option (List ℕ)) × (made_new : Option (List ℕ)) × P made_old made_new
+
+-- 0: the log can be converted
+abbrev pub PassesConversion : Given → Conversion → Type 0
+PassesConversion given conversion = IsOkAnd (files_of conversion) (λ files. IfSome (bytes_at given files.log) IsConvertible)
+
+-- 2: this log can't be converted, and the line that says so was written
+abbrev pub RefusesSource : (log : Option Text) → (old new : Option (List ℕ)) → Stream → Type 0
+RefusesSource log old new error = ForSomeFile (λ made_old made_new. IfSome log (λ bytes. RefusesConverting bytes made_old made_new old new)) × IsHinted log error
+
+-- 2: so it is with the log that is named
+abbrev pub RefusesConversion : Given → Conversion → (old new : Option (List ℕ)) → Stream → Type 0
+RefusesConversion given conversion old new error = IsOkAnd (files_of conversion) (λ files. RefusesSource (bytes_at given files.log) old new error)
+
+-- 3: the log and the file have one name, and the line that says so was written
+abbrev pub MisusesConversion : Conversion → Option (List ℕ) → Option (List ℕ) → Type 0
+MisusesConversion conversion error_old error_new = IsErrAnd (files_of conversion) (λ line. Appends error_old error_new line)
+
+-- The file at this path couldn't be made: nothing was written, and it is said what failed.
+pub record IsUnmade (given : Given) (path : Text) (is_closed : Bool) (old new : Option (List ℕ)) (error : Stream) : Type 0 where
+  pub trouble : Trouble
+  pub refused : given.unmade path trouble
+  pub unwritten : Keeps old new
+  pub told : Tells is_closed path trouble error
+
+-- 4: the first bytes of the log couldn't be read, or the file at this path not be made, or converting failed
+abbrev pub FailsSource : Given → (place : Text) → (log : Option Text) → (path : Text) → (is_closed : Bool) → (old new : Option (List ℕ)) → Stream → Type 0
+FailsSource given place log path is_closed old new error = IsUnbegun place is_closed old new error
+    ⊎ (IsUnmade given path is_closed old new error
+    ⊎ ForSomeFile (λ made_old made_new. FailsConverting place log is_closed made_old made_new old new error))
+
+-- 4: the log couldn't be opened, or not be read or converted, or the file not be made
+abbrev pub FailsFiles : Given → Files → (is_closed : Bool) → (old new : Option (List ℕ)) → Stream → Type 0
+FailsFiles given files is_closed old new error = IsUnopened given files.log is_closed old new error
+    ⊎ FailsSource given (place_of files.log) (bytes_at given files.log) files.made is_closed old new error
+
+-- 4: converting failed, or the log and the file have one name
+abbrev pub FailsConversion : Given → Conversion → (is_closed : Bool) → (old new : Option (List ℕ)) → Stream → Type 0
+FailsConversion given conversion is_closed old new error = IsOkAnd (files_of conversion) (λ files. FailsFiles given files is_closed old new error)
+    ⊎ IsErrAnd (files_of conversion) (λ line. FailsUnplanned line old new error)
+
 -- ---- what a status means for some work
 
--- 0: it was done, and all of its output was written
+-- 0: it was done, and all of its output was written, which of a conversion is nothing
 abbrev pub PassesWork : Given → Work → Option (List ℕ) → Option (List ℕ) → Type 0
 PassesWork given (Once task) old new = HasPassed task (input_of given task) × IsReportedOn task (input_of given task) old new
 PassesWork given (Twice review) old new = PassesReview given review old new
+PassesWork given (Convert conversion) old new = PassesConversion given conversion × Keeps old new
 
 -- 1: it found faults, and all of its output was written
 abbrev pub FindsFaultsIn : Given → Work → Option (List ℕ) → Option (List ℕ) → Type 0
 FindsFaultsIn given (Once task) old new = HasFailed task (input_of given task) × IsReportedOn task (input_of given task) old new
 FindsFaultsIn given (Twice review) old new = ⊥
+FindsFaultsIn given (Convert conversion) old new = ⊥
 
 -- 2: its log is refused, and all of its output was written
 abbrev pub RefusesWork : Given → Work → (old new : Option (List ℕ)) → Stream → Type 0
 RefusesWork given (Once task) old new error = IsRefusedOn task (input_of given task) old new × IsHinted (input_of given task) error
 RefusesWork given (Twice review) old new error = RefusesReview given review old new error
+RefusesWork given (Convert conversion) old new error = RefusesConversion given conversion old new error
 
--- 3: the digits of a packet are invalid, a word isn't an end, a statement or a number, or there is no file to read twice, and the line that says so was written
--- to the error stream
+-- 3: the digits of a packet are invalid, a word isn't an end, a statement or a number, there is no file to read twice, or a log is to be converted into itself,
+-- and the line that says so was written to the error stream
 abbrev pub MisusesWork : Work → Option (List ℕ) → Option (List ℕ) → Type 0
 MisusesWork (Once task) error_old error_new = IsMisnamed task × Appends error_old error_new (misnamed_line task)
 MisusesWork (Twice review) error_old error_new = MisusesReview review error_old error_new
+MisusesWork (Convert conversion) error_old error_new = MisusesConversion conversion error_old error_new
 
 -- 4: it failed, or its file couldn't be opened
 abbrev pub FailsWork : Given → Work → (is_closed : Bool) → (old new : Option (List ℕ)) → Stream → Type 0
 FailsWork given (Once task) is_closed old new error = FailsRead given task is_closed old new error
 FailsWork given (Twice review) is_closed old new error = FailsReview given review is_closed old new error
+FailsWork given (Convert conversion) is_closed old new error = FailsConversion given conversion is_closed old new error
 
 -- ---- what a status means if the words ask for no work
 

@@ -30,6 +30,11 @@ abbrev pub trouble_for : ErrorKind → Trouble
 trouble_for OutOfMemory = Memory
 trouble_for kind = Unread (reason_for kind)
 
+-- why a file couldn't be made, likewise
+abbrev pub making_trouble_for : ErrorKind → Trouble
+making_trouble_for OutOfMemory = Memory
+making_trouble_for _ = Write
+
 -- why the words couldn't be read: invalid data is a word that isn't UTF-8
 abbrev pub words_trouble_for : ErrorKind → Trouble
 words_trouble_for OutOfMemory = Memory

@@ -1,10 +1,10 @@
 //! Parsing the words of a command line into a task.
-ghost use Rattle.std.specs.Prelude.{◌≡◌, [], Some, codes, false, IfOk, IfErr, map, option_map, string_bytes};
+ghost use Rattle.std.specs.Prelude.{◌≡◌, [], Some, codes, false, IfOk, IfErr, map, option_map, string_bytes, unwrap_or};
 ghost use Rattle.clap.specs.Words.{HasKind, Kinds, app_of, new_rule, rule_of, subcommand_of, subcommand_rows_of};
 ghost use Rattle.clap.specs.declared.builder.command.Command.TheViews.{out-Command};
-ghost use Rattle.mq_cli.specs.CommandLine.{ReadsAsAsked, StopsFor, around_option, check_command, check_request, explain_command};
+ghost use Rattle.mq_cli.specs.CommandLine.{ReadsAsAsked, StopsFor, around_option, check_command, check_request, convert_command, convert_request, explain_command};
 ghost use Rattle.mq_cli.specs.CommandLine.{explain_request, word_faults, flag, is_true, mqjudge, packet_command, packet_request};
-ghost use Rattle.mq_cli.specs.CommandLine.{path_named, path_of, reads_log, request_by, request_of, rules_command};
+ghost use Rattle.mq_cli.specs.CommandLine.{path_named, path_of, reads_log, request_by, request_of, required_operand, rules_command};
 ghost use Rattle.mq_cli.specs.CommandLine.{rules_request, show_command, show_request};
 
 use crate::digits::spaced;
@@ -44,6 +44,12 @@ const EXPLAIN_HELP: &str = "Statuses: 0 if it was explained, 3 for misuse or an 
     Example: mqjudge explain S01\n\
     The log's format: docs/LOG_FORMAT.md";
 
+const CONVERT_HELP: &str =
+    "Statuses: 0 if the log was converted, 2 for a rejected log, 3 for misuse,\n\
+    4 if reading or writing failed or memory ran out.\n\
+    Example: mqjudge convert session.log session-2.log\n\
+    The log's format: docs/LOG_FORMAT.md";
+
 /// What the program is asked to do.
 #[derive(Debug, Drop)]
 pub enum Work {
@@ -51,6 +57,17 @@ pub enum Work {
     Once(Task),
     /// A review, which reads its log twice.
     Twice(Review),
+    /// A conversion, which makes a log of the one that it reads.
+    Convert(Conversion),
+}
+
+/// Convert a log of version 1 into one of version 2.
+#[derive(Debug, Drop)]
+pub struct Conversion {
+    /// The path of the log that is read; `-` is standard input.
+    pub input: String,
+    /// The path of the log that is made.
+    pub output: String,
 }
 
 /// Show the events of a log with the faults at them: one reading finds the faults, and another one
@@ -151,9 +168,9 @@ pub enum EarlyExit {
 
 /// Reads the words of a command line, `mqjudge check [--json] [--summary] [FILE]`,
 /// `mqjudge show [--long] [--faults] [--around N] [FILE]`,
-/// `mqjudge packet HEX..`, `mqjudge rules [--role ROLE]` or `mqjudge explain CODE`, of which the
-/// first is the program's name. A request for help or the version is returned as a `EarlyExit`, and so
-/// are words that aren't such a command line.
+/// `mqjudge packet HEX..`, `mqjudge rules [--role ROLE]`, `mqjudge explain CODE` or
+/// `mqjudge convert IN OUT`, of which the first is the program's name. A request for help or the
+/// version is returned as a `EarlyExit`, and so are words that aren't such a command line.
 pub fn parse<S: AsStr>(alloc: Global, words: &[S]) -> Result<Work, EarlyExit>
     ensures taken { IfOk result (λ _. word_faults (map S.text words.now) ≡ []) }
     ensures work { IfOk result (λ work.
@@ -183,7 +200,14 @@ pub fn parse<S: AsStr>(alloc: Global, words: &[S]) -> Result<Work, EarlyExit>
                         Some(rules) => rules_task(alloc, rules.get_str("role")),
                         None => match matches.subcommand_matches("explain") {
                             Some(explain) => explain_task(alloc, explain.get_str("CODE")),
-                            None => unreachable!(),
+                            None => match matches.subcommand_matches("convert") {
+                                Some(convert) => convert_task(
+                                    alloc,
+                                    convert.get_str("IN"),
+                                    convert.get_str("OUT"),
+                                ),
+                                None => unreachable!(),
+                            },
                         },
                     },
                 },
@@ -212,16 +236,18 @@ fn command_line<'a>(alloc: Global) -> Result<Command<'a>, AllocError>
     let packet = packet_command(alloc)?;
     let rules = rules_command(alloc)?;
     let explain = explain_command(alloc)?;
+    let convert = convert_command(alloc)?;
     let with_check = Command::new(alloc, "mqjudge")
         .about("Judges the log of one end of an MQTT 5.0 session")
-        .version("0.1.0 (reads log version 1, judges 74 statements)")
+        .version("0.1.0 (reads log versions 1 and 2, judges 74 statements)")
         .after_help(HELP)
         .subcommand_required(true)
         .subcommand(check)?;
     let with_show = with_check.subcommand(show)?;
     let with_packet = with_show.subcommand(packet)?;
     let with_rules = with_packet.subcommand(rules)?;
-    with_rules.subcommand(explain)
+    let with_explain = with_rules.subcommand(explain)?;
+    with_explain.subcommand(convert)
 }
 
 // The definition of `check`.
@@ -343,6 +369,36 @@ fn explain_command<'a>(alloc: Global) -> Result<Command<'a>, AllocError>
         .arg(code)
 }
 
+// The definition of `convert`.
+fn convert_command<'a>(alloc: Global) -> Result<Command<'a>, AllocError>
+    ensures app { IfOk result (λ command. app_of command ≡ convert_command) }
+    ensures local { IfOk result (λ command. (out-Command command).has_globals ≡ false) }
+{
+    let input = required_operand(
+        alloc,
+        "IN",
+        "The log of version 1; standard input if it is `-`",
+    );
+    let output = required_operand(
+        alloc,
+        "OUT",
+        "The file that is made, or emptied and written; another one than IN",
+    );
+    Command::new(alloc, "convert")
+        .about("Converts a log of version 1 into one of version 2")
+        .after_help(CONVERT_HELP)
+        .arg(input)?
+        .arg(output)
+}
+
+// An operand of this name that has to be given.
+fn required_operand<'a>(alloc: Global, name: &'a str, help: &'a str) -> Arg<'a>
+    ensures rule { rule_of result ≡ required_operand name.now }
+    ensures local { result.global ≡ false }
+{
+    Arg::new(alloc, name).help(help).required(true)
+}
+
 // Whether the value of a flag is `true`: it is if the flag is given, and else `false`.
 fn is_true(value: Option<&str>) -> bool
     ensures { result ≡ is_true (option_map (λ text. text.now) value.entry) }
@@ -433,6 +489,30 @@ fn explain_task(alloc: Global, code: Option<&str>) -> Result<Work, EarlyExit>
 {
     match String::from_str(alloc, code.unwrap_or("")) {
         Ok(code) => Ok(Work::Once(Task::Explain { code })),
+        Err(_) => Err(EarlyExit::Memory),
+    }
+}
+
+// The conversion of the log that these operands name; a missing operand counts as an empty one.
+fn convert_task(alloc: Global, input: Option<&str>, output: Option<&str>) -> Result<Work, EarlyExit>
+    ensures work { IfOk result (λ work.
+        request_by work ≡ convert_request (option_map (λ word. word.now) input.entry) (option_map (λ word. word.now) output.entry)) }
+    ensures readings { IfOk result ReadsAsAsked }
+    ensures stop { IfErr result (λ stop. stop ≡ EarlyExit.Memory) }
+{
+    let input = copy_operand(alloc, input)?;
+    let output = copy_operand(alloc, output)?;
+    Ok(Work::Convert(Conversion { input, output }))
+}
+
+// A copy of an operand; a missing one counts as an empty one.
+fn copy_operand(alloc: Global, word: Option<&str>) -> Result<String, EarlyExit>
+    ensures copy { IfOk result (λ copy.
+        string_bytes copy ≡ unwrap_or (option_map (λ text. text.now) word.entry) []) }
+    ensures stop { IfErr result (λ stop. stop ≡ EarlyExit.Memory) }
+{
+    match String::from_str(alloc, word.unwrap_or("")) {
+        Ok(copy) => Ok(copy),
         Err(_) => Err(EarlyExit::Memory),
     }
 }

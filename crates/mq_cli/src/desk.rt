@@ -1,9 +1,13 @@
 //! A host for tests.
-use crate::harness::Trickle;
+use crate::failure::Failure;
+use crate::harness::{Narrow, Trickle};
 use crate::host::Host;
+use crate::new_file::NewFile;
+use crate::output::Outlet;
+use crate::program::run;
 use crate::trouble::{Reason, Trouble};
 use std::alloc::Global;
-use std::io::ErrorKind;
+use std::io::{ErrorKind, Write};
 
 /// A session of four events.
 pub const GOOD: &[u8] = b"MQTR\x01\x00\x01\x00\
@@ -19,7 +23,28 @@ pub const FAULTY: &[u8] = b"MQTR\x01\x00\x01\x00\
     \x03\x00\x00\x00\x05\x20\x03\x00\x00\x00\
     \x02\x00\x00\x00\x09\x32\x07\x00\x01a\x00\x00\x00x";
 
-/// A host with these words, one file, at `a.log`, and a standard input. Its readers give one byte a call.
+impl NewFile for Vec<u8> {
+    ghost use Rattle.std.specs.Prelude.{⊤};
+
+    ghost is_saved = { λ _. ⊤ };
+
+    fn save(&mut self) -> Result<(), Failure> {
+        self.flush().map_err(|_| Failure::Write)
+    }
+}
+
+impl NewFile for Narrow {
+    ghost use Rattle.std.specs.Prelude.{⊤};
+
+    ghost is_saved = { λ _. ⊤ };
+
+    fn save(&mut self) -> Result<(), Failure> {
+        self.flush().map_err(|_| Failure::Write)
+    }
+}
+
+/// A host with these words, one file, at `a.log`, and a standard input. Its readers give one byte a call. A file can be made at
+/// `b.log`.
 #[derive(Drop)]
 pub struct Desk {
     pub alloc: Global,
@@ -32,6 +57,9 @@ pub struct Desk {
     pub fails_after: Option<usize>,
     /// The kind of its error.
     pub kind: ErrorKind,
+    /// How many bytes the file that is made takes, and whether it stays unsaved.
+    pub room: usize,
+    pub stays: bool,
 }
 
 impl Desk {
@@ -50,6 +78,8 @@ impl Desk {
             trouble: Trouble::Unread(Reason::Missing),
             fails_after: None,
             kind: ErrorKind::Other,
+            room: 1_000,
+            stays: false,
         }
     }
 }
@@ -59,6 +89,8 @@ impl Host for Desk {
 
     type File = Trickle<'static>;
 
+    type Made = Narrow;
+
     type Stdin = Trickle<'static>;
 
     ghost gives = { λ _. record {
@@ -67,6 +99,8 @@ impl Host for Desk {
       standard = None;
       unread = λ _. ⊤;
       unopened = λ _ _. ⊤;
+      unmade = λ _ _. ⊤;
+      opened = λ _. ⊤;
     } };
 
     fn arguments(&self) -> Result<Vec<String>, Trouble> {
@@ -89,7 +123,27 @@ impl Host for Desk {
         }
     }
 
+    fn make(&self, path: &str) -> Result<Narrow, Trouble> {
+        if path == "b.log" {
+            Ok(Narrow {
+                room: self.room,
+                stays: self.stays,
+            })
+        } else {
+            Err(Trouble::Write)
+        }
+    }
+
     fn input(&self) -> Trickle<'static> {
         Trickle::failing(self.input, self.fails_after, self.kind)
     }
+}
+
+/// Whether the program has this status, and writes this and says this, on this host.
+pub fn does(desk: &Desk, status: u8, written: &str, said: &str) -> bool {
+    let mut output = Outlet::new(Vec::new(desk.alloc));
+    let mut error = Vec::new(desk.alloc);
+    run(desk.alloc, desk, &mut output, &mut error) == status
+        && output.get_ref().as_slice() == written.as_bytes()
+        && error.as_slice() == said.as_bytes()
 }

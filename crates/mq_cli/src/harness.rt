@@ -124,7 +124,7 @@ impl Printed {
 pub fn task_of(alloc: Global, words: &[&str]) -> Result<Task, EarlyExit> {
     match parse(alloc, words)? {
         Work::Once(task) => Ok(task),
-        Work::Twice(_) => Err(EarlyExit::Usage(String::new(alloc))),
+        Work::Twice(_) | Work::Convert(_) => Err(EarlyExit::Usage(String::new(alloc))),
     }
 }
 

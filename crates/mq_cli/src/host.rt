@@ -1,22 +1,30 @@
 //! What the program takes from the system.
 ghost use Rattle.std.specs.Prelude.{◌≡◌};
 ghost use Rattle.std.specs.IoError.{error_kind};
-ghost use Rattle.mq_cli.specs.Troubles.{trouble_for, words_trouble_for};
+ghost use Rattle.mq_cli.specs.Troubles.{making_trouble_for, trouble_for, words_trouble_for};
 
+use crate::new_file::NewFile;
 use crate::trouble::{Reason, Trouble};
 use std::env;
 use std::fs::File;
-use std::io::{self, ErrorKind, Input, Read};
+use std::io::{self, BufWriter, ErrorKind, Input, Read};
 use std::rt::{Env, Files};
 
-/// What the program takes from the system: the words of its command line, files and standard input.
+/// What messages call standard input.
+pub const STANDARD_INPUT: &str = "standard input";
+
+/// What the program takes from the system: the words of its command line, files, also new ones, and
+/// standard input.
 pub trait Host {
-    ghost use Rattle.std.specs.Prelude.{IfErr, IfOk, IfSome, ◌≡◌, map, string_bytes};
+    ghost use Rattle.std.specs.Prelude.{IfErr, IfOk, IfSome, None, Some, ◌≡◌, map, string_bytes};
     ghost use Rattle.std.specs.Io.KnownBytes.{Keeps};
-    ghost use Rattle.mq_cli.specs.Given.{Given};
+    ghost use Rattle.mq_cli.specs.Given.{Given, HasOpened};
 
     /// A file that is open.
     type File: Read + Drop;
+
+    /// A file that was made.
+    type Made: NewFile + Drop;
 
     /// Standard input.
     type Stdin: Read + Drop;
@@ -40,11 +48,23 @@ pub trait Host {
     /// `Unread` if the file can't be opened, and `Memory`.
     fn open(&self, path: &str) -> Result<Self::File, Trouble>
         ensures bytes { IfOk result (λ opened. Keeps ((gives self.now).file path.now) (Self.File.remaining opened)) }
+        ensures opened { IfOk result (λ _. (gives self.now).opened (Some path.now)) }
         ensures failed { IfErr result ((gives self.now).unopened path.now) };
+
+    /// Makes the file at this path, or empties it, to be written from its first byte. What is read was
+    /// opened before, so that nothing is made if that fails.
+    ///
+    /// # Errors
+    ///
+    /// `Write` if the file can't be made, and `Memory`.
+    fn make(&self, path: &str) -> Result<Self::Made, Trouble>
+        requires opened { HasOpened (gives self.now) }
+        ensures failed { IfErr result ((gives self.now).unmade path.now) };
 
     /// Standard input.
     fn input(&self) -> Self::Stdin
-        ensures { Keeps (gives self.now).standard (Self.Stdin.remaining result) };
+        ensures bytes { Keeps (gives self.now).standard (Self.Stdin.remaining result) }
+        ensures opened { (gives self.now).opened None };
 }
 
 /// The operating system, reached through a runtime.
@@ -55,10 +75,12 @@ pub struct System<'a, R> {
 }
 
 impl<R: AllocGlobal + Env + Files + Input> Host for System<'_, R> {
-    ghost use Rattle.std.specs.Prelude.{None, ◌≢◌};
-    ghost use Rattle.mq_cli.specs.declared.trouble.Trouble.TheVariants.{Write};
+    ghost use Rattle.std.specs.Prelude.{None, ◌≡◌, ◌≢◌, ◌⊎◌, ⊤};
+    ghost use Rattle.mq_cli.specs.declared.trouble.Trouble.TheVariants.{Memory, Write};
 
     type File = R::File;
+
+    type Made = BufWriter<R::File>;
 
     type Stdin = R::Reader;
 
@@ -69,6 +91,8 @@ impl<R: AllocGlobal + Env + Files + Input> Host for System<'_, R> {
       standard = None;
       unread = λ trouble. trouble ≢ Write;
       unopened = λ _ trouble. trouble ≢ Write;
+      unmade = λ _ trouble. (trouble ≡ Write) ⊎ (trouble ≡ Memory);
+      opened = λ _. ⊤;
     } };
 
     fn arguments(&self) -> Result<Vec<String>, Trouble> {
@@ -87,6 +111,16 @@ impl<R: AllocGlobal + Env + Files + Input> Host for System<'_, R> {
         }
     }
 
+    fn make(&self, path: &str) -> Result<BufWriter<R::File>, Trouble> {
+        match File::create(self.rt, path) {
+            Ok(file) => match BufWriter::new(self.rt.alloc(), file) {
+                Ok(made) => Ok(made),
+                Err(_) => Err(Trouble::Memory),
+            },
+            Err(error) => Err(failed_making(&error)),
+        }
+    }
+
     fn input(&self) -> R::Reader {
         self.rt.reader()
     }
@@ -99,6 +133,16 @@ fn failed_opening(error: &io::Error) -> Trouble
     match error.kind() {
         ErrorKind::OutOfMemory => Trouble::Memory,
         kind => Trouble::Unread(Reason::of(kind)),
+    }
+}
+
+// Why a file couldn't be made.
+fn failed_making(error: &io::Error) -> Trouble
+    ensures { result ≡ making_trouble_for (error_kind error.now) }
+{
+    match error.kind() {
+        ErrorKind::OutOfMemory => Trouble::Memory,
+        _ => Trouble::Write,
     }
 }
 

@@ -5,6 +5,9 @@ mod beginning;
 mod citations;
 mod command_line;
 #[cfg(test)]
+mod convert_tests;
+mod converting;
+#[cfg(test)]
 mod desk;
 mod digits;
 mod error_stream;
@@ -17,6 +20,7 @@ mod host;
 mod large_tests;
 mod listing;
 mod misuse;
+mod new_file;
 mod noting;
 mod output;
 #[cfg(test)]

@@ -23,6 +23,8 @@ pub enum Misuse<'a> {
     NoFile,
     /// The word isn't a number of positions.
     NoNumber(&'a str),
+    /// The log that is to be converted and the file that is to be made have the same name.
+    SameFile,
 }
 
 impl Misuse<'_> {
@@ -50,6 +52,10 @@ impl Misuse<'_> {
                 error,
             ),
             Misuse::NoNumber(word) => refuse_word(alloc, "mqjudge: no number ", word, "", error),
+            Misuse::SameFile => write_misuse(
+                "mqjudge: OUT has to be another file than IN\n",
+                error,
+            ),
         }
     }
 }

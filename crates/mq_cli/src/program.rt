@@ -9,9 +9,10 @@ ghost use Rattle.mq_cli.specs.Troubles.{hint_line};
 
 use crate::beginning::{give_hint, read_start};
 use crate::command_line::{Task, Work, parse};
+use crate::converting::convert_file;
 use crate::error_stream::ErrorStream;
 use crate::failure::{Obstacle, REFUSED};
-use crate::host::Host;
+use crate::host::{Host, STANDARD_INPUT};
 use crate::noting::Noting;
 use crate::output::Output;
 use crate::reviewing::review;
@@ -21,14 +22,13 @@ use std::alloc::Global;
 use std::convert::AsStr;
 use std::io::Read;
 
-// What a message calls standard input, and the words.
-const STANDARD_INPUT: &str = "standard input";
-
+// What a message calls the words.
 const COMMAND_LINE: &str = "the command line";
 
 /// Does what the words of the command line ask for, and returns the status to exit with: that of
-/// `attempt` for a task, of `review` for a log that is read twice, and of `stop` for help, the
-/// version and a misuse; 3 too if a word names nothing, and 4 if something failed.
+/// `attempt` for a task, of `review` for a log that is read twice, of `convert_file` for one that is
+/// converted, and of `stop` for help, the version and a misuse; 3 too if a word names nothing, and 4
+/// if something failed.
 ///
 /// What failed is reported on `error`, unless nobody reads `output` any more. If that was reading, a
 /// second line says what couldn't be read, and why. For a refused log whose first bytes show that it
@@ -113,6 +113,7 @@ fn work_on<H: Host, W: Output, E: ErrorStream>(
     match work {
         Work::Once(task) => read_and_do(alloc, host, task, output, error),
         Work::Twice(asked) => review(alloc, host, asked, output, error),
+        Work::Convert(asked) => convert_file(alloc, host, asked, output, error),
     }
 }
 

@@ -177,7 +177,7 @@ static ROWS: [Row; 25] = [
         file: GOOD,
         input: GOOD,
         status: 0,
-        output: "mqjudge 0.1.0 (reads log version 1, judges 74 statements)\n",
+        output: "mqjudge 0.1.0 (reads log versions 1 and 2, judges 74 statements)\n",
         error: "",
     },
     Row {

@@ -50,7 +50,7 @@ const TAKEN_TWICE: &[u8] = b"MQTR\x01\x00\x01\x00\
 
 const CHECK: [&str; 2] = ["mqjudge", "check"];
 
-const VERSION: &str = "mqjudge 0.1.0 (reads log version 1, judges 74 statements)\n";
+const VERSION: &str = "mqjudge 0.1.0 (reads log versions 1 and 2, judges 74 statements)\n";
 
 // A log, in parts, and the expected result.
 struct Row {

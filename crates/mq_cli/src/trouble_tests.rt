@@ -1,5 +1,5 @@
 use crate::beginning::read_start;
-use crate::desk::{Desk, FAULTY, GOOD};
+use crate::desk::{Desk, FAULTY, GOOD, does};
 use crate::harness::{Narrow, Trickle};
 use crate::noting::Noting;
 use crate::output::Outlet;
@@ -114,15 +114,6 @@ static OTHER_FILES: [(&[&str], &[u8], &str, &str); 13] = [
         "",
     ),
 ];
-
-// Whether the program has this status, and writes this and says this, on this host.
-fn does(desk: &Desk, status: u8, written: &str, said: &str) -> bool {
-    let mut output = Outlet::new(Vec::new(desk.alloc));
-    let mut error = Vec::new(desk.alloc);
-    run(desk.alloc, desk, &mut output, &mut error) == status
-        && output.get_ref().as_slice() == written.as_bytes()
-        && error.as_slice() == said.as_bytes()
-}
 
 #[test]
 fn says_what_to_do_with_other_files(rt: HostRuntime) {

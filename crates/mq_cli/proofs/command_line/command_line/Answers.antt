@@ -24,5 +24,6 @@ returns c =
     c.in_ok-with_show.ensures.shape c.in_ok-show.ensures.local ∙ ap₂ with_subcommand with_check (ap (λ (a : App). a.top) c.in_ok-show.ensures.app) in
     let with_packet = c.in_ok-with_packet.ensures.shape c.in_ok-packet.ensures.local ∙ ap₂ with_subcommand with_show (ap (λ (a : App). a.top) c.in_ok-packet.ensures.app) in
     let with_rules = c.in_ok-with_rules.ensures.shape c.in_ok-rules.ensures.local ∙ ap₂ with_subcommand with_packet (ap (λ (a : App). a.top) c.in_ok-rules.ensures.app) in
-    IfOk-weaker c.subcommand-5.result _ _ (λ r h. h.shape c.in_ok-explain.ensures.local
-    ∙ ap₂ with_subcommand with_rules (ap (λ (a : App). a.top) c.in_ok-explain.ensures.app)) c.subcommand-5.ensures
+    let with_explain = c.in_ok-with_explain.ensures.shape c.in_ok-explain.ensures.local ∙ ap₂ with_subcommand with_rules (ap (λ (a : App). a.top) c.in_ok-explain.ensures.app) in
+    IfOk-weaker c.subcommand-6.result _ _ (λ r h. h.shape c.in_ok-convert.ensures.local
+    ∙ ap₂ with_subcommand with_explain (ap (λ (a : App). a.top) c.in_ok-convert.ensures.app)) c.subcommand-6.ensures

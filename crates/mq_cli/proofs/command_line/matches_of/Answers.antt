@@ -1,6 +1,6 @@
 use Rattle.std.proofs.Common.{rules, subst, map}
 use Rattle.clap.specs.Words.{App, FailsBy, fault_of}
-use Rattle.mq_cli.proofs.CommandLineLemmas.{taken-faultless}
+use Rattle.mq_cli.proofs.CommandLineLemmas.{refused-kind, taken-faultless}
 use Rattle.mq_cli.proofs.command_line.matches_of.Goals as goal
 
 pub returns-clause-taken : goal.returns-clause-taken
@@ -8,3 +8,9 @@ returns-clause-taken g c =
     let words = map g.S.AsStr.text c.args.words.now in
     let P : App → Type 0 = λ app. FailsBy (fault_of app words) c.try_get_matches_from.result in
     taken-faultless _ c.try_get_matches_from.result (subst P c.in_ok-command_line.ensures (c.try_get_matches_from.ensures.kinds (search rules)))
+
+pub returns-clause-fault : goal.returns-clause-fault
+returns-clause-fault g c =
+    let words = map g.S.AsStr.text c.args.words.now in
+    let P : App → Type 0 = λ app. FailsBy (fault_of app words) c.try_get_matches_from.result in
+    refused-kind _ c.try_get_matches_from.result (subst P c.in_ok-command_line.ensures (c.try_get_matches_from.ensures.kinds (search rules)))

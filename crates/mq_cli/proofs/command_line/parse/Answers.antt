@@ -2,7 +2,7 @@ use Rattle.std.proofs.Common.{ap, map, refl, sym, true≢false, Some, List, Opti
 use Rattle.std.proofs.lemmas.Result.{IfOk-weaker}
 use Rattle.clap.specs.Words.{Text}
 use Rattle.mq_cli.specs.CommandLine.{explain_request, is_true, packet_request, rules_request}
-use Rattle.mq_cli.proofs.CommandLineLemmas.{subcommand_is_named, request_is_check, request_is_explain, request_is_packet, request_is_rules, request_is_show, same_check, same_show}
+use Rattle.mq_cli.proofs.CommandLineLemmas.{subcommand_is_named, request_is_check, request_is_convert, request_is_explain, request_is_packet, request_is_rules, request_is_show, same_check, same_convert, same_show}
 use Rattle.mq_cli.proofs.command_line.parse.Goals as goal
 
 pub unreachable-requires : goal.unreachable-requires
@@ -13,7 +13,8 @@ unreachable-requires g c =
       | inr (inl h) ↦ true≢false (sym (c.in-None-subcommand_matches.ensures.found.1 h))
       | inr (inr (inl h)) ↦ true≢false (sym (c.in-None-subcommand_matches-2.ensures.found.1 h))
       | inr (inr (inr (inl h))) ↦ true≢false (sym (c.in-None-subcommand_matches-3.ensures.found.1 h))
-      | inr (inr (inr (inr h))) ↦ true≢false (sym (c.in-None-subcommand_matches-4.ensures.found.1 h))
+      | inr (inr (inr (inr (inl h)))) ↦ true≢false (sym (c.in-None-subcommand_matches-4.ensures.found.1 h))
+      | inr (inr (inr (inr (inr h)))) ↦ true≢false (sym (c.in-None-subcommand_matches-5.ensures.found.1 h))
     ]
 
 pub returns-in-Some-clause-work : goal.returns-in-Some-clause-work
@@ -58,3 +59,12 @@ returns-in-Some-subcommand_matches-4-clause-work g c =
     let given = c.get_str-in-Some-subcommand_matches-4-2.ensures in
     let asked = request_is_explain words c.in-Ok.matches met.explain.now c.in-Ok.ensures.met (met.ensures.found.0 refl) met.ensures.rows in
     IfOk-weaker c.explain_task.result _ _ (λ work h. asked ∙ ap (λ (f : Option Text). Some (explain_request f)) (sym given) ∙ ap Some (sym h)) c.explain_task.ensures.work
+
+pub returns-in-Some-subcommand_matches-5-clause-work : goal.returns-in-Some-subcommand_matches-5-clause-work
+returns-in-Some-subcommand_matches-5-clause-work g c =
+    let words = map g.S.AsStr.text c.args.words.now in
+    let met = c.in-Some-subcommand_matches-5 in
+    let log = c.get_str-in-Some-subcommand_matches-5.ensures in
+    let made = c.get_str-in-Some-subcommand_matches-5-2.ensures in
+    let asked = request_is_convert words c.in-Ok.matches met.convert.now c.in-Ok.ensures.met (met.ensures.found.0 refl) met.ensures.rows in
+    IfOk-weaker c.convert_task.result _ _ (λ work h. asked ∙ same_convert (sym log) (sym made) ∙ ap Some (sym h)) c.convert_task.ensures.work

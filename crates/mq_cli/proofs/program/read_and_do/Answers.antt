@@ -20,4 +20,4 @@ returns-then-reads_log-clause-failed g c = λ e.
     input_fails (g.H.Host.gives c.args.host.now) c.args.task.now (g.H.Stdin.Read.remaining c.input.result)
     (g.W.Write.contents c.args.output.now) (g.W.Write.contents c.do_on-then-reads_log.new.output) (g.W.Output.is_closed c.do_on-then-reads_log.new.output)
     (stream g.E.ErrorStream.contents g.E.ErrorStream.has_failed c.args.error.now c.do_on-then-reads_log.new.error)
-    c.in-None.ensures (sym c.if-reads_log.ensures) c.input.ensures (c.do_on-then-reads_log.ensures.failed e)
+    c.in-None.ensures (sym c.if-reads_log.ensures) c.input.ensures.bytes (c.do_on-then-reads_log.ensures.failed e)
