@@ -143,7 +143,7 @@ impl Host for Desk {
 pub fn does(desk: &Desk, status: u8, written: &str, said: &str) -> bool {
     let mut output = Outlet::new(Vec::new(desk.alloc));
     let mut error = Vec::new(desk.alloc);
-    run(desk.alloc, desk, &mut output, &mut error) == status
+    run(desk.alloc, desk, &mut output, &mut error, &mut ()) == status
         && output.get_ref().as_slice() == written.as_bytes()
         && error.as_slice() == said.as_bytes()
 }

@@ -136,7 +136,7 @@ fn perform<R: Read, W: Write, E: ErrorStream>(
     output: &mut W,
     error: &mut E,
 ) -> u8 {
-    match attempt(alloc, task, input, output) {
+    match attempt(alloc, task, input, output, &mut ()) {
         Ok(status) => status,
         Err(Obstacle::Failed(failure)) => failure.report(error),
         Err(Obstacle::Misused(misuse)) => misuse.report(alloc, error),

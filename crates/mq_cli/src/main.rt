@@ -19,6 +19,7 @@ mod host;
 #[cfg(test)]
 mod large_tests;
 mod listing;
+mod meter;
 mod misuse;
 mod new_file;
 mod noting;
@@ -45,17 +46,25 @@ mod writing;
 
 use failure::Failure;
 use host::System;
+use meter::Meter;
 use output::Outlet;
 use program::run;
-use std::io::BufWriter;
+use std::io::{BufWriter, IsTerminal};
 use std::process::ExitCode;
 
 fn main(rt: HostRuntime) -> ExitCode {
     let alloc = rt.alloc();
     let system = System { rt: &rt };
     let mut error = rt.stderr();
+    let mut progress = Meter::new(rt.stderr(), rt.stderr().is_terminal());
     let status = match BufWriter::new(alloc, rt.stdout()) {
-        Ok(output) => run(alloc, &system, &mut Outlet::new(output), &mut error),
+        Ok(output) => run(
+            alloc,
+            &system,
+            &mut Outlet::new(output),
+            &mut error,
+            &mut progress,
+        ),
         Err(_) => Failure::Memory.report(&mut error),
     };
     ExitCode::from(status)

@@ -18,6 +18,7 @@ use crate::output::Output;
 use crate::reviewing::review;
 use crate::tasks::{attempt, stop};
 use crate::trouble::Trouble;
+use mq_judge::Progress;
 use std::alloc::Global;
 use std::convert::AsStr;
 use std::io::Read;
@@ -32,12 +33,14 @@ const COMMAND_LINE: &str = "the command line";
 ///
 /// What failed is reported on `error`, unless nobody reads `output` any more. If that was reading, a
 /// second line says what couldn't be read, and why. For a refused log whose first bytes show that it
-/// is another kind of file, a line on `error` says what to do with it.
-pub fn run<H: Host, W: Output, E: ErrorStream>(
+/// is another kind of file, a line on `error` says what to do with it. While a log is checked,
+/// `progress` is told how far that is.
+pub fn run<H: Host, W: Output, E: ErrorStream, P: Progress>(
     alloc: Global,
     host: &H,
     output: &mut W,
     error: &mut E,
+    progress: &mut P,
 ) -> u8
     ensures statuses { result ≤ 4 }
     ensures quiet { result ≤ 1 → Keeps (E.contents error.old) (E.contents error.new) }
@@ -58,18 +61,19 @@ pub fn run<H: Host, W: Output, E: ErrorStream>(
         (W.contents output.old) (W.contents output.new) (stream E.contents E.has_failed error.old error.new)) }
 {
     match host.arguments() {
-        Ok(words) => respond(alloc, host, words.as_slice(), output, error),
+        Ok(words) => respond(alloc, host, words.as_slice(), output, error, progress),
         Err(trouble) => trouble.report(COMMAND_LINE, output, error),
     }
 }
 
 // Does what these words ask for, and returns the status to exit with.
-fn respond<S: AsStr, H: Host, W: Output, E: ErrorStream>(
+fn respond<S: AsStr, H: Host, W: Output, E: ErrorStream, P: Progress>(
     alloc: Global,
     host: &H,
     words: &[S],
     output: &mut W,
     error: &mut E,
+    progress: &mut P,
 ) -> u8
     ensures statuses { result ≤ 4 }
     ensures quiet { result ≤ 1 → Keeps (E.contents error.old) (E.contents error.new) }
@@ -86,18 +90,19 @@ fn respond<S: AsStr, H: Host, W: Output, E: ErrorStream>(
         (W.contents output.old) (W.contents output.new) (stream E.contents E.has_failed error.old error.new) }
 {
     match parse(alloc, words) {
-        Ok(work) => work_on(alloc, host, &work, output, error),
+        Ok(work) => work_on(alloc, host, &work, output, error, progress),
         Err(why) => stop(&why, output, error),
     }
 }
 
 // Does the work, and returns the status to exit with.
-fn work_on<H: Host, W: Output, E: ErrorStream>(
+fn work_on<H: Host, W: Output, E: ErrorStream, P: Progress>(
     alloc: Global,
     host: &H,
     work: &Work,
     output: &mut W,
     error: &mut E,
+    progress: &mut P,
 ) -> u8
     ensures statuses { result ≤ 4 }
     ensures quiet { result ≤ 1 → Keeps (E.contents error.old) (E.contents error.new) }
@@ -111,19 +116,20 @@ fn work_on<H: Host, W: Output, E: ErrorStream>(
         (W.contents output.old) (W.contents output.new) (stream E.contents E.has_failed error.old error.new) }
 {
     match work {
-        Work::Once(task) => read_and_do(alloc, host, task, output, error),
+        Work::Once(task) => read_and_do(alloc, host, task, output, error, progress),
         Work::Twice(asked) => review(alloc, host, asked, output, error),
         Work::Convert(asked) => convert_file(alloc, host, asked, output, error),
     }
 }
 
 // Does the task on the log that it names, and returns the status to exit with.
-fn read_and_do<H: Host, W: Output, E: ErrorStream>(
+fn read_and_do<H: Host, W: Output, E: ErrorStream, P: Progress>(
     alloc: Global,
     host: &H,
     task: &Task,
     output: &mut W,
     error: &mut E,
+    progress: &mut P,
 ) -> u8
     ensures statuses { result ≤ 4 }
     ensures quiet { result ≤ 1 → Keeps (E.contents error.old) (E.contents error.new) }
@@ -143,12 +149,20 @@ fn read_and_do<H: Host, W: Output, E: ErrorStream>(
 {
     match task.path() {
         Some(path) => match host.open(path) {
-            Ok(file) => do_on(alloc, task, path, file, output, error),
+            Ok(file) => do_on(alloc, task, path, file, output, error, progress),
             Err(trouble) => trouble.report(path, output, error),
         },
         None => {
             if task.reads_log() {
-                do_on(alloc, task, STANDARD_INPUT, host.input(), output, error)
+                do_on(
+                    alloc,
+                    task,
+                    STANDARD_INPUT,
+                    host.input(),
+                    output,
+                    error,
+                    progress,
+                )
             } else {
                 do_from(
                     alloc,
@@ -158,6 +172,7 @@ fn read_and_do<H: Host, W: Output, E: ErrorStream>(
                     host.input(),
                     output,
                     error,
+                    progress,
                 )
             }
         }
@@ -165,13 +180,14 @@ fn read_and_do<H: Host, W: Output, E: ErrorStream>(
 }
 
 // Does the task on the log that a reader gives, and returns the status to exit with. Messages call the reader by this name.
-fn do_on<R: Read + Drop, W: Output, E: ErrorStream>(
+fn do_on<R: Read + Drop, W: Output, E: ErrorStream, P: Progress>(
     alloc: Global,
     task: &Task,
     place: &str,
     input: R,
     output: &mut W,
     error: &mut E,
+    progress: &mut P,
 ) -> u8
     ensures statuses { result ≤ 4 }
     ensures quiet { result ≤ 1 → Keeps (E.contents error.old) (E.contents error.new) }
@@ -188,13 +204,22 @@ fn do_on<R: Read + Drop, W: Output, E: ErrorStream>(
 {
     let mut input = input;
     match read_start(alloc, &mut input) {
-        Ok(start) => do_from(alloc, task, place, start.as_slice(), input, output, error),
+        Ok(start) => do_from(
+            alloc,
+            task,
+            place,
+            start.as_slice(),
+            input,
+            output,
+            error,
+            progress,
+        ),
         Err(trouble) => trouble.report(place, output, error),
     }
 }
 
 // The same, with the first bytes of the log, and what the reader gives after them.
-fn do_from<R: Read + Drop, W: Output, E: ErrorStream>(
+fn do_from<R: Read + Drop, W: Output, E: ErrorStream, P: Progress>(
     alloc: Global,
     task: &Task,
     place: &str,
@@ -202,6 +227,7 @@ fn do_from<R: Read + Drop, W: Output, E: ErrorStream>(
     input: R,
     output: &mut W,
     error: &mut E,
+    progress: &mut P,
 ) -> u8
     ensures statuses { result ≤ 4 }
     ensures quiet { result ≤ 1 → Keeps (E.contents error.old) (E.contents error.new) }
@@ -219,7 +245,7 @@ fn do_from<R: Read + Drop, W: Output, E: ErrorStream>(
         (W.contents output.old) (W.contents output.new) (stream E.contents E.has_failed error.old error.new) }
 {
     let mut log = Noting::new(start.chain(input));
-    match attempt(alloc, task, &mut log, output) {
+    match attempt(alloc, task, &mut log, output, progress) {
         Ok(REFUSED) => {
             give_hint(start, error);
             REFUSED

@@ -441,7 +441,7 @@ fn desk_of(alloc: Global, row: &Row) -> Desk {
 fn does(desk: &Desk, row: &Row) -> bool {
     let mut output = Outlet::new(Vec::new(desk.alloc));
     let mut error = Vec::new(desk.alloc);
-    run(desk.alloc, desk, &mut output, &mut error) == row.status
+    run(desk.alloc, desk, &mut output, &mut error, &mut ()) == row.status
         && output.get_ref().as_slice() == row.output.as_bytes()
         && error.as_slice() == row.error.as_bytes()
 }

@@ -27,8 +27,8 @@ use crate::trouble::Trouble;
 use crate::writing::{flush, write_out};
 use hex::{FromHexError, decode};
 use mq_judge::{
-    Faults, Form, Outcome, Refusal, RunFault, run, show, show_faults, show_long, write_packet,
-    write_refused,
+    Faults, Form, Outcome, Progress, Refusal, RunFault, run_watched, show, show_faults, show_long,
+    write_packet, write_refused,
 };
 use mq_rules::{Role, Rule};
 use std::alloc::Global;
@@ -69,11 +69,12 @@ pub enum View<'a> {
 /// `Failed` if reading or writing failed or memory ran out: what was written until then is part of
 /// what would have been. `Misused` if `hex` isn't hexadecimal, if the word isn't an end, or if it is
 /// neither a statement's code nor a citation: nothing was written.
-pub fn attempt<'a, R: Read, W: Write>(
+pub fn attempt<'a, R: Read, W: Write, P: Progress>(
     alloc: Global,
     task: &'a Task,
     input: &mut R,
     output: &mut W,
+    progress: &mut P,
 ) -> Result<u8, Obstacle<'a>>
     ensures passed { IfOk result (λ status. status ≡ PASSED → HasPassed task.now (R.remaining input.old)) }
     ensures faulty { IfOk result (λ status. status ≡ FAULTY → HasFailed task.now (R.remaining input.old)) }
@@ -91,6 +92,7 @@ pub fn attempt<'a, R: Read, W: Write>(
             form_of(*json, *summary),
             input,
             output,
+            progress,
         ) {
             Ok(status) => Ok(status),
             Err(failure) => Err(Obstacle::Failed(failure)),
@@ -122,11 +124,12 @@ fn form_of(json: bool, summary: bool) -> Form
 }
 
 // Judges a log, with a report in this form.
-fn check<R: Read, W: Write>(
+fn check<R: Read, W: Write, P: Progress>(
     alloc: Global,
     form: Form,
     input: &mut R,
     output: &mut W,
+    progress: &mut P,
 ) -> Result<u8, Failure>
     ensures passed { IfOk result (λ status. status ≡ PASSED → IfSome (R.remaining input.old)
         (λ log. IsJudged log × IsFaultless log)) }
@@ -140,7 +143,7 @@ fn check<R: Read, W: Write>(
         (λ log. StopsCheck form failure log (R.remaining input.new) (W.contents output.old) (W.contents output.new))) }
     ensures statuses { IfOk result (λ status. status ≤ REFUSED) }
 {
-    match run(alloc, input, output, form) {
+    match run_watched(alloc, input, output, form, progress) {
         Ok(Outcome::Pass) => see_out(PASSED, output),
         Ok(Outcome::Fail) => see_out(FAULTY, output),
         Err(RunFault::Refused(refusal)) => refuse(alloc, &refusal, form, output),

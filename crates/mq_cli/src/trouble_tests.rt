@@ -298,7 +298,7 @@ fn says_nothing_where_nobody_reads(rt: HostRuntime) {
             let desk = Desk::of(rt.alloc(), words, FAULTY, GOOD);
             let mut output = Outlet::new(Narrow { room, stays });
             let mut error = Vec::new(rt.alloc());
-            let status = run(rt.alloc(), &desk, &mut output, &mut error);
+            let status = run(rt.alloc(), &desk, &mut output, &mut error, &mut ());
             assert!(rt;
                 status == 4 && error.as_slice() == said.as_bytes(),
                 "{words:?}"
