@@ -1,10 +1,12 @@
 #!/usr/bin/env python3
-"""Checks that the table of statements in docs/STATEMENTS.md is the one that the program has.
+"""Checks that the table of statements in docs/STATEMENTS.md is the one that the program has, and that the number of statements in
+README.md and docs/STATEMENTS.md is the number of its rows.
 
 The rows are those of `TABLE` in crates/mq_rules/src/table.rt, and what each statement says is its doc comment in
 crates/mq_rules/src/rule.rt, which is also its sentence in `SENTENCES` of crates/mq_rules/src/naming.rt. In the document
 the table is between the lines `<!-- rules -->` and `<!-- /rules -->`. If it differs, the first line that does is
-printed, and the status is 1; with --write the table is written instead.
+printed, and the status is 1; with --write the table is written instead. The two pages are the only ones that say how many
+statements there are: each has to say it, and nowhere another number, or the status is 1, with --write too.
 
 usage: bench/rules_table.py [--write]
 """
@@ -15,6 +17,8 @@ from pathlib import Path
 
 TOP = Path(__file__).resolve().parent.parent
 DOCUMENT = TOP / "docs" / "STATEMENTS.md"
+COUNTING = (TOP / "README.md", DOCUMENT)
+COUNT = re.compile(r"\b(\d+)\s+(?:statements|rules)\b")
 SOURCES = TOP / "crates" / "mq_rules" / "src"
 BEGIN, END = "<!-- rules -->\n", "<!-- /rules -->\n"
 HEAD = ["| Code | A statement of the tested end | Citation for a client | For a server |", "|---|---|---|---|"]
@@ -55,6 +59,15 @@ def table() -> str:
     return "\n".join(lines) + "\n"
 
 
+def miscounted(page: Path, count: int) -> list[str]:
+    """What is wrong with the numbers of statements that a page says, where there are so many."""
+    name = page.relative_to(TOP)
+    said = COUNT.findall(page.read_text())
+    if not said:
+        return [f"{name} doesn't say how many statements there are: {count}"]
+    return [f"{name} says that there are {number} statements: there are {count}" for number in said if int(number) != count]
+
+
 def main() -> None:
     options = argparse.ArgumentParser(description="Checks the table of statements in docs/STATEMENTS.md.")
     options.add_argument("--write", action="store_true", help="write the table into the document")
@@ -65,16 +78,15 @@ def main() -> None:
     before, rest = document.split(BEGIN)
     there, after = rest.split(END)
     wanted = table()
-    if there == wanted:
-        return
+    wrong = [line for page in COUNTING for line in miscounted(page, wanted.count("\n") - len(HEAD))]
     if write:
         DOCUMENT.write_text(before + BEGIN + wanted + END + after)
-        return
-    for have, want in zip(there.splitlines() + [""], wanted.splitlines() + [""]):
-        if have != want:
-            print(f"the document has:  {have}\nthe program has:   {want}")
-            break
-    sys.exit(1)
+    elif there != wanted:
+        pairs = zip(there.splitlines() + [""], wanted.splitlines() + [""])
+        wrong += next([f"the document has:  {have}", f"the program has:   {want}"] for have, want in pairs if have != want)
+    for line in wrong:
+        print(line)
+    sys.exit(1 if wrong else 0)
 
 
 if __name__ == "__main__":

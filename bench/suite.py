@@ -1,6 +1,6 @@
 #!/usr/bin/env python3
-"""Makes and checks the conformance suite, `examples/suite/`: for each of the 74 statements, for one end that it binds, a log that
-breaks it and one that keeps it, each with its exact report as text and as JSON.
+"""Makes and checks the conformance suite, `examples/suite/`: for each statement, for one end that it binds, a log that breaks it
+and one that keeps it, each with its exact report as text and as JSON.
 
 The logs and their reports are the rows of suite_rows.txt, in the form of the worked logs of mq_judge's tests: what the row shows,
 the log in words, and the report, with a semicolon between its lines. The reports were written from the statements' words before any
@@ -39,9 +39,9 @@ FORMS: tuple[tuple[list[str], str], ...] = (([], "report"), (["--json"], "json")
 ABOUT = """\
 # The conformance suite
 
-148 logs for those who make a checker of MQTT 5.0 sessions, or a recorder: for each of the 74
-statements that `mqjudge` checks, a log in which the tested end breaks it and one in which it keeps
-it. The two differ in one record. Each log has its exact report beside it:
+Logs for those who make a checker of MQTT 5.0 sessions, or a recorder: for each statement that
+`mqjudge` checks, a log in which the tested end breaks it and one in which it keeps it. The two
+differ in one record. Each log has its exact report beside it:
 
 | File | What it is |
 |---|---|
