@@ -2,7 +2,7 @@
 """Compares what `mqjudge convert` writes and answers with converting.py: on the worked logs, the conformance suite, the examples, each
 beginning of a log, logs that are refused, and logs of hostile_logs.py by a seed.
 
-converting.py itself is held against reference.py: what it doesn't refuse must get the same report as before, and what it refuses
+converting.py itself is compared with reference.py: what it doesn't refuse must get the same report as before, and what it refuses
 reference.py must refuse too, at that byte or before it. Where there is no program, that is all. With a program it also looks at
 files that can't be opened or made, and at what `check` says of the examples before and after.
 
@@ -90,7 +90,7 @@ class Comparison:
     # -- converting.py against reference.py
 
     def compare_meaning(self, name: str, log: bytes, made: Conversion) -> None:
-        """Holds a conversion against what reference.py says of the log, and of what it became."""
+        """Compares a conversion with what reference.py says of the log before and after it."""
         before = reference.report(log)
         if made.refusal is None:
             after = reference.report(made.written)
@@ -109,7 +109,7 @@ class Comparison:
         return ran.returncode, ran.stdout.decode(errors="replace"), ran.stderr.decode(errors="replace")
 
     def convert(self, log: bytes) -> tuple[int, str, str, bytes]:
-        """What the program answers, and what it has written. A hint on what a file is that is no log may stand beside."""
+        """What the program answers, and what it has written. A hint on what the file is, if it isn't a log, may be added."""
         (self.folder / "in.log").write_bytes(log)
         (self.folder / "out.log").unlink(missing_ok=True)
         status, output, errors = self.run("convert", "in.log", "out.log")
@@ -153,7 +153,7 @@ class Comparison:
 
 
 def without_place(report: str) -> str:
-    """A report; of a refusal without its byte, which is another one where moments come before it."""
+    """A report; of a refusal without its byte, which moments before it move."""
     return report.partition(" at ")[0] if report.startswith("refused ") else report
 
 

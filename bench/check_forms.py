@@ -1,11 +1,11 @@
 #!/usr/bin/env python3
-"""Holds the built program's reports as JSON, in short and under the events against its text, with a JSON reader of its own.
+"""Compares the built program's reports as JSON, as a summary and under the events with its text report.
 
 usage: bench/check_forms.py PROGRAM [LOG ..]
 
 The text report of each log is made into the other forms here, in Python: each of the worked logs of check_rows.py, a log of
 3,000 faults, one of long packets that break a rule, refused logs, some of all these in version 2, and the logs that are named. JSON
-is also read back by Python's json module. What `show --faults` is to print is made of the text report and of what `show` prints. The
+is also read back by Python's json module. What `show --faults` is to print is made from the text report and from what `show` prints. The
 bytes of packets that break a rule are those that reference.py finds in the log. Each line of `show` is that of showing.py, and each of
 `show --long` begins with it.
 """
@@ -164,7 +164,7 @@ def all_sentences(program: str) -> dict[str, str]:
 
 
 def wanted_of(program: str, log: bytes, path: str, sentences: dict[str, str]) -> dict[tuple[str, ...], tuple[int, str, str]]:
-    """For each command line what it is to answer for this log, which lies at the path too."""
+    """What each command line is to answer for this log, which is at this path too."""
     status, text, errors = run(program, log, "check")
     wanted = {
         ("check", "--json"): (status, as_json(text), errors),

@@ -9,7 +9,7 @@ folder. A log in which the tested end does right must pass. A divergence is prin
 as short as it can be, which is also written to a file. The last line says how many there were.
 
 With --seconds it ends after that time, and says how many logs it has tried; with --only it tries the log of one number.
---self-test gives it programs that are wrong in one thing each, and looks whether it finds that.
+--self-test tries programs that each have one flaw, and checks that it is found.
 
 usage: bench/fuzz.py [--seed 1] [--count 20000] [--seconds N] [--only NUMBER] [--program PATH] [--jobs N] [--out FOLDER]
        bench/fuzz.py --self-test [--program PATH]
@@ -102,7 +102,7 @@ class Programs:
         return subprocess.Popen(command, stdin=subprocess.DEVNULL, stdout=subprocess.PIPE, stderr=subprocess.PIPE, close_fds=False)
 
     def divergences(self, tasks: tuple[str, ...], log: bytes, packet: bytes = b"") -> Iterator[Divergence]:
-        """What differs in these tasks. All programs run while reference.py thinks."""
+        """What differs in these tasks. All programs run while reference.py judges."""
         self.path.write_bytes(log)
         data = {task: packet if task == PACKET else log for task in tasks}
         running = {task: self.start(self.command(task, data[task])) for task in tasks}

@@ -56,7 +56,7 @@ class State:
 
 @dataclass
 class Limits:
-    """What the peer announces, which the tested end has to keep to."""
+    """What the peer announces, which the tested end has to respect."""
 
     in_flight: int = 65_535
     aliases: int = 0

@@ -72,7 +72,7 @@ def move(draw: random.Random, parts: Parts) -> None:
 
 
 def swap(draw: random.Random, parts: Parts) -> None:
-    """Two neighbours."""
+    """Two neighbours change places."""
     at = one_of(draw, parts)
     parts[at : at + 2] = reversed(parts[at : at + 2])
 

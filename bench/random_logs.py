@@ -361,7 +361,7 @@ def session(seed: int, which: int) -> bytes:
 
 
 def records(draw: random.Random, sent: bytes, received: bytes) -> bytes:
-    """Two streams, in records of a few bytes by turns, with RESTs and RELEASEs between."""
+    """Two streams, in records of a few bytes that alternate, with RESTs and RELEASEs between."""
     out = b""
     while sent or received:
         size = draw.randint(0, 40)

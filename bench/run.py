@@ -3,14 +3,14 @@
 
 The logs and the plain program are made in a temporary folder. Output goes to /dev/null, but for the report of `check`. MB/s
 (1,000,000 bytes) and events/s are by processor time, user and system, so that a busy machine spoils them less; `ratio` is that
-time over the plain program's; `peak` is the most memory that was resident, as GNU time tells it.
+time over the plain program's; `peak` is the most memory that was resident, as GNU time reports it.
 
 With --instructions it counts instead how many instructions an event takes, for each kind of log and each command: those of a log
 of some messages less those of a log of half as many, so that what a program does once isn't among them. The figures don't depend
 on what else the machine does. Of the kinds of session_logs.py, each event counts as a message.
 
 With --growth it shows for each kind of log, also those of session_logs.py, whether `check` is linear in the events: what an event
-costs in a log of some events, and in one of four times as many, and the ratio. The status is 1 if one isn't passed, or isn't
+costs in a log of some events, and in one of four times as many, and the ratio. The status is 1 if one doesn't pass, or isn't
 linear.
 
 With --versions it shows how many instructions an event takes `check` and `show` in version 2 of the log, beside version 1 of the

@@ -2,9 +2,9 @@
 """Writes a log of a session of one kind, with a given number of events, to standard output.
 
 What the tested end does is right in each, so the verdict is a pass. Each record is one event. A log is the beginning of one that
-goes on for ever, so it may end in the midst of an exchange. What a kind keeps open at once grows with the log, up to 65,535 Packet
-Identifiers in each direction: so an event that takes time in what is open shows itself when a log of four times as many events is
-judged. `bench/run.py --growth` measures that, and `bench/check_logs.py` holds each kind against `reference.py`.
+could go on for ever, so it may end in the middle of an exchange. What a kind keeps open at once grows with the log, up to 65,535 Packet
+Identifiers in each direction: so an event whose time grows with what is open can be seen when a log of four times as many events
+is judged. `bench/run.py --growth` measures that, and `bench/check_logs.py` compares each kind with `reference.py`.
 
 usage: bench/session_logs.py KIND EVENTS [--log-version 2] > FILE
 """
@@ -183,7 +183,7 @@ def in_flight_at_qos_2(events: int, order: Order) -> Records:
 
 
 def answers(events: int, role: int, order: Order) -> Records:
-    """Many messages come at once, by turns at QoS 1 and 2, and are answered in this order.
+    """Many messages come at once, every other one at QoS 2, and are answered in this order.
 
     A client must answer them in the order in which they came, but may release and complete them in any other; a server is free.
     """
@@ -203,7 +203,7 @@ def answers(events: int, role: int, order: Order) -> Records:
 
 
 def requests(events: int, order: Order) -> Records:
-    """Many SUBSCRIBEs and UNSUBSCRIBEs come at once, by turns, with PINGREQs between, and the tested server answers in this order."""
+    """Many SUBSCRIBEs and UNSUBSCRIBEs come at once, alternating, with PINGREQs between, and the tested server answers in this order."""
     end, size = End(SERVER), round_size(events, 4)
     yield from end.connection(resumed=False)
     while True:
@@ -217,7 +217,7 @@ def requests(events: int, order: Order) -> Records:
 
 
 def new_identifiers(events: int, role: int) -> Records:
-    """One exchange after the other, each under the next Packet Identifier: every kind of exchange by turns, in both directions."""
+    """One exchange after the other, each under the next Packet Identifier: each kind of exchange in turn, in both directions."""
     end = End(role)
     yield from end.connection(resumed=False)
     yield from end.subscription(IDENTIFIERS, ["a"])

@@ -1,5 +1,4 @@
-"""Takes a log apart, and makes one that shows something as short as it can be: by its records, then by its packets, then by its
-bytes.
+"""Makes a log that shows something as short as it can be: by its records, then by its packets, then by its bytes.
 """
 from collections.abc import Callable, Iterator, Sequence
 from typing import TypeVar
@@ -68,7 +67,7 @@ def packets(log: bytes) -> list[bytes]:
 
 
 class Tries:
-    """Asks whether a log shows it still, a limited number of times."""
+    """Asks whether a log still shows it, a limited number of times."""
 
     def __init__(self, shows: Shows, most: int = MOST_TRIES):
         self.shows, self.left = shows, most

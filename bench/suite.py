@@ -225,7 +225,7 @@ def in_second_version(row: Row) -> bytes:
 
 
 def wrong_answers(program: Path) -> Iterator[str]:
-    """The program has to say what is in the files: of the logs that are there, and of the same in version 2."""
+    """The program has to give the reports in the files: for the logs that are there, and for the same in version 2."""
     with tempfile.TemporaryDirectory(prefix="mqjudge-suite-") as folder:
         second = Path(folder) / "second.log"
         for row in rows():
