@@ -3,43 +3,89 @@
 
 usage: bench/wrong_bodies.py [CRATE ..]
 
-A file must-fail/further/NAME.md is a must-fail edit that the gate leaves out, since each one costs it half a minute of a
-processor. The prover has to refuse it all the same. While this runs they are among those of the gate; the status is that
-of `rt must-fail`.
+A file must-fail/further/NAME.md is a must-fail edit that the gate leaves out, since each one costs it up to half a minute. The
+prover has to refuse it all the same. Without CRATE all crates that have wrong bodies are tried. The status is that of
+`rt must-fail`, or of `rt lib` if a library that the crate uses isn't proved.
+
+First `rt lib` proves, here, the libraries that the crate uses: what it finds is kept in their out folders. The edits are tried in
+a copy of the crates, in a temporary folder, which has these libraries by hard links (rt replaces them whole, and never writes into
+them). So nothing is left here if this is killed.
 """
+import os
+import re
 import shutil
 import subprocess
 import sys
+import tempfile
 from pathlib import Path
 
 sys.dont_write_bytecode = True  # the repository stays as it is
 TOP = Path(__file__).resolve().parent.parent
+LIBRARY = Path("out") / "rlib"
+LINE = re.compile(r"^(\w+)(?: staticlib)?:(.*)$", re.MULTILINE)
 
 
-def tried_in_place(crate: Path) -> int:
-    """The status of `rt must-fail` for the crate, with its further edits beside those of the gate."""
-    edits = crate / "must-fail"
-    lent: list[Path] = []
+def linked(source: str, target: str) -> None:
+    """A file a second time: a hard link or, on another file system, a copy."""
     try:
-        for further in sorted((edits / "further").glob("*.md")):
-            edit = edits / f"{further.stem}.edit"
-            if edit.exists():
-                sys.exit(f"{edit.relative_to(TOP)} is there already")
-            lent.append(edit)
-            shutil.copyfile(further, edit)
-        return subprocess.run(["rt", "must-fail", crate.name], cwd=TOP).returncode
-    finally:
-        for edit in lent:
-            edit.unlink(missing_ok=True)
+        os.link(source, target)
+    except OSError:
+        shutil.copy2(source, target)
+
+
+def used_by(crate: str) -> list[str]:
+    """The crates of the repository that this one names in crates.txt."""
+    lines = dict(LINE.findall((TOP / "crates.txt").read_text()))
+    return [name for name in lines.get(crate, "").split() if name in lines]
+
+
+def prove_libraries(crate: str) -> int:
+    """The status of `rt lib` in the crates that this one uses. Each proves those below it too, as far as that isn't done."""
+    for name in used_by(crate):
+        status = subprocess.run(["rt", "lib"], cwd=TOP / "crates" / name).returncode
+        if status:
+            return status
+    return 0
+
+
+def copy_crates(folder: Path) -> None:
+    """Copies what rt reads, and links the libraries that are proved."""
+    for name in ("crates.txt", "HANDLES"):
+        shutil.copy2(TOP / name, folder / name)
+    shutil.copytree(TOP / "crates", folder / "crates", ignore=shutil.ignore_patterns("out"))
+    for crate in (TOP / "crates").iterdir():
+        if (crate / LIBRARY).is_dir():
+            shutil.copytree(crate / LIBRARY, folder / "crates" / crate.name / LIBRARY, copy_function=linked)
+
+
+def take_further(edits: Path) -> None:
+    """Puts the further edits beside those of the gate."""
+    for further in sorted((edits / "further").glob("*.md")):
+        edit = edits / f"{further.stem}.edit"
+        if edit.exists():
+            sys.exit(f"{further.stem} is in must-fail/ and in must-fail/further/")
+        shutil.copyfile(further, edit)
+
+
+def tried(crate: str) -> int:
+    """The status of trying all wrong bodies of the crate."""
+    status = prove_libraries(crate)
+    if status:
+        return status
+    with tempfile.TemporaryDirectory(prefix="wrong-bodies-") as name:
+        folder = Path(name)
+        copy_crates(folder)
+        take_further(folder / "crates" / crate / "must-fail")
+        return subprocess.run(["rt", "must-fail", crate], cwd=folder).returncode
 
 
 def main(names: list[str]) -> int:
-    crates = [TOP / "crates" / name for name in names] or sorted((TOP / "crates").iterdir())
-    absent = [crate.name for crate in crates if not (crate / "must-fail").is_dir()]
+    having = sorted(folder.parent.name for folder in (TOP / "crates").glob("*/must-fail"))
+    absent = [name for name in names if name not in having]
     if absent:
         print(f"no wrong bodies: {', '.join(absent)}", file=sys.stderr)
         return 2
-    return max([tried_in_place(crate) for crate in crates])
+    return max(tried(name) for name in names or having)
 
 
 if __name__ == "__main__":
