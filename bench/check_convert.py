@@ -19,6 +19,7 @@ sys.dont_write_bytecode = True  # the repository stays as it is
 import check_rows
 import hostile_logs
 import make_log
+import reading
 import reference
 from converting import LONGEST_BODY, Conversion, converted
 from honest_logs import session
@@ -171,11 +172,11 @@ def self_test(comparison: Comparison) -> None:
     one, two = (bytes.fromhex(shape.format(version, *[moment] * 4)) for version, moment in ((1, ""), (2, "00" * 8)))
     comparison.compare("a log, by converting.py", converted(one), Conversion(two))
     comparison.compare("back again", in_version_1(two), one)
-    comparison.compare("too many records", converted(one, 2), Conversion(two[:37], reference.Refusal(14, 21)))
-    comparison.compare("its line", reference.Refusal(14, 21).text(), "refused 14 TooLong at 21")
+    comparison.compare("too many records", converted(one, 2), Conversion(two[:37], reading.Refusal(14, 21)))
+    comparison.compare("its line", reading.Refusal(14, 21).text(), "refused 14 TooLong at 21")
     # The length of the second record is the last byte of its head, and isn't there, or its moment follows.
     for size, count in ((13, 21), (14, 22), (17, 25), (18, 34), (19, 35), (21, 37)):
-        refusal = None if size in (13, 21) else reference.Refusal(10, size)
+        refusal = None if size in (13, 21) else reading.Refusal(10, size)
         comparison.compare(f"{size} bytes", converted(one[:size]), Conversion(two[:count], refusal))
 
 

@@ -6,7 +6,7 @@ usage: bench/check_forms.py PROGRAM [LOG ..]
 The text report of each log is made into the other forms here, in Python: each of the worked logs of check_rows.py, a log of
 3,000 faults, one of long packets that break a rule, refused logs, some of all these in version 2, and the logs that are named. JSON
 is also read back by Python's json module. What `show --faults` is to print is made from the text report and from what `show` prints. The
-bytes of packets that break a rule are those that reference.py finds in the log. Each line of `show` is that of showing.py, and each of
+bytes of packets that break a rule are those that reading.py finds in the log. Each line of `show` is that of showing.py, and each of
 `show --long` begins with it.
 """
 import json
@@ -20,7 +20,7 @@ from pathlib import Path
 
 sys.dont_write_bytecode = True  # the repository stays as it is
 import check_rows
-import reference
+import reading
 import showing
 from versions import clock, in_version_2
 
@@ -110,11 +110,11 @@ def with_bytes(events: str, log: bytes) -> str:
     lines = events.splitlines()
     if lines[-1:] and lines[-1].startswith("refused"):
         return events
-    found = reference.Recording(log).events
+    found = reading.Recording(log).events
     for n, (line, event) in enumerate(zip(lines, found, strict=True)):
-        if isinstance(event.item, reference.Bad):
+        if isinstance(event.item, reading.Bad):
             packet, at = event.item.packet, event.item.at
-            name = reference.NAMES[packet[0] >> 4] or "Reserved"
+            name = reading.NAMES[packet[0] >> 4] or "Reserved"
             lines[n] = f"{line.partition(' type ')[0]} type {name} bytes {bytes_around(packet, at)}"
     return "".join(f"{line}\n" for line in lines)
 

@@ -6,7 +6,7 @@ all before the byte that is refused is written, unless that is in the header.
 from collections.abc import Iterator
 from dataclasses import dataclass
 
-from reference import Refusal
+from reading import Refusal
 
 MOST_RECORDS = 4_294_967_295
 LONGEST_BODY = 1_048_576

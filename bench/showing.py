@@ -1,9 +1,9 @@
-"""What `mqjudge show` and `mqjudge packet` are to print, by reference.py's reading of a log and of a packet."""
-import reference
-from reference import Bad, Event, Lost, OtherVersion, Packet, Recording, Refusal
+"""What `mqjudge show` and `mqjudge packet` are to print, by how reading.py reads a log and a packet."""
+import reading
+from reading import Bad, Event, Lost, OtherVersion, Packet, Recording, Refusal
 
-WAYS = {reference.SENT: "SENT", reference.RECV: "RECV"}
-MARKS = {reference.OPEN: "OPEN", reference.CLOSE: "CLOSE", reference.REST: "REST", reference.RELEASE: "RELEASE"}
+WAYS = {reading.SENT: "SENT", reading.RECV: "RECV"}
+MARKS = {reading.OPEN: "OPEN", reading.CLOSE: "CLOSE", reading.REST: "REST", reading.RELEASE: "RELEASE"}
 Answer = tuple[int, str]  # status and output
 
 
@@ -22,9 +22,9 @@ class Beginning(Recording):
 def item_text(item: Packet | Bad | Lost | None) -> str:
     match item:
         case Packet():
-            publish = f" qos {item.qos} dup {item.dup:d}" if item.type == reference.PUBLISH else ""
+            publish = f" qos {item.qos} dup {item.dup:d}" if item.type == reading.PUBLISH else ""
             identifier = f" id {item.identifier}" if item.identifier is not None else ""
-            return f"{reference.NAMES[item.type]} size {item.size}{publish}{identifier}"
+            return f"{reading.NAMES[item.type]} size {item.size}{publish}{identifier}"
         case Bad():
             return f"BAD {item.rule} offset {item.at}"
     return "LOST"
@@ -33,7 +33,7 @@ def item_text(item: Packet | Bad | Lost | None) -> str:
 def event_text(event: Event) -> str:
     if event.kind in WAYS:
         return f"{WAYS[event.kind]} {item_text(event.item)}"
-    return f"RELEASE {event.released}" if event.kind == reference.RELEASE else MARKS[event.kind]
+    return f"RELEASE {event.released}" if event.kind == reading.RELEASE else MARKS[event.kind]
 
 
 def show(log: bytes) -> Answer:
@@ -51,7 +51,7 @@ def show(log: bytes) -> Answer:
 
 def packet(data: bytes) -> Answer:
     """What `packet` answers."""
-    match reference.frame(data[:5]):
+    match reading.frame(data[:5]):
         case None:
             return 1, "need more bytes\n"
         case Lost():
@@ -63,7 +63,7 @@ def packet(data: bytes) -> Answer:
         case (header, _):
             begin = header
     try:
-        return 0, f"{item_text(reference.decode(data, begin))}\n"
+        return 0, f"{item_text(reading.decode(data, begin))}\n"
     except Bad as bad:
         return 1, f"{item_text(bad)}\n"
     except OtherVersion as other:

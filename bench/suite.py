@@ -23,7 +23,9 @@ from pathlib import Path
 
 sys.dont_write_bytecode = True  # the repository stays as it is
 import check_rows
+import reading
 import reference
+import statements
 from check_forms import as_json
 from converting import converted
 from judges import STATUSES
@@ -183,11 +185,11 @@ def write() -> None:
 
 def wrong_pairs() -> Iterator[str]:
     """All statements in order, each for an end that it binds. Its fault is the only one in the broken log; the kept log passes."""
-    wanted = [(code, which) for code in reference.CITATIONS for which in (BROKEN, KEPT)]
+    wanted = [(code, which) for code in statements.CITATIONS for which in (BROKEN, KEPT)]
     if [(row.code, row.which) for row in rows()] != wanted:
         yield "the rows aren't those of all statements, in their order, broken and kept"
     for broken, kept in pairs():
-        if broken.role != kept.role or broken.role not in reference.CITATIONS[broken.code]:
+        if broken.role != kept.role or broken.role not in statements.CITATIONS[broken.code]:
             yield f"{broken.code}: {broken.role} and {kept.role} aren't one end that it binds"
         if difference(broken.log, kept.log) is None:
             yield f"{broken.code}: the logs don't differ in one record"
@@ -203,8 +205,8 @@ def wrong_reports() -> Iterator[str]:
         if (said := reference.report(in_second_version(row))) != row.report:
             yield f"{row.code} {row.which}, version 2: wanted {row.report!r}, reference.py says {said!r}"
         may_break = row.code[0] == "W" and row.which == BROKEN
-        for event in reference.Recording(row.log).events:
-            if isinstance(event.item, (reference.Bad, reference.Lost)) and not may_break:
+        for event in reading.Recording(row.log).events:
+            if isinstance(event.item, (reading.Bad, reading.Lost)) and not may_break:
                 yield f"{row.code} {row.which}: record {event.record} has no valid packet"
 
 

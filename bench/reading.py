@@ -1,0 +1,742 @@
+"""Reads a log of one end of an MQTT 5.0 session: its packets, its records and events, its connections and sessions.
+
+It is a part of the second opinion that reference.py gives, and no part of the program. What comes before an event is looked up in
+the whole log, so it doesn't matter where a CONNACK is.
+"""
+from bisect import bisect_left
+from collections.abc import Callable
+from dataclasses import dataclass, field
+from functools import cached_property
+
+# ---- packets (MQTT 5.0, sections 1.5, 2 and 3)
+
+(CONNECT, CONNACK, PUBLISH, PUBACK, PUBREC, PUBREL, PUBCOMP, SUBSCRIBE, SUBACK, UNSUBSCRIBE, UNSUBACK, PINGREQ, PINGRESP,
+ DISCONNECT, AUTH) = range(1, 16)
+NAMES = ("", "CONNECT", "CONNACK", "PUBLISH", "PUBACK", "PUBREC", "PUBREL", "PUBCOMP", "SUBSCRIBE", "SUBACK", "UNSUBSCRIBE", "UNSUBACK",
+         "PINGREQ", "PINGRESP", "DISCONNECT", "AUTH")
+FROM_CLIENT_ALONE = {CONNECT, SUBSCRIBE, UNSUBSCRIBE, PINGREQ}
+FROM_SERVER_ALONE = {CONNACK, SUBACK, UNSUBACK, PINGRESP}
+WILL = 0  # the list of a Will's properties, beside those of the packets' types
+ACKNOWLEDGEMENTS = (PUBACK, PUBREC, PUBREL, PUBCOMP)
+WITH_REASON = {CONNACK, *ACKNOWLEDGEMENTS, SUBACK, UNSUBACK, DISCONNECT, AUTH}
+ALL_LISTS = {CONNECT, CONNACK, PUBLISH, *ACKNOWLEDGEMENTS, SUBSCRIBE, SUBACK, UNSUBSCRIBE, UNSUBACK, DISCONNECT, AUTH, WILL}
+
+# identifier: the reader of its value, and the lists that it may be in
+PROPERTIES: dict[int, tuple[str, set[int]]] = {
+    0x01: ("u8", {PUBLISH, WILL}),
+    0x02: ("u32", {PUBLISH, WILL}),
+    0x03: ("text", {PUBLISH, WILL}),
+    0x08: ("text", {PUBLISH, WILL}),
+    0x09: ("binary", {PUBLISH, WILL}),
+    0x0B: ("varint", {PUBLISH, SUBSCRIBE}),
+    0x11: ("u32", {CONNECT, CONNACK, DISCONNECT}),
+    0x12: ("text", {CONNACK}),
+    0x13: ("u16", {CONNACK}),
+    0x15: ("text", {CONNECT, CONNACK, AUTH}),
+    0x16: ("binary", {CONNECT, CONNACK, AUTH}),
+    0x17: ("u8", {CONNECT}),
+    0x18: ("u32", {WILL}),
+    0x19: ("u8", {CONNECT}),
+    0x1A: ("text", {CONNACK}),
+    0x1C: ("text", {CONNACK, DISCONNECT}),
+    0x1F: ("text", WITH_REASON),
+    0x21: ("u16", {CONNECT, CONNACK}),
+    0x22: ("u16", {CONNECT, CONNACK}),
+    0x23: ("u16", {PUBLISH}),
+    0x24: ("u8", {CONNACK}),
+    0x25: ("u8", {CONNACK}),
+    0x26: ("pair", ALL_LISTS),
+    0x27: ("u32", {CONNECT, CONNACK}),
+    0x28: ("u8", {CONNACK}),
+    0x29: ("u8", {CONNACK}),
+    0x2A: ("u8", {CONNACK}),
+}
+NOT_ZERO = {0x0B, 0x21, 0x23, 0x27}
+ZERO_OR_ONE = {0x17, 0x19, 0x24, 0x25, 0x28, 0x29, 0x2A}
+
+
+def codes(text: str) -> set[int]:
+    """Numbers and ranges of them, in hexadecimal."""
+    out: set[int] = set()
+    for word in text.split():
+        first, _, last = word.partition("-")
+        out |= set(range(int(first, 16), int(last or first, 16) + 1))
+    return out
+
+
+REASON_CODES = {
+    CONNACK: codes("00 80-8A 8C 90 95 97 99 9A 9B 9C 9D 9F"),
+    PUBACK: codes("00 10 80 83 87 90 91 97 99"),
+    PUBREC: codes("00 10 80 83 87 90 91 97 99"),
+    PUBREL: codes("00 92"),
+    PUBCOMP: codes("00 92"),
+    SUBACK: codes("00 01 02 80 83 87 8F 91 97 9E A1 A2"),
+    UNSUBACK: codes("00 11 80 83 87 8F 91"),
+    DISCONNECT: codes("00 04 80 81 82 83 87 89 8B-90 93-A2"),
+    AUTH: codes("00 18 19"),
+}
+
+
+@dataclass
+class Packet:
+    type: int
+    size: int = 0
+    identifier: int | None = None
+    code: int = 0
+    qos: int = 0
+    dup: bool = False
+    topic: bytes = b""
+    filters: list[tuple[bytes, int]] = field(default_factory=list)
+    codes: list[int] = field(default_factory=list)
+    clean_start: bool = False
+    client_identifier: bytes = b""
+    session_present: bool = False
+    properties: list[tuple[int, object]] = field(default_factory=list)
+
+    def get(self, identifier: int):
+        """The first property of this kind."""
+        return next((value for kind, value in self.properties if kind == identifier), None)
+
+
+@dataclass
+class Bad(Exception):
+    rule: str
+    at: int
+    packet: bytes = b""
+
+
+@dataclass
+class OtherVersion(Exception):
+    version: int
+
+
+class Lost:
+    pass
+
+
+class Reader:
+    """Reads a packet's fields in turn; a field that isn't spelled raises Bad at its beginning."""
+
+    def __init__(self, packet: bytes, at: int):
+        self.packet, self.at, self.end = packet, at, len(packet)
+
+    def take(self, count: int, at: int) -> bytes:
+        if self.at + count > self.end:
+            raise Bad("W06", at)
+        self.at += count
+        return self.packet[self.at - count : self.at]
+
+    def number(self, count: int) -> int:
+        return int.from_bytes(self.take(count, self.at), "big")
+
+    def u8(self) -> int:
+        return self.number(1)
+
+    def u16(self) -> int:
+        return self.number(2)
+
+    def u32(self) -> int:
+        return self.number(4)
+
+    def varint(self) -> int:
+        begin, value = self.at, 0
+        for n in range(4):
+            byte = self.take(1, begin)[0]
+            value |= (byte & 0x7F) << (7 * n)
+            if byte < 0x80:
+                if n > 0 and byte == 0:
+                    raise Bad("W03", begin)
+                return value
+        raise Bad("W03", begin)
+
+    def binary(self) -> bytes:
+        begin = self.at
+        count = int.from_bytes(self.take(2, begin), "big")
+        return self.take(count, begin)
+
+    def text(self) -> bytes:
+        begin = self.at
+        value = self.binary()
+        check_text(value, begin)
+        return value
+
+    def pair(self) -> tuple[bytes, bytes]:
+        begin = self.at
+        try:
+            return self.text(), self.text()
+        except Bad as bad:
+            raise Bad(bad.rule, begin) from None
+
+
+def check_text(value: bytes, at: int) -> None:
+    try:
+        value.decode("utf-8")
+    except UnicodeDecodeError:
+        raise Bad("W04", at) from None
+    if b"\0" in value:
+        raise Bad("W05", at)
+
+
+def read_properties(reader: Reader, place: int) -> list[tuple[int, object]]:
+    begin = reader.at
+    length = reader.varint()
+    if reader.at + length > reader.end:
+        raise Bad("W06", begin)
+    outer, reader.end = reader.end, reader.at + length
+    out: list[tuple[int, object]] = []
+    while reader.at < reader.end:
+        at = reader.at
+        kind = reader.varint()
+        if kind not in PROPERTIES or place not in PROPERTIES[kind][1]:
+            raise Bad("W10", at)
+        repeats = kind == 0x26 or (kind == 0x0B and place == PUBLISH)
+        if not repeats and any(kind == other for other, _ in out):
+            raise Bad("W11", at)
+        at = reader.at
+        value = getattr(reader, PROPERTIES[kind][0])()
+        if (kind in NOT_ZERO and value == 0) or (kind in ZERO_OR_ONE and value not in (0, 1)):
+            raise Bad("W12", at)
+        if kind == 0x08 and place == PUBLISH and has_wildcard(value):
+            raise Bad("W14", at)
+        out.append((kind, value))
+    reader.end = outer
+    return out
+
+
+def has_wildcard(name: bytes) -> bool:
+    return b"#" in name or b"+" in name
+
+
+def is_filter(text: bytes) -> bool:
+    """A Topic Filter that MQTT 5.0, section 4.7 allows."""
+    levels = text.split(b"/")
+    return text != b"" and all(
+        not has_wildcard(level) or level == b"+" or (level == b"#" and n == len(levels) - 1) for n, level in enumerate(levels)
+    )
+
+
+def decode(packet: bytes, begin: int) -> Packet:
+    """Reads a whole packet, whose body begins there. It raises Bad or OtherVersion where it has to."""
+    try:
+        return decode_fields(packet[0], Reader(packet, begin))
+    except Bad as bad:
+        raise Bad(bad.rule, bad.at, packet) from None
+
+
+def decode_fields(first: int, reader: Reader) -> Packet:
+    kind, flags = first >> 4, first & 15
+    p = Packet(kind, len(reader.packet))
+    if kind == 0:
+        raise Bad("W02", 0)
+    if kind == PUBLISH:
+        p.qos, p.dup = flags >> 1 & 3, flags >= 8
+        if p.qos == 3:
+            raise Bad("W07", 0)
+        if p.dup and p.qos == 0:
+            raise Bad("W08", 0)
+    elif flags != (2 if kind in (PUBREL, SUBSCRIBE, UNSUBSCRIBE) else 0):
+        raise Bad("W01", 0)
+    BODIES[kind](p, reader)
+    if reader.at < reader.end:
+        raise Bad("W06", reader.at)
+    return p
+
+
+def read_connect(p: Packet, reader: Reader) -> None:
+    at = reader.at
+    if reader.text() != b"MQTT":
+        raise Bad("W18", at)
+    version = reader.u8()
+    if version != 5:
+        raise OtherVersion(version)
+    at = reader.at
+    flags = reader.u8()
+    has_will, will_qos = bool(flags & 4), flags >> 3 & 3
+    if flags & 1 or will_qos == 3 or (not has_will and (will_qos or flags & 0x20)):
+        raise Bad("W19", at)
+    p.clean_start = bool(flags & 2)
+    reader.u16()
+    p.properties = read_properties(reader, CONNECT)
+    p.client_identifier = reader.text()
+    if has_will:
+        read_properties(reader, WILL)
+        reader.text()
+        reader.binary()
+    if flags & 0x80:
+        reader.text()
+    if flags & 0x40:
+        reader.binary()
+
+
+def read_connack(p: Packet, reader: Reader) -> None:
+    at = reader.at
+    flags = reader.u8()
+    if flags > 1:
+        raise Bad("W20", at)
+    p.session_present = flags == 1
+    p.code = read_code(p, reader)
+    p.properties = read_properties(reader, CONNACK)
+
+
+def read_code(p: Packet, reader: Reader) -> int:
+    at = reader.at
+    value = reader.u8()
+    if value not in REASON_CODES[p.type]:
+        raise Bad("W13", at)
+    return value
+
+
+def read_identifier(p: Packet, reader: Reader) -> None:
+    at = reader.at
+    p.identifier = reader.u16()
+    if p.identifier == 0:
+        raise Bad("W09", at)
+
+
+def read_publish(p: Packet, reader: Reader) -> None:
+    at = reader.at
+    p.topic = reader.text()
+    if has_wildcard(p.topic):
+        raise Bad("W14", at)
+    if p.qos > 0:
+        read_identifier(p, reader)
+    at = reader.at
+    p.properties = read_properties(reader, PUBLISH)
+    if p.topic == b"" and p.get(0x23) is None:
+        raise Bad("W21", at)
+    reader.at = reader.end
+
+
+def read_acknowledgement(p: Packet, reader: Reader) -> None:
+    read_identifier(p, reader)
+    read_reason(p, reader)
+
+
+def read_reason(p: Packet, reader: Reader) -> None:
+    """A Reason Code and a property list, each of which may be absent at the packet's end."""
+    if reader.at < reader.end:
+        p.code = read_code(p, reader)
+    if reader.at < reader.end:
+        p.properties = read_properties(reader, p.type)
+
+
+def read_request(p: Packet, reader: Reader) -> None:
+    read_identifier(p, reader)
+    p.properties = read_properties(reader, p.type)
+    while reader.at < reader.end:
+        at = reader.at
+        text = reader.text()
+        if not is_filter(text):
+            raise Bad("W15", at)
+        at, options = reader.at, 0
+        if p.type == SUBSCRIBE:
+            options = reader.u8()
+            if options & 3 == 3 or options >> 4 & 3 == 3 or options & 0xC0:
+                raise Bad("W17", at)
+        p.filters.append((text, options))
+    if not p.filters:
+        raise Bad("W16", reader.end)
+
+
+def read_answer(p: Packet, reader: Reader) -> None:
+    read_identifier(p, reader)
+    p.properties = read_properties(reader, p.type)
+    while reader.at < reader.end:
+        p.codes.append(read_code(p, reader))
+
+
+def read_nothing(p: Packet, reader: Reader) -> None:
+    pass
+
+
+BODIES: dict[int, Callable[[Packet, Reader], None]] = {
+    CONNECT: read_connect,
+    CONNACK: read_connack,
+    PUBLISH: read_publish,
+    **dict.fromkeys(ACKNOWLEDGEMENTS, read_acknowledgement),
+    SUBSCRIBE: read_request,
+    UNSUBSCRIBE: read_request,
+    SUBACK: read_answer,
+    UNSUBACK: read_answer,
+    PINGREQ: read_nothing,
+    PINGRESP: read_nothing,
+    DISCONNECT: read_reason,
+    AUTH: read_reason,
+}
+
+# ---- the log: its records and events, and why it may be refused
+
+REFUSALS = ("", "Header", "Version", "Role", "Flags", "Kind", "Length", "Nested", "NotOpen", "ReleaseUnrecorded", "Cut", "TooLarge",
+            "OtherVersion", "TooManyEarly", "TooLong")
+MOST_EARLY = 4_096  # events of a connection before its CONNACK
+OPEN, SENT, RECV, CLOSE, REST, RELEASE = range(1, 7)
+MOST_IN_RECORD = {1: 1_048_576, 2: 16_777_216}  # by version
+DEFAULT_LIMIT = 16_777_216  # the size of a packet, in bytes
+
+
+@dataclass
+class Event:
+    kind: int
+    record: int
+    item: Packet | Bad | Lost | None = None
+    released: int = 0
+    moment: int = 0
+
+
+@dataclass
+class Refusal(Exception):
+    number: int
+    at: int
+
+    def text(self) -> str:
+        return f"refused {self.number} {REFUSALS[self.number]} at {self.at}"
+
+
+def frame(stream: bytes) -> tuple[int, int] | Lost | None:
+    """How many bytes the first packet's fixed header and the whole packet have. None: more bytes are needed to tell."""
+    length = 0
+    for n in range(4):
+        if len(stream) < n + 2:
+            return None
+        byte = stream[n + 1]
+        length |= (byte & 0x7F) << (7 * n)
+        if byte < 0x80:
+            return Lost() if n > 0 and byte == 0 else (n + 2, n + 2 + length)
+    return Lost()
+
+
+class Recording:
+    """The events of a log's bytes. The bytes are looked at in turn, so the first refusal that is met is the earliest."""
+
+    def __init__(self, log: bytes, limit: int = DEFAULT_LIMIT):
+        self.log, self.limit = log, limit
+        self.version, self.role, self.releases = 1, "client", False
+        # of the record that is being read, 0 in version 1
+        self.moment = 0
+        self.events: list[Event] = []
+        self.is_open, self.has_connack, self.begun_after = False, False, 0
+        # What has come of an unfinished packet in each direction; None after Lost.
+        self.streams: dict[int, bytearray | None] = {}
+        self.frames: dict[int, tuple[int, int] | Lost | None] = {}
+        self.read()
+
+    def byte(self, at: int) -> int:
+        if at >= len(self.log):
+            raise Refusal(10, len(self.log))
+        return self.log[at]
+
+    def read(self) -> None:
+        self.read_header()
+        at, record = 8, 0
+        while at < len(self.log):
+            record += 1
+            kind = self.log[at]
+            self.check_kind(kind, at)
+            for n in range(1, 5):
+                self.byte(at + n)
+            length = int.from_bytes(self.log[at + 1 : at + 5], "big")
+            most = MOST_IN_RECORD[self.version] if kind in (SENT, RECV) else 2 if kind == RELEASE else 0
+            if length > most or (kind == RELEASE and length != 2):
+                raise Refusal(6, at + 4)
+            at += 5
+            if self.version == 2:
+                self.byte(at + 7)
+                self.moment = int.from_bytes(self.log[at : at + 8], "big")
+                at += 8
+            self.read_body(kind, record, at, length)
+            at += length
+
+    def read_header(self) -> None:
+        for at, wanted in enumerate(b"MQTR"):
+            if self.byte(at) != wanted:
+                raise Refusal(1, at)
+        for at, number, taken in ((4, 2, (1, 2)), (5, 3, (0, 1)), (6, 4, (0, 1)), (7, 4, (0,))):
+            if self.byte(at) not in taken:
+                raise Refusal(number, at)
+        self.version, self.role, self.releases = self.log[4], ("client", "server")[self.log[5]], self.log[6] == 1
+
+    def check_kind(self, kind: int, at: int) -> None:
+        if not 1 <= kind <= 6:
+            raise Refusal(5, at)
+        if kind == OPEN and self.is_open:
+            raise Refusal(7, at)
+        if kind in (SENT, RECV, CLOSE, REST) and not self.is_open:
+            raise Refusal(8, at)
+        if kind == RELEASE and not self.releases:
+            raise Refusal(9, at)
+
+    def read_body(self, kind: int, record: int, begin: int, length: int) -> None:
+        if kind in (SENT, RECV):
+            for at in range(begin, begin + length):
+                self.take(kind, record, at)
+            return
+        self.byte(begin + length - 1)
+        if kind == OPEN:
+            self.is_open, self.has_connack, self.begun_after = True, False, len(self.events)
+            self.streams = {SENT: bytearray(), RECV: bytearray()}
+        released = int.from_bytes(self.log[begin : begin + length], "big")
+        self.add(Event(kind, record, None, released), begin + length - 1)
+        if kind == CLOSE:
+            self.is_open = False
+
+    def take(self, way: int, record: int, at: int) -> None:
+        """One byte of a stream of packets."""
+        byte = self.byte(at)
+        stream = self.streams[way]
+        if stream is None:
+            return
+        stream.append(byte)
+        if len(stream) <= 5:
+            self.frames[way] = frame(stream)
+        match self.frames[way]:
+            case Lost() as lost:
+                self.streams[way] = None
+                self.add(Event(way, record, lost), at)
+            case (header, size):
+                if len(stream) == header and size > self.limit:
+                    raise Refusal(11, at)
+                if len(stream) == size:
+                    self.streams[way] = bytearray()
+                    self.end_packet(bytes(stream), header, way, record, at)
+
+    def end_packet(self, packet: bytes, begin: int, way: int, record: int, at: int) -> None:
+        try:
+            item: Packet | Bad = decode(packet, begin)
+        except OtherVersion:
+            raise Refusal(12, at) from None
+        except Bad as bad:
+            item = bad
+        from_server = (way == SENT) == (self.role == "server")
+        if isinstance(item, Packet) and item.type == CONNACK and from_server:
+            self.has_connack = True
+        self.add(Event(way, record, item), at)
+
+    def add(self, event: Event, at: int) -> None:
+        """One more event, at this byte. A RELEASE between connections is on none."""
+        is_early = self.is_open and not self.has_connack and event.kind != CLOSE
+        if is_early and len(self.events) - self.begun_after >= MOST_EARLY:
+            raise Refusal(13, at)
+        event.moment = self.moment
+        self.events.append(event)
+
+
+# ---- connections and sessions (MQTT 5.0, sections 3.1.2.4, 3.2 and 4.1)
+
+VOID, NEW, RESUMED = "void", "new", "resumed"
+RECEIVE_MAXIMUM, TOPIC_ALIAS_MAXIMUM, MAXIMUM_QOS, MAXIMUM_PACKET_SIZE = 0x21, 0x22, 0x24, 0x27
+DEFAULTS = {0x21: 65_535, 0x22: 0, 0x24: 2, 0x27: None, 0x17: 1, 0x19: 0}
+
+
+class Log:
+    """A list of events, whose positions count from 1."""
+
+    def __init__(self, events: list[Event], role: str, releases: bool):
+        self.events, self.role, self.releases = events, role, releases
+        self.last = len(events)
+        self.numbers = [0]  # the number of the latest connection at each position
+        for e in events:
+            self.numbers.append(self.numbers[-1] + (e.kind == OPEN))
+        self.spans: list[list[int]] = [[] for _ in range(self.numbers[-1] + 1)]
+        for k in range(1, self.last + 1):
+            self.spans[self.numbers[k]].append(k)
+
+    # -- what is at a position
+
+    def event(self, k: int) -> Event:
+        return self.events[k - 1]
+
+    def sent(self, k: int) -> Packet | Bad | Lost | None:
+        e = self.event(k)
+        return e.item if e.kind == SENT else None
+
+    def received(self, k: int) -> Packet | Bad | Lost | None:
+        e = self.event(k)
+        return e.item if e.kind == RECV else None
+
+    def sent_packet(self, k: int, *types: int) -> Packet | None:
+        item = self.sent(k)
+        return item if isinstance(item, Packet) and (not types or item.type in types) else None
+
+    def received_packet(self, k: int, *types: int) -> Packet | None:
+        item = self.received(k)
+        return item if isinstance(item, Packet) and (not types or item.type in types) else None
+
+    def sends(self, k: int, type: int, i: int) -> bool:
+        p = self.sent_packet(k, type)
+        return p is not None and p.identifier == i
+
+    def receives(self, k: int, type: int, i: int) -> bool:
+        p = self.received_packet(k, type)
+        return p is not None and p.identifier == i
+
+    def from_client(self, k: int, type: int) -> Packet | None:
+        return self.sent_packet(k, type) if self.role == "client" else self.received_packet(k, type)
+
+    def from_server(self, k: int, type: int) -> Packet | None:
+        return self.received_packet(k, type) if self.role == "client" else self.sent_packet(k, type)
+
+    def is_rest(self, k: int) -> bool:
+        return self.event(k).kind == REST
+
+    # -- connections
+
+    def on(self, c: int) -> list[int]:
+        """The positions of a connection: from its OPEN to its CLOSE, or to the end. RELEASEs may follow the CLOSE; they aren't on it."""
+        out = []
+        for k in self.spans[c]:
+            out.append(k)
+            if self.event(k).kind == CLOSE:
+                break
+        return out if c > 0 else []
+
+    @cached_property
+    def connection_positions(self) -> list[list[int]]:
+        return [self.on(c) for c in range(len(self.spans))]
+
+    @cached_property
+    def places(self) -> list[int]:
+        """For each position the number of the connection that it is on, 0 for a RELEASE between connections."""
+        out = [0] * (self.last + 1)
+        for c, positions in enumerate(self.connection_positions):
+            for k in positions:
+                out[k] = c
+        return out
+
+    def before_on(self, k: int) -> list[int]:
+        """The positions before k on its connection."""
+        positions = self.connection_positions[self.places[k]]
+        return positions[: bisect_left(positions, k)]
+
+    def first_connect(self, c: int) -> int | None:
+        return next((k for k in self.connection_positions[c] if self.from_client(k, CONNECT)), None)
+
+    @cached_property
+    def first_connacks(self) -> list[int | None]:
+        return [next((k for k in ks if self.from_server(k, CONNACK)), None) for ks in self.connection_positions]
+
+    @cached_property
+    def first_sent_disconnects(self) -> list[int | None]:
+        return [next((k for k in ks if self.sent_packet(k, DISCONNECT)), None) for ks in self.connection_positions]
+
+    def connack_code(self, k: int) -> Packet:
+        p = self.from_server(k, CONNACK)
+        assert p is not None
+        return p
+
+    @cached_property
+    def fates(self) -> list[str | None]:
+        return [self.fate(c) for c in range(len(self.spans))]
+
+    def fate(self, c: int) -> str | None:
+        k = self.first_connacks[c]
+        if k is not None:
+            connack = self.connack_code(k)
+            return VOID if connack.code != 0 else RESUMED if connack.session_present else NEW
+        is_closed = any(self.event(k).kind == CLOSE for k in self.connection_positions[c])
+        return VOID if is_closed else None
+
+    def is_accepted(self, c: int) -> bool:
+        return self.fates[c] in (NEW, RESUMED)
+
+    def latest_accepted(self, before: int) -> int | None:
+        """The latest accepted connection whose number is below this."""
+        return next((c for c in range(before - 1, 0, -1) if self.is_accepted(c)), None)
+
+    def expiry(self, c: int) -> int:
+        """The Session Expiry Interval of a connection."""
+        disconnect = next((p for k in self.connection_positions[c] if (p := self.from_client(k, DISCONNECT))), None)
+        connack, connect = self.first_connacks[c], self.first_connect(c)
+        values = [disconnect and disconnect.get(0x11)]
+        values.append(None if connack is None else self.connack_code(connack).get(0x11))
+        values.append(None if connect is None else self.from_client(connect, CONNECT).get(0x11))
+        return next((v for v in values if v is not None), 0)
+
+    def alive_before(self, c: int) -> bool:
+        last = self.latest_accepted(c)
+        if last is not None and self.expiry(last) != 0:
+            return True
+        return any(
+            self.first_connect(d) is not None and self.first_connacks[d] is None
+            and any(self.event(k).kind == CLOSE for k in self.connection_positions[d])
+            for d in range((last or 0) + 1, c)
+        )
+
+    # -- sessions
+
+    @cached_property
+    def sessions_of_connections(self) -> list[int | None]:
+        """For each accepted connection, the number of the first connection of its session."""
+        out: list[int | None] = []
+        first = None
+        for c in range(len(self.spans)):
+            if self.is_accepted(c):
+                if self.fates[c] == NEW or first is None:
+                    first = c
+                out.append(first)
+            else:
+                out.append(None)
+        return out
+
+    @cached_property
+    def sessions(self) -> list[int | None]:
+        """The session of each position, by the first connection of the session."""
+        return [None] + [self.session_of(k) for k in range(1, self.last + 1)]
+
+    def session_of(self, k: int) -> int | None:
+        c = self.places[k]
+        if self.is_accepted(c):
+            return self.sessions_of_connections[c]
+        if self.event(k).kind != RELEASE or (c > 0 and self.fates[c] is None):
+            return None
+        # Between connections, before the first one, or on a void one.
+        latest = self.latest_accepted(self.numbers[k] + 1)
+        return None if latest is None else self.sessions_of_connections[latest]
+
+    @cached_property
+    def session_positions(self) -> dict[int, list[int]]:
+        out: dict[int, list[int]] = {}
+        for k in range(1, self.last + 1):
+            session = self.sessions[k]
+            if session is not None:
+                out.setdefault(session, []).append(k)
+        return out
+
+    def before_in(self, k: int) -> list[int]:
+        """The positions before k in its session."""
+        session = self.sessions[k]
+        positions = [] if session is None else self.session_positions[session]
+        return positions[: bisect_left(positions, k)]
+
+    # -- parameters
+
+    def parameter(self, identifier: int, k: int) -> int | None:
+        """What the tested end's peer has asked for on k's connection before k, else the default."""
+        c = self.places[k]
+        at = self.first_connacks[c] if self.role == "client" else self.first_connect(c)
+        if at is None or at >= k:
+            return DEFAULTS[identifier]
+        value = (self.from_server(at, CONNACK) or self.from_client(at, CONNECT)).get(identifier)
+        return DEFAULTS[identifier] if value is None else value
+
+    def announced(self, identifier: int, k: int) -> bool:
+        c = self.places[k]
+        at = self.first_connacks[c] if self.role == "client" else self.first_connect(c)
+        return at is not None and at < k and (self.from_server(at, CONNACK) or self.from_client(at, CONNECT)).get(identifier) is not None
+
+    def is_after_connack(self, k: int) -> bool:
+        at = self.first_connacks[self.places[k]]
+        return at is not None and at < k
+
+    def connect_before(self, k: int) -> Packet | None:
+        """The CONNECT of k's connection, if it comes before k."""
+        at = self.first_connect(self.places[k])
+        return self.from_client(at, CONNECT) if at is not None and at < k else None
+
+    # -- REST
+
+    def is_binding(self, t: int) -> bool:
+        c = self.places[t]
+        if not self.is_rest(t) or not self.is_accepted(c) or not self.is_after_connack(t):
+            return False
+        return not any(isinstance(self.event(j).item, (Bad, Lost)) or self.sent_packet(j, DISCONNECT) or self.received_packet(j, DISCONNECT)
+                       for j in self.before_on(t))
