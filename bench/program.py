@@ -12,7 +12,7 @@ import subprocess
 import sys
 import tempfile
 from collections.abc import Callable
-from dataclasses import dataclass
+from dataclasses import dataclass, field
 from pathlib import Path
 
 HERE = Path(__file__).resolve().parent
@@ -25,12 +25,24 @@ CONNECT = b"\x02\x00\x00\x00\x0f\x10\x0d\x00\x04MQTT\x05\x02\x00\x3c\x00\x00\x00
 CONNACK = b"\x03\x00\x00\x00\x05\x20\x03\x00\x00\x00"
 PUBLISH = b"\x02\x00\x00\x00\x09\x32\x07\x00\x01a\x00\x01\x00x"
 
+
+def timed(record: bytes) -> bytes:
+    """The record as it is in version 2, with the moment 0."""
+    return record[:5] + bytes(8) + record[5:]
+
+
+HEADER_2 = b"MQTR\x02\x00\x01\x00"
+
 # A session of four events, one whose client takes an identifier that is in use, and a log that opens two connections at once.
 GOOD = HEADER + OPEN + CONNECT + CONNACK + PUBLISH
 FAULTY = GOOD + PUBLISH
 NESTED = HEADER + OPEN + OPEN
 PINGS = 70_000
-MANY = HEADER + OPEN + CONNECT + CONNACK + b"\x02" + (2 * PINGS).to_bytes(4, "big") + b"\xc0\x00" * PINGS
+PING_RECORD = b"\x02" + (2 * PINGS).to_bytes(4, "big") + b"\xc0\x00" * PINGS
+MANY = HEADER + OPEN + CONNECT + CONNACK + PING_RECORD
+CONNECTED_2 = HEADER_2 + timed(OPEN) + timed(CONNECT) + timed(CONNACK)
+GOOD_2 = CONNECTED_2 + timed(PUBLISH)
+MANY_2 = CONNECTED_2 + timed(PING_RECORD)
 
 # The faulty one in version 2, with moments; and one whose body is longer than it may be in version 1.
 TIMED = b"MQTR\x02\x00\x01\x00" + b"".join(
@@ -64,6 +76,7 @@ TIMED_NEAR = "..\n" + "".join(TIMED_LINES.splitlines(keepends=True)[3:]) + NEAR_
 WRITE_FAILED = "mqjudge: write failed\n"
 NOT_HEX = "mqjudge: not hex\n"
 NO_FILE = "mqjudge: --faults reads the log twice, so it needs a FILE, not standard input\n"
+SAME_FILE = "mqjudge: OUT has to be another file than IN\n"
 NO_FAULTS = "mqjudge: --around needs --faults\n"
 CODES = (
     [f"W{n:02}" for n in range(1, 22)]
@@ -92,6 +105,7 @@ Commands:
   packet   Says which packet some bytes are
   rules    Lists the statements
   explain  Explains a statement, or those with a citation
+  convert  Converts a log of version 1 into one of version 2
   help     Print this message or the help of the given subcommand(s)
 
 Options:
@@ -140,7 +154,24 @@ Statuses: 0 if the log was shown, 2 for a rejected log, 3 for misuse,
 Example: mqjudge show --faults --around 3 session.log
 The log's format: docs/LOG_FORMAT.md
 """
-VERSION = "mqjudge 0.1.0 (reads log version 1, judges 74 statements)\n"
+CONVERT_HELP = """\
+Converts a log of version 1 into one of version 2
+
+Usage: mqjudge convert <IN> <OUT>
+
+Arguments:
+  <IN>   The log of version 1; standard input if it is `-`
+  <OUT>  The file that is made, or emptied and written; another one than IN
+
+Options:
+  -h, --help  Print help
+
+Statuses: 0 if the log was converted, 2 for a rejected log, 3 for misuse,
+4 if reading or writing failed or memory ran out.
+Example: mqjudge convert session.log session-2.log
+The log's format: docs/LOG_FORMAT.md
+"""
+VERSION = "mqjudge 0.1.0 (reads log versions 1 and 2, judges 74 statements)\n"
 FURTHER_OPERAND = """\
 error: unexpected argument 'b' found
 
@@ -157,7 +188,7 @@ For more information, try '--help'.
 """
 NO_WORD = """\
 error: 'mqjudge' requires a subcommand but one was not provided
-  [subcommands: check, show, packet, rules, explain, help]
+  [subcommands: check, show, packet, rules, explain, convert, help]
 
 Usage: mqjudge <COMMAND>
 
@@ -168,6 +199,14 @@ error: the following required arguments were not provided:
   <HEX>...
 
 Usage: mqjudge packet <HEX>...
+
+For more information, try '--help'.
+"""
+NO_OUT = """\
+error: the following required arguments were not provided:
+  <OUT>
+
+Usage: mqjudge convert <IN> <OUT>
 
 For more information, try '--help'.
 """
@@ -188,13 +227,17 @@ def directory(place: str) -> str:
 
 @dataclass
 class Run:
-    """The words, what they are to give, and the standard input; the files of `FILES` lie where it runs."""
+    """The words, what they are to give, the standard input, and the bytes of files afterwards, `None` for one that isn't to be there.
+
+    The files of `FILES` lie where it runs.
+    """
 
     words: list[str | bytes]
     status: int
     output: str = ""
     errors: str = ""
     stdin: bytes | Path = b""
+    files: dict[str, bytes | None] = field(default_factory=dict)
 
 
 PCAP = b"\xd4\xc3\xb2\xa1\x02\x00\x04\x00" + 16 * b"\x00"
@@ -205,6 +248,7 @@ GZIPPED = gzip.compress(GOOD)
 FILES = {"good.log": GOOD, "faulty.log": FAULTY, "nested.log": NESTED, "short.log": GOOD[:-1], "many.log": MANY, "-": FAULTY}
 FILES |= {"timed.log": TIMED, "long.log": LONG, "short-moment.log": TIMED[:20]}
 FILES |= {"a.pcap": PCAP, "fine.pcap": FINE_PCAP, "a.pcapng": PCAPNG, "good.log.gz": GZIPPED, "short.gz": GZIPPED[:2], "two.log": b"MQ"}
+FILES |= {"good-2.log": GOOD_2, "old.log": MANY, "dash.log": MANY}
 
 RUNS = [
     # A file is read, and not standard input.
@@ -276,6 +320,26 @@ RUNS = [
     Run(["check", "short.gz"], 2, "refused 1 Header at 0\n", GZIP_HINT),
     Run(["check", "two.log"], 2, "refused 10 Cut at 2\n"),
     Run(["check"], 2, "refused 1 Header at 0\n", stdin=b"GET / HTTP/1.1"),
+    # A file is made, or emptied and written, and nothing is printed.
+    Run(["convert", "good.log", "made.log"], 0, files={"made.log": GOOD_2, "good.log": GOOD}),
+    Run(["convert", "many.log", "many-2.log"], 0, files={"many-2.log": MANY_2}),
+    Run(["convert", "good.log", "old.log"], 0, files={"old.log": GOOD_2}),
+    Run(["convert", "-", "dash.log"], 0, stdin=GOOD, files={"dash.log": GOOD_2, "-": FAULTY}),
+    Run(["check", "made.log"], 0, PASS),
+    Run(["convert", "good-2.log", "none.log"], 2, "refused 2 Version at 4\n", files={"none.log": b""}),
+    Run(["convert", "nested.log", "part.log"], 2, REFUSED, files={"part.log": HEADER_2 + timed(OPEN)}),
+    Run(["convert", "short.log", "cut.log"], 2, f"refused 10 Cut at {len(GOOD) - 1}\n", files={"cut.log": GOOD_2[:-1]}),
+    Run(["convert", "a.pcap", "none.log"], 2, "refused 1 Header at 0\n", CAPTURE_HINT, files={"none.log": b""}),
+    # None is if the log can't be opened or read, or has the same name.
+    Run(["convert", "missing.log", "unmade.log"], 4, errors=missing("missing.log"), files={"unmade.log": None}),
+    Run(["convert", ".", "unmade.log"], 4, errors=directory("."), files={"unmade.log": None}),
+    Run(["convert", "good.log", "."], 4, errors=WRITE_FAILED),
+    Run(["convert", "good.log", "missing/made.log"], 4, errors=WRITE_FAILED),
+    Run(["convert", "good.log", "/dev/full"], 4, errors=WRITE_FAILED),
+    Run(["convert", "many.log", "/dev/full"], 4, errors=WRITE_FAILED),
+    Run(["convert", "good.log", "good.log"], 3, errors=SAME_FILE, files={"good.log": GOOD}),
+    Run(["convert", "-", "-"], 3, errors=SAME_FILE, stdin=GOOD, files={"-": FAULTY}),
+    Run(["convert", "good.log"], 3, errors=NO_OUT),
     # A packet's bytes are in the words.
     Run(["packet", "40020001"], 0, "PUBACK size 4 id 1\n", stdin=NESTED),
     Run(["packet", "41020001"], 1, "BAD W01 offset 0\n"),
@@ -294,6 +358,7 @@ RUNS = [
     Run(["help"], 0, HELP),
     Run(["check", "--help"], 0, CHECK_HELP),
     Run(["show", "--help"], 0, SHOW_HELP),
+    Run(["convert", "--help"], 0, CONVERT_HELP),
     Run(["--version"], 0, VERSION),
     Run(["-V"], 0, VERSION),
     Run(["check", "good.log", "b"], 3, errors=FURTHER_OPERAND),
@@ -313,6 +378,7 @@ UNWRITTEN = [
     ["show", "many.log"],
     ["show", "--faults", "faulty.log"],
     ["show", "--faults", "nested.log"],
+    ["convert", "nested.log", "part.log"],
     ["packet", "40020001"],
     ["packet", "41020001"],
     ["rules"],
@@ -327,6 +393,7 @@ UNTOLD = [
     ([], 4),
     (["packet", "4"], 4),
     (["show", "--faults"], 4),
+    (["convert", "good.log", "good.log"], 4),
     (["check", "missing.log"], 4),
     (["check", "good.log"], 0),
     (["check", "a.pcap"], 2),
@@ -420,6 +487,11 @@ def cut_short(program: Path) -> tuple[tuple, tuple]:
     return (process.wait(SECONDS), first, errors), (4, "1 record 1 OPEN\n", "")
 
 
+def held(path: Path) -> bytes | None:
+    """The bytes of a file, if it is there."""
+    return path.read_bytes() if path.exists() else None
+
+
 def main() -> int:
     program = Path(sys.argv[1] if len(sys.argv) > 1 else PROGRAM).resolve()
     tally = Tally()
@@ -431,6 +503,8 @@ def main() -> int:
         for case in RUNS:
             found = run(program, case.words, case.stdin)
             tally.compare(f"{case.words}", found, (case.status, case.output, case.errors))
+            for name, data in case.files.items():
+                tally.compare(f"{case.words}: {name}", (held(Path(name)),), (data,))
         tally.compare("a file that may not be read", *unpermitted(program))
         tally.compare("a reader that ends", *cut_short(program))
         for make in (full_disk, closed_pipe):
