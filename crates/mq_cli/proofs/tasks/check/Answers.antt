@@ -23,7 +23,7 @@ returns-in-Err-Refused-clause-stops g c =
     (ap g.W.Write.contents (c.in-Err-Refused.ensures.unwritten _ (ap Err named))) c.refuse.ensures.failed c.refuse.ensures.begun
 
 pub returns-in-Err-Write-clause-stops : goal.returns-in-Err-Write-clause-stops
-returns-in-Err-Write-clause-stops g c = run_stops _ _ (g.R.Read.remaining c.run.new.reader) _ _ (rw c.in-Err-Write.field-0-is at c.in-Err-Write.ensures.runs)
+returns-in-Err-Write-clause-stops g c = run_stops _ _ (g.R.Read.remaining c.run_watched.new.reader) _ _ (rw c.in-Err-Write.field-0-is at c.in-Err-Write.ensures.runs)
 
 pub returns-in-Err-Memory-clause-stops : goal.returns-in-Err-Memory-clause-stops
-returns-in-Err-Memory-clause-stops g c = run_lacks _ _ (g.R.Read.remaining c.run.new.reader) _ _ (rw c.in-Err-Memory.field-0-is at c.in-Err-Memory.ensures.runs)
+returns-in-Err-Memory-clause-stops g c = run_lacks _ _ (g.R.Read.remaining c.run_watched.new.reader) _ _ (rw c.in-Err-Memory.field-0-is at c.in-Err-Memory.ensures.runs)
