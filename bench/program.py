@@ -487,6 +487,30 @@ def cut_short(program: Path) -> tuple[tuple, tuple]:
     return (process.wait(SECONDS), first, errors), (4, "1 record 1 OPEN\n", "")
 
 
+def long_log() -> bytes:
+    """A log of 110 PUBLISHes of about a megabyte each, at QoS 0."""
+    rest = b"\x00\x01a\x00" + bytes(1_040_000)
+    size = len(rest)
+    length = bytes((size & 127 | 128, size >> 7 & 127 | 128, size >> 14))
+    packet = b"\x30" + length + rest
+    record = b"\x02" + len(packet).to_bytes(4, "big") + packet
+    return HEADER + OPEN + CONNECT + CONNACK + 110 * record
+
+
+def on_terminal(program: Path) -> tuple[tuple, tuple]:
+    """What is found and what is wanted of a long log while standard error is a terminal."""
+    ours, terminal = os.openpty()
+    try:
+        process = start(program, ["check", "long.log"], stdin=subprocess.DEVNULL, stdout=subprocess.PIPE, stderr=terminal)
+    finally:
+        os.close(terminal)
+    output, _ = finish(process)
+    said = os.read(ours, 4096).decode()
+    os.close(ours)
+    lines = "".join(f"\rmqjudge: {count} MB judged, 0 faults so far" for count in (50, 100))
+    return (process.returncode, output.decode(), said), (0, "pass 113 events\n", f"{lines}\r\n")
+
+
 def held(path: Path) -> bytes | None:
     """The bytes of a file, if it is there."""
     return path.read_bytes() if path.exists() else None
@@ -507,6 +531,9 @@ def main() -> int:
                 tally.compare(f"{case.words}: {name}", (held(Path(name)),), (data,))
         tally.compare("a file that may not be read", *unpermitted(program))
         tally.compare("a reader that ends", *cut_short(program))
+        Path("long.log").write_bytes(long_log())
+        tally.compare("a long log, with a terminal", *on_terminal(program))
+        tally.compare("a long log, with none", run(program, ["check", "long.log"], b""), (0, "pass 113 events\n", ""))
         for make in (full_disk, closed_pipe):
             for words in UNWRITTEN:
                 found = run_on(program, words, "stdout", make)
