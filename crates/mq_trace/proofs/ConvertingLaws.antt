@@ -6,7 +6,7 @@ use Rattle.std.specs.List.{flat_map}
 use Rattle.std.specs.Option.{option_or}
 use Rattle.std.proofs.lemmas.Bool.{ltb-true, ltb-false, le-ltb, lt-ltb, le-leb, lt-leb, leb-true, leb-false, eqb-true, eqb-false, eq-eqb, ne_eqb}
 use Rattle.std.proofs.lemmas.List.Concat.{flat_map-append}
-use Rattle.std.proofs.lemmas.List.{take-append-drop, take-append-le, drop-append-le, drop_at, length-take-le, length-drop, reverse-append, reverse-reverse, get_or_append_left, get_or-append_right}
+use Rattle.std.proofs.lemmas.List.{take-append-drop, take-append-le, drop-append-le, length-take-le, length-drop, reverse-append, reverse-reverse, get_or_append_left, get_or-append_right}
 use Rattle.mq_packet.specs.Stream.{fixed_header_of, frame_size}
 use Rattle.mq_trace.specs.declared.kind.RecordKind.{RecordKind}
 use Rattle.mq_trace.specs.declared.kind.RecordKind.TheVariants as kinds
@@ -16,7 +16,7 @@ use Rattle.mq_trace.specs.declared.header.Header.{Header}
 use Rattle.mq_trace.specs.declared.refusal.Refusal.{Refusal}
 use Rattle.mq_trace.specs.declared.refusal.Refusal.TheVariants as refusals
 use Rattle.mq_trace.specs.Pieces.{Pieces}
-use Rattle.mq_trace.specs.Framing.{header_by, kind_named, kind_of, body_length, head_length, longest_body, length_end, spelled_from, moment_in, record_size, records, ahead_in, opens, direction_of, begun_with, begun_records, if_direction, carried}
+use Rattle.mq_trace.specs.Framing.{header_by, kind_named, kind_of, body_length, head_length, longest_body, length_end, moment_in, record_size, records, ahead_in, opens, direction_of, begun_with, begun_records, if_direction, carried}
 use Rattle.mq_trace.specs.Events.{Event, opened, closed, rested, released, event_by, event_in, events, read_frame}
 use Rattle.mq_trace.specs.Refusals.{situation, header_refusal, record_refusal, refusal_at, refused, first_that_applies, conditions, allows_length, is_open_kind, needs_connection, is_release_kind, is_too_large, is_other_version, is_cut_short}
 use Rattle.mq_trace.specs.Connections.{is_too_early}
@@ -29,6 +29,7 @@ use Rattle.mq_trace.proofs.ContextLaws.{refused-grow, context-grow, refusal-kept
 use Rattle.mq_trace.proofs.RunLaws.{context_run, refused_run, events_run, after_bytes_append, refused_append, events_append, put_front}
 use Rattle.mq_trace.proofs.MomentLaws.{head_with, head_without, moment_none}
 use Rattle.mq_trace.proofs.StepLaws.{first_refusal, first_event, first_after, middle_refusal, middle_event, middle_after, middles_after, middles_events, middles_refused, longer_by, both_none, placed_none, AllowedAmong, head_packet, headed_record}
+use Rattle.mq_trace.proofs.WithMomentLaws.{added, with_body, with_drop, with_few, with_grown, with_kind, with_long, with_time}
 use Rattle.mq_trace.proofs.StreamStateLaws.{state-nothing}
 use Rattle.mq_trace.proofs.JoinedLaws.{along}
 
@@ -78,72 +79,6 @@ along_from P step log [] h start = subst P (sym (append-nil log)) start
 along_from P step log (byte ∷ rest) h start =
     let l = length-append log (byte ∷ []) in
     subst P (append_assoc log (byte ∷ []) rest) (along_from P step (log ++ byte ∷ []) rest (omega arith) (step log byte h start))
-
--- ---- a record with the moment 0
-
-front_five : (q : List ℕ) → length_end ≤ length q → length (take length_end q ++ no_moment) ≡ 13
-front_five q h = let l = length-append (take length_end q) no_moment in let m = length-take-le length_end q h in omega arith
-
-with_five : (q : List ℕ) → length_end ≤ length q → with_moment q ≡ (take length_end q ++ no_moment) ++ drop length_end q
-unfolding with_moment
-with_five q h = ap (λ b. if b then q else (take length_end q ++ no_moment) ++ drop length_end q) (le-ltb (length q) length_end h)
-
-with_few : (q : List ℕ) → length q < length_end → with_moment q ≡ q
-unfolding with_moment
-with_few q h = ap (λ b. if b then q else (take length_end q ++ no_moment) ++ drop length_end q) (lt-ltb (length q) length_end h)
-
-with_long : (q : List ℕ) → length_end ≤ length q → length (with_moment q) ≡ length q + 8
-with_long q h =
-    let l = length-append (take length_end q ++ no_moment) (drop length_end q) in
-    let f = front_five q h in
-    let d = length-drop length_end q in
-    ap length (with_five q h) ∙ (let sum : length ((take length_end q ++ no_moment) ++ drop length_end q) ≡ length q + 8 = omega arith in sum)
-
-with_drop : (q : List ℕ) → length_end ≤ length q → drop 13 (with_moment q) ≡ drop length_end q
-with_drop q h = ap (drop 13) (with_five q h) ∙ drop_at (take length_end q ++ no_moment) (drop length_end q) 13 (front_five q h)
-
--- its head says the same
-with_kind : (q : List ℕ) → length_end ≤ length q → kind_of (with_moment q) ≡ kind_of q
-unfolding kind_of
-with_kind [] h = absurd (omega arith)
-with_kind (k ∷ q) h = ap (λ (l : List ℕ). kind_named (slice_index l 0)) (with_five (k ∷ q) h)
-
-with_body : (q : List ℕ) → length_end ≤ length q → body_length (with_moment q) ≡ body_length q
-unfolding body_length
-with_body [] h = absurd (omega arith)
-with_body (k ∷ []) h = absurd (omega arith)
-with_body (k ∷ x ∷ []) h = absurd (omega arith)
-with_body (k ∷ x ∷ y ∷ []) h = absurd (omega arith)
-with_body (k ∷ x ∷ y ∷ z ∷ []) h = absurd (omega arith)
-with_body (k ∷ x ∷ y ∷ z ∷ w ∷ q) h = ap body_length (with_five (k ∷ x ∷ y ∷ z ∷ w ∷ q) h)
-
-with_time : (q : List ℕ) → length_end ≤ length q → moment_in 13 (with_moment q) ≡ 0
-unfolding moment_in
-with_time [] h = absurd (omega arith)
-with_time (k ∷ []) h = absurd (omega arith)
-with_time (k ∷ x ∷ []) h = absurd (omega arith)
-with_time (k ∷ x ∷ y ∷ []) h = absurd (omega arith)
-with_time (k ∷ x ∷ y ∷ z ∷ []) h = absurd (omega arith)
-with_time (k ∷ x ∷ y ∷ z ∷ w ∷ q) h = ap (λ (l : List ℕ). spelled_from 0 (drop length_end (take 13 l))) (with_five (k ∷ x ∷ y ∷ z ∷ w ∷ q) h)
-
--- what one byte more adds
-abbrev pub added : List ℕ → ℕ → List ℕ
-added part byte = if length part == 4 then byte ∷ no_moment else byte ∷ []
-
-with_grown : (part : List ℕ) (byte : ℕ) → with_moment (part ++ byte ∷ []) ≡ with_moment part ++ added part byte
-unfolding with_moment
-with_grown [] byte = refl
-with_grown (k ∷ []) byte = refl
-with_grown (k ∷ x ∷ []) byte = refl
-with_grown (k ∷ x ∷ y ∷ []) byte = refl
-with_grown (k ∷ x ∷ y ∷ z ∷ []) byte = refl
-with_grown (k ∷ x ∷ y ∷ z ∷ w ∷ q) byte =
-    let part : List ℕ = k ∷ x ∷ y ∷ z ∷ w ∷ q in
-    let l = length-append part (byte ∷ []) in
-    with_five (part ++ byte ∷ []) (omega arith)
-    ∙ sym (append_assoc (take length_end part ++ no_moment) (drop length_end part) (byte ∷ []))
-    ∙ ap (λ (t : List ℕ). t ++ byte ∷ []) (sym (with_five part (omega arith)))
-    ∙ ap (λ b. with_moment part ++ (if b then byte ∷ no_moment else byte ∷ [])) (sym (ne_eqb (length part) 4 (λ e. omega arith)))
 
 -- ---- a record in both versions does the same
 

@@ -1,8 +1,10 @@
 pub mod BodyLaws
 pub mod ByteLaws
 pub mod ContextLaws
+pub mod WithMomentLaws
 pub mod ConvertingLaws
 pub mod CopyLaws
+pub mod CopiedLaws
 pub mod DeframerLaws
 pub mod EndLaws
 pub mod FeedingLaws

@@ -1,6 +1,6 @@
 use Rattle.std.proofs.Common.{Err, IfSome, sym, subst}
 use Rattle.mq_trace.specs.Converting.{Converts}
-use Rattle.mq_trace.proofs.CopyLaws.{converts_all, converts_halted, held_nothing}
+use Rattle.mq_trace.proofs.CopiedLaws.{converts_all, converts_halted, held_nothing}
 use Rattle.mq_trace.proofs.converting.convert_all.Goals as goal
 
 pub feed_all-requires-clause-follows : goal.feed_all-requires-clause-follows

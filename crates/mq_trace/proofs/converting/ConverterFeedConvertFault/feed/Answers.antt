@@ -1,6 +1,6 @@
 use Rattle.std.proofs.Common.{sym, subst}
 use Rattle.mq_trace.specs.Copying.{IsCopyOf}
-use Rattle.mq_trace.proofs.CopyLaws.{feed_err, feed_ok}
+use Rattle.mq_trace.proofs.CopiedLaws.{feed_err, feed_ok}
 use Rattle.mq_trace.proofs.converting.ConverterFeedConvertFault.feed.Goals as goal
 
 pub returns-clause-follows : goal.returns-clause-follows

@@ -1,6 +1,6 @@
 use Rattle.std.proofs.Common.{◌++◌, take, sym, subst}
 use Rattle.mq_trace.specs.Copying.{IsCopyOf, StopsCopying, WritesMore}
-use Rattle.mq_trace.proofs.CopyLaws.{copy_step, nothing_left, step_parts, stops_then}
+use Rattle.mq_trace.proofs.CopiedLaws.{copy_step, nothing_left, step_parts, stops_then}
 use Rattle.mq_trace.proofs.converting.Copying.copy.Goals as goal
 
 pub loop-rest-preserved : goal.loop-rest-preserved

@@ -1,5 +1,5 @@
 use Rattle.std.proofs.Common.{rules}
-use Rattle.mq_trace.proofs.CopyLaws.{body_unwritten, body_written}
+use Rattle.mq_trace.proofs.CopiedLaws.{body_unwritten, body_written}
 use Rattle.mq_trace.proofs.converting.Copying.copy_body.Goals as goal
 
 pub returns-in-Ok-clause-copied : goal.returns-in-Ok-clause-copied

@@ -1,6 +1,6 @@
 use Rattle.std.proofs.Common.{refl, rules, sym, subst}
 use Rattle.mq_trace.specs.Copying.{StopsCopying}
-use Rattle.mq_trace.proofs.CopyLaws.{byte_copied, byte_refused, byte_unwritten}
+use Rattle.mq_trace.proofs.CopiedLaws.{byte_copied, byte_refused, byte_unwritten}
 use Rattle.mq_trace.proofs.converting.Copying.copy_some.Goals as goal
 
 pub returns-in-Err : goal.returns-in-Err

@@ -1,5 +1,4 @@
-use Rattle.std.proofs.Common.{◌∷◌, ◌++◌, [], IfOk, IfErr, Some, rules}
-use Rattle.mq_trace.specs.Copying.{Adds, IsCopyOf, added_bytes}
+use Rattle.std.proofs.Common.{rules}
 use Rattle.mq_trace.proofs.CopyLaws.{begin_err, begin_ok, extend_err, extend_ok, header_err, header_ok}
 use Rattle.mq_trace.proofs.converting.Copying.take_byte.Goals as goal
 
