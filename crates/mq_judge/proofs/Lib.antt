@@ -14,5 +14,6 @@ pub mod OutgoingLaws
 pub mod DetailLaws
 pub mod OneLineLaws
 pub mod NearLaws
+pub mod CalendarLaws
 pub mod ViewLaws
 pub mod WatchingLaws

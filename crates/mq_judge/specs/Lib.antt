@@ -3,6 +3,7 @@ pub mod Judging
 pub mod OnePacket
 pub mod Report
 pub mod Runner
+pub mod Calendar
 pub mod Display
 pub mod Stopping
 pub mod Tracing

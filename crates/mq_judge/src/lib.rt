@@ -14,7 +14,9 @@ mod watching;
 
 pub use display::{show, show_faults, show_long};
 pub use judge::{Judge, Options, Verdict};
-pub use laws::{converted_logs_have_the_same_report, known_faults_stay};
+pub use laws::{
+    converted_logs_have_the_same_report, dates_are_exact, known_faults_stay, worked_times,
+};
 pub use mq_rules::{Fault, FaultKey, Faults, Memory, Role, Rule, Tested};
 pub use mq_trace::{ConvertFault, Refusal, convert};
 pub use packet_line::write_packet;
