@@ -14,23 +14,23 @@ module _ {W : Type 0} (contents : W → Option (List ℕ)) where
   puts_in_room f g h text p lines failed writer = puts_two contents f g h [] text text p (puts_lines contents g h text writer failed lines) refl
 
   -- Of the notes on these faults all were put but those on the rest.
-  pub record PutsNotes (role : Role) (old new : Outgoing W) (faults rest : List (FaultKey × Fault)) : Type 0 where
+  pub record PutsNotes (role : Role) (time : List ℕ) (old new : Outgoing W) (faults rest : List (FaultKey × Fault)) : Type 0 where
     pub put : List ℕ
-    pub is : put ++ fault_notes role rest ≡ fault_notes role faults
+    pub is : put ++ fault_notes role time rest ≡ fault_notes role time faults
     pub puts : Puts contents old put new
 
-  pub notes_begin : (role : Role) (out : Outgoing W) (faults rest : List (FaultKey × Fault)) → rest ≡ faults → PutsNotes role out out faults rest
-  notes_begin role out faults rest is = record { put = []; is = ap (fault_notes role) is; puts = puts_nothing contents out }
+  pub notes_begin : (role : Role) (time : List ℕ) (out : Outgoing W) (faults rest : List (FaultKey × Fault)) → rest ≡ faults → PutsNotes role time out out faults rest
+  notes_begin role time out faults rest is = record { put = []; is = ap (fault_notes role time) is; puts = puts_nothing contents out }
 
-  pub notes_go_on : {role : Role} {old mid : Outgoing W} (new : Outgoing W) {faults rest : List (FaultKey × Fault)} (found : FaultKey × Fault) (later : List (FaultKey × Fault))
-      → PutsNotes role old mid faults rest → rest ≡ found ∷ later → Puts contents mid (fault_note role found) new → PutsNotes role old new faults later
-  notes_go_on {role} {old} {mid} new {faults} {rest} found later so_far steps more = record {
-    put = so_far.put ++ fault_note role found;
-    is = append_assoc so_far.put (fault_note role found) (fault_notes role later) ∙ ap (λ (r : List (FaultKey × Fault)). so_far.put ++ fault_notes role r) (sym steps) ∙ so_far.is;
-    puts = puts_two contents old mid new so_far.put (fault_note role found) _ so_far.puts more refl;
+  pub notes_go_on : {role : Role} {time : List ℕ} {old mid : Outgoing W} (new : Outgoing W) {faults rest : List (FaultKey × Fault)} (found : FaultKey × Fault) (later : List (FaultKey × Fault))
+      → PutsNotes role time old mid faults rest → rest ≡ found ∷ later → Puts contents mid (fault_note role time found) new → PutsNotes role time old new faults later
+  notes_go_on {role} {time} {old} {mid} new {faults} {rest} found later so_far steps more = record {
+    put = so_far.put ++ fault_note role time found;
+    is = append_assoc so_far.put (fault_note role time found) (fault_notes role time later) ∙ ap (λ (r : List (FaultKey × Fault)). so_far.put ++ fault_notes role time r) (sym steps) ∙ so_far.is;
+    puts = puts_two contents old mid new so_far.put (fault_note role time found) _ so_far.puts more refl;
   }
 
-  pub notes_end : {role : Role} {old new : Outgoing W} {faults rest : List (FaultKey × Fault)} → PutsNotes role old new faults rest → rest ≡ [] → Puts contents old (fault_notes role faults) new
-  notes_end {role} {old} {new} {faults} {rest} so_far none =
+  pub notes_end : {role : Role} {time : List ℕ} {old new : Outgoing W} {faults rest : List (FaultKey × Fault)} → PutsNotes role time old new faults rest → rest ≡ [] → Puts contents old (fault_notes role time faults) new
+  notes_end {role} {time} {old} {new} {faults} {rest} so_far none =
       subst (λ (t : List ℕ). Puts contents old t new)
-      (sym (append-nil so_far.put) ∙ ap (λ (r : List (FaultKey × Fault)). so_far.put ++ fault_notes role r) (sym none) ∙ so_far.is) so_far.puts
+      (sym (append-nil so_far.put) ∙ ap (λ (r : List (FaultKey × Fault)). so_far.put ++ fault_notes role time r) (sym none) ∙ so_far.is) so_far.puts

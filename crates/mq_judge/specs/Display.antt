@@ -19,6 +19,7 @@ use Rattle.mq_rules.specs.Naming.{sentence_of}
 use Rattle.mq_rules.specs.Rules.{code_of, citation_of}
 use Rattle.mq_judge.specs.declared.report.RunFault.{RunFault}
 use Rattle.mq_judge.specs.declared.report.RunFault.TheVariants as run_faults
+use Rattle.mq_judge.specs.Calendar.{time_words}
 use Rattle.mq_judge.specs.Details.{detail_text, broken_detail_text}
 use Rattle.mq_judge.specs.declared.report.summary.PacketSummary.{PacketSummary}
 use Rattle.mq_judge.specs.ItemText.{item_text, packet_text}
@@ -126,13 +127,14 @@ offset_words (Some offset) = codes " (offset " ++ decimal offset ++ codes ")"
 abbrev pub statement_words : roles.Role → Rule → List ℕ
 statement_words role rule = codes "  " ++ spaced (codes "fault" ∷ code_of rule ∷ citation_of rule role ∷ sentence_of rule ∷ [])
 
--- the line of a fault of an end in this role: its statement, where it was decided, and where in the packet it is
-abbrev pub fault_note : roles.Role → FaultKey × Fault → List ℕ
-fault_note role found = line (statement_words role found.0.rule ++ decided_words found.0.position found.1.decided ++ offset_words found.1.offset)
+-- the line of a fault of an end in this role: its statement, where it was decided, where in the packet it is, and when it happened
+abbrev pub fault_note : roles.Role → (time : List ℕ) → FaultKey × Fault → List ℕ
+fault_note role time found =
+    line (statement_words role found.0.rule ++ decided_words found.0.position found.1.decided ++ offset_words found.1.offset ++ time)
 
--- the lines of these faults
-abbrev pub fault_notes : roles.Role → List (FaultKey × Fault) → List ℕ
-fault_notes role faults = flat_map (fault_note role) faults
+-- the lines of these faults, which happened at this time
+abbrev pub fault_notes : roles.Role → (time : List ℕ) → List (FaultKey × Fault) → List ℕ
+fault_notes role time faults = flat_map (fault_note role time) faults
 
 -- an event after these would begin a run of events that are left out: it is the first of its log, or the one before it is near to a fault
 abbrev pub begins_gap : Option ℕ → List (FaultKey × Fault) → List Placed → Bool
@@ -141,7 +143,8 @@ begins_gap around faults (newest ∷ earlier) = is_near around faults newest.pla
 
 -- the line of an event, and the lines of the faults at it
 abbrev pub noted_line : (timed : Bool) → Annotation → Placed → List ℕ
-noted_line timed a placed = shown_line timed a.long placed ++ fault_notes a.role (faults_at placed.place.position a.faults)
+noted_line timed a placed =
+    shown_line timed a.long placed ++ fault_notes a.role (time_words timed placed.place.moment) (faults_at placed.place.position a.faults)
 
 -- An event is shown, or it is left out: the first of a run of events that are left out gives the line `..`.
 abbrev pub text_if : (shown timed : Bool) → Annotation → (begins : Bool) → Placed → List ℕ

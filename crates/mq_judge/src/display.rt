@@ -9,6 +9,7 @@ ghost use Rattle.mq_trace.specs.Tracing.{IsTracedTo};
 ghost use Rattle.mq_trace.specs.declared.refusal.Refusal.TheVariants as refusals;
 
 mod annotated;
+mod calendar;
 mod details;
 mod outgoing;
 mod view;
@@ -253,8 +254,9 @@ pub fn show_long<R: Read, W: Write>(
 }
 
 /// Writes the events of the log that a reader gives, as `show` does, or as `show_long` if `long` is true, and under each the faults at its position, a
-/// line for each: `  fault <code> <citation> <sentence>`, with ` (decided at event <n>)` if that is a later one, and ` (offset <n>)` if the fault is on
-/// a packet's bytes. The faults are those of an end in this role. A packet that breaks a rule has its type and its bytes on its line, as in `show_long`.
+/// line for each: `  fault <code> <citation> <sentence>`, with ` (decided at event <n>)` if that is a later one, ` (offset <n>)` if the fault is on a
+/// packet's bytes, and in a log of version 2 ` (at <date> <time> UTC)` if the moment of the event's record is one from 2000-01-01 to before
+/// 2100-01-01 in microseconds since 1970-01-01 00:00:00 UTC, as in ` (at 2026-11-26 17:03:21.123456 UTC)`. The faults are those of an end in this role. A packet that breaks a rule has its type and its bytes on its line, as in `show_long`.
 /// With `around`, only events at most that many positions from a fault are shown, and each run of others is a line `..`.
 ///
 /// # Errors

@@ -5,6 +5,7 @@ use super::report::RunFault;
 use super::runner::judge_reader;
 use mq_trace::Refusal;
 use std::alloc::Global;
+use std::fmt::Write as _;
 use std::io::Read;
 use std::test::Fail;
 
@@ -43,6 +44,48 @@ const AROUND: &str = "..\n\
 
 // The same line at each of the three forms: the first one of a log of one record.
 const OPENED: &[u8] = b"MQTR\x02\x01\x00\x00\x01\x00\x00\x00\x00\x00\x00\x00\x00\x00\x00\x00\x00";
+
+// A client sends a PINGREQ before its CONNECT. The moment of that record is at PINGED_AT.
+const PINGED: [u8; 36] = *b"MQTR\x02\x00\x01\x00\
+    \x01\x00\x00\x00\x00\x00\x00\x00\x00\x00\x00\x00\x00\
+    \x02\x00\x00\x00\x02\x00\x00\x00\x00\x00\x00\x00\x00\xc0\x00";
+
+const PINGED_AT: usize = 26;
+
+// Moments, and the words on them as times.
+static TIMES: [(u64, &str); 9] = [
+    (946_684_799_999_999, ""),
+    (946_684_800_000_000, " (at 2000-01-01 00:00:00.000000 UTC)"),
+    (951_825_600_000_001, " (at 2000-02-29 12:00:00.000001 UTC)"),
+    (951_868_800_000_000, " (at 2000-03-01 00:00:00.000000 UTC)"),
+    (
+        1_735_689_599_999_999,
+        " (at 2024-12-31 23:59:59.999999 UTC)",
+    ),
+    (
+        1_735_689_600_000_000,
+        " (at 2025-01-01 00:00:00.000000 UTC)",
+    ),
+    (
+        1_795_712_601_123_456,
+        " (at 2026-11-26 17:03:21.123456 UTC)",
+    ),
+    (
+        4_102_444_799_999_999,
+        " (at 2099-12-31 23:59:59.999999 UTC)",
+    ),
+    (4_102_444_800_000_000, ""),
+];
+
+// A client sends a PUBLISH under identifier 0 before its CONNECT, at the moment 1795712601123456.
+const UNCONNECTED: &[u8] = b"MQTR\x02\x00\x01\x00\
+    \x01\x00\x00\x00\x00\x00\x00\x00\x00\x00\x00\x00\x00\
+    \x02\x00\x00\x00\x09\x00\x06\x61\x30\xeb\xb5\x6a\x80\x32\x07\x00\x01a\x00\x00\x00x";
+
+const UNCONNECTED_FAULTS: &str = "..\n\
+    2 record 2 moment 1795712601123456 SENT BAD W09 offset 5 type PUBLISH bytes 32 07 00 01 61 [00] 00 00 78\n\
+    \x20 fault W09 sec-2.2.1 A Packet Identifier isn't 0. (offset 5) (at 2026-11-26 17:03:21.123456 UTC)\n\
+    \x20 fault C02 MQTT-3.1.0-1 The first packet that a client sends on a connection is a CONNECT. (at 2026-11-26 17:03:21.123456 UTC)\n";
 
 // Whether the short lines of what the reader gives are these.
 fn is_shown<R: Read>(alloc: Global, reader: &mut R, text: &str) -> bool {
@@ -97,6 +140,32 @@ fn shows_moments_on_long_lines(rt: HostRuntime) {
 #[test]
 fn shows_moments_beside_faults(rt: HostRuntime) {
     assert!(rt; is_shown_around(rt.alloc(), LOG, Some(1), AROUND));
+}
+
+// Whether a fault at a record with this moment has these words at the end of its line.
+fn is_told_as(alloc: Global, moment: u64, words: &str) -> Result<bool, Fail> {
+    let mut log = PINGED;
+    log[PINGED_AT..PINGED_AT + 8].copy_from_slice(&moment.to_be_bytes());
+    let mut text = String::new(alloc);
+    write!(text, "..\n2 record 2 moment {moment} SENT PINGREQ size 2\n")?;
+    text.push_str("  fault C02 MQTT-3.1.0-1 ")?;
+    text.push_str("The first packet that a client sends on a connection is a CONNECT.")?;
+    text.push_str(words)?;
+    text.push_str("\n")?;
+    Ok(is_shown_around(alloc, &log, Some(0), text.as_str()))
+}
+
+#[test]
+fn tells_when_a_fault_happened(rt: HostRuntime) -> Result<(), Fail> {
+    for (moment, words) in TIMES {
+        assert!(rt; is_told_as(rt.alloc(), moment, words)?, "{moment}");
+    }
+    Ok(())
+}
+
+#[test]
+fn tells_the_time_after_the_offset(rt: HostRuntime) {
+    assert!(rt; is_shown_around(rt.alloc(), UNCONNECTED, Some(0), UNCONNECTED_FAULTS));
 }
 
 #[test]

@@ -4,10 +4,12 @@ ghost use Rattle.std.specs.FinMap as map;
 ghost use Rattle.mq_judge.specs.Report.{line};
 ghost use Rattle.mq_judge.specs.Outgoing.{Puts};
 ghost use Rattle.mq_judge.specs.Display.{decided_words, fault_note, fault_notes, event_text_after, is_near, noted_line, offset_words, shown_line, statement_words, text_if};
+ghost use Rattle.mq_judge.specs.Calendar.{time_words};
 ghost use Rattle.mq_judge.specs.Views.{annotation_of};
 ghost use Rattle.mq_rules.specs.FaultKeys.{faults_at};
 ghost use Rattle.mq_trace.specs.Reception.{placed_at};
 
+use super::calendar::put_time;
 use super::outgoing::Outgoing;
 use super::view::{put_line_with_bytes, put_long_line};
 use mq_rules::{Fault, FaultKey, Faults, Role, Rule};
@@ -80,7 +82,7 @@ fn put_noted_line<W: Write>(
     ensures { Puts W.contents out.old (noted_line timed (annotation_of view.now) (placed_at place event.now)) out.new }
 {
     put_shown_line(out, timed, view.long, place, event);
-    put_notes(out, view.faults, view.role, place.position);
+    put_notes(out, view.faults, view.role, timed, place);
 }
 
 /// Whether a position is within `around` positions of a fault; with `None` any is.
@@ -122,22 +124,38 @@ fn put_gap<W: Write>(out: &mut Outgoing<'_, W>, begins: bool)
     }
 }
 
-/// Appends the lines of the faults at a position.
-fn put_notes<W: Write>(out: &mut Outgoing<'_, W>, faults: &Faults, role: Role, position: u32)
-    ensures { Puts W.contents out.old (fault_notes role (faults_at position (map.entries faults.now))) out.new }
+/// Appends the lines of the faults at an event with this place, in a log whose records have moments if `timed` is true.
+fn put_notes<W: Write>(
+    out: &mut Outgoing<'_, W>,
+    faults: &Faults,
+    role: Role,
+    timed: bool,
+    place: Place3,
+)
+    ensures { Puts W.contents out.old
+        (fault_notes role (time_words timed place.moment) (faults_at place.position (map.entries faults.now))) out.new }
 {
-    for (key, fault) in faults.at(position) {
-        put_note(out, role, *key, *fault);
+    for (key, fault) in faults.at(place.position) {
+        put_note(out, role, timed, place.moment, *key, *fault);
     }
 }
 
-/// Appends the line of a fault: its statement and what that says, where the fault was decided if that is at a later event, and where in its packet it is.
-fn put_note<W: Write>(out: &mut Outgoing<'_, W>, role: Role, key: FaultKey, fault: Fault)
-    ensures { Puts W.contents out.old (fault_note role (key, fault)) out.new }
+/// Appends the line of a fault: its statement and what that says, where the fault was decided if that is at a later event, where in its packet it is,
+/// and this moment as a time.
+fn put_note<W: Write>(
+    out: &mut Outgoing<'_, W>,
+    role: Role,
+    timed: bool,
+    moment: u64,
+    key: FaultKey,
+    fault: Fault,
+)
+    ensures { Puts W.contents out.old (fault_note role (time_words timed moment) (key, fault)) out.new }
 {
     put_statement(out, role, key.rule);
     put_decided(out, key.position, fault.decided);
     put_offset(out, fault.offset);
+    put_time(out, timed, moment);
     out.put("\n");
 }
 
