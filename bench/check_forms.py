@@ -4,10 +4,10 @@
 usage: bench/check_forms.py PROGRAM [LOG ..]
 
 The text report of each log is made into the other forms here, in Python: each of the worked logs of check_rows.py, a log of
-3,000 faults, one of long packets that break a rule, refused logs, some of all these in version 2, and the logs that are named. JSON
-is also read back by Python's json module. What `show --faults` is to print is made from the text report and from what `show` prints. The
-bytes of packets that break a rule are those that reading.py finds in the log. Each line of `show` is that of showing.py, and each of
-`show --long` begins with it.
+3,000 faults, one of long packets that break a rule, refused logs, some of all these in version 2, one with moments of a century, and
+the logs that are named. JSON is also read back by Python's json module. What `show --faults` is to print is made from the text report,
+from what `show` prints, and from Python's dates. The bytes of packets that break a rule are those that reading.py finds in the log.
+Each line of `show` is that of showing.py, and each of `show --long` begins with it.
 """
 import json
 import random
@@ -15,6 +15,8 @@ import subprocess
 import sys
 import tempfile
 from collections import OrderedDict
+from collections.abc import Iterator
+from datetime import UTC, datetime, timedelta
 from itertools import zip_longest
 from pathlib import Path
 
@@ -26,6 +28,7 @@ from versions import clock, in_version_2
 
 CONNECT = bytes.fromhex("100D00044D5154540502003C000000")
 CONNACK = bytes.fromhex("2003000000")
+DAY = timedelta(days=1) // showing.MICROSECOND
 SELDOM = 20  # of so many worked logs one is tried in version 2 too
 
 
@@ -35,6 +38,14 @@ def many_faults(count: int) -> bytes:
     publish = "320700016100010078"
     words = ["OPEN", ">" + CONNECT.hex(), "<" + CONNACK.hex()] + [">" + publish] * (count + 1)
     return check_rows.log_of("client " + " ".join(words), names)
+
+
+def dates(draw: random.Random) -> Iterator[int]:
+    """Moments of days from 1999 to 2100, many of them the first or the last one of a day."""
+    first, last = ((datetime(year, 1, 1, tzinfo=UTC) - showing.EPOCH).days for year in (1999, 2101))
+    while True:
+        moment = draw.choice((0, DAY - 1, draw.randrange(DAY)))
+        yield draw.randrange(first, last) * DAY + moment
 
 
 def long_broken() -> bytes:
@@ -60,6 +71,7 @@ def logs(paths: list[str]) -> list[tuple[str, bytes]]:
     seconds = [*found[::SELDOM], ("20 faults", many_faults(20)), ("long packets that break a rule", long_broken())]
     seconds += [(name, log) for name, log in found if name.startswith("examples/")]
     found += [(f"{name}, version 2", in_version_2(log, clock(draw))) for name, log in seconds]
+    found.append(("3,000 faults of a century", in_version_2(many_faults(3000), dates(draw))))
     found += [(path, Path(path).read_bytes()) for path in paths]
     return found
 
@@ -119,6 +131,12 @@ def with_bytes(events: str, log: bytes) -> str:
     return "".join(f"{line}\n" for line in lines)
 
 
+def time_words(event: str) -> str:
+    """What is said of the moment on an event's line, if there is one."""
+    _, _, _, *words = event.split(" ", 5)
+    return showing.time_words(int(words[1])) if words[0] == "moment" else ""
+
+
 def under_events(events: str, text: str, sentences: dict[str, str], around: int | None) -> str:
     """What `show` prints, with the faults of a text report under their events, and `..` for events that are farther from any."""
     *faults, last = text.splitlines()
@@ -134,7 +152,7 @@ def under_events(events: str, text: str, sentences: dict[str, str], around: int 
     lines: list[str] = []
     for position, event in enumerate(events.splitlines(), 1):
         if around is None or any(abs(position - other) <= around for other in notes):
-            lines += [event, *notes.get(position, [])]
+            lines += [event, *(note + time_words(event) for note in notes.get(position, []))]
         elif not lines or lines[-1] != "..":
             lines.append("..")
     return "".join(f"{line}\n" for line in lines)

@@ -1,9 +1,13 @@
 """What `mqjudge show` and `mqjudge packet` are to print, by how reading.py reads a log and a packet."""
+from datetime import UTC, datetime, timedelta
+
 import reading
 from reading import Bad, Event, Lost, OtherVersion, Packet, Recording, Refusal
 
 WAYS = {reading.SENT: "SENT", reading.RECV: "RECV"}
 MARKS = {reading.OPEN: "OPEN", reading.CLOSE: "CLOSE", reading.REST: "REST", reading.RELEASE: "RELEASE"}
+EPOCH = datetime(1970, 1, 1, tzinfo=UTC)
+MICROSECOND = timedelta(microseconds=1)
 Answer = tuple[int, str]  # status and output
 
 
@@ -47,6 +51,15 @@ def show(log: bytes) -> Answer:
     if read.refusal is not None:
         return 2, "".join([*lines, f"{read.refusal.text()}\n"])
     return 0, "".join(lines)
+
+
+def time_words(moment: int) -> str:
+    """What `show --faults` says of the moment of a fault: the time in UTC, if it is one of the years 2000 to 2099."""
+    try:
+        time = EPOCH + moment * MICROSECOND
+    except OverflowError:
+        return ""
+    return f" (at {time:%Y-%m-%d %H:%M:%S.%f} UTC)" if 2000 <= time.year < 2100 else ""
 
 
 def packet(data: bytes) -> Answer:
