@@ -171,7 +171,8 @@ class Printed(Case):
         self.put(a=FAIL)
         events = [f"{number} record {number} SENT PINGREQ size 2" for number in range(1, 10)]
         sentence = "  fault S01 MQTT-2.2.1-3 It takes no identifier. (decided at event 9)"
-        shown = [*events[:5], sentence, *events[5:7], "  fault W09 sec-2.2.1 It isn't 0. (offset 2)", *events[7:], ".."]
+        with_time = "  fault W09 sec-2.2.1 It isn't 0. (offset 2) (at 2026-11-26 12:04:05.000001 UTC)"
+        shown = [*events[:5], sentence, *events[5:7], with_time, *events[7:], ".."]
         (self.logs / "a.log.show").write_text("\n".join(shown) + "\n")
         report = self.folder / "report.xml"
         printed = self.judged(self.logs, "--junit", report)[1].splitlines()

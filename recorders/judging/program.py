@@ -26,7 +26,9 @@ IDENTIFIER = re.compile(
     r"\d+ record \d+(?: moment \d+)? (?:(?:SENT|RECV) \S+ size \d+(?: qos \d dup \d)? id|RELEASE) (\d+)"
 )
 MOMENT = re.compile(r"\d+ record \d+ moment (\d+) ")
-FAULT_LINE = re.compile(r"\s+fault (\S+) \S+ (.*?)(?: \(decided at event \d+\))?(?: \(offset \d+\))?")
+FAULT_LINE = re.compile(
+    r"\s+fault (\S+) \S+ (.*?)(?: \(decided at event \d+\))?(?: \(offset \d+\))?(?: \(at [-\d]+ [\d:.]+ UTC\))?"
+)
 
 
 class Judge:
