@@ -74,3 +74,8 @@ TakesEvents limit tested log piece tracer watching (Err refusal) =
 abbrev pub Finishes : {A : Type 0} → (A → ℕ) → (A → FaultMap) → List ℕ → Result A Refusal → Type 0
 Finishes events_in faults_in log (Ok verdict) = (is_cut_short log ≡ false) × (events_in verdict ≡ length (events log)) × AreFaultsOf log (faults_in verdict)
 Finishes events_in faults_in log (Err refusal) = IsRefusedEnd log refusal
+
+-- What ending a log that wasn't refused so far returns: how many events it has if it is whole, else why its end is refused.
+abbrev pub Ends : List ℕ → Result ℕ Refusal → Type 0
+Ends log (Ok count) = (is_cut_short log ≡ false) × (count ≡ length (events log))
+Ends log (Err refusal) = IsRefusedEnd log refusal

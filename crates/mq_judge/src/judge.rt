@@ -1,7 +1,7 @@
 //! The judge: it is fed a log, in any pieces, and returns the verdict on it.
 ghost use Rattle.mq_books.specs.Burden.{burden};
-ghost use Rattle.std.specs.Prelude.{◌≡◌, ◌≤◌, ◌*◌, ℕ, List, [], nat_lt, length, Some, None, Err, IfErr, IfOk, IfSome, if◌then◌else◌};
-ghost use Rattle.mq_judge.specs.Judging.{Knows, Follows, FollowsBy, JudgesPiece, JudgesPieceBy, TakesEvents, AreFaultsOf, Finishes};
+ghost use Rattle.std.specs.Prelude.{◌≡◌, ◌≤◌, ◌*◌, ℕ, List, [], nat_lt, length, Some, None, Err, IfErr, IfOk, IfSome, OnOk, if◌then◌else◌};
+ghost use Rattle.mq_judge.specs.Judging.{Knows, Follows, FollowsBy, JudgesPiece, JudgesPieceBy, TakesEvents, AreFaultsOf, Ends, Finishes};
 ghost use Rattle.mq_judge.specs.Watching.{IsWatching};
 ghost use Rattle.mq_rules.specs.Notes.{tested_by, seen_in};
 ghost use Rattle.mq_trace.specs.Tracing.{IsTracedTo};
@@ -114,6 +114,25 @@ impl Judge {
         ensures for_ever { IfSome self.old.tracer.refusal (λ refusal. (result ≡ Err refusal) × (self.new ≡ self.old)) }
     {
         consume(&mut self.tracer, &mut self.judging, piece)
+    }
+
+    /// Ends the log, and returns how many events it has. The faults stay known: they are the verdict's. It needs no memory.
+    ///
+    /// # Errors
+    ///
+    /// As `finish`. The faults are then those of the events that are complete.
+    pub fn end(&mut self) -> Result<u32, Refusal>
+        ensures verdict { (log : List ℕ) → Follows self.old log → Ends log result }
+        ensures known { (log : List ℕ) → Follows self.old log → Knows self.new log }
+        ensures same { OnOk result (self.new ≡ self.old) }
+        ensures limit { self.new.limit ≡ self.old.limit }
+        ensures refuses { IfErr result (λ refusal. self.new.tracer.refusal ≡ Some refusal) }
+        ensures for_ever { IfSome self.old.tracer.refusal (λ refusal. (result ≡ Err refusal) × (self.new ≡ self.old)) }
+    {
+        match self.tracer.finish() {
+            Ok(()) => Ok(self.judging.watching.events),
+            Err(refusal) => Err(refusal),
+        }
     }
 
     /// Ends the log, and returns the verdict on it. It needs no memory.
