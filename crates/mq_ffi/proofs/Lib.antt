@@ -1,0 +1,5 @@
+mod AskingLaws
+mod CallingLaws
+mod LivingLaws
+mod LooseValues
+mod PointerValues

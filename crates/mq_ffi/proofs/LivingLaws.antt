@@ -1,0 +1,37 @@
+-- What taking bytes in says of a judge that was told a log.
+use Rattle.std.proofs.Common.{◌≡◌, ℕ, Bool, true, false, List, Option, Some, None, is_some, Ok, Err, sym, ap, ◌∙◌}
+use Rattle.std.proofs.lemmas.Bool.{false≢true}
+use Rattle.std.specs.Option.{IfSome}
+use Rattle.std.specs.Prelude.{Result}
+use Rattle.mq_ffi.specs.declared.answer.Trouble.{Trouble}
+use Rattle.mq_ffi.specs.declared.live.Live.{Live}
+use Rattle.mq_ffi.specs.declared.live.Source.{Source}
+use Rattle.mq_ffi.specs.declared.live.Source.TheVariants as sources
+use Rattle.mq_ffi.specs.Living.{Answer, IsTold, Takes, TakesIn, Ends, EndsFrom, is_end}
+
+pub if_none : {A : Type 0} (o : Option A) (P : A → Type 0) → is_some o ≡ false → IfSome o P
+if_none None P is = tt
+if_none (Some x) P is = absurd (false≢true (sym is))
+
+pub takes : (source : Source) (log piece : List ℕ) (old new : Live) (answer : Answer) → (source ≡ sources.Nothing → ⊥) → IsTold old log → new.source ≡ source
+    → TakesIn piece old.judge new.judge old.refusal new.refusal answer → Takes source log piece new answer
+takes source log piece old new (Ok _) more told is taken =
+    let after = taken.1 log told.follows in
+    (after.0, record { follows = after.1; unrefused = taken.0 ∙ told.unrefused; first = λ e. absurd (more (sym is ∙ e)) }, is)
+takes source log piece old new (Err trouble) more told is taken = (taken.0, record { refusal = taken.1.0; kept = taken.1.1; why = taken.1.2 log told.follows })
+
+abbrev is_first : Source → Bool
+is_first sources.Nothing = true
+is_first _ = false
+
+pub events_follow : sources.Events ≡ sources.Nothing → ⊥
+events_follow e = false≢true (ap is_first e)
+
+pub ended_is_last : sources.Ended ≡ sources.Nothing → ⊥
+ended_is_last e = false≢true (ap is_first e)
+
+pub ends_from : (s : Source) (log : List ℕ) (old new : Live) (answer : Result ℕ Trouble) → is_end s ≡ false → Ends log new answer → EndsFrom s log old new answer
+ends_from sources.Ended log old new answer is ends = absurd (false≢true (sym is))
+ends_from sources.Nothing log old new answer is ends = ends
+ends_from sources.Log log old new answer is ends = ends
+ends_from sources.Events log old new answer is ends = ends

@@ -1,0 +1,100 @@
+-- What a caller gets from the judge that its handle holds, and the judge that the handle holds then.
+use Rattle.std.specs.Prelude.{◌≡◌, ℕ, ◌==◌, nat_lt, ◌||◌, Bool, true, false, List, [], Option, Some, None, Result, Ok, Err, if◌then◌else◌}
+use Rattle.mq_trace.specs.declared.header.Header.{Header}
+use Rattle.mq_trace.specs.declared.refusal.Refusal.{Refusal}
+use Rattle.mq_trace.specs.Refusing.{number_of, name_of, refusal_offset}
+use Rattle.mq_ffi.specs.declared.answer.Trouble.{Trouble}
+use Rattle.mq_ffi.specs.declared.answer.Trouble.TheVariants as troubles
+use Rattle.mq_ffi.specs.declared.event.Event.{Event}
+use Rattle.mq_ffi.specs.declared.live.Live.{Live}
+use Rattle.mq_ffi.specs.Answers.{answer_code}
+use Rattle.mq_ffi.specs.Living.{Answer, IsTold, Feeds, Begins, Tells, Finishes}
+use Rattle.mq_ffi.specs.Texts.{PutsTextAs}
+
+-- The call reaches the judge that the handle holds, and the handle holds it afterwards. A handle that holds none says so, and stays empty.
+abbrev pub Asked : (Live → Live → ℕ → Type 0) → Option Live → Option Live → ℕ → Type 0
+Asked asks None None code = code ≡ 2
+Asked asks (Some old) (Some new) code = asks old new code
+Asked asks _ _ code = ⊥
+
+-- The same where the call writes something else too, of which this says that it is as it was.
+abbrev pub AskedInto : Type 0 → (Live → Live → ℕ → Type 0) → Option Live → Option Live → ℕ → Type 0
+AskedInto unwritten asks None None code = (code ≡ 2) × unwritten
+AskedInto unwritten asks (Some old) (Some new) code = asks old new code
+AskedInto unwritten asks _ _ code = ⊥
+
+-- the same by the answer's number
+pub record ByCode (asks : Live → Live → Answer → Type 0) (old new : Live) (code : ℕ) : Type 0 where
+  pub answer : Answer
+  pub code_is : code ≡ answer_code answer
+  pub asked : asks old new answer
+
+abbrev pub FeedsAs : List ℕ → Live → Live → ℕ → Type 0
+FeedsAs bytes = ByCode (Feeds bytes)
+
+abbrev pub TellsAs : Event → Live → Live → ℕ → Type 0
+TellsAs event = ByCode (Tells event)
+
+-- the header, of version 1, that two numbers stand for
+abbrev pub header_by : ℕ → ℕ → Header
+header_by server releases = record { version = 1; server = server == 1; releases = releases == 1 }
+
+-- Each of the two numbers is 0 or 1, or the call is declined.
+abbrev pub BeginsIf : Bool → Header → Live → Live → Answer → Type 0
+BeginsIf true header old new answer = (answer ≡ Err troubles.Value) × (new ≡ old)
+BeginsIf false header old new answer = Begins header old new answer
+
+abbrev pub BeginsWith : ℕ → ℕ → Live → Live → Answer → Type 0
+BeginsWith server releases = BeginsIf (nat_lt 1 server || nat_lt 1 releases) (header_by server releases)
+
+abbrev pub BeginsAs : ℕ → ℕ → Live → Live → ℕ → Type 0
+BeginsAs server releases = ByCode (BeginsWith server releases)
+
+-- the limit that a number stands for, if it stands for one
+abbrev pub limit_by : ℕ → Option ℕ
+limit_by limit = if limit == 0 then Some 16777216 else (if nat_lt limit 5 then None else (if nat_lt 268435460 limit then None else Some limit))
+
+-- A judge with this limit is made, which was told nothing, if there is memory.
+abbrev pub MakesWith : ℕ → Option Live → ℕ → Type 0
+MakesWith limit (Some live) code = (code ≡ 0) × IsTold live [] × (live.judge.limit ≡ limit)
+MakesWith limit None code = code ≡ 5
+
+abbrev pub MakesFor : Option ℕ → Option Live → ℕ → Type 0
+MakesFor (Some limit) new code = MakesWith limit new code
+MakesFor None new code = (code ≡ 4) × (new ≡ None)
+
+-- It is made in an empty handle.
+abbrev pub Makes : ℕ → Option Live → Option Live → ℕ → Type 0
+Makes limit (Some old) new code = (code ≡ 3) × (new ≡ Some old)
+Makes limit None new code = MakesFor (limit_by limit) new code
+
+-- The handle is empty afterwards.
+abbrev pub Frees : Option Live → Option Live → ℕ → Type 0
+Frees (Some old) new code = (code ≡ 0) × (new ≡ None)
+Frees None new code = (code ≡ 2) × (new ≡ None)
+
+-- The refusal is told, if there is one; nothing else is written.
+abbrev pub TellsRefusal : Option Refusal → ℕ → ℕ → ℕ → ℕ → ℕ → Type 0
+TellsRefusal (Some refusal) number number' byte byte' code = (code ≡ 0) × (number' ≡ number_of refusal) × (byte' ≡ refusal_offset refusal)
+TellsRefusal None number number' byte byte' code = (code ≡ 9) × (number' ≡ number) × (byte' ≡ byte)
+
+abbrev pub AsksRefusal : ℕ → ℕ → ℕ → ℕ → Live → Live → ℕ → Type 0
+AsksRefusal number number' byte byte' old new code = (new ≡ old) × TellsRefusal old.refusal number number' byte byte' code
+
+-- its name likewise
+abbrev pub TellsName : Option Refusal → List ℕ → List ℕ → ℕ → ℕ → ℕ → Type 0
+TellsName (Some refusal) before after count count' code = PutsTextAs (name_of refusal) before after count' code
+TellsName None before after count count' code = (code ≡ 9) × (after ≡ before) × (count' ≡ count)
+
+abbrev pub AsksName : List ℕ → List ℕ → ℕ → ℕ → Live → Live → ℕ → Type 0
+AsksName before after count count' old new code = (new ≡ old) × TellsName old.refusal before after count count' code
+
+-- How many events there are is written if the log is whole.
+abbrev pub CountsEvents : Result ℕ Trouble → ℕ → ℕ → ℕ → Type 0
+CountsEvents (Ok count) before after code = (code ≡ 0) × (after ≡ count)
+CountsEvents (Err trouble) before after code = (code ≡ answer_code (Err trouble)) × (after ≡ before)
+
+pub record FinishesAs (before after : ℕ) (old new : Live) (code : ℕ) : Type 0 where
+  pub answer : Result ℕ Trouble
+  pub counts : CountsEvents answer before after code
+  pub finishes : Finishes old new answer

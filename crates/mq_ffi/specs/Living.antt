@@ -1,0 +1,114 @@
+-- What a judge answers that is told what happens while it happens, and its state then.
+use Rattle.std.specs.Prelude.{◌≡◌, ℕ, ◌⊎◌, Bool, true, false, List, [], ◌++◌, length, Option, Some, None, Result, Ok, Err, IfSome}
+use Rattle.mq_trace.specs.declared.refusal.Refusal.{Refusal}
+use Rattle.mq_trace.specs.declared.header.Header.{Header}
+use Rattle.mq_trace.specs.Events.{events}
+use Rattle.mq_trace.specs.Refusals.{refused, is_cut_short}
+use Rattle.mq_trace.specs.Writing.{header_bytes}
+use Rattle.mq_judge.specs.declared.judge.Judge.{Judge}
+use Rattle.mq_judge.specs.Judging.{Knows, Follows, RefusesIn}
+use Rattle.mq_judge.specs.Stopping.{IsRefusedEnd}
+use Rattle.mq_ffi.specs.declared.answer.Trouble.{Trouble}
+use Rattle.mq_ffi.specs.declared.answer.Trouble.TheVariants as troubles
+use Rattle.mq_ffi.specs.declared.event.Event.{Event}
+use Rattle.mq_ffi.specs.declared.live.Live.{Live}
+use Rattle.mq_ffi.specs.declared.live.Source.{Source}
+use Rattle.mq_ffi.specs.declared.live.Source.TheVariants as sources
+use Rattle.mq_ffi.specs.Telling.{bytes_of, fits}
+
+-- what a call answers
+abbrev pub Answer : Type 0
+Answer = Result (Unit {0}) Trouble
+
+-- The judge was told this log, and refused none of it. Nothing is told before the first call.
+pub record IsTold (live : Live) (log : List ℕ) : Type 0 where
+  pub follows : Follows live.judge log
+  pub unrefused : live.refusal ≡ None
+  pub first : live.source ≡ sources.Nothing → log ≡ []
+
+-- The call is refused for this reason, and changes nothing.
+abbrev pub Declines : Trouble → Live → Live → Answer → Type 0
+Declines trouble old new answer = (answer ≡ Err trouble) × (new ≡ old)
+
+-- There was no memory for the event's bytes. The judge wasn't told of it.
+pub record LacksMemory (old new : Live) (answer : Answer) : Type 0 where
+  pub is : answer ≡ Err troubles.Memory
+  pub judge : new.judge ≡ old.judge
+  pub refusal : new.refusal ≡ old.refusal
+  pub source : new.source ≡ old.source
+
+-- A log that wasn't refused so far is refused, and why. The judge knows the faults of the events before the refused byte.
+pub record IsStopped (limit : ℕ) (log piece : List ℕ) (new : Live) : Type 0 where
+  pub refusal : Refusal
+  pub kept : new.refusal ≡ Some refusal
+  pub why : RefusesIn limit new.judge log piece refusal
+
+-- The judge was told these bytes after this log, and from then on is told what this source gives: either nothing is refused, or it is known what is.
+abbrev pub Takes : Source → List ℕ → List ℕ → Live → Answer → Type 0
+Takes source log piece new (Ok _) = (refused new.judge.limit (log ++ piece) ≡ None) × IsTold new (log ++ piece) × (new.source ≡ source)
+Takes source log piece new (Err trouble) = (trouble ≡ troubles.Refused) × IsStopped new.judge.limit log piece new
+
+-- The same of a judge and of what is kept of its refusal.
+abbrev pub TakesIn : List ℕ → Judge → Judge → Option Refusal → Option Refusal → Answer → Type 0
+TakesIn piece old new before after (Ok _) = (after ≡ before) × ((log : List ℕ) → Follows old log → (refused new.limit (log ++ piece) ≡ None) × Follows new (log ++ piece))
+TakesIn piece old new before after (Err trouble) =
+    (trouble ≡ troubles.Refused) × ((refusal : Refusal) × (after ≡ Some refusal) × ((log : List ℕ) → Follows old log → RefusesIn new.limit new log piece refusal))
+
+-- Once a log is refused each call says so, and changes nothing.
+abbrev pub StaysRefused : Live → Live → Answer → Type 0
+StaysRefused old new answer = IfSome old.refusal (λ _. Declines troubles.Refused old new answer)
+
+-- Bytes come only where no events came, and before the end.
+abbrev pub FeedsFrom : Source → List ℕ → List ℕ → Live → Live → Answer → Type 0
+FeedsFrom sources.Nothing log piece old new answer = Takes sources.Log log piece new answer
+FeedsFrom sources.Log log piece old new answer = Takes sources.Log log piece new answer
+FeedsFrom _ log piece old new answer = Declines troubles.Order old new answer
+
+-- what feeding bytes answers
+pub record Feeds (piece : List ℕ) (old new : Live) (answer : Answer) : Type 0 where
+  pub for_ever : StaysRefused old new answer
+  pub taken : (log : List ℕ) → IsTold old log → FeedsFrom old.source log piece old new answer
+
+-- The header comes first.
+abbrev pub BeginsFrom : Source → List ℕ → Header → Live → Live → Answer → Type 0
+BeginsFrom sources.Nothing log header old new answer = LacksMemory old new answer ⊎ Takes sources.Events log (header_bytes header) new answer
+BeginsFrom _ log header old new answer = Declines troubles.Order old new answer
+
+-- what saying which end is judged answers
+pub record Begins (header : Header) (old new : Live) (answer : Answer) : Type 0 where
+  pub for_ever : StaysRefused old new answer
+  pub taken : (log : List ℕ) → IsTold old log → BeginsFrom old.source log header old new answer
+
+-- An event comes after the header, and a record can have all of it.
+abbrev pub TellsIf : Bool → List ℕ → Event → Live → Live → Answer → Type 0
+TellsIf false log event old new answer = Declines troubles.Length old new answer
+TellsIf true log event old new answer = LacksMemory old new answer ⊎ Takes sources.Events log (bytes_of event) new answer
+
+abbrev pub TellsFrom : Source → List ℕ → Event → Live → Live → Answer → Type 0
+TellsFrom sources.Events log event old new answer = TellsIf (fits event) log event old new answer
+TellsFrom _ log event old new answer = Declines troubles.Order old new answer
+
+-- what telling an event answers
+pub record Tells (event : Event) (old new : Live) (answer : Answer) : Type 0 where
+  pub for_ever : StaysRefused old new answer
+  pub taken : (log : List ℕ) → IsTold old log → TellsFrom old.source log event old new answer
+
+-- The log ends: it is whole, and has so many events, or is refused as cut short. The faults stay known.
+abbrev pub Ends : List ℕ → Live → Result ℕ Trouble → Type 0
+Ends log new (Ok count) = (is_cut_short log ≡ false) × (count ≡ length (events log)) × IsTold new log × (new.source ≡ sources.Ended)
+Ends log new (Err trouble) = (trouble ≡ troubles.Refused) × ((refusal : Refusal) × (new.refusal ≡ Some refusal) × IsRefusedEnd log refusal) × Knows new.judge log
+
+-- whether the log has ended
+abbrev pub is_end : Source → Bool
+is_end sources.Ended = true
+is_end _ = false
+
+-- A log ends once.
+abbrev pub EndsFrom : Source → List ℕ → Live → Live → Result ℕ Trouble → Type 0
+EndsFrom sources.Ended log old new answer = (answer ≡ Err troubles.Order) × (new ≡ old)
+EndsFrom _ log old new answer = Ends log new answer
+
+-- what ending the log answers
+pub record Finishes (old new : Live) (answer : Result ℕ Trouble) : Type 0 where
+  pub for_ever : IfSome old.refusal (λ _. (answer ≡ Err troubles.Refused) × (new ≡ old))
+  pub taken : (log : List ℕ) → IsTold old log → EndsFrom old.source log old new answer

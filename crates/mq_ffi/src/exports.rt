@@ -1,0 +1,224 @@
+//! What C calls. Each function takes the judge out of the handle, asks it, and puts it back.
+ghost use Rattle.std.specs.Prelude.{◌≡◌, ℕ, Some, option_map};
+ghost use Rattle.std.specs.FinMap as map;
+ghost use Rattle.mq_trace.specs.Refusing.{number_of, name_of, refusal_offset};
+ghost use Rattle.mq_rules.specs.FaultKeys.{faults_at};
+ghost use Rattle.mq_rules.specs.Rules.{code_of as code_text, citation_of};
+ghost use Rattle.mq_rules.specs.Naming.{sentence_of};
+ghost use Rattle.mq_ffi.specs.declared.event.Event.TheVariants as happened;
+ghost use Rattle.mq_ffi.specs.Asking.{AsksFault, CountsFaults, first_fault_from, nth, statement_at as statement_of, role_at as role_of};
+ghost use Rattle.mq_ffi.specs.Calling.{Asked, AskedInto, Makes, Frees, FeedsAs, BeginsAs, TellsAs, AsksRefusal, AsksName, FinishesAs};
+ghost use Rattle.mq_ffi.specs.Holding.{held};
+ghost use Rattle.mq_ffi.specs.Texts.{TellsText, TellsCitation};
+
+use crate::about::{tell_citation, tell_text};
+use crate::asking::Choice;
+use crate::calls::{ask_fault, begin, count, feed, finish, free, make, name, refuse, tell};
+use crate::event::Event;
+use crate::fault::{FaultRow, statement_at};
+use crate::handle::Handle;
+use std::alloc::Global;
+
+/// Makes a judge. A limit of 0 stands for 16,777,216.
+#[unsafe(no_mangle)]
+pub extern "C" fn mqjudge_new(alloc: Global, judge: &mut Handle, limit: u32) -> u32
+    ensures { Makes limit (held judge.old) (held judge.new) result }
+{
+    make(alloc, judge, limit)
+}
+
+/// Frees the judge. The handle is then empty.
+#[unsafe(no_mangle)]
+pub extern "C" fn mqjudge_free(alloc: Global, judge: &mut Handle) -> u32
+    ensures { Frees (held judge.old) (held judge.new) result }
+{
+    free(alloc, judge)
+}
+
+/// Takes in the next bytes of a log.
+#[unsafe(no_mangle)]
+pub extern "C" fn mqjudge_feed(alloc: Global, judge: &mut Handle, bytes: &[u8]) -> u32
+    ensures { Asked (FeedsAs bytes.now) (held judge.old) (held judge.new) result }
+{
+    feed(alloc, judge, bytes)
+}
+
+/// Says which end is judged, before its events are told: 0 for a client, 1 for a server; and whether releases are told: 0 or 1.
+#[unsafe(no_mangle)]
+pub extern "C" fn mqjudge_begin(
+    alloc: Global,
+    judge: &mut Handle,
+    server: u32,
+    releases: u32,
+) -> u32
+    ensures { Asked (BeginsAs server releases) (held judge.old) (held judge.new) result }
+{
+    begin(alloc, judge, server, releases)
+}
+
+/// Tells the judge that a network connection begins.
+#[unsafe(no_mangle)]
+pub extern "C" fn mqjudge_open(alloc: Global, judge: &mut Handle) -> u32
+    ensures { Asked (TellsAs happened.Open) (held judge.old) (held judge.new) result }
+{
+    tell(alloc, judge, Event::Open)
+}
+
+/// Tells the judge what the end sent.
+#[unsafe(no_mangle)]
+pub extern "C" fn mqjudge_sent(alloc: Global, judge: &mut Handle, bytes: &[u8]) -> u32
+    ensures { Asked (TellsAs (happened.Sent bytes.entry)) (held judge.old) (held judge.new) result }
+{
+    tell(alloc, judge, Event::Sent(bytes))
+}
+
+/// Tells the judge what the end received.
+#[unsafe(no_mangle)]
+pub extern "C" fn mqjudge_received(alloc: Global, judge: &mut Handle, bytes: &[u8]) -> u32
+    ensures { Asked (TellsAs (happened.Received bytes.entry)) (held judge.old) (held judge.new) result }
+{
+    tell(alloc, judge, Event::Received(bytes))
+}
+
+/// Tells the judge that the network connection ended.
+#[unsafe(no_mangle)]
+pub extern "C" fn mqjudge_close(alloc: Global, judge: &mut Handle) -> u32
+    ensures { Asked (TellsAs happened.Close) (held judge.old) (held judge.new) result }
+{
+    tell(alloc, judge, Event::Close)
+}
+
+/// Tells the judge that the end is at rest.
+#[unsafe(no_mangle)]
+pub extern "C" fn mqjudge_rest(alloc: Global, judge: &mut Handle) -> u32
+    ensures { Asked (TellsAs happened.Rest) (held judge.old) (held judge.new) result }
+{
+    tell(alloc, judge, Event::Rest)
+}
+
+/// Tells the judge that the end released the QoS 2 message that it received under this Packet Identifier.
+#[unsafe(no_mangle)]
+pub extern "C" fn mqjudge_release(alloc: Global, judge: &mut Handle, identifier: u16) -> u32
+    ensures { Asked (TellsAs (happened.Release identifier)) (held judge.old) (held judge.new) result }
+{
+    tell(alloc, judge, Event::Release(identifier))
+}
+
+/// How many faults are known.
+#[unsafe(no_mangle)]
+pub extern "C" fn mqjudge_faults(alloc: Global, judge: &mut Handle, faults: &mut usize) -> u32
+    ensures { AskedInto (faults.new ≡ faults.old) (CountsFaults faults.new) (held judge.old) (held judge.new) result }
+{
+    count(alloc, judge, faults)
+}
+
+/// The fault at an index, in the order of reports.
+#[unsafe(no_mangle)]
+pub extern "C" fn mqjudge_fault(
+    alloc: Global,
+    judge: &mut Handle,
+    index: usize,
+    fault: &mut FaultRow,
+) -> u32
+    ensures { AskedInto (fault.new ≡ fault.old) (AsksFault (λ faults. nth faults index) fault.old fault.new) (held judge.old) (held judge.new) result }
+{
+    ask_fault(alloc, judge, Choice::At(index), fault)
+}
+
+/// The fault at an index among those at a position.
+#[unsafe(no_mangle)]
+pub extern "C" fn mqjudge_fault_at(
+    alloc: Global,
+    judge: &mut Handle,
+    position: u32,
+    index: usize,
+    fault: &mut FaultRow,
+) -> u32
+    ensures { AskedInto (fault.new ≡ fault.old) (AsksFault (λ faults. nth (faults_at position faults) index) fault.old fault.new) (held judge.old) (held judge.new) result }
+{
+    ask_fault(alloc, judge, Choice::Beside(position, index), fault)
+}
+
+/// The first fault at a position or after it, in the order of reports.
+#[unsafe(no_mangle)]
+pub extern "C" fn mqjudge_fault_from(
+    alloc: Global,
+    judge: &mut Handle,
+    position: u32,
+    fault: &mut FaultRow,
+) -> u32
+    ensures { AskedInto (fault.new ≡ fault.old) (AsksFault (first_fault_from position) fault.old fault.new) (held judge.old) (held judge.new) result }
+{
+    ask_fault(alloc, judge, Choice::From(position), fault)
+}
+
+/// Why the log is refused: the number of the refusal, and the offset in the log of the refused byte.
+#[unsafe(no_mangle)]
+pub extern "C" fn mqjudge_refusal(
+    alloc: Global,
+    judge: &mut Handle,
+    number: &mut u32,
+    byte: &mut u64,
+) -> u32
+    ensures { AskedInto ((number.new ≡ number.old) × (byte.new ≡ byte.old)) (AsksRefusal number.old number.new byte.old byte.new) (held judge.old) (held judge.new) result }
+{
+    refuse(alloc, judge, number, byte)
+}
+
+/// The name of the refusal.
+#[unsafe(no_mangle)]
+pub extern "C" fn mqjudge_refusal_name(
+    alloc: Global,
+    judge: &mut Handle,
+    buffer: &mut [u8],
+    length: &mut usize,
+) -> u32
+    ensures { AskedInto ((buffer.new ≡ buffer.old) × (length.new ≡ length.old)) (AsksName buffer.old buffer.new length.old length.new) (held judge.old) (held judge.new) result }
+{
+    name(alloc, judge, buffer, length)
+}
+
+/// Ends the log, and tells how many events it has.
+#[unsafe(no_mangle)]
+pub extern "C" fn mqjudge_finish(alloc: Global, judge: &mut Handle, events: &mut u32) -> u32
+    ensures { AskedInto (events.new ≡ events.old) (FinishesAs events.old events.new) (held judge.old) (held judge.new) result }
+{
+    finish(alloc, judge, events)
+}
+
+/// The code of a statement.
+#[unsafe(no_mangle)]
+pub extern "C" fn mqjudge_code(statement: u32, buffer: &mut [u8], length: &mut usize) -> u32
+    ensures { TellsText (option_map code_text (statement_of statement)) 9 buffer.old buffer.new length.old length.new result }
+{
+    tell_text(
+        statement_at(statement).map(|rule| rule.code()),
+        buffer,
+        length,
+    )
+}
+
+/// What a statement says, in one sentence.
+#[unsafe(no_mangle)]
+pub extern "C" fn mqjudge_sentence(statement: u32, buffer: &mut [u8], length: &mut usize) -> u32
+    ensures { TellsText (option_map sentence_of (statement_of statement)) 9 buffer.old buffer.new length.old length.new result }
+{
+    tell_text(
+        statement_at(statement).map(|rule| rule.sentence()),
+        buffer,
+        length,
+    )
+}
+
+/// The citation of a statement for an end: 0 for a client, 1 for a server.
+#[unsafe(no_mangle)]
+pub extern "C" fn mqjudge_citation(
+    statement: u32,
+    server: u32,
+    buffer: &mut [u8],
+    length: &mut usize,
+) -> u32
+    ensures { TellsCitation (statement_of statement) (role_of server) buffer.old buffer.new length.old length.new result }
+{
+    tell_citation(statement, server, buffer, length)
+}

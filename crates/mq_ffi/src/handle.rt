@@ -1,0 +1,69 @@
+//! What a caller holds in place of a judge.
+ghost use Rattle.std.specs.Prelude.{◌≡◌, Some, None, is_some, true, option_map};
+ghost use Rattle.mq_ffi.specs.Owning.{held_by};
+
+use crate::live::Live;
+use crate::loose::Loose;
+use crate::pointer::Pointer;
+use std::alloc::Global;
+use std::mem::replace;
+
+/// The number that says that a handle holds a judge.
+const HOLDS: u64 = 1;
+
+/// A caller's handle. C's `mqjudge` has the same fields, in this order, and its caller never writes them.
+#[repr(C)]
+#[derive(Drop)]
+pub struct Handle {
+    pointer: Pointer,
+    holds: u64,
+    ghost made: { holds ≡ 1 → is_some pointer.live ≡ true },
+}
+
+impl Handle {
+    /// A handle that holds nothing.
+    pub fn empty() -> Handle
+        ensures { held_by result.holds result.pointer.live ≡ None }
+    {
+        Handle {
+            pointer: Pointer::empty(),
+            holds: 0,
+        }
+    }
+
+    /// A handle that holds this judge.
+    pub fn of(live: Box<Live>) -> Handle
+        ensures { held_by result.holds result.pointer.live ≡ Some live.value }
+    {
+        Handle {
+            pointer: Pointer::of(Loose::of(live)),
+            holds: HOLDS,
+        }
+    }
+
+    /// Whether it holds a judge.
+    pub fn is_held(&self) -> bool
+        ensures { result ≡ is_some (held_by self.now.holds self.now.pointer.live) }
+    {
+        self.holds == HOLDS
+    }
+
+    /// Takes the judge out, if there is one. The handle is then empty.
+    pub fn take(&mut self, alloc: Global) -> Option<Box<Live>>
+        ensures taken { option_map (λ live. live.value) result ≡ held_by self.old.holds self.old.pointer.live }
+        ensures empty { held_by self.new.holds self.new.pointer.live ≡ None }
+    {
+        let Handle { pointer, holds } = replace(self, Handle::empty());
+        if holds != HOLDS {
+            return None;
+        }
+        Some(pointer.into_loose(alloc).into_box())
+    }
+
+    /// Puts a judge in.
+    pub fn put(&mut self, live: Box<Live>)
+        ensures { held_by self.new.holds self.new.pointer.live ≡ Some live.value }
+    {
+        *self = Handle::of(live);
+    }
+}
