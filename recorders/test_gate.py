@@ -24,6 +24,8 @@ CONVERTED = f"bench/check_convert.py --mqjudge {BUILT}"
 FUZZED = ["bench/fuzz.py --self-test", "bench/fuzz.py --seed 1 --count 20000"]
 TRIED = [SUITE, CONVERTED, *FUZZED]
 NOT_TRIED = "bench/suite.py, bench/check_convert.py and bench/fuzz.py aren't run"
+LIBRARY_FOLDERS = ("crates/mq_ffi/out", "crates/mq_trace/src", "crates/mq_cli/src", "crates/mq_trace/out/src")
+NO_LIBRARY = "examples/live/test isn't run: it needs the library, which this builds: (cd crates/mq_ffi && rt lib)"
 
 
 class Gate(unittest.TestCase):
@@ -31,9 +33,19 @@ class Gate(unittest.TestCase):
         folder = tempfile.TemporaryDirectory()
         self.addCleanup(folder.cleanup)
         self.top = Path(folder.name)
-        for name in (".ci", "recorders", "bin", "bench", "crates/mq_cli/out"):
+        for name in (".ci", "recorders", "bin", "bench", "crates/mq_cli/out", "examples/live", *LIBRARY_FOLDERS):
             (self.top / name).mkdir(parents=True)
         shutil.copy(TOP / ".ci/run", self.top / ".ci/run")
+
+        self.aged("crates.txt", 10)
+        self.aged("crates/mq_trace/src/lib.rt", 10)
+        self.aged("crates/mq_ffi/out/libmq_ffi.a", 5)
+
+    def aged(self, name: str, seconds: int) -> None:
+        """A file that was last written so many seconds ago."""
+        path = self.top / name
+        path.touch()
+        os.utime(path, (path.stat().st_mtime - seconds,) * 2)
 
     def script(self, name: str, text: str) -> None:
         path = self.top / name
@@ -50,6 +62,8 @@ class Gate(unittest.TestCase):
         convert: int = 0,
         fuzz: int = 0,
         is_built: bool = True,
+        live_missing: str = "",
+        live: int = 0,
     ) -> tuple[int, list[str]]:
         """The status and the lines of the gate, where `rt ci`, the recorders' tests and the others say this and end so."""
         for name, ends in (("suite", suite), ("check_convert", convert), ("fuzz", fuzz)):
@@ -59,6 +73,8 @@ class Gate(unittest.TestCase):
         self.script("bin/rt", f'test "$*" = ci && pwd && echo "{said}"\nexit {status}')
         test = f'test "$1" = --missing && echo "{missing}" && exit 0\necho "recorders run"\nexit {recorders}'
         self.script("recorders/test", test)
+        test = f'test "$1" = --missing && echo "{live_missing}" && exit 0\nexit {live}'
+        self.script("examples/live/test", test)
         words = [self.top / ".ci/run"]
         paths = f"{self.top / 'bin'}{os.pathsep}{os.environ.get('PATH', os.defpath)}"
         answer = subprocess.run(
@@ -78,6 +94,35 @@ class Gate(unittest.TestCase):
         for status in (1, 2, 130):
             wanted = (1, [said, RUN, *TRIED, "14 passed, 1 failed"])
             self.assertEqual(self.gate(said, 0, recorders=status), wanted)
+
+    def test_the_library_fails(self) -> None:
+        said = "14 passed, 0 failed"
+        self.assertEqual(self.gate(said, 0, live=1), (1, [said, RUN, *TRIED, "14 passed, 1 failed"]))
+        self.assertEqual(self.gate(said, 0, recorders=1, live=1), (1, [said, RUN, *TRIED, "14 passed, 2 failed"]))
+
+    def test_without_what_the_library_needs(self) -> None:
+        said = "14 passed, 0 failed"
+        line = "examples/live/test isn't run: not installed: gcc"
+        self.assertEqual(self.gate(said, 0, live_missing="gcc", live=1), (0, [said, RUN, line, *TRIED, said]))
+
+    def test_the_library_is_not_built(self) -> None:
+        said = "14 passed, 0 failed"
+        (self.top / "crates/mq_ffi/out/libmq_ffi.a").unlink()
+        self.assertEqual(self.gate(said, 0, live=1), (0, [said, RUN, NO_LIBRARY, *TRIED, said]))
+
+    def test_the_library_is_older_than_a_source(self) -> None:
+        said = "14 passed, 0 failed"
+        for name in ("crates/mq_trace/src/lib.rt", "crates.txt"):
+            self.aged(name, 1)
+            self.assertEqual(self.gate(said, 0, live=1), (0, [said, RUN, NO_LIBRARY, *TRIED, said]))
+            self.aged(name, 10)
+            self.assertEqual(self.gate(said, 0), (0, [said, RUN, *TRIED, said]))
+
+    def test_the_library_is_older_than_what_it_is_not_built_of(self) -> None:
+        said = "14 passed, 0 failed"
+        for name in ("crates/mq_cli/src/main.rt", "crates/mq_trace/out/src/lib.rt"):
+            self.aged(name, 1)
+        self.assertEqual(self.gate(said, 0, live=1), (1, [said, RUN, *TRIED, "14 passed, 1 failed"]))
 
     def test_the_gate_fails(self) -> None:
         said = "12 passed, 2 failed"
@@ -122,6 +167,7 @@ class Gate(unittest.TestCase):
         """It is run all the same, and fails."""
         said = "14 passed, 0 failed"
         self.script("recorders/test", "exit 1")
+        self.script("examples/live/test", "exit 0")
         self.script("bin/rt", f"pwd\necho {said}")
         paths = f"{self.top / 'bin'}{os.pathsep}{os.environ.get('PATH', os.defpath)}"
         environment = os.environ | {"PATH": paths}

@@ -1,0 +1,225 @@
+"""Tests of the library by its Python module: what it says of logs and of events, and its answers to misuse."""
+from __future__ import annotations
+
+import ctypes
+import unittest
+from pathlib import Path
+
+from mqjudge import CLIENT, SERVER, STATUS, Handle, Judge, Row, Trouble, library
+
+EXAMPLES = Path(__file__).resolve().parent.parent
+HEADER = b"MQTR\x01\x00\x01\x00"
+OPEN = b"\x01\x00\x00\x00\x00"
+CONNECT = b"\x10\x0d\x00\x04MQTT\x05\x02\x00\x3c\x00\x00\x00"
+CONNACK = b"\x20\x03\x00\x00\x00"
+SUBSCRIBE = b"\x82\x07\x00\x01\x00\x00\x01a\x00"
+
+
+def judged(log: bytes, size: int) -> tuple[list[tuple[int, str, int]], object]:
+    with Judge() as judge:
+        try:
+            for at in range(0, len(log), size):
+                judge.feed(log[at : at + size])
+            end: object = judge.finish()
+        except Trouble as trouble:
+            end = trouble.refusal
+        return [(fault.position, fault.code, fault.decided) for fault in judge.faults()], end
+
+
+def tell(judge: Judge, log: bytes) -> None:
+    """Tells a judge what the records of a log of version 1 say."""
+    at = len(HEADER)
+    while at < len(log):
+        kind, size = log[at], int.from_bytes(log[at + 1 : at + 5], "big")
+        body = log[at + 5 : at + 5 + size]
+        at += 5 + size
+        if kind in (2, 3):
+            (judge.sent if kind == 2 else judge.received)(body)
+        elif kind == 6:
+            judge.release(int.from_bytes(body, "big"))
+        else:
+            {1: judge.open, 4: judge.close, 5: judge.rest}[kind]()
+
+
+def report(judge: Judge) -> str:
+    """The report on all that a judge was told, as `mqjudge check` writes it."""
+    events, lines = judge.finish(), []
+    for fault in judge.faults():
+        offset = "-" if fault.offset is None else fault.offset
+        words = f"{fault.position} {fault.code} {fault.citation} decided {fault.decided} record {fault.record}"
+        lines.append(f"fault {words} offset {offset}\n")
+    return "".join(lines) + (f"fail {len(lines)} faults" if lines else "pass") + f" {events} events\n"
+
+
+class Reports(unittest.TestCase):
+    """The reports of the conformance suite, written from the statements' words, and those of recorded sessions."""
+
+    def test_reports(self) -> None:
+        logs = sorted(EXAMPLES.glob("suite/*.log")) + sorted(EXAMPLES.glob("sessions/*.log"))
+        self.assertGreater(len(logs), 148)
+        for path in logs:
+            log, wanted = path.read_bytes(), path.with_suffix(".report").read_text()
+            with self.subTest(path.name), Judge() as fed, Judge.of(log[5], log[6] == 1) as told:
+                fed.end = log[5]
+                fed.feed(log)
+                self.assertEqual(report(fed), wanted)
+                tell(told, log)
+                self.assertEqual(report(told), wanted)
+
+
+class Logs(unittest.TestCase):
+    def test_pieces_make_no_difference(self) -> None:
+        for path in sorted(EXAMPLES.glob("*.log")) + sorted(EXAMPLES.glob("sessions/**/*.log")):
+            log = path.read_bytes()
+            with self.subTest(path.name):
+                whole = judged(log, len(log))
+                self.assertEqual(whole, judged(log, 1 if len(log) < 100_000 else 4099))
+
+    def test_a_worked_log(self) -> None:
+        faults, events = judged((EXAMPLES / "identifier-in-use.log").read_bytes(), 64)
+        self.assertEqual([code for _, code, _ in faults], ["S01"])
+        self.assertGreater(events, 0)
+
+    def test_a_log_with_moments(self) -> None:
+        def record(kind: int, moment: int, body: bytes = b"") -> bytes:
+            return bytes([kind]) + len(body).to_bytes(4, "big") + moment.to_bytes(8, "big") + body
+
+        log = b"MQTR\x02\x00\x01\x00" + record(1, 2**64 - 1) + record(2, 0, b"\xe0\x00")
+        for size in (1, 5, len(log)):
+            self.assertEqual(judged(log, size), ([(2, "C02", 2)], 2))
+        self.assertEqual(judged(log + record(4, 7)[:-1], 3), ([(2, "C02", 2)], (10, "Cut", len(log) + 12)))
+
+    def test_garbage_is_refused_for_ever(self) -> None:
+        with Judge() as judge:
+            for _ in range(3):
+                with self.assertRaises(Trouble) as said:
+                    judge.feed(b"MQTQ")
+                self.assertEqual(said.exception.refusal, (1, "Header", 3))
+            with self.assertRaises(Trouble):
+                judge.finish()
+            self.assertEqual(judge.count(), 0)
+
+    def test_a_log_that_is_cut_short_keeps_its_faults(self) -> None:
+        with Judge() as judge:
+            judge.feed(HEADER + OPEN + b"\x02\x00\x00\x00\x02\xe0\x00" + b"\x02")
+            with self.assertRaises(Trouble) as said:
+                judge.finish()
+            self.assertEqual(said.exception.refusal, (10, "Cut", 21))
+            self.assertEqual([fault.code for fault in judge.faults()], ["C02"])
+
+
+class Events(unittest.TestCase):
+    def test_a_fault_is_known_at_its_packet(self) -> None:
+        with Judge.of(CLIENT) as judge:
+            judge.open()
+            judge.sent(CONNECT)
+            judge.received(CONNACK)
+            judge.sent(SUBSCRIBE)
+            self.assertEqual(judge.count(), 0)
+            judge.sent(SUBSCRIBE)
+            [fault] = judge.faults()
+            self.assertEqual((fault.position, fault.code, fault.decided, fault.record), (5, "S01", 5, 5))
+            self.assertTrue(fault.sentence.startswith("A new PUBLISH"))
+            judge.close()
+            self.assertEqual(judge.finish(), 6)
+            self.assertEqual(len(judge.faults()), 1)
+
+    def test_events_are_the_log_that_they_make(self) -> None:
+        with Judge.of(SERVER, releases=True) as judge:
+            judge.open()
+            judge.received(CONNECT)
+            judge.release(7)
+            judge.sent(CONNACK)
+            judge.rest()
+            judge.close()
+            told = [fault[:5] for fault in judge.faults()]
+
+        def record(kind: int, body: bytes = b"") -> bytes:
+            return bytes([kind]) + len(body).to_bytes(4, "big") + body
+
+        log = b"MQTR\x01\x01\x01\x00" + record(1) + record(3, CONNECT) + record(6, b"\x00\x07") + record(2, CONNACK)
+        with Judge() as judge:
+            judge.end = SERVER
+            judge.feed(log + record(5) + record(4))
+            self.assertEqual([fault[:5] for fault in judge.faults()], told)
+        self.assertTrue(told)
+
+    def test_an_event_of_many_bytes_is_split(self) -> None:
+        with Judge.of(CLIENT) as judge:
+            judge.open()
+            with self.assertRaises(Trouble) as said:
+                judge.call("sent", bytes(1_048_577), ctypes.c_size_t(1_048_577))
+            self.assertEqual(str(said.exception), "length")
+            judge.sent(b"\x10\xff\xff\x7f" + bytes(2_097_151))
+            self.assertEqual(judge.count(), 1)
+
+    def test_two_judges_are_independent(self) -> None:
+        with Judge.of(CLIENT) as one, Judge.of(CLIENT) as other:
+            one.open()
+            one.sent(b"\xc0\x00")
+            self.assertEqual((one.count(), other.count()), (1, 0))
+
+
+class Misuse(unittest.TestCase):
+    def answers(self, name: str, judge: Judge, *arguments: object) -> str:
+        return STATUS[judge.ask(name, *arguments)]
+
+    def test_an_order_that_is_wrong(self) -> None:
+        with Judge() as judge:
+            self.assertEqual(self.answers("open", judge), "order")
+            judge.feed(HEADER)
+            self.assertEqual(self.answers("begin", judge, 0, 0), "order")
+            judge.finish()
+            self.assertEqual(self.answers("feed", judge, OPEN, ctypes.c_size_t(5)), "order")
+            self.assertEqual(self.answers("finish", judge, ctypes.byref(ctypes.c_uint32())), "order")
+        with Judge.of(CLIENT) as judge:
+            self.assertEqual(self.answers("feed", judge, OPEN, ctypes.c_size_t(5)), "order")
+            self.assertEqual(self.answers("begin", judge, 0, 0), "order")
+            self.assertEqual(self.answers("close", judge), "refused")
+            self.assertEqual(judge.refusal(), (8, "NotOpen", 8))
+            self.assertEqual(self.answers("open", judge), "refused")
+
+    def test_values(self) -> None:
+        for limit, wanted in ((0, "ok"), (4, "value"), (5, "ok"), (268_435_460, "ok"), (268_435_461, "value")):
+            judge = Judge.__new__(Judge)
+            judge.library, judge.handle = ctypes.CDLL(str(library())), Handle()
+            self.assertEqual(self.answers("new", judge, ctypes.c_uint32(limit)), wanted)
+            self.assertEqual(self.answers("free", judge), "ok" if wanted == "ok" else "no judge")
+        with Judge() as judge:
+            self.assertEqual(self.answers("begin", judge, 2, 0), "value")
+            self.assertEqual(self.answers("begin", judge, 0, 2), "value")
+            self.assertEqual(self.answers("new", judge, 0), "held")
+            with self.assertRaises(Trouble):
+                judge.text("code", 74)
+            with self.assertRaises(Trouble):
+                judge.text("citation", 0, 2)
+
+    def test_a_handle_without_a_judge(self) -> None:
+        judge = Judge()
+        judge.free()
+        number, byte, row = ctypes.c_uint32(), ctypes.c_uint64(), Row()
+        for name, arguments in (
+            ("free", ()), ("feed", (b"", ctypes.c_size_t(0))), ("begin", (0, 0)), ("open", ()), ("rest", ()),
+            ("sent", (b"x", ctypes.c_size_t(1))), ("faults", (ctypes.byref(byte),)), ("finish", (ctypes.byref(number),)),
+            ("fault", (ctypes.c_size_t(0), ctypes.byref(row))), ("refusal", (ctypes.byref(number), ctypes.byref(byte))),
+        ):
+            self.assertEqual(self.answers(name, judge, *arguments), "no judge", name)
+
+    def test_no_bytes(self) -> None:
+        with Judge() as judge:
+            self.assertEqual(self.answers("feed", judge, None, ctypes.c_size_t(0)), "ok")
+            judge.feed(HEADER + OPEN)
+            self.assertEqual(self.answers("feed", judge, None, ctypes.c_size_t(0)), "ok")
+            self.assertEqual(judge.finish(), 1)
+
+    def test_a_buffer_that_is_too_short(self) -> None:
+        with Judge() as judge:
+            buffer, length = ctypes.create_string_buffer(b"zzzz"), ctypes.c_size_t()
+            answer = judge.library.mqjudge_code(0, buffer, ctypes.c_size_t(3), ctypes.byref(length))
+            self.assertEqual((STATUS[answer], length.value, buffer.raw), ("room", 3, b"zzzz\0"))
+            answer = judge.library.mqjudge_code(0, buffer, ctypes.c_size_t(4), ctypes.byref(length))
+            self.assertEqual((STATUS[answer], length.value, buffer.raw), ("ok", 3, b"W01\0\0"))
+
+
+if __name__ == "__main__":
+    unittest.main()
