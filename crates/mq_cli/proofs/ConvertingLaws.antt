@@ -113,6 +113,18 @@ writing_stops remaining left made_old made_new output converts =
     for_log remaining (λ log. Converts log left (Err faults.Write) made_old made_new) (λ log. StopsConverting failures.Write log left made_old made_new output output)
     (λ log h. inl (inl h, Keeps-refl output)) converts
 
+-- what was written of a refused log is kept when it is saved
+pub refusal_is_saved : (remaining left made_old made made_new : Option (List ℕ)) (refusal : Refusal)
+    → IfSome remaining (λ log. Converts log left (Err (faults.Refused refusal)) made_old made) → Keeps made made_new
+    → IfSome remaining (λ log. Converts log left (Err (faults.Refused refusal)) made_old made_new)
+refusal_is_saved remaining left made_old made made_new refusal converts kept =
+    for_log remaining (λ log. Converts log left (Err (faults.Refused refusal)) made_old made) (λ log. Converts log left (Err (faults.Refused refusal)) made_old made_new)
+    (λ log h. record {
+      read = h.read;
+      consumed = h.consumed;
+      does = (h.does.0, Appends-kept made_old made made_new (converted h.read) h.does.1 kept);
+    }) converts
+
 -- a status for a refusal says which one it is
 pub conversion_is_refused : {E : Type 0} (remaining left made_old made_new old new : Option (List ℕ)) (refusal : Refusal) (status : Result ℕ E)
     → IfSome remaining (λ log. Converts log left (Err (faults.Refused refusal)) made_old made_new) → OnOk status (IsOfLog refusal)

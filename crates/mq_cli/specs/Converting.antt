@@ -63,8 +63,8 @@ pub record RefusesConverting (log : List ℕ) (made_old made_new old new : Optio
   pub told : Appends old new (refused_line refusal)
 
 -- 4, of a log whose reader has these bytes left. Reading failed, or memory ran out: what is written of the bytes that were read was written to the file, and
--- nothing to the output. Or writing to the file failed: a beginning of that was written, or all of it if only saving it failed. Or writing the line on a refusal
--- failed: part of it was written.
+-- nothing to the output. Or writing to the file failed: a beginning of that was written, or all of it if only saving it failed. Or the log is
+-- refused, and saving the file or writing the line on it failed: part of that line was written, or nothing.
 abbrev pub StopsConverting : Failure → (log : List ℕ) → (left made_old made_new old new : Option (List ℕ)) → Type 0
 StopsConverting failures.Read log left made_old made_new old new =
     (at : ℕ) × Converts log left (Err (faults.Refused (refusals.Read at))) made_old made_new × Keeps old new

@@ -1,9 +1,11 @@
 //! Converting a log of version 1 into one of version 2.
 ghost use Rattle.std.specs.Prelude.{◌≡◌, ◌⊎◌, Some, Ok, Err, IfErr, IfOk, IfSome, OnOk, option_map};
-ghost use Rattle.std.specs.Io.KnownBytes.{Keeps, prepend_known};
+ghost use Rattle.std.specs.Io.KnownBytes.{Appends, Keeps, prepend_known};
+ghost use Rattle.mq_judge.specs.Report.{refused_line};
 ghost use Rattle.mq_cli.specs.CommandLine.{path_named};
 ghost use Rattle.mq_cli.specs.Converting.{FailsConverting, IsConverted, IsConvertible, RefusesConverting, StopsConverting, files_of, files_view};
 ghost use Rattle.mq_cli.specs.Given.{HasOpened, bytes_at};
+ghost use Rattle.mq_cli.specs.Messages.{BeginsRefusal, IsOfLog, LacksJsonMemory, failure_of};
 ghost use Rattle.mq_cli.specs.Program.{FailsConversion, FailsFiles, FailsSource, MisusesConversion, PassesConversion, RefusesConversion, RefusesSource};
 ghost use Rattle.mq_cli.specs.Streams.{IsTold, misuse_line, stream};
 ghost use Rattle.mq_cli.specs.Troubles.{hint_line};
@@ -19,7 +21,7 @@ use crate::noting::Noting;
 use crate::output::Output;
 use crate::tasks::refuse;
 use crate::trouble::Trouble;
-use mq_judge::{ConvertFault, Form, convert};
+use mq_judge::{ConvertFault, Form, Refusal, convert};
 use std::alloc::Global;
 use std::io::{Read, Write};
 
@@ -154,8 +156,8 @@ fn convert_source<H: Host, R: Read + Drop, W: Output, E: ErrorStream>(
 /// returns the status to exit with. Messages call the log by the name of its place.
 ///
 /// All of the log in version 2 is written to `made` and saved, and nothing is printed: 0. If the log
-/// is refused, the line that says so is written to `output`, and `made` gets what is written of the
-/// log up to there: 2. If reading or writing failed, that is reported on `error`, and `made` got no
+/// is refused, what is written of the log up to there is written to `made` and saved, and the line
+/// that says so is written to `output`: 2. If reading or writing failed, that is reported on `error`, and `made` got no
 /// more than a beginning: 4.
 pub fn perform_convert<R: Read + Drop, M: NewFile, W: Output, E: ErrorStream>(
     alloc: Global,
@@ -168,7 +170,7 @@ pub fn perform_convert<R: Read + Drop, M: NewFile, W: Output, E: ErrorStream>(
 ) -> u8
     ensures passed { result ≡ PASSED → IfSome (prepend_known start.now (R.remaining input))
         (λ log. IsConverted log (M.contents made.old) (M.contents made.new)) }
-    ensures saved { result ≡ PASSED → M.is_saved made.new }
+    ensures saved { (result ≡ PASSED) ⊎ (result ≡ REFUSED) → M.is_saved made.new }
     ensures refused { result ≡ REFUSED → IfSome (prepend_known start.now (R.remaining input))
         (λ log. RefusesConverting log (M.contents made.old) (M.contents made.new) (W.contents output.old) (W.contents output.new)) }
     ensures hinted { result ≡ REFUSED → IsTold (stream E.contents E.has_failed error.old error.new) (hint_line start.now) }
@@ -198,7 +200,7 @@ fn convert_log<R: Read, M: NewFile, W: Write>(
 ) -> Result<u8, Failure>
     ensures passed { IfOk result (λ status. status ≡ PASSED → IfSome (R.remaining log.old)
         (λ bytes. IsConverted bytes (M.contents made.old) (M.contents made.new))) }
-    ensures saved { IfOk result (λ status. status ≡ PASSED → M.is_saved made.new) }
+    ensures saved { OnOk result (M.is_saved made.new) }
     ensures unprinted { IfOk result (λ status. status ≡ PASSED → Keeps (W.contents output.old) (W.contents output.new)) }
     ensures refused { IfOk result (λ status. status ≡ REFUSED → IfSome (R.remaining log.old)
         (λ bytes. RefusesConverting bytes (M.contents made.old) (M.contents made.new) (W.contents output.old) (W.contents output.new))) }
@@ -208,7 +210,7 @@ fn convert_log<R: Read, M: NewFile, W: Write>(
 {
     match convert(log, made) {
         Ok(()) => save(made),
-        Err(ConvertFault::Refused(refusal)) => refuse(alloc, &refusal, Form::Text, output),
+        Err(ConvertFault::Refused(refusal)) => refuse_saved(alloc, &refusal, made, output),
         Err(ConvertFault::Write) => Err(Failure::Write),
     }
 }
@@ -223,5 +225,38 @@ fn save<M: NewFile>(made: &mut M) -> Result<u8, Failure>
     match made.save() {
         Ok(()) => Ok(PASSED),
         Err(failure) => Err(failure),
+    }
+}
+
+// Saves what was written of a log, and prints why the log is refused, and returns the status.
+fn refuse_saved<M: NewFile, W: Write>(
+    alloc: Global,
+    refusal: &Refusal,
+    made: &mut M,
+    output: &mut W,
+) -> Result<u8, Failure>
+    ensures status { IfOk result (λ status. status ≡ REFUSED) }
+    ensures kept { Keeps (M.contents made.old) (M.contents made.new) }
+    ensures saved { OnOk result (M.is_saved made.new) }
+    ensures own { OnOk result (IsOfLog refusal.now) }
+    ensures written { OnOk result (Appends (W.contents output.old) (W.contents output.new) (refused_line refusal.now)) }
+    ensures failed { IfErr result (λ failure. (failure ≡ failure_of refusal.now)
+        ⊎ ((failure ≡ Failure.Memory) × LacksJsonMemory Form.Text refusal.now (W.contents output.old) (W.contents output.new))) }
+    ensures begun { IfErr result (λ _. BeginsRefusal Form.Text refusal.now (W.contents output.old) (W.contents output.new)) }
+{
+    match made.save() {
+        Ok(()) => refuse(alloc, refusal, Form::Text, output),
+        Err(_) => Err(failure_of(refusal)),
+    }
+}
+
+// What failed, if a refusal isn't printed: reading or memory if that is the refusal, else writing.
+fn failure_of(refusal: &Refusal) -> Failure
+    ensures { result ≡ failure_of refusal.now }
+{
+    match refusal {
+        Refusal::Read(_) => Failure::Read,
+        Refusal::Memory(_) => Failure::Memory,
+        _ => Failure::Write,
     }
 }
