@@ -36,7 +36,7 @@ pub fn is_binding_rest(role: Role, event: &Seen, before: &[Seen]) -> bool
     event.note.is_rest() && is_accepted(latest_fate_of(role, before)) && !has_ended_binding(before)
 }
 
-/// Whether some event of the latest connection ends binding.
+// Whether some event of the latest connection ends binding.
 fn has_ended_binding(before: &[Seen]) -> bool
     ensures { result ≡ some ends_binding (connection (reverse before.now)) }
 {

@@ -24,14 +24,14 @@ const REFUSING: u8 = 0x80;
 
 // ---- topics
 
-/// Whether a PUBLISH sets its Topic Name for this alias (MQTT 5.0, section 3.3.2.3.4).
+// Whether a PUBLISH sets its Topic Name for this alias (MQTT 5.0, section 3.3.2.3.4).
 fn sets_alias(alias: u16, publish: &PublishNote) -> bool
     ensures { result ≡ is_id alias (only (not (length publish.now.topic == 0)) publish.now.topic_alias) }
 {
     !publish.topic.is_empty() && publish.topic_alias == Some(alias)
 }
 
-/// The Topic Name that an event sets for this alias.
+// The Topic Name that an event sets for this alias.
 fn topic_set(alias: u16, note: &Note) -> Option<&str>
     ensures { option_map (λ topic. topic.now) result ≡ set_topic alias note.now }
 {
@@ -41,7 +41,7 @@ fn topic_set(alias: u16, note: &Note) -> Option<&str>
     }
 }
 
-/// The Topic Name that was last set for this alias on the latest connection.
+// The Topic Name that was last set for this alias on the latest connection.
 fn last_topic(alias: u16, before: &[Seen]) -> Option<&str>
     ensures { option_map (λ topic. topic.now) result ≡ last_set alias (connection (reverse before.now)) }
 {
@@ -58,7 +58,7 @@ fn last_topic(alias: u16, before: &[Seen]) -> Option<&str>
     None
 }
 
-/// The topic of a PUBLISH that has these events before it.
+// The topic of a PUBLISH that has these events before it.
 fn topic_of<'a>(publish: &'a PublishNote, before: &'a [Seen]) -> Option<&'a str>
     ensures { option_map (λ topic. topic.now) result ≡ topic_after (reverse before.now) publish.now }
 {
@@ -73,14 +73,14 @@ fn topic_of<'a>(publish: &'a PublishNote, before: &'a [Seen]) -> Option<&'a str>
 
 // ---- shared subscriptions
 
-/// Whether a filter asks for a shared subscription (MQTT 5.0, section 4.8.2).
+// Whether a filter asks for a shared subscription (MQTT 5.0, section 4.8.2).
 fn is_shared(filter: &NotedFilter) -> bool
     ensures { result ≡ begins_shared filter.now }
 {
     filter.filter.as_str().starts_with("$share/")
 }
 
-/// Whether a SUBSCRIBE asks for a shared subscription.
+// Whether a SUBSCRIBE asks for a shared subscription.
 fn has_shared(fields: &PacketFields) -> bool
     ensures { result ≡ is_some_and (λ s. list_any begins_shared s.filters) (subscription_in fields.now) }
 {
@@ -96,7 +96,7 @@ fn any_shared(filters: &[NotedFilter]) -> bool
     filters.iter().any(|filter| is_shared(filter))
 }
 
-/// Whether an event is a SUBSCRIBE that is received and asks for a shared subscription.
+// Whether an event is a SUBSCRIBE that is received and asks for a shared subscription.
 fn asks_for_shared(note: &Note) -> bool
     ensures { result ≡ is_some_and (λ s. list_any begins_shared s.filters) (received_subscription note.now) }
 {
@@ -106,15 +106,15 @@ fn asks_for_shared(note: &Note) -> bool
     }
 }
 
-/// The same for an event on a connection that is accepted, which has this fate.
+// The same for an event on a connection that is accepted, which has this fate.
 fn asks_for_shared_at(fate: Option<Fate>, note: &Note) -> bool
     ensures { result ≡ (accepted fate && is_some_and (λ s. list_any begins_shared s.filters) (received_subscription note.now)) }
 {
     is_accepted(fate) && asks_for_shared(note)
 }
 
-/// Whether a shared subscription was asked for in the current session after these events, if the latest connection is
-/// accepted with this fate.
+// Whether a shared subscription was asked for in the current session after these events, if the latest connection is
+// accepted with this fate.
 fn is_sharing(role: Role, fate: Fate, before: &[Seen]) -> bool
     ensures { result ≡ some asks_to_share (session role (Some fate) (reverse before.now)) }
 {
@@ -135,8 +135,8 @@ fn is_sharing(role: Role, fate: Fate, before: &[Seen]) -> bool
 
 // ---- the standing filters of a SUBSCRIBE
 
-/// Whether a filter of a SUBSCRIBE is granted, matches the topic and has at least this ceiling, given its Reason Code if there is one
-/// (MQTT 5.0, section 3.9.3).
+// Whether a filter of a SUBSCRIBE is granted, matches the topic and has at least this ceiling, given its Reason Code if there is one
+// (MQTT 5.0, section 3.9.3).
 fn allows_topic(topic: &str, least: u8, filter: &NotedFilter, code: Option<u8>) -> bool
     ensures { result ≡ allows_by topic.now least filter.now code }
 {
@@ -146,14 +146,14 @@ fn allows_topic(topic: &str, least: u8, filter: &NotedFilter, code: Option<u8>) 
     }
 }
 
-/// Whether the filter matches the topic, and this ceiling is at least the least one.
+// Whether the filter matches the topic, and this ceiling is at least the least one.
 fn has_ceiling(topic: &str, least: u8, filter: &NotedFilter, ceiling: u8) -> bool
     ensures { result ≡ (is_match filter.now.filter topic.now && nat_le least ceiling) }
 {
     least <= ceiling && matches(filter.filter.as_str(), topic)
 }
 
-/// The first of the Reason Codes that are left, if there is one, and the others.
+// The first of the Reason Codes that are left, if there is one, and the others.
 fn next_code(codes: &[u8]) -> (Option<u8>, &[u8])
     ensures first { result.0 ≡ first_code codes.now }
     ensures others { result.1.now ≡ other_codes codes.now }
@@ -164,7 +164,7 @@ fn next_code(codes: &[u8]) -> (Option<u8>, &[u8])
     }
 }
 
-/// Whether one of these filters is granted and allows the topic, given the Reason Codes of the SUBACK.
+// Whether one of these filters is granted and allows the topic, given the Reason Codes of the SUBACK.
 fn any_allows(topic: &str, least: u8, filters: &[NotedFilter], codes: &[u8]) -> bool
     ensures { result ≡ list_any (allows topic.now least) (granted filters.now codes.now) }
 {
@@ -181,7 +181,7 @@ fn any_allows(topic: &str, least: u8, filters: &[NotedFilter], codes: &[u8]) -> 
     false
 }
 
-/// The Reason Codes of a SUBACK that an event sends under this identifier.
+// The Reason Codes of a SUBACK that an event sends under this identifier.
 fn sent_codes(identifier: u16, note: &Note) -> Option<&[u8]>
     ensures { option_map (λ codes. codes.now) result ≡ codes_under identifier note.now }
 {
@@ -191,7 +191,7 @@ fn sent_codes(identifier: u16, note: &Note) -> Option<&[u8]>
     }
 }
 
-/// The Reason Codes of a packet, if it is a SUBACK under this identifier.
+// The Reason Codes of a packet, if it is a SUBACK under this identifier.
 fn codes_in(identifier: u16, fields: &PacketFields) -> Option<&[u8]>
     ensures { option_map (λ codes. codes.now) result ≡ option_map (λ a. a.codes) (option_and_then (λ a. only (a.identifier == identifier) (Some a)) (grant_in fields.now)) }
 {
@@ -204,8 +204,8 @@ fn codes_in(identifier: u16, fields: &PacketFields) -> Option<&[u8]>
     }
 }
 
-/// The Reason Codes of the SUBACK that answers a SUBSCRIBE under this identifier, given the events after it. Empty if it wasn't sent
-/// on the connection.
+// The Reason Codes of the SUBACK that answers a SUBSCRIBE under this identifier, given the events after it. Empty if it wasn't sent
+// on the connection.
 fn codes_after(identifier: u16, later: &[Seen]) -> &[u8]
     ensures { result.now ≡ unwrap_or (codes_ahead identifier later.now) [] }
 {
@@ -220,8 +220,8 @@ fn codes_after(identifier: u16, later: &[Seen]) -> &[u8]
     &[]
 }
 
-/// Whether an event is a SUBSCRIBE that was received, and one of its standing filters allows the topic, given the events after
-/// it.
+// Whether an event is a SUBSCRIBE that was received, and one of its standing filters allows the topic, given the events after
+// it.
 fn subscribes(topic: &str, least: u8, note: &Note, later: &[Seen]) -> bool
     ensures { result ≡ subscribes_to topic.now least later.now note.now }
 {
@@ -231,7 +231,7 @@ fn subscribes(topic: &str, least: u8, note: &Note, later: &[Seen]) -> bool
     }
 }
 
-/// The same for a packet that was received.
+// The same for a packet that was received.
 fn subscribes_in(topic: &str, least: u8, fields: &PacketFields, later: &[Seen]) -> bool
     ensures { result ≡ is_some_and (λ s. list_any (allows topic.now least) (granted s.filters (unwrap_or (codes_ahead s.identifier later.now) []))) (subscription_in fields.now) }
 {
@@ -251,15 +251,15 @@ fn subscribes_in(topic: &str, least: u8, fields: &PacketFields, later: &[Seen]) 
 
 // ---- the standing filters of the session
 
-/// The same for an event on a connection that is accepted, which has this fate.
+// The same for an event on a connection that is accepted, which has this fate.
 fn subscribes_at(fate: Option<Fate>, topic: &str, least: u8, note: &Note, later: &[Seen]) -> bool
     ensures { result ≡ (accepted fate && subscribes_to topic.now least later.now note.now) }
 {
     is_accepted(fate) && subscribes(topic, least, note, later)
 }
 
-/// Whether after these events some standing filter matches the topic and has at least this ceiling, if the latest connection is
-/// accepted with this fate.
+// Whether after these events some standing filter matches the topic and has at least this ceiling, if the latest connection is
+// accepted with this fate.
 fn is_allowed(role: Role, fate: Fate, topic: &str, least: u8, before: &[Seen]) -> bool
     ensures { (e : Seen) → result ≡ list_any (allows topic.now least) (standing_at role fate (newest e (reverse before.now))) }
 {
@@ -281,8 +281,8 @@ fn is_allowed(role: Role, fate: Fate, topic: &str, least: u8, before: &[Seen]) -
 
 // ---- the statements
 
-/// The topic of a PUBLISH with these events before it, if B01 and B02 look at it: its DUP is 0, and no shared
-/// subscription was asked for in its session, which is that of the latest connection, accepted with this fate.
+// The topic of a PUBLISH with these events before it, if B01 and B02 look at it: its DUP is 0, and no shared
+// subscription was asked for in its session, which is that of the latest connection, accepted with this fate.
 fn judged_topic<'a>(
     role: Role,
     fate: Fate,
@@ -300,7 +300,7 @@ fn judged_topic<'a>(
     topic_of(publish, before)
 }
 
-/// The number of a Quality of Service (MQTT 5.0, section 4.3).
+// The number of a Quality of Service (MQTT 5.0, section 4.3).
 fn qos_number(qos: Qos) -> u8
     ensures { result ≡ number_of qos }
 {
@@ -311,7 +311,7 @@ fn qos_number(qos: Qos) -> u8
     }
 }
 
-/// Whether no standing filter matches the topic of a PUBLISH that has these events before it.
+// Whether no standing filter matches the topic of a PUBLISH that has these events before it.
 fn is_unasked(role: Role, fate: Fate, publish: &PublishNote, before: &[Seen]) -> bool
     ensures { (e : Seen) → result ≡ is_some_and (λ topic. not (list_any (allows topic 0) (standing_at role fate (newest e (reverse before.now))))) (topic_judged role fate (reverse before.now) publish.now) }
 {
@@ -321,7 +321,7 @@ fn is_unasked(role: Role, fate: Fate, publish: &PublishNote, before: &[Seen]) ->
     }
 }
 
-/// Whether an event sends a message to which nobody subscribed.
+// Whether an event sends a message to which nobody subscribed.
 fn delivers_unasked(role: Role, fate: Fate, event: &Seen, before: &[Seen]) -> bool
     ensures { result ≡ breaks_B01 role fate (newest event.now (reverse before.now)) }
 {
@@ -360,15 +360,15 @@ impl SessionStatement for AskedTopics {
     ghost says = { λ role. refl };
 }
 
-/// Whether standing filters match a topic, and none of them has a ceiling of at least this QoS.
+// Whether standing filters match a topic, and none of them has a ceiling of at least this QoS.
 fn is_above(role: Role, fate: Fate, topic: &str, qos: u8, before: &[Seen]) -> bool
     ensures { (e : Seen) → result ≡ (list_any (allows topic.now 0) (standing_at role fate (newest e (reverse before.now))) && not (list_any (allows topic.now qos) (standing_at role fate (newest e (reverse before.now))))) }
 {
     is_allowed(role, fate, topic, 0, before) && !is_allowed(role, fate, topic, qos, before)
 }
 
-/// Whether standing filters match the topic of a PUBLISH that has these events before it, and none of them has a ceiling of at
-/// least its QoS.
+// Whether standing filters match the topic of a PUBLISH that has these events before it, and none of them has a ceiling of at
+// least its QoS.
 fn is_above_granted(role: Role, fate: Fate, publish: &PublishNote, before: &[Seen]) -> bool
     ensures { (e : Seen) → result ≡ is_some_and (λ topic. list_any (allows topic 0) (standing_at role fate (newest e (reverse before.now))) && not (list_any (allows topic (number_of publish.now.qos)) (standing_at role fate (newest e (reverse before.now))))) (topic_judged role fate (reverse before.now) publish.now) }
 {
@@ -378,7 +378,7 @@ fn is_above_granted(role: Role, fate: Fate, publish: &PublishNote, before: &[See
     }
 }
 
-/// Whether an event sends a message at a higher QoS than the matching subscriptions were granted.
+// Whether an event sends a message at a higher QoS than the matching subscriptions were granted.
 fn delivers_above(role: Role, fate: Fate, event: &Seen, before: &[Seen]) -> bool
     ensures { result ≡ breaks_B02 role fate (newest event.now (reverse before.now)) }
 {

@@ -95,7 +95,7 @@ pub fn still_applies<E: NoteTest>(
     false
 }
 
-/// What an event decides by itself, if it is in the session.
+// What an event decides by itself, if it is in the session.
 fn answer_from<E: NoteTest>(
     is_in: bool,
     found: Found<'_>,
@@ -117,7 +117,7 @@ fn answer_from<E: NoteTest>(
     None
 }
 
-/// Whether the event that was found is the one that comes after these.
+// Whether the event that was found is the one that comes after these.
 #[tactic(auto, using(crate::proofs::LookbackLaws::same_place))]
 fn is_before(found: Found<'_>, before: &[Seen]) -> bool
     ensures { result ≡ (length (reverse found.entry.before.now) + 1 == length (reverse before.now) + 1) }
@@ -125,7 +125,7 @@ fn is_before(found: Found<'_>, before: &[Seen]) -> bool
     found.before.len() == before.len()
 }
 
-/// The event, if it is in the scope and passes the test.
+// The event, if it is in the scope and passes the test.
 fn start_at<'a, S: NoteTest>(
     is_in: bool,
     starts: &S,
@@ -140,7 +140,7 @@ fn start_at<'a, S: NoteTest>(
     None
 }
 
-/// Whether nothing before an event counts: the scope begins with it, or it is in the scope and passes the test.
+// Whether nothing before an event counts: the scope begins with it, or it is in the scope and passes the test.
 fn stops_at<E: NoteTest>(is_in: bool, begins: bool, ends: &E, note: &Note) -> bool
     ensures { result ≡ ((is_in && E.test ends.now note.now) || begins) }
 {

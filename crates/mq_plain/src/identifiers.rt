@@ -114,7 +114,7 @@ pub fn is_open_id(role: Role, fate: Fate, identifier: u16, before: &[Seen]) -> b
     )
 }
 
-/// Whether a SUBSCRIBE that was sent under an identifier on the latest connection waits for its SUBACK.
+// Whether a SUBSCRIBE that was sent under an identifier on the latest connection waits for its SUBACK.
 fn is_subscribing(identifier: u16, before: &[Seen]) -> bool
     ensures { result ≡ awaits_suback_after identifier (reverse before.now) }
 {
@@ -125,7 +125,7 @@ fn is_subscribing(identifier: u16, before: &[Seen]) -> bool
     )
 }
 
-/// Whether an UNSUBSCRIBE that was sent under an identifier on the latest connection waits for its UNSUBACK.
+// Whether an UNSUBSCRIBE that was sent under an identifier on the latest connection waits for its UNSUBACK.
 fn is_unsubscribing(identifier: u16, before: &[Seen]) -> bool
     ensures { result ≡ awaits_unsuback_after identifier (reverse before.now) }
 {
@@ -136,8 +136,8 @@ fn is_unsubscribing(identifier: u16, before: &[Seen]) -> bool
     )
 }
 
-/// Whether an identifier is busy after these events, if the latest connection has this fate: it is open, or a SUBSCRIBE or
-/// UNSUBSCRIBE under it waits for its answer.
+// Whether an identifier is busy after these events, if the latest connection has this fate: it is open, or a SUBSCRIBE or
+// UNSUBSCRIBE under it waits for its answer.
 fn is_busy_id(role: Role, fate: Fate, identifier: u16, before: &[Seen]) -> bool
     ensures { result ≡ is_busy_after role fate identifier (reverse before.now) }
 {
@@ -150,7 +150,7 @@ fn is_busy_id(role: Role, fate: Fate, identifier: u16, before: &[Seen]) -> bool
     is_unsubscribing(identifier, before)
 }
 
-/// Whether a packet takes an identifier that is busy, if the latest connection has this fate.
+// Whether a packet takes an identifier that is busy, if the latest connection has this fate.
 #[tactic(auto, unfolding(mq_rules::specs::Identifiers::breaks_S01))]
 fn takes_busy(role: Role, fate: Fate, event: &Seen, before: &[Seen]) -> bool
     ensures { result ≡ breaks_S01 role fate (newest event.now (reverse before.now)) }

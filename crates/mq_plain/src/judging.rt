@@ -75,8 +75,8 @@ pub fn judge_session<T: SessionStatement>(
     Ok(())
 }
 
-/// Whether an event with these events before it has a fault: the statement binds the tested end, and is broken. Its connection has this
-/// fate. A statement that binds only the other end isn't evaluated.
+// Whether an event with these events before it has a fault: the statement binds the tested end, and is broken. Its connection has this
+// fate. A statement that binds only the other end isn't evaluated.
 #[inline(always)]
 fn is_fault_at<T: SessionStatement>(
     alloc: Global,

@@ -20,8 +20,8 @@ use mq_rules::{Fate, Memory, Note, Role, Rule, Seen};
 use mq_trace::Place3;
 use std::alloc::Global;
 
-/// Marks an identifier, if there is one.
-fn key(marked: &mut Table<bool>, identifier: Option<u16>)
+// Marks an identifier, if there is one.
+fn mark(marked: &mut Table<bool>, identifier: Option<u16>)
     ensures { (i : ℕ) → at marked.new i ≡ (is_id i identifier || at marked.old i) }
 {
     if let Some(identifier) = identifier {
@@ -29,19 +29,19 @@ fn key(marked: &mut Table<bool>, identifier: Option<u16>)
     }
 }
 
-/// The identifiers of which a PUBLISH or a PUBREL was sent on the latest connection.
-///
-/// # Errors
-///
-/// `Memory` if there is no memory for them.
+// The identifiers of which a PUBLISH or a PUBREL was sent on the latest connection.
+//
+// # Errors
+//
+// `Memory` if there is no memory for them.
 fn sent_again(alloc: Global, before: &[Seen]) -> Result<Table<bool>, Memory>
     ensures { IfOk result (λ again. (i : ℕ) → at again i ≡ some (λ m. sends_under i (note m)) (connection (reverse before.now))) }
 {
     let mut again = Table::new(alloc, false)?;
     let mut earlier = before;
     while let Some((event, rest)) = earlier.split_last() {
-        key(&mut again, event.note.delivery());
-        key(&mut again, event.note.sent_pubrel());
+        mark(&mut again, event.note.delivery());
+        mark(&mut again, event.note.sent_pubrel());
         if event.note.is_open() {
             return Ok(again);
         }
@@ -50,7 +50,7 @@ fn sent_again(alloc: Global, before: &[Seen]) -> Result<Table<bool>, Memory>
     Ok(again)
 }
 
-/// An identifier, if its event is in the session.
+// An identifier, if its event is in the session.
 fn only_if(is_in: bool, identifier: Option<u16>) -> Option<u16>
     ensures { result ≡ only is_in identifier }
 {
@@ -60,42 +60,42 @@ fn only_if(is_in: bool, identifier: Option<u16>) -> Option<u16>
     None
 }
 
-/// Marks the identifier that an event opens or closes, if it is in the session.
-fn key_moved(moved: &mut Table<bool>, is_in: bool, note: &Note)
+// Marks the identifier that an event opens or closes, if it is in the session.
+fn mark_moved(moved: &mut Table<bool>, is_in: bool, note: &Note)
     ensures { (i : ℕ) → at moved.new i ≡ ((is_in && moves i note.now) || at moved.old i) }
 {
-    key(moved, only_if(is_in, note.opener()));
-    key(moved, only_if(is_in, note.closer()));
+    mark(moved, only_if(is_in, note.opener()));
+    mark(moved, only_if(is_in, note.closer()));
 }
 
-/// Marks the identifier that an event confirms, if it is in the session.
-fn key_confirmed(confirmed: &mut Table<bool>, is_in: bool, note: &Note)
+// Marks the identifier that an event confirms, if it is in the session.
+fn mark_confirmed(confirmed: &mut Table<bool>, is_in: bool, note: &Note)
     ensures { (i : ℕ) → at confirmed.new i ≡ ((is_in && confirms i note.now) || at confirmed.old i) }
 {
-    key(confirmed, only_if(is_in, note.received_accepting_pubrec()));
+    mark(confirmed, only_if(is_in, note.received_accepting_pubrec()));
 }
 
-/// Whether an opener is owed, if the event is one, given the identifiers that were sent again, and those moved and confirmed after it.
+// Whether an opener is owed, if the event is one, given the identifiers that were sent again, and those moved and confirmed after it.
 fn is_owed(
-    is_lenient: bool,
+    is_excused: bool,
     again: &Table<bool>,
     moved: &Table<bool>,
     confirmed: &Table<bool>,
     opener: Option<u16>,
 ) -> bool
-    ensures { result ≡ owed_so is_lenient (at again.now) (at moved.now) (at confirmed.now) opener }
+    ensures { result ≡ owed_so is_excused (at again.now) (at moved.now) (at confirmed.now) opener }
 {
     match opener {
         Some(identifier) => {
             !moved.get(identifier)
                 && !again.get(identifier)
-                && (confirmed.get(identifier) || !is_lenient)
+                && (confirmed.get(identifier) || !is_excused)
         }
         None => false,
     }
 }
 
-/// Adds a place, if its event is owed.
+// Adds a place, if its event is owed.
 fn push_if(places: &mut Vec<Place3>, place: Place3, is_due: bool) -> Result<(), Memory>
     ensures { IfOk result (λ _. places.new.items ≡ cond is_due (places.old.items ++ place ∷ []) places.old.items) }
 {
@@ -105,20 +105,20 @@ fn push_if(places: &mut Vec<Place3>, place: Place3, is_due: bool) -> Result<(), 
     Ok(())
 }
 
-/// The places of what is owed in the current session after these events, if the latest connection resumed it; these identifiers were
-/// sent again there.
-///
-/// # Errors
-///
-/// `Memory` if there is no memory for them, or to look back.
+// The places of what is owed in the current session after these events, if the latest connection resumed it; these identifiers were
+// sent again there.
+//
+// # Errors
+//
+// `Memory` if there is no memory for them, or to look back.
 fn owed_in_session(
     alloc: Global,
     role: Role,
-    is_lenient: bool,
+    is_excused: bool,
     again: &Table<bool>,
     before: &[Seen],
 ) -> Result<Vec<Place3>, Memory>
-    ensures { IsPlaced (reverse before.now) → IfOk result (λ places. IsShown (owes is_lenient (at again.now) (session role (Some Resumed) (reverse before.now))) (reverse before.now) places.items) }
+    ensures { IsPlaced (reverse before.now) → IfOk result (λ places. IsShown (owes is_excused (at again.now) (session role (Some Resumed) (reverse before.now))) (reverse before.now) places.items) }
 {
     let mut moved = Table::new(alloc, false)?;
     let mut confirmed = Table::new(alloc, false)?;
@@ -128,22 +128,22 @@ fn owed_in_session(
     while let Some((event, rest)) = earlier.split_last() {
         let is_in = is_accepted(fate);
         let opener = only_if(is_in, event.note.opener());
-        let is_due = is_owed(is_lenient, again, &moved, &confirmed, opener);
+        let is_due = is_owed(is_excused, again, &moved, &confirmed, opener);
         push_if(&mut places, event.place, is_due)?;
         if begins_at(fate, &event.note) {
             return Ok(places);
         }
-        key_moved(&mut moved, is_in, &event.note);
-        key_confirmed(&mut confirmed, is_in, &event.note);
+        mark_moved(&mut moved, is_in, &event.note);
+        mark_confirmed(&mut confirmed, is_in, &event.note);
         fate = fate_before(role, fate, &event.note, rest);
         earlier = rest;
     }
     Ok(places)
 }
 
-/// Whether what wasn't confirmed needn't all be sent again: the send quota is used up, or the peer announced a Maximum Packet Size or a
-/// Maximum QoS.
-fn is_lenient(role: Role, before: &[Seen]) -> bool
+// Whether what wasn't confirmed needn't all be sent again: the send quota is used up, or the peer announced a Maximum Packet Size or a
+// Maximum QoS.
+fn is_excused(role: Role, before: &[Seen]) -> bool
     ensures { (rest : TheSeen) → result ≡ (uses_up role (newest rest (reverse before.now)) || has_announced role (newest rest (reverse before.now))) }
 {
     if is_used_up(role, before) {
@@ -152,18 +152,18 @@ fn is_lenient(role: Role, before: &[Seen]) -> bool
     handshake_of(role, before).bounds_sending(role)
 }
 
-/// Whether a connection with this fate resumed a session.
+// Whether a connection with this fate resumed a session.
 fn is_resumed(fate: Option<Fate>) -> bool
     ensures { result ≡ resumed fate }
 {
     matches!(fate, Some(Fate::Resumed))
 }
 
-/// The places of what is owed, as a REST after these events shows.
-///
-/// # Errors
-///
-/// `Memory` if there is no memory for them, or to look back.
+// The places of what is owed, as a REST after these events shows.
+//
+// # Errors
+//
+// `Memory` if there is no memory for them, or to look back.
 fn owed_at_rest(alloc: Global, role: Role, before: &[Seen]) -> Result<Vec<Place3>, Memory>
     ensures { (rest : TheSeen) → IsPlaced (reverse before.now) → IfOk result (λ places. IsShown (shows_S06 role (newest rest (reverse before.now))) (reverse before.now) places.items) }
 {
@@ -171,7 +171,7 @@ fn owed_at_rest(alloc: Global, role: Role, before: &[Seen]) -> Result<Vec<Place3
         return Ok(Vec::new(alloc));
     }
     let again = sent_again(alloc, before)?;
-    owed_in_session(alloc, role, is_lenient(role, before), &again, before)
+    owed_in_session(alloc, role, is_excused(role, before), &again, before)
 }
 
 /// S06: when a session is resumed, each PUBLISH or PUBREL of it that is unacknowledged is sent again.

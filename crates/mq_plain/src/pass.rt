@@ -77,7 +77,7 @@ struct Decision {
     asked: bool,
 }
 
-/// Whether an event is seen at once to be quiet, and to leave what is kept as it is.
+// Whether an event is seen at once to be quiet, and to leave what is kept as it is.
 #[inline(always)]
 fn is_passed_over(kept: Kept, role: Role, note: &Note) -> bool
     ensures { result ≡ (is_some kept.fate && idle role note.now) }
@@ -85,7 +85,7 @@ fn is_passed_over(kept: Kept, role: Role, note: &Note) -> bool
     kept.fate.is_some() && is_idle(role, note)
 }
 
-/// Whether it is a PUBLISH of QoS 0 that a client sends, or that is received.
+// Whether it is a PUBLISH of QoS 0 that a client sends, or that is received.
 #[inline(always)]
 fn is_idle(role: Role, note: &Note) -> bool
     ensures { result ≡ idle role note.now }
@@ -99,7 +99,7 @@ fn is_idle(role: Role, note: &Note) -> bool
     }
 }
 
-/// Whether a packet is a PUBLISH of QoS 0.
+// Whether a packet is a PUBLISH of QoS 0.
 #[inline(always)]
 fn is_unacknowledged(fields: &PacketFields) -> bool
     ensures { result ≡ unacknowledged fields.now }
@@ -110,8 +110,8 @@ fn is_unacknowledged(fields: &PacketFields) -> bool
     }
 }
 
-/// Judges an event that has these events before it, of which this is kept. If it leaves its connection undecided, it waits; and if it
-/// decides it, the events that waited are judged too.
+// Judges an event that has these events before it, of which this is kept. If it leaves its connection undecided, it waits; and if it
+// decides it, the events that waited are judged too.
 #[inline(always)]
 fn judge_event<E: Evaluator>(
     evaluator: &E,
@@ -142,7 +142,7 @@ fn judge_event<E: Evaluator>(
     Ok(())
 }
 
-/// How many of these events, of which this is kept, don't wait.
+// How many of these events, of which this is kept, don't wait.
 #[inline(always)]
 fn settled_by(kept: Kept, before: &[Seen]) -> usize
     ensures { result ≡ cond (is_some kept.fate) (length before.now) kept.opened }
@@ -153,7 +153,7 @@ fn settled_by(kept: Kept, before: &[Seen]) -> usize
     kept.opened
 }
 
-/// Judges these events but the first ones, which were judged before.
+// Judges these events but the first ones, which were judged before.
 fn judge_waiting<E: Evaluator>(
     evaluator: &E,
     alloc: Global,
@@ -172,8 +172,8 @@ fn judge_waiting<E: Evaluator>(
     Ok(())
 }
 
-/// Judges an event of a decided connection that has these events before it. Nothing is looked up for a quiet one, nor for a REST before
-/// which nothing asks.
+// Judges an event of a decided connection that has these events before it. Nothing is looked up for a quiet one, nor for a REST before
+// which nothing asks.
 #[inline(always)]
 fn judge_next<E: Evaluator>(
     evaluator: &E,
@@ -196,8 +196,8 @@ fn judge_next<E: Evaluator>(
     judge_spoken(evaluator, alloc, decision, event, before, faults)
 }
 
-/// Judges an event of a decided connection that has these events before it. It stays apart, so that what few events need takes no room
-/// where the others are passed over.
+// Judges an event of a decided connection that has these events before it. It stays apart, so that what few events need takes no room
+// where the others are passed over.
 #[inline(never)]
 fn judge_spoken<E: Evaluator>(
     evaluator: &E,
@@ -219,8 +219,8 @@ fn judge_spoken<E: Evaluator>(
     evaluator.judge_at(alloc, turn, event, before, faults)
 }
 
-/// Whether no statement on sessions is judged at the event: it is neither a REST nor a RELEASE, nor a packet that the tested end sends
-/// in a session, except a client's PUBLISH of QoS 0.
+// Whether no statement on sessions is judged at the event: it is neither a REST nor a RELEASE, nor a packet that the tested end sends
+// in a session, except a client's PUBLISH of QoS 0.
 #[inline(always)]
 fn is_quiet(role: Role, note: &Note) -> bool
     ensures { result ≡ quiet role note.now }
@@ -232,7 +232,7 @@ fn is_quiet(role: Role, note: &Note) -> bool
     }
 }
 
-/// Whether a packet needs a session, and isn't a client's PUBLISH of QoS 0.
+// Whether a packet needs a session, and isn't a client's PUBLISH of QoS 0.
 #[inline(always)]
 fn is_spoken_of(role: Role, fields: &PacketFields) -> bool
     ensures { result ≡ spoken_of role fields.now }
@@ -245,7 +245,7 @@ fn is_spoken_of(role: Role, fields: &PacketFields) -> bool
     }
 }
 
-/// Whether the event is a REST that shows nothing, since no event before it asks for an answer.
+// Whether the event is a REST that shows nothing, since no event before it asks for an answer.
 #[inline(always)]
 fn finds_nothing(asked: bool, note: &Note) -> bool
     ensures { result ≡ (is_rest note.now && not asked) }
@@ -253,7 +253,7 @@ fn finds_nothing(asked: bool, note: &Note) -> bool
     note.is_rest() && !asked
 }
 
-/// What is kept after an event that has these events before it, of which this is kept.
+// What is kept after an event that has these events before it, of which this is kept.
 #[inline(always)]
 fn kept_after(kept: Kept, role: Role, note: &Note, before: &[Seen]) -> Kept
     ensures fate { result.fate ≡ cond (is_open note.now) None (option_or kept.fate (decides role note.now)) }
@@ -267,7 +267,7 @@ fn kept_after(kept: Kept, role: Role, note: &Note, before: &[Seen]) -> Kept
     }
 }
 
-/// How many events come before the OPEN of the latest connection after an event, given how many did before it.
+// How many events come before the OPEN of the latest connection after an event, given how many did before it.
 #[inline(always)]
 fn opened_after(opened: usize, note: &Note, before: &[Seen]) -> usize
     ensures { result ≡ cond (is_open note.now) (length before.now) opened }
@@ -278,7 +278,7 @@ fn opened_after(opened: usize, note: &Note, before: &[Seen]) -> usize
     opened
 }
 
-/// Whether the event asks for an answer, or may have to be sent again, so that a later REST can find that it wasn't.
+// Whether the event asks for an answer, or may have to be sent again, so that a later REST can find that it wasn't.
 #[inline(always)]
 fn asks(note: &Note) -> bool
     ensures { result ≡ asks_for note.now }
@@ -291,7 +291,7 @@ fn asks(note: &Note) -> bool
     }
 }
 
-/// Whether a packet is a PINGREQ, or needs a session and isn't a PUBLISH of QoS 0.
+// Whether a packet is a PINGREQ, or needs a session and isn't a PUBLISH of QoS 0.
 #[inline(always)]
 fn is_asking(fields: &PacketFields) -> bool
     ensures { result ≡ asking fields.now }
@@ -303,7 +303,7 @@ fn is_asking(fields: &PacketFields) -> bool
     }
 }
 
-/// The fate of the latest connection after an event, given the fate before it.
+// The fate of the latest connection after an event, given the fate before it.
 #[inline(always)]
 fn fate_after(fate: Option<Fate>, role: Role, note: &Note) -> Option<Fate>
     ensures { result ≡ cond (is_open note.now) None (option_or fate (decides role note.now)) }

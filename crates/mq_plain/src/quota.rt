@@ -11,21 +11,21 @@ use crate::judging::SessionStatement;
 use mq_rules::{Fate, Memory, Note, Role, Rule, Seen};
 use std::alloc::Global;
 
-/// Whether an event with these events before it counts for the send quota of its connection.
+// Whether an event with these events before it counts for the send quota of its connection.
 fn counts(role: Role, before: &[Seen]) -> bool
     ensures { (event : TheSeen) → result ≡ is_counted role (newest event (reverse before.now)) }
 {
     handshake_of(role, before).counts(role)
 }
 
-/// Whether a PUBLISH of QoS above 0 is sent, and no room is left for it.
+// Whether a PUBLISH of QoS above 0 is sent, and no room is left for it.
 fn finds_no_room(room: usize, note: &Note) -> bool
     ensures { result ≡ (is_some (delivery_of note.now) && (room == 0)) }
 {
     note.delivery().is_some() && room == 0
 }
 
-/// The room for PUBLISHes that an event leaves to the events before it.
+// The room for PUBLISHes that an event leaves to the events before it.
 fn room_before(room: usize, note: &Note) -> usize
     requires { room < 2 ^ 64 - 1 }
     ensures { result ≡ room_back note.now room }
@@ -39,7 +39,7 @@ fn room_before(room: usize, note: &Note) -> usize
     room
 }
 
-/// Whether some of the newest of these events, on the latest connection, have more PUBLISHes than closers, by more than this room.
+// Whether some of the newest of these events, on the latest connection, have more PUBLISHes than closers, by more than this room.
 fn is_overdrawn(role: Role, room: usize, before: &[Seen]) -> bool
     requires { room < 65536 }
     ensures { result ≡ overdraws room (counted role (reverse before.now)) }
@@ -71,7 +71,7 @@ pub fn is_used_up(role: Role, before: &[Seen]) -> bool
     is_overdrawn(role, usize::from(most - 1), before)
 }
 
-/// Whether the event is a PUBLISH that exceeds the send quota.
+// Whether the event is a PUBLISH that exceeds the send quota.
 fn passes_quota(role: Role, event: &Seen, before: &[Seen]) -> bool
     ensures { result ≡ breaks_S07 role (newest event.now (reverse before.now)) }
 {

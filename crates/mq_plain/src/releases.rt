@@ -75,7 +75,7 @@ impl NoteTest for FindsNoSubscriber {
     }
 }
 
-/// Whether a QoS 2 PUBLISH under an identifier was received in the session, and nothing has ended its exchange since.
+// Whether a QoS 2 PUBLISH under an identifier was received in the session, and nothing has ended its exchange since.
 fn is_brought(role: Role, fate: Fate, identifier: u16, before: &[Seen]) -> bool
     ensures { result ≡ is_brought_after role fate identifier (reverse before.now) }
 {
@@ -88,7 +88,7 @@ fn is_brought(role: Role, fate: Fate, identifier: u16, before: &[Seen]) -> bool
     )
 }
 
-/// Whether the message under an identifier was released in the session, and nothing has ended its exchange since.
+// Whether the message under an identifier was released in the session, and nothing has ended its exchange since.
 fn is_released(role: Role, fate: Fate, identifier: u16, before: &[Seen]) -> bool
     ensures { result ≡ is_released_after role fate identifier (reverse before.now) }
 {
@@ -101,7 +101,7 @@ fn is_released(role: Role, fate: Fate, identifier: u16, before: &[Seen]) -> bool
     )
 }
 
-/// Whether an event releases a message that wasn't received.
+// Whether an event releases a message that wasn't received.
 #[tactic(auto, unfolding(mq_rules::specs::Releases::breaks_L1))]
 fn releases_nothing(role: Role, fate: Fate, event: &Seen, before: &[Seen]) -> bool
     ensures { result ≡ breaks_L1 role fate (newest event.now (reverse before.now)) }
@@ -112,7 +112,7 @@ fn releases_nothing(role: Role, fate: Fate, event: &Seen, before: &[Seen]) -> bo
     }
 }
 
-/// Whether an event releases a message that was released before.
+// Whether an event releases a message that was released before.
 #[tactic(auto, unfolding(mq_rules::specs::Releases::breaks_L2))]
 fn releases_again(role: Role, fate: Fate, event: &Seen, before: &[Seen]) -> bool
     ensures { result ≡ breaks_L2 role fate (newest event.now (reverse before.now)) }
@@ -123,7 +123,7 @@ fn releases_again(role: Role, fate: Fate, event: &Seen, before: &[Seen]) -> bool
     }
 }
 
-/// Whether an event completes an exchange with success, though the release of its message is due.
+// Whether an event completes an exchange with success, though the release of its message is due.
 #[tactic(auto, unfolding(mq_rules::specs::Releases::breaks_L3))]
 fn completes_unreleased(role: Role, fate: Fate, event: &Seen, before: &[Seen]) -> bool
     ensures { result ≡ breaks_L3 role fate (newest event.now (reverse before.now)) }
@@ -134,8 +134,8 @@ fn completes_unreleased(role: Role, fate: Fate, event: &Seen, before: &[Seen]) -
     }
 }
 
-/// Whether the release of the message under an identifier is due: its PUBLISH was received, it needs a release, and it wasn't
-/// released.
+// Whether the release of the message under an identifier is due: its PUBLISH was received, it needs a release, and it wasn't
+// released.
 fn is_release_due(role: Role, fate: Fate, identifier: u16, before: &[Seen]) -> bool
     ensures { result ≡ is_some_and (λ first. not (is_released_after role fate identifier (reverse before.now)) && not (lapses_after role fate identifier (reverse before.now) first)) (first_brought_after role fate identifier (reverse before.now)) }
 {
@@ -154,7 +154,7 @@ fn is_release_due(role: Role, fate: Fate, identifier: u16, before: &[Seen]) -> b
     }
 }
 
-/// Whether the message of this PUBLISH needs no release: it may expire, or a PUBREC of 0x10 was sent since.
+// Whether the message of this PUBLISH needs no release: it may expire, or a PUBREC of 0x10 was sent since.
 fn may_lapse(role: Role, fate: Fate, identifier: u16, first: Found<'_>, before: &[Seen]) -> bool
     ensures { result ≡ lapses_after role fate identifier (reverse before.now) (moment_of first.entry) }
 {
@@ -170,7 +170,7 @@ fn may_lapse(role: Role, fate: Fate, identifier: u16, first: Found<'_>, before: 
     )
 }
 
-/// Whether it is a PUBLISH with a Message Expiry Interval (MQTT 5.0, section 3.3.2.3.3).
+// Whether it is a PUBLISH with a Message Expiry Interval (MQTT 5.0, section 3.3.2.3.3).
 fn may_expire(note: &Note) -> bool
     ensures { result ≡ is_some_and (λ p. p.has_message_expiry) (received_publish note.now) }
 {

@@ -51,7 +51,7 @@ impl NoteTest for OpensExactlyOnce {
     }
 }
 
-/// Whether a PUBLISH of QoS 2 is sent.
+// Whether a PUBLISH of QoS 2 is sent.
 fn is_sent_exactly_once(note: &Note) -> bool
     ensures { result ≡ is_some_and (λ p. is_exactly_once p.qos) (sent_publish note.now) }
 {
@@ -76,7 +76,7 @@ impl NoteTest for SendsPubrel {
     }
 }
 
-/// Whether a PUBLISH under an identifier was sent on a void connection, anywhere in these events.
+// Whether a PUBLISH under an identifier was sent on a void connection, anywhere in these events.
 fn is_sent_on_void(role: Role, identifier: u16, before: &[Seen]) -> bool
     ensures { result ≡ is_void_delivery role identifier (reverse before.now) }
 {
@@ -92,14 +92,14 @@ fn is_sent_on_void(role: Role, identifier: u16, before: &[Seen]) -> bool
     false
 }
 
-/// Whether an event sends a PUBLISH under an identifier on a void connection; its connection has this fate.
+// Whether an event sends a PUBLISH under an identifier on a void connection; its connection has this fate.
 fn is_void_at(identifier: u16, fate: Option<Fate>, note: &Note) -> bool
     ensures { result ≡ (is_id identifier (delivery_of note.now) && voided fate) }
 {
     Delivers(identifier).passes(note) && is_voided(fate)
 }
 
-/// Whether the PUBLISH of an identifier may be sent again: it is open, or was sent on a void connection.
+// Whether the PUBLISH of an identifier may be sent again: it is open, or was sent on a void connection.
 fn may_be_resent(role: Role, fate: Fate, identifier: u16, before: &[Seen]) -> bool
     ensures { result ≡ (is_open_after role fate identifier (reverse before.now) || is_void_delivery role identifier (reverse before.now)) }
 {
@@ -109,7 +109,7 @@ fn may_be_resent(role: Role, fate: Fate, identifier: u16, before: &[Seen]) -> bo
     is_sent_on_void(role, identifier, before)
 }
 
-/// Whether a packet sends a PUBLISH again that isn't open, and wasn't sent on a void connection.
+// Whether a packet sends a PUBLISH again that isn't open, and wasn't sent on a void connection.
 #[tactic(auto, unfolding(mq_rules::specs::Identifiers::breaks_S02))]
 fn resends_unopened(role: Role, fate: Fate, event: &Seen, before: &[Seen]) -> bool
     ensures { result ≡ breaks_S02 role fate (newest event.now (reverse before.now)) }
@@ -120,14 +120,14 @@ fn resends_unopened(role: Role, fate: Fate, event: &Seen, before: &[Seen]) -> bo
     }
 }
 
-/// Whether a PUBLISH under an identifier was sent on the latest connection, and nothing has closed it since.
+// Whether a PUBLISH under an identifier was sent on the latest connection, and nothing has closed it since.
 fn is_sent_already(identifier: u16, before: &[Seen]) -> bool
     ensures { result ≡ is_delivering identifier (reverse before.now) }
 {
     since_on_connection(&Delivers(identifier), &Closes(identifier), before)
 }
 
-/// Whether a packet sends a PUBLISH again that was sent on its connection before, and wasn't closed since.
+// Whether a packet sends a PUBLISH again that was sent on its connection before, and wasn't closed since.
 #[tactic(auto, unfolding(mq_rules::specs::Identifiers::breaks_S03))]
 fn resends_twice(event: &Seen, before: &[Seen]) -> bool
     ensures { result ≡ breaks_S03 (newest event.now (reverse before.now)) }
@@ -138,7 +138,7 @@ fn resends_twice(event: &Seen, before: &[Seen]) -> bool
     }
 }
 
-/// Whether the latest opener of an identifier is a PUBLISH of QoS 2.
+// Whether the latest opener of an identifier is a PUBLISH of QoS 2.
 fn is_opened_exactly_once(role: Role, fate: Fate, identifier: u16, before: &[Seen]) -> bool
     ensures { result ≡ is_last_exactly_once role fate identifier (reverse before.now) }
 {
@@ -151,7 +151,7 @@ fn is_opened_exactly_once(role: Role, fate: Fate, identifier: u16, before: &[See
     )
 }
 
-/// Whether a PUBREL under an identifier was sent since its latest opener.
+// Whether a PUBREL under an identifier was sent since its latest opener.
 fn is_pubrel_sent_since(role: Role, fate: Fate, identifier: u16, before: &[Seen]) -> bool
     ensures { result ≡ is_pubrel_sent role fate identifier (reverse before.now) }
 {
@@ -164,7 +164,7 @@ fn is_pubrel_sent_since(role: Role, fate: Fate, identifier: u16, before: &[Seen]
     )
 }
 
-/// Whether an identifier is open by a PUBLISH of QoS 2, and a PUBREL of it was sent since.
+// Whether an identifier is open by a PUBLISH of QoS 2, and a PUBREL of it was sent since.
 fn is_past_pubrel(role: Role, fate: Fate, identifier: u16, before: &[Seen]) -> bool
     ensures { result ≡ (is_open_after role fate identifier (reverse before.now) && (is_last_exactly_once role fate identifier (reverse before.now) && is_pubrel_sent role fate identifier (reverse before.now))) }
 {
@@ -173,7 +173,7 @@ fn is_past_pubrel(role: Role, fate: Fate, identifier: u16, before: &[Seen]) -> b
         && is_pubrel_sent_since(role, fate, identifier, before)
 }
 
-/// Whether a packet sends a PUBLISH again that is open, of QoS 2, and past its PUBREL.
+// Whether a packet sends a PUBLISH again that is open, of QoS 2, and past its PUBREL.
 #[tactic(auto, unfolding(mq_rules::specs::Identifiers::breaks_S04))]
 fn resends_past_pubrel(role: Role, fate: Fate, event: &Seen, before: &[Seen]) -> bool
     ensures { result ≡ breaks_S04 role fate (newest event.now (reverse before.now)) }

@@ -35,7 +35,7 @@ pub fn since_in_session<S: NoteTest, E: NoteTest>(
     false
 }
 
-/// What an event decides by itself, if it is in the session. The tests come first, since few events pass them.
+// What an event decides by itself, if it is in the session. The tests come first, since few events pass them.
 fn answer_at<S: NoteTest, E: NoteTest>(
     role: Role,
     fate: Option<Fate>,
@@ -73,7 +73,7 @@ pub fn fate_before(role: Role, fate: Option<Fate>, note: &Note, before: &[Seen])
     fate
 }
 
-/// Whether an event on or after the latest connection, which has this fate, is in a session.
+// Whether an event on or after the latest connection, which has this fate, is in a session.
 fn is_in_session(role: Role, fate: Option<Fate>, event: &Seen, before: &[Seen]) -> bool
     ensures { result ≡ has_session role fate event.now (reverse before.now) }
 {
@@ -137,7 +137,7 @@ pub fn is_any_accepted(role: Role, fate: Option<Fate>, before: &[Seen]) -> bool
     false
 }
 
-/// Whether a connection begins at this event, and is accepted.
+// Whether a connection begins at this event, and is accepted.
 fn accepts_at(fate: Option<Fate>, note: &Note) -> bool
     ensures { result ≡ (is_open note.now && accepted fate) }
 {

@@ -41,7 +41,7 @@ impl<X: Exchange> SessionStatement for Asked<X> {
     ghost says = { X.says_asked };
 }
 
-/// Whether an event is an answer that nothing asked for, if the latest connection has this fate.
+// Whether an event is an answer that nothing asked for, if the latest connection has this fate.
 #[tactic(auto, unfolding(mq_rules::specs::Exchanges::breaks_A))]
 fn lacks_cause<X: Exchange>(role: Role, fate: Fate, event: &Seen, before: &[Seen]) -> bool
     ensures { result ≡ breaks_A X.exchange role fate (newest event.now (reverse before.now)) }
@@ -52,8 +52,8 @@ fn lacks_cause<X: Exchange>(role: Role, fate: Fate, event: &Seen, before: &[Seen
     }
 }
 
-/// Whether in the current session after these events, if the latest connection has this fate, some event is a cause under an
-/// identifier, and no later one on the latest connection is an answer.
+// Whether in the current session after these events, if the latest connection has this fate, some event is a cause under an
+// identifier, and no later one on the latest connection is an answer.
 fn is_asked<X: Exchange>(role: Role, fate: Fate, identifier: u16, before: &[Seen]) -> bool
     ensures { result ≡ since (causes X.exchange identifier) (λ m. answers X.exchange identifier m && (number m == begun (reverse before.now))) (session role (Some fate) (reverse before.now)) }
 {
@@ -68,15 +68,15 @@ fn is_asked<X: Exchange>(role: Role, fate: Fate, identifier: u16, before: &[Seen
         if begins_at(fate, &event.note) {
             return false;
         }
-        is_latest = is_latest_before(is_latest, &event.note);
+        is_latest = stays_latest(is_latest, &event.note);
         fate = fate_before(role, fate, &event.note, rest);
         earlier = rest;
     }
     false
 }
 
-/// What an event decides by itself, if its connection is accepted: it is a cause under the identifier, or an answer on the latest
-/// connection.
+// What an event decides by itself, if its connection is accepted: it is a cause under the identifier, or an answer on the latest
+// connection.
 fn answer_of_event<X: Exchange>(
     is_in: bool,
     is_latest: bool,
@@ -97,8 +97,8 @@ fn answer_of_event<X: Exchange>(
     None
 }
 
-/// Whether what comes before an event is on the latest connection; the flag says the same of the event.
-fn is_latest_before(is_latest: bool, note: &Note) -> bool
+// Whether what comes before an event is on the latest connection; the flag says the same of the event.
+fn stays_latest(is_latest: bool, note: &Note) -> bool
     ensures { result ≡ (is_latest && not (is_open note.now)) }
 {
     is_latest && !note.is_open()

@@ -41,11 +41,11 @@ impl<X: OrderedExchange> SessionStatement for Ordered<X> {
     ghost says = { X.says_ordered };
 }
 
-/// Whether an event is an answer, though an unanswered cause under another identifier comes before its own cause.
-///
-/// # Errors
-///
-/// `Memory` if there is no memory to look back.
+// Whether an event is an answer, though an unanswered cause under another identifier comes before its own cause.
+//
+// # Errors
+//
+// `Memory` if there is no memory to look back.
 #[tactic(auto, unfolding(mq_rules::specs::Exchanges::breaks_O))]
 fn is_out_of_order<X: Exchange>(
     alloc: Global,
@@ -60,11 +60,11 @@ fn is_out_of_order<X: Exchange>(
     }
 }
 
-/// Whether the first unanswered cause under this identifier has an unanswered one under another identifier before it.
-///
-/// # Errors
-///
-/// `Memory` if there is no memory to look back.
+// Whether the first unanswered cause under this identifier has an unanswered one under another identifier before it.
+//
+// # Errors
+//
+// `Memory` if there is no memory to look back.
 fn is_passing_over<X: Exchange>(
     alloc: Global,
     identifier: u16,
@@ -79,7 +79,7 @@ fn is_passing_over<X: Exchange>(
     }
 }
 
-/// Whether on the latest connection some event before this index is the first unanswered cause under its identifier.
+// Whether on the latest connection some event before this index is the first unanswered cause under its identifier.
 fn is_any_before<X: Exchange>(slots: &Table<Slot>, first: usize, before: &[Seen]) -> bool
     ensures { result ≡ some (λ m. nat_lt (length m.past) first && is_first_in X.exchange slots.now (length m.past) (note m)) (connection (reverse before.now)) }
 {
@@ -96,7 +96,7 @@ fn is_any_before<X: Exchange>(slots: &Table<Slot>, first: usize, before: &[Seen]
     false
 }
 
-/// Whether the event at the second index, which is below the first, is the first unanswered cause under its identifier.
+// Whether the event at the second index, which is below the first, is the first unanswered cause under its identifier.
 fn is_first_before<X: Exchange>(
     slots: &Table<Slot>,
     first: usize,

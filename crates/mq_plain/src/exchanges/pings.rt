@@ -68,7 +68,7 @@ impl SessionStatement for AnsweredPings {
     ghost says = { λ role. refl };
 }
 
-/// Whether an event is a REST that binds, and fewer PINGRESPs were sent before it on its connection than PINGREQs received.
+// Whether an event is a REST that binds, and fewer PINGRESPs were sent before it on its connection than PINGREQs received.
 #[tactic(auto, unfolding(mq_rules::specs::Exchanges::breaks_E7R))]
 fn lacks_pingresp(role: Role, event: &Seen, before: &[Seen]) -> bool
     ensures { result ≡ breaks_E7R role (newest event.now (reverse before.now)) }
@@ -78,7 +78,7 @@ fn lacks_pingresp(role: Role, event: &Seen, before: &[Seen]) -> bool
             < count_on_connection(&ReceivesPingreq, before)
 }
 
-/// How many events of the latest connection pass a test.
+// How many events of the latest connection pass a test.
 fn count_on_connection<T: NoteTest>(test: &T, before: &[Seen]) -> usize
     ensures { result ≡ count (λ m. T.test test.now (note m)) (connection (reverse before.now)) }
 {

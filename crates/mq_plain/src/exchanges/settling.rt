@@ -42,11 +42,11 @@ impl<X: Exchange> RestStatement for Settled<X> {
     ghost says = { X.says_settled };
 }
 
-/// The places of the events that are the first unanswered causes under their identifiers.
-///
-/// # Errors
-///
-/// `Memory` if there is no memory for them.
+// The places of the events that are the first unanswered causes under their identifiers.
+//
+// # Errors
+//
+// `Memory` if there is no memory for them.
 fn first_places<X: Exchange>(
     alloc: Global,
     slots: &Table<Slot>,

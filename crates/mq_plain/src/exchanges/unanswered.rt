@@ -37,7 +37,7 @@ pub fn unanswered<X: Exchange>(alloc: Global, before: &[Seen]) -> Result<Table<S
     Ok(slots)
 }
 
-/// Takes in an event as a cause. It is at this index, before all that was taken in.
+// Takes in an event as a cause. It is at this index, before all that was taken in.
 fn take_cause<X: Exchange>(slots: &mut Table<Slot>, index: usize, note: &Note)
     ensures { (i : ℕ) → at slots.new i ≡ asking_at (is_id i (X.exchange.cause note.now)) index (at slots.old i) }
 {
@@ -47,7 +47,7 @@ fn take_cause<X: Exchange>(slots: &mut Table<Slot>, index: usize, note: &Note)
     }
 }
 
-/// Takes in an event as an answer. It comes before all that was taken in.
+// Takes in an event as an answer. It comes before all that was taken in.
 fn take_answer<X: Exchange>(slots: &mut Table<Slot>, note: &Note)
     ensures { (i : ℕ) → at slots.new i ≡ answered (is_id i (X.exchange.answer note.now)) (at slots.old i) }
 {

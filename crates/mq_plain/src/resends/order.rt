@@ -16,14 +16,14 @@ use crate::table::Table;
 use mq_rules::{Fate, Memory, Note, Role, Rule, Seen};
 use std::alloc::Global;
 
-/// Whether an event opens an identifier, and is in the session.
+// Whether an event opens an identifier, and is in the session.
 fn opens_it(is_in: bool, identifier: u16, note: &Note) -> bool
     ensures { result ≡ (is_in && is_id identifier (opener_of note.now)) }
 {
     is_in && Opens(identifier).passes(note)
 }
 
-/// Whether an event opens an identifier that is in the table, and is in the session.
+// Whether an event opens an identifier that is in the table, and is in the session.
 fn opens_resent(is_in: bool, resent: &Table<bool>, note: &Note) -> bool
     ensures { result ≡ (is_in && is_some_and (at resent.now) (opener_of note.now)) }
 {
@@ -33,7 +33,7 @@ fn opens_resent(is_in: bool, resent: &Table<bool>, note: &Note) -> bool
     }
 }
 
-/// Removes the identifier that an event closes, if the event is in the session.
+// Removes the identifier that an event closes, if the event is in the session.
 fn forget_closed(resent: &mut Table<bool>, is_in: bool, note: &Note)
     ensures { (o : ℕ) → at resent.new o ≡ (not (is_in && is_id o (closer_of note.now)) && at resent.old o) }
 {
@@ -45,7 +45,7 @@ fn forget_closed(resent: &mut Table<bool>, is_in: bool, note: &Note)
     }
 }
 
-/// Adds the identifier that an event sends again, if the event is on the latest connection.
+// Adds the identifier that an event sends again, if the event is on the latest connection.
 fn keep_resent(resent: &mut Table<bool>, is_on: bool, note: &Note)
     ensures { (o : ℕ) → at resent.new o ≡ ((is_on && is_id o (resend_of note.now)) || at resent.old o) }
 {
@@ -57,16 +57,16 @@ fn keep_resent(resent: &mut Table<bool>, is_on: bool, note: &Note)
     }
 }
 
-/// Whether what comes before an event is on the latest connection; the flag says the same of the event.
+// Whether what comes before an event is on the latest connection; the flag says the same of the event.
 fn is_on_before(is_on: bool, note: &Note) -> bool
     ensures { result ≡ (is_on && not (is_open note.now)) }
 {
     is_on && !note.is_open()
 }
 
-/// Whether something was sent again on the latest connection, which has this fate, that was open then and was opened after this
-/// identifier, which is open. Looking back, the table, empty at first, has what was sent again on the connection and not closed
-/// since: if an opener of it is found before this identifier's opener, that opener is the later one.
+// Whether something was sent again on the latest connection, which has this fate, that was open then and was opened after this
+// identifier, which is open. Looking back, the table, empty at first, has what was sent again on the connection and not closed
+// since: if an opener of it is found before this identifier's opener, that opener is the later one.
 fn is_passed(
     resent: &mut Table<bool>,
     role: Role,
@@ -99,11 +99,11 @@ fn is_passed(
     false
 }
 
-/// Whether an identifier is open, and on the latest connection something that was opened later was sent again while it was open.
-///
-/// # Errors
-///
-/// `Memory` if there is no memory to look back.
+// Whether an identifier is open, and on the latest connection something that was opened later was sent again while it was open.
+//
+// # Errors
+//
+// `Memory` if there is no memory to look back.
 fn is_late(
     alloc: Global,
     role: Role,
@@ -120,11 +120,11 @@ fn is_late(
     Ok(is_passed(&mut resent, role, fate, identifier, before))
 }
 
-/// Whether a packet sends again what is open, after something that was opened later.
-///
-/// # Errors
-///
-/// `Memory` if there is no memory to look back.
+// Whether a packet sends again what is open, after something that was opened later.
+//
+// # Errors
+//
+// `Memory` if there is no memory to look back.
 #[tactic(auto, unfolding(mq_rules::specs::Identifiers::breaks_S05))]
 fn resends_late(
     alloc: Global,

@@ -20,8 +20,8 @@ returns-then-is_open c = λ i.
     let parts : c.loop-event.earlier.now ≡ rest ++ e ∷ [] = search rules in
     let front : reverse c.loop-event.earlier.now ≡ e ∷ reverse rest = ap reverse parts ∙ reverse-append rest (e ∷ []) in
     let opens : is_open e.note ≡ true = search rules in
-    again-open i e (reverse rest) (at c.loop-event.again i) (at c.key.new.marked i) (at c.key-in-Some.new.marked i) (is_id i c.sent_pubrel.result)
-    (c.key.ensures i ∙ ap (λ o. is_id i o || at c.loop-event.again i) c.delivery.ensures) (c.key-in-Some.ensures i) (ap (is_id i) c.sent_pubrel.ensures) opens
+    again-open i e (reverse rest) (at c.loop-event.again i) (at c.mark.new.marked i) (at c.mark-in-Some.new.marked i) (is_id i c.sent_pubrel.result)
+    (c.mark.ensures i ∙ ap (λ o. is_id i o || at c.loop-event.again i) c.delivery.ensures) (c.mark-in-Some.ensures i) (ap (is_id i) c.sent_pubrel.ensures) opens
     ∙ ap (λ es. at c.loop-event.again i || some (λ m. sends_under i (note m)) (connection es)) (sym front) ∙ c.loop-event.invariant i
 
 pub loop-event-preserved : goal.loop-event-preserved
@@ -31,6 +31,6 @@ loop-event-preserved c = λ i.
     let parts : c.loop-event.earlier.now ≡ rest ++ e ∷ [] = search rules in
     let front : reverse c.loop-event.earlier.now ≡ e ∷ reverse rest = ap reverse parts ∙ reverse-append rest (e ∷ []) in
     let opens : is_open e.note ≡ false = search rules in
-    again-on i e (reverse rest) (at c.loop-event.again i) (at c.key.new.marked i) (at c.key-in-Some.new.marked i) (is_id i c.sent_pubrel.result)
-    (c.key.ensures i ∙ ap (λ o. is_id i o || at c.loop-event.again i) c.delivery.ensures) (c.key-in-Some.ensures i) (ap (is_id i) c.sent_pubrel.ensures) opens
+    again-on i e (reverse rest) (at c.loop-event.again i) (at c.mark.new.marked i) (at c.mark-in-Some.new.marked i) (is_id i c.sent_pubrel.result)
+    (c.mark.ensures i ∙ ap (λ o. is_id i o || at c.loop-event.again i) c.delivery.ensures) (c.mark-in-Some.ensures i) (ap (is_id i) c.sent_pubrel.ensures) opens
     ∙ ap (λ es. at c.loop-event.again i || some (λ m. sends_under i (note m)) (connection es)) (sym front) ∙ c.loop-event.invariant i

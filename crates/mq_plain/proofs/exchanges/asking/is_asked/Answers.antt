@@ -36,6 +36,6 @@ loop-event-preserved g c =
           (is_in && is_id i (x.cause e.note)) (is_in && (is_id i (x.answer e.note) && c.loop-event.is_latest)) asks ends none
           c.begins_at.ensures c.if-begins_at.false c.fate_before-fate.ensures)
           ∙ c.loop-event.invariant.left;
-      latest = c.is_latest_before-is_latest.ensures ∙ latest_before n e (reverse rest) c.loop-event.is_latest within latest;
+      latest = c.stays_latest-is_latest.ensures ∙ latest_before n e (reverse rest) c.loop-event.is_latest within latest;
       within = within_before n e (reverse rest) within;
     }

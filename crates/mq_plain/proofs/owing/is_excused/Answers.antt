@@ -4,7 +4,7 @@ use Rattle.mq_rules.specs.Moments.{newest}
 use Rattle.mq_rules.specs.Identifiers.{has_announced}
 use Rattle.mq_plain.specs.Handshakes.{bounds_sending}
 use Rattle.mq_plain.proofs.HandshakeLaws.{announced-next}
-use Rattle.mq_plain.proofs.owing.is_lenient.Goals as goal
+use Rattle.mq_plain.proofs.owing.is_excused.Goals as goal
 
 pub returns-then-is_used_up : goal.returns-then-is_used_up
 returns-then-is_used_up c = λ rest.
