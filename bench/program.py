@@ -112,7 +112,7 @@ Options:
   -h, --help     Print help
   -V, --version  Print version
 
-Statuses: 0 for a pass, 1 for faults, 2 for a rejected log, 3 for misuse,
+Statuses: 0 for a pass, 1 for faults, 2 for a refused log, 3 for misuse,
 4 if reading or writing failed or memory ran out.
 Example: mqjudge check session.log
 The log's format: docs/LOG_FORMAT.md
@@ -130,7 +130,7 @@ Options:
       --summary  Report a line for each statement that has faults
   -h, --help     Print help
 
-Statuses: 0 for no fault, 1 for faults, 2 for a rejected log, 3 for misuse,
+Statuses: 0 for no fault, 1 for faults, 2 for a refused log, 3 for misuse,
 4 if reading or writing failed or memory ran out.
 Example: mqjudge check --json session.log
 The log's format: docs/LOG_FORMAT.md
@@ -149,7 +149,7 @@ Options:
       --around <N>  With --faults: only the events within N positions of a fault
   -h, --help        Print help
 
-Statuses: 0 if the log was shown, 2 for a rejected log, 3 for misuse,
+Statuses: 0 if the log was shown, 2 for a refused log, 3 for misuse,
 4 if reading or writing failed or memory ran out.
 Example: mqjudge show --faults --around 3 session.log
 The log's format: docs/LOG_FORMAT.md
@@ -166,7 +166,7 @@ Arguments:
 Options:
   -h, --help  Print help
 
-Statuses: 0 if the log was converted, 2 for a rejected log, 3 for misuse,
+Statuses: 0 if the log was converted, 2 for a refused log, 3 for misuse,
 4 if reading or writing failed or memory ran out.
 Example: mqjudge convert session.log session-2.log
 The log's format: docs/LOG_FORMAT.md

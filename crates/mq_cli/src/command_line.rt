@@ -13,18 +13,18 @@ use clap::{Arg, ArgAction, ArgMatches, Command, Error};
 use std::alloc::{AllocError, Global};
 use std::convert::AsStr;
 
-const HELP: &str = "Statuses: 0 for a pass, 1 for faults, 2 for a rejected log, 3 for misuse,\n\
+const HELP: &str = "Statuses: 0 for a pass, 1 for faults, 2 for a refused log, 3 for misuse,\n\
     4 if reading or writing failed or memory ran out.\n\
     Example: mqjudge check session.log\n\
     The log's format: docs/LOG_FORMAT.md";
 
 const CHECK_HELP: &str =
-    "Statuses: 0 for no fault, 1 for faults, 2 for a rejected log, 3 for misuse,\n\
+    "Statuses: 0 for no fault, 1 for faults, 2 for a refused log, 3 for misuse,\n\
     4 if reading or writing failed or memory ran out.\n\
     Example: mqjudge check --json session.log\n\
     The log's format: docs/LOG_FORMAT.md";
 
-const SHOW_HELP: &str = "Statuses: 0 if the log was shown, 2 for a rejected log, 3 for misuse,\n\
+const SHOW_HELP: &str = "Statuses: 0 if the log was shown, 2 for a refused log, 3 for misuse,\n\
     4 if reading or writing failed or memory ran out.\n\
     Example: mqjudge show --faults --around 3 session.log\n\
     The log's format: docs/LOG_FORMAT.md";
@@ -45,7 +45,7 @@ const EXPLAIN_HELP: &str = "Statuses: 0 if it was explained, 3 for misuse or an 
     The log's format: docs/LOG_FORMAT.md";
 
 const CONVERT_HELP: &str =
-    "Statuses: 0 if the log was converted, 2 for a rejected log, 3 for misuse,\n\
+    "Statuses: 0 if the log was converted, 2 for a refused log, 3 for misuse,\n\
     4 if reading or writing failed or memory ran out.\n\
     Example: mqjudge convert session.log session-2.log\n\
     The log's format: docs/LOG_FORMAT.md";

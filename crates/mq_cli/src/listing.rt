@@ -58,14 +58,14 @@ fn add_line(text: &mut String, rule: Rule, role: Option<Role>) -> Result<(), All
     ensures { OnOk result (string_bytes text.new ≡ string_bytes text.old ++ listed_line role rule) }
 {
     if is_listed(rule, role) {
-        put_line(text, rule, role)
+        put_rule_line(text, rule, role)
     } else {
         Ok(())
     }
 }
 
 // Appends the line of a statement to the text.
-fn put_line(text: &mut String, rule: Rule, role: Option<Role>) -> Result<(), AllocError>
+fn put_rule_line(text: &mut String, rule: Rule, role: Option<Role>) -> Result<(), AllocError>
     ensures { OnOk result (string_bytes text.new ≡ string_bytes text.old ++ statement_line role rule) }
 {
     text.push_str(rule.code())?;

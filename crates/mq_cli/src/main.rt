@@ -4,44 +4,24 @@
 mod beginning;
 mod citations;
 mod command_line;
-#[cfg(test)]
-mod convert_tests;
 mod converting;
-#[cfg(test)]
-mod desk;
 mod digits;
 mod error_stream;
 mod explanations;
 mod failure;
-#[cfg(test)]
-mod harness;
 mod host;
-#[cfg(test)]
-mod large_tests;
 mod listing;
 mod meter;
 mod misuse;
 mod new_file;
 mod noting;
 mod output;
-#[cfg(test)]
-mod packet_tests;
-#[cfg(test)]
-mod printing_tests;
 mod program;
-#[cfg(test)]
-mod program_tests;
-#[cfg(test)]
-mod review_tests;
 mod reviewing;
-#[cfg(test)]
-mod show_tests;
 mod tasks;
 #[cfg(test)]
 mod tests;
 mod trouble;
-#[cfg(test)]
-mod trouble_tests;
 mod writing;
 
 use failure::Failure;

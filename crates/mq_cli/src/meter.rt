@@ -43,12 +43,12 @@ impl<E: Write> Meter<E> {
         if self.is_shown && self.due <= self.bytes {
             self.due = self.bytes.saturating_add(STEP);
             // A line that the terminal doesn't take is left out.
-            let _ = self.put_line(faults);
+            let _ = self.put_progress(faults);
         }
     }
 
     // Writes the line in place of the one before.
-    fn put_line(&mut self, faults: usize) -> io::Result<()> {
+    fn put_progress(&mut self, faults: usize) -> io::Result<()> {
         let megabytes = self.bytes / MEGABYTE;
         write!(
             self.error,

@@ -1,7 +1,8 @@
+//! `rules` and `explain`.
+use super::harness::printed_by;
 use crate::command_line::EarlyExit;
 use crate::explanations::explanation;
 use crate::failure::{MISUSED, PASSED};
-use crate::harness::printed_by;
 use mq_rules::{Role, Rule};
 use std::alloc::Global;
 use std::io;

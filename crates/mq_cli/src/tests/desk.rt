@@ -1,6 +1,6 @@
 //! A host for tests.
+use super::harness::{Narrow, Trickle};
 use crate::failure::Failure;
-use crate::harness::{Narrow, Trickle};
 use crate::host::Host;
 use crate::new_file::NewFile;
 use crate::output::Outlet;

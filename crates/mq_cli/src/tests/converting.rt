@@ -1,5 +1,6 @@
+//! `convert`: what it writes, and its status where a read, a write or a save fails.
+use super::desk::{Desk, GOOD, does};
 use crate::converting::perform_convert;
-use crate::desk::{Desk, GOOD, does};
 use crate::output::Outlet;
 
 /// A session of four events, `GOOD` in version 2.

@@ -1,9 +1,10 @@
-use crate::command_line::Task;
-use crate::failure::{FAILED, PASSED, REFUSED};
-use crate::harness::{
+//! `show`.
+use super::harness::{
     NESTED, Narrow, Trickle, WHOLE_LOG, is_failed_write, is_misuse, is_written, printed_by,
     status_by, task_of,
 };
+use crate::command_line::Task;
+use crate::failure::{FAILED, PASSED, REFUSED};
 use std::io::Cursor;
 use std::test::Fail;
 

@@ -1,6 +1,7 @@
+//! `show --faults`.
+use super::harness::{CONNECTED, CONNECTED_LINES, NESTED, Narrow, Trickle, add_record};
 use crate::command_line::{Work, parse};
 use crate::failure::{Failure, PASSED, REFUSED};
-use crate::harness::{CONNECTED, CONNECTED_LINES, NESTED, Narrow, Trickle, add_record};
 use crate::reviewing::{Plan, show_twice};
 use std::alloc::Global;
 use std::fmt::Write as _;

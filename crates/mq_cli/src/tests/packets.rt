@@ -1,8 +1,9 @@
-use crate::command_line::{EarlyExit, Task};
-use crate::failure::{FAILED, FAULTY, MISUSED, PASSED};
-use crate::harness::{
+//! `packet`.
+use super::harness::{
     Narrow, Printed, is_failed_write, is_misuse, is_written, printed_by, status_by, task_of,
 };
+use crate::command_line::{EarlyExit, Task};
+use crate::failure::{FAILED, FAULTY, MISUSED, PASSED};
 use std::alloc::Global;
 use std::io;
 use std::io::Cursor;

@@ -1,5 +1,6 @@
-use crate::desk::{Desk, FAULTY, GOOD};
-use crate::harness::NESTED;
+//! The whole program, with files, outputs and a clock of its own.
+use super::desk::{Desk, FAULTY, GOOD};
+use super::harness::NESTED;
 use crate::output::Outlet;
 use crate::program::run;
 use crate::trouble::Trouble;

@@ -1,6 +1,7 @@
+//! Files that can't be read, and what is said of them.
+use super::desk::{Desk, FAULTY, GOOD, does};
+use super::harness::{Narrow, Trickle};
 use crate::beginning::read_start;
-use crate::desk::{Desk, FAULTY, GOOD, does};
-use crate::harness::{Narrow, Trickle};
 use crate::noting::Noting;
 use crate::output::Outlet;
 use crate::program::run;
