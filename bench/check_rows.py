@@ -18,7 +18,7 @@ sys.dont_write_bytecode = True  # the repository stays as it is
 from judges import judges
 
 TOP = Path(__file__).resolve().parent.parent
-FOLDER = TOP / "crates/mq_judge/src/statement_tests"
+FOLDER = TOP / "crates/mq_judge/src/tests/statements"
 TEXT = r'("(?:[^"\\]|\\.)*")'
 TABLE = re.compile(r'pub const \w+: &str = "\\\n(.*?)";', re.DOTALL)
 HEADERS = {"client": "000100", "server": "010100", "silent-client": "000000"}

@@ -21,7 +21,7 @@ use Rattle.mq_judge.specs.declared.report.RunFault.{RunFault}
 use Rattle.mq_judge.specs.declared.report.RunFault.TheVariants as run_faults
 use Rattle.mq_judge.specs.Calendar.{time_words}
 use Rattle.mq_judge.specs.Details.{detail_text, broken_detail_text}
-use Rattle.mq_judge.specs.declared.report.summary.PacketSummary.{PacketSummary}
+use Rattle.mq_judge.specs.declared.report.packet_summary.PacketSummary.{PacketSummary}
 use Rattle.mq_judge.specs.ItemText.{item_text, packet_text}
 use Rattle.mq_judge.specs.Report.{line}
 use Rattle.mq_judge.specs.Runner.{default_limit, IsJudged}

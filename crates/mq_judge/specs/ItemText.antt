@@ -3,8 +3,8 @@ use Rattle.std.specs.Prelude.{ℕ, Bool, true, false, List, [], ◌∷◌, ◌++
 use Rattle.mq_packet.specs.declared.rule.PacketRule.{PacketRule}
 use Rattle.mq_packet.specs.declared.rule.PacketRule.TheVariants as packet_rules
 use Rattle.mq_trace.specs.Events.{Item, packet as whole_item, bad as broken_item, lost as lost_item}
-use Rattle.mq_judge.specs.declared.report.summary.PacketSummary.{PacketSummary}
-use Rattle.mq_judge.specs.declared.report.summary.PacketSummary.TheVariants.{Connect, Connack, Publish, Puback, Pubrec, Pubrel, Pubcomp, Subscribe, Suback, Unsubscribe, Unsuback, Pingreq, Pingresp, Disconnect, Auth}
+use Rattle.mq_judge.specs.declared.report.packet_summary.PacketSummary.{PacketSummary}
+use Rattle.mq_judge.specs.declared.report.packet_summary.PacketSummary.TheVariants.{Connect, Connack, Publish, Puback, Pubrec, Pubrel, Pubcomp, Subscribe, Suback, Unsubscribe, Unsuback, Pingreq, Pingresp, Disconnect, Auth}
 use Rattle.mq_judge.specs.Summaries.{packet_summary}
 use Rattle.mq_trace.specs.Refusing.{spaced}
 use Rattle.mq_rules.specs.Notes.{qos_number}

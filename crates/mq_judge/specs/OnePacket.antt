@@ -8,8 +8,8 @@ use Rattle.mq_packet.specs.Entries.{Entry}
 use Rattle.mq_packet.specs.Frames.{BeginsWithFrame, cut_of}
 use Rattle.mq_packet.specs.Decoding.{decoded}
 use Rattle.mq_packet.specs.Spelled.{IsSpelled}
-use Rattle.mq_judge.specs.declared.packet_line.Finding.{Finding}
-use Rattle.mq_judge.specs.declared.packet_line.Finding.TheVariants.{NeedMore, LeftOver, Packet, Broken, Lost, OtherVersion}
+use Rattle.mq_judge.specs.declared.finding.Finding.{Finding}
+use Rattle.mq_judge.specs.declared.finding.Finding.TheVariants.{NeedMore, LeftOver, Packet, Broken, Lost, OtherVersion}
 use Rattle.mq_judge.specs.Summaries.{packet_summary}
 use Rattle.mq_judge.specs.ItemText.{packet_text, broken_text, lost_text}
 use Rattle.mq_trace.specs.Refusing.{spaced}

@@ -5,8 +5,8 @@ use Rattle.mq_packet.specs.declared.packet.AcknowledgementKind.TheVariants as ac
 use Rattle.mq_packet.specs.declared.packet.RequestKind.{RequestKind}
 use Rattle.mq_packet.specs.declared.packet.RequestKind.TheVariants as requests
 use Rattle.mq_packet.specs.Entries.{Entry, connect, connack, publish, acknowledgement, request, answer, pingreq, pingresp, disconnect, auth}
-use Rattle.mq_judge.specs.declared.report.summary.PacketSummary.{PacketSummary}
-use Rattle.mq_judge.specs.declared.report.summary.PacketSummary.TheVariants as summaries
+use Rattle.mq_judge.specs.declared.report.packet_summary.PacketSummary.{PacketSummary}
+use Rattle.mq_judge.specs.declared.report.packet_summary.PacketSummary.TheVariants as summaries
 
 -- what a line says of an acknowledgement (MQTT 5.0, sections 3.4 to 3.7)
 abbrev pub acknowledgement_summary : AcknowledgementKind → ℕ → ℕ → PacketSummary

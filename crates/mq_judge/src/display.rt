@@ -10,8 +10,8 @@ ghost use Rattle.mq_trace.specs.declared.refusal.Refusal.TheVariants as refusals
 
 mod annotated;
 mod calendar;
-mod details;
-mod outgoing;
+pub mod details;
+pub mod outgoing;
 mod view;
 
 use self::annotated::Annotated;
@@ -230,7 +230,7 @@ pub fn show<R: Read, W: Write>(
     ensures { IfSome (R.remaining reader.old) (λ log. Shows (short_lines_of (is_timed log)) log (R.remaining reader.new) result (W.contents writer.old) (W.contents writer.new)) }
 {
     let mut out = Outgoing::to(writer);
-    show_by(alloc, View::Brief, reader, &mut out)
+    show_view(alloc, View::Brief, reader, &mut out)
 }
 
 /// The same with long lines: the words of each line are followed by the other fields of its packet and its properties, each by its name.
@@ -250,7 +250,7 @@ pub fn show_long<R: Read, W: Write>(
     ensures { IfSome (R.remaining reader.old) (λ log. Shows (long_lines_of (is_timed log)) log (R.remaining reader.new) result (W.contents writer.old) (W.contents writer.new)) }
 {
     let mut out = Outgoing::to(writer);
-    show_by(alloc, View::Long, reader, &mut out)
+    show_view(alloc, View::Long, reader, &mut out)
 }
 
 /// Writes the events of the log that a reader gives, as `show` does, or as `show_long` if `long` is true, and under each the faults at its position, a
@@ -283,11 +283,11 @@ pub fn show_faults<R: Read, W: Write>(
         begins_gap: true,
     });
     let mut out = Outgoing::to(writer);
-    show_by(alloc, view, reader, &mut out)
+    show_view(alloc, view, reader, &mut out)
 }
 
-/// Shows all that a reader gives, from a view that has shown nothing yet, by an `Outgoing` without text.
-fn show_by<R: Read, W: Write>(
+// Shows all that a reader gives, from a view that has shown nothing yet, by an `Outgoing` without text.
+fn show_view<R: Read, W: Write>(
     alloc: Global,
     view: View<'_>,
     reader: &mut R,
@@ -310,7 +310,7 @@ fn show_by<R: Read, W: Write>(
     show_all::<R, W, Brand>(&mut showing, &mut display, reader, u32::MAX)
 }
 
-/// Shows all that a reader gives in at most `turns` turns, from a sink that has received nothing yet, to the writer that was picked.
+// Shows all that a reader gives in at most `turns` turns, from a sink that has received nothing yet, to the writer that was picked.
 fn show_all<R: Read, W: Write, K: Given>(
     showing: &mut Showing,
     display: &mut Display<'_, '_, '_, W, K>,
@@ -338,7 +338,7 @@ fn show_all<R: Read, W: Write, K: Given>(
     }
 }
 
-/// Ends the log that a tracer was fed.
+// Ends the log that a tracer was fed.
 fn end(tracer: &mut Tracer) -> Result<(), RunFault>
     ensures ok { OnOk result ((log : List ℕ) → IsTracedTo tracer.old log → is_cut_short log ≡ false) }
     ensures refused { IfErr result (λ fault. (log : List ℕ) → IsTracedTo tracer.old log

@@ -173,7 +173,7 @@ impl Judge {
     }
 }
 
-/// Takes in a piece of a log: first what belongs to its header, which names the end that is judged, and then the rest, in which events are complete.
+// Takes in a piece of a log: first what belongs to its header, which names the end that is judged, and then the rest, in which events are complete.
 fn consume(tracer: &mut Tracer, judging: &mut Judging<Brand>, piece: &[u8]) -> Result<(), Refusal>
     ensures answers { (limit : ℕ) (log : List ℕ) → FollowsBy limit tracer.old judging.old.watching log → JudgesPieceBy limit tracer.new judging.new.watching log piece.now result }
     ensures refuses { IfErr result (λ refusal. tracer.new.refusal ≡ Some refusal) }
@@ -188,7 +188,7 @@ fn consume(tracer: &mut Tracer, judging: &mut Judging<Brand>, piece: &[u8]) -> R
     }
 }
 
-/// Takes in a piece of a log of the end that is picked.
+// Takes in a piece of a log of the end that is picked.
 fn take_events<K: End>(
     tracer: &mut Tracer,
     judging: &mut Judging<K>,

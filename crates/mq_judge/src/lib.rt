@@ -3,48 +3,29 @@
 
 mod display;
 mod feeding;
+mod finding;
 mod judge;
 mod laws;
 mod lines;
-mod packet_line;
 mod progress;
 mod report;
 mod runner;
 mod watching;
 
 pub use display::{show, show_faults, show_long};
+pub use finding::write_packet;
 pub use judge::{Judge, Options, Verdict};
 pub use laws::{
     converted_logs_have_the_same_report, dates_are_exact, known_faults_stay, worked_times,
 };
 pub use mq_rules::{Fault, FaultKey, Faults, Memory, Role, Rule, Tested};
 pub use mq_trace::{ConvertFault, Refusal, convert};
-pub use packet_line::write_packet;
 pub use progress::Progress;
 pub use report::json::write_json;
-pub use report::summing::write_summary;
-pub use report::{Form, Outcome, RunFault, write_refused, write_text};
+pub use report::summary::write_summary;
+pub use report::text::write_text;
+pub use report::{Form, Outcome, RunFault, write_refused};
 pub use runner::{judge_reader, run, run_bounded, run_watched};
 
-#[cfg(test)]
-mod debts_tests;
-#[cfg(test)]
-mod display_tests;
-#[cfg(test)]
-mod early_tests;
-#[cfg(test)]
-mod example_tests;
-#[cfg(test)]
-mod harness;
-#[cfg(test)]
-mod log_tests;
-#[cfg(test)]
-mod moment_tests;
-#[cfg(test)]
-mod plain_tests;
-#[cfg(test)]
-mod rule_tests;
-#[cfg(test)]
-mod statement_tests;
 #[cfg(test)]
 mod tests;

@@ -74,8 +74,8 @@ impl Watching {
         replace(&mut self.faults, Faults::new(self.alloc))
     }
 
-    /// Counts the next event, if the watchers need not take it in: it changes nothing that they keep, and shows no fault. If it returns
-    /// false, nothing has changed.
+    // Counts the next event, if the watchers need not take it in: it changes nothing that they keep, and shows no fault. If it returns
+    // false, nothing has changed.
     #[inline(always)]
     fn pass_over(&mut self, place: Place3, note: &Note) -> bool
         ensures tested { self.new.tested ≡ self.old.tested }
@@ -89,11 +89,11 @@ impl Watching {
         true
     }
 
-    /// Takes in the next event, and finds the faults that it shows.
-    ///
-    /// # Errors
-    ///
-    /// `Memory` if there is no memory for a fault, or for what is kept. The faults are then those of the events before it, and nothing more can be taken in.
+    // Takes in the next event, and finds the faults that it shows.
+    //
+    // # Errors
+    //
+    // `Memory` if there is no memory for a fault, or for what is kept. The faults are then those of the events before it, and nothing more can be taken in.
     fn take_in(&mut self, place: Place3, note: &Note) -> Result<(), Memory>
         ensures tested { self.new.tested ≡ self.old.tested }
         ensures ok { OnOk result (TakesIn self.old self.new place note.now) }
@@ -111,7 +111,7 @@ impl Watching {
         }
     }
 
-    /// Counts a PINGREQ or PINGRESP that need not be taken in. If it returns false, nothing has changed.
+    // Counts a PINGREQ or PINGRESP that need not be taken in. If it returns false, nothing has changed.
     #[inline(always)]
     fn pass_ping(
         &mut self,
@@ -130,8 +130,8 @@ impl Watching {
         }
     }
 
-    /// Counts a PUBLISH that has these fields, a short Topic Name, and no properties, if it need not be taken in. If it returns false,
-    /// nothing has changed.
+    // Counts a PUBLISH that has these fields, a short Topic Name, and no properties, if it need not be taken in. If it returns false,
+    // nothing has changed.
     #[inline(always)]
     fn pass_bare_publish(
         &mut self,
@@ -154,7 +154,7 @@ impl Watching {
 
     // What makes a note that is taken in is a call of its own: a note that a function makes lies in memory on all ways through it.
 
-    /// Makes a note of an event, and takes it in.
+    // Makes a note of an event, and takes it in.
     #[inline(never)]
     fn take_event(&mut self, place: Place3, event: &Event<'_>) -> Result<(), Memory>
         ensures tested { self.new.tested ≡ self.old.tested }
@@ -167,7 +167,7 @@ impl Watching {
         self.take_in(place, &note)
     }
 
-    /// Makes a note of a packet, and takes it in. It takes the packet by value: one that a call looks at lies in memory on all ways to it.
+    // Makes a note of a packet, and takes it in. It takes the packet by value: one that a call looks at lies in memory on all ways to it.
     #[inline(never)]
     fn take_packet(
         &mut self,
@@ -186,7 +186,7 @@ impl Watching {
         self.take_in(place, &note)
     }
 
-    /// Makes a note of a PUBLISH that has these fields, a short Topic Name, and no properties, and takes it in.
+    // Makes a note of a PUBLISH that has these fields, a short Topic Name, and no properties, and takes it in.
     #[inline(never)]
     fn take_bare_publish(
         &mut self,
@@ -207,11 +207,11 @@ impl Watching {
         self.take_in(place, &note)
     }
 
-    /// Takes in the next event, a packet.
-    ///
-    /// # Errors
-    ///
-    /// As in `take_in`.
+    // Takes in the next event, a packet.
+    //
+    // # Errors
+    //
+    // As in `take_in`.
     #[inline(always)]
     fn receive_packet(
         &mut self,
@@ -230,11 +230,11 @@ impl Watching {
         self.take_packet(place, direction, size, packet)
     }
 
-    /// Takes in the next event, a PUBLISH that has these fields, a short Topic Name, and no properties.
-    ///
-    /// # Errors
-    ///
-    /// As in `take_in`.
+    // Takes in the next event, a PUBLISH that has these fields, a short Topic Name, and no properties.
+    //
+    // # Errors
+    //
+    // As in `take_in`.
     #[inline(always)]
     fn receive_bare_publish(
         &mut self,

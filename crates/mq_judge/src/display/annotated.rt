@@ -52,7 +52,7 @@ impl Annotated<'_> {
     }
 }
 
-/// Appends what is shown of an event that is shown, or left out.
+// Appends what is shown of an event that is shown, or left out.
 fn put_event<W: Write>(
     out: &mut Outgoing<'_, W>,
     view: &Annotated<'_>,
@@ -71,7 +71,7 @@ fn put_event<W: Write>(
     }
 }
 
-/// Appends the line of an event at its place, and those of the faults at it.
+// Appends the line of an event at its place, and those of the faults at it.
 fn put_noted_line<W: Write>(
     out: &mut Outgoing<'_, W>,
     view: &Annotated<'_>,
@@ -85,7 +85,7 @@ fn put_noted_line<W: Write>(
     put_notes(out, view.faults, view.role, timed, place);
 }
 
-/// Whether a position is within `around` positions of a fault; with `None` any is.
+// Whether a position is within `around` positions of a fault; with `None` any is.
 fn is_near(faults: &Faults, around: Option<u32>, position: u32) -> bool
     ensures { result ≡ is_near around (map.entries faults.now) position }
 {
@@ -98,7 +98,7 @@ fn is_near(faults: &Faults, around: Option<u32>, position: u32) -> bool
     }
 }
 
-/// Appends the line of an event at its place: the long one, or the short one with the bytes of a packet that breaks a rule.
+// Appends the line of an event at its place: the long one, or the short one with the bytes of a packet that breaks a rule.
 fn put_shown_line<W: Write>(
     out: &mut Outgoing<'_, W>,
     timed: bool,
@@ -115,7 +115,7 @@ fn put_shown_line<W: Write>(
     }
 }
 
-/// Appends the line for a run of events that are left out, if this one begins it.
+// Appends the line for a run of events that are left out, if this one begins it.
 fn put_gap<W: Write>(out: &mut Outgoing<'_, W>, begins: bool)
     ensures { Puts W.contents out.old (if begins then line (codes "..") else []) out.new }
 {
@@ -124,7 +124,7 @@ fn put_gap<W: Write>(out: &mut Outgoing<'_, W>, begins: bool)
     }
 }
 
-/// Appends the lines of the faults at an event with this place, in a log whose records have moments if `timed` is true.
+// Appends the lines of the faults at an event with this place, in a log whose records have moments if `timed` is true.
 fn put_notes<W: Write>(
     out: &mut Outgoing<'_, W>,
     faults: &Faults,
@@ -140,8 +140,8 @@ fn put_notes<W: Write>(
     }
 }
 
-/// Appends the line of a fault: its statement and what that says, where the fault was decided if that is at a later event, where in its packet it is,
-/// and this moment as a time.
+// Appends the line of a fault: its statement and what that says, where the fault was decided if that is at a later event, where in its packet it is,
+// and this moment as a time.
 fn put_note<W: Write>(
     out: &mut Outgoing<'_, W>,
     role: Role,
@@ -159,7 +159,7 @@ fn put_note<W: Write>(
     out.put("\n");
 }
 
-/// Appends the words on a statement that is broken by an end in this role.
+// Appends the words on a statement that is broken by an end in this role.
 fn put_statement<W: Write>(out: &mut Outgoing<'_, W>, role: Role, rule: Rule)
     ensures { Puts W.contents out.old (statement_words role rule) out.new }
 {
@@ -171,7 +171,7 @@ fn put_statement<W: Write>(out: &mut Outgoing<'_, W>, role: Role, rule: Rule)
     out.put(rule.sentence());
 }
 
-/// Appends the words on where the fault at a position was decided, if that is at a later event.
+// Appends the words on where the fault at a position was decided, if that is at a later event.
 fn put_decided<W: Write>(out: &mut Outgoing<'_, W>, position: u32, decided: u32)
     ensures { Puts W.contents out.old (decided_words position decided) out.new }
 {
@@ -182,7 +182,7 @@ fn put_decided<W: Write>(out: &mut Outgoing<'_, W>, position: u32, decided: u32)
     }
 }
 
-/// Appends the words on where in its packet a fault is, if it is on a packet's bytes.
+// Appends the words on where in its packet a fault is, if it is on a packet's bytes.
 fn put_offset<W: Write>(out: &mut Outgoing<'_, W>, offset: Option<u32>)
     ensures { Puts W.contents out.old (offset_words offset) out.new }
 {

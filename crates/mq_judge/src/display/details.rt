@@ -333,6 +333,3 @@ fn put_code<W: Write>(out: &mut Outgoing<'_, W>, code: u8)
         },
     );
 }
-
-#[cfg(test)]
-mod tests;

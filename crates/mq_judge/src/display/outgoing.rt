@@ -61,7 +61,7 @@ impl<W: Write> Outgoing<'_, W> {
         ensures { Puts W.contents self.old (decimal number) self.new }
     {
         self.make_room();
-        self.failed = fails_to_put(self.failed, &mut self.lines, number);
+        self.failed = put_unless_failed(self.failed, &mut self.lines, number);
     }
 
     /// Appends bytes in the same way.
@@ -123,7 +123,7 @@ impl<W: Write> Outgoing<'_, W> {
         ensures { Puts W.contents self.old bytes.now self.new }
     {
         self.write_out();
-        self.failed = fails(self.failed, bytes, self.writer);
+        self.failed = write_unless_failed(self.failed, bytes, self.writer);
     }
 
     // Writes what waits.
@@ -131,13 +131,13 @@ impl<W: Write> Outgoing<'_, W> {
         ensures empty { self.new.lines ≡ [] }
         ensures puts { Puts W.contents self.old [] self.new }
     {
-        self.failed = fails(self.failed, self.lines.as_bytes(), self.writer);
+        self.failed = write_unless_failed(self.failed, self.lines.as_bytes(), self.writer);
         self.lines.clear();
     }
 }
 
 // Appends a number to what waits. Returns true if a write has failed before, or if there is no room: 160 bytes have room for any number.
-fn fails_to_put(failed: bool, lines: &mut Lines, number: u64) -> bool
+fn put_unless_failed(failed: bool, lines: &mut Lines, number: u64) -> bool
     ensures { result ≡ false → (failed ≡ false) × (lines.new ≡ lines.old ++ decimal number) }
 {
     match put_digits(lines, number) {
@@ -154,7 +154,7 @@ fn put_digits(lines: &mut Lines, number: u64) -> fmt::Result
 }
 
 // Writes bytes, if no write has failed before. Returns whether one has failed, now or before.
-fn fails<W: Write>(failed: bool, bytes: &[u8], writer: &mut W) -> bool
+fn write_unless_failed<W: Write>(failed: bool, bytes: &[u8], writer: &mut W) -> bool
     ensures written { result ≡ false → (failed ≡ false) × Appends (W.contents writer.old) (W.contents writer.new) bytes.now }
     ensures stopped { result ≡ true → StopsWriting failed (W.contents writer.old) (W.contents writer.new) bytes.now }
 {

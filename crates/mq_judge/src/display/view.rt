@@ -10,7 +10,7 @@ ghost use Rattle.mq_trace.specs.Reception.{event_of, packet_event_at, placed_at}
 
 use super::super::lines::Lines;
 use super::super::report::item::{put_item, put_packet};
-use super::super::report::summary::PacketSummary;
+use super::super::report::packet_summary::PacketSummary;
 use super::annotated::Annotated;
 use super::details::{put_broken_details, put_details};
 use super::outgoing::Outgoing;
@@ -81,7 +81,7 @@ impl View<'_> {
         }
     }
 
-    /// The same by any view. It stays apart, and takes the packet by value: one that another function looks at lies in memory.
+    // The same by any view. It stays apart, and takes the packet by value: one that another function looks at lies in memory.
     #[inline(never)]
     fn put_whole_packet<W: Write>(
         &mut self,
@@ -105,7 +105,7 @@ impl View<'_> {
     }
 }
 
-/// Appends the line of a packet of `size` bytes in this direction, at its place.
+// Appends the line of a packet of `size` bytes in this direction, at its place.
 #[inline(always)]
 fn put_packet_line<W: Write>(
     out: &mut Outgoing<'_, W>,

@@ -5,7 +5,7 @@ ghost use Rattle.mq_rules.specs.Notes.{qos_number};
 ghost use Rattle.mq_judge.specs.ItemText.{type_name, identifier_of, qos_and_dup, flag_number, delivery_words, identifier_words, with_spaces, packet_rule_code, packet_text, broken_text, item_text};
 
 use super::super::lines::Lines;
-use super::summary::PacketSummary;
+use super::packet_summary::PacketSummary;
 use mq_packet::{PacketRule, Qos};
 use mq_rules::Rule;
 use mq_trace::Item;

@@ -61,7 +61,7 @@ pub fn write_refusal<W: Write>(
     }
 }
 
-/// A refusal as a value.
+// A refusal as a value.
 fn refused_value(alloc: Global, refusal: Refusal) -> Result<Value, AllocError>
     ensures { IfOk result (λ value. view value ≡ refused_data refusal) }
 {
@@ -72,7 +72,7 @@ fn refused_value(alloc: Global, refusal: Refusal) -> Result<Value, AllocError>
     })
 }
 
-/// The report on a verdict as a value.
+// The report on a verdict as a value.
 fn report_value(alloc: Global, verdict: &Verdict, role: Role) -> Result<Value, AllocError>
     ensures { IfOk result (λ value. view value ≡ report_data role (map.entries verdict.now.faults) verdict.now.events) }
 {
@@ -84,14 +84,14 @@ fn report_value(alloc: Global, verdict: &Verdict, role: Role) -> Result<Value, A
     })
 }
 
-/// The verdict as a word.
+// The verdict as a word.
 fn verdict_word(faults: &Faults) -> &'static str
     ensures { result.now ≡ verdict_word (length (map.entries faults.now)) }
 {
     if faults.is_empty() { "pass" } else { "fail" }
 }
 
-/// The faults as values, in their order.
+// The faults as values, in their order.
 fn fault_values(alloc: Global, faults: &Faults, role: Role) -> Result<Vec<Value>, AllocError>
     ensures { IfOk result (λ values. items_view values.items ≡ fault_items role (map.entries faults.now)) }
 {
@@ -103,7 +103,7 @@ fn fault_values(alloc: Global, faults: &Faults, role: Role) -> Result<Vec<Value>
     Ok(values)
 }
 
-/// A fault as a value.
+// A fault as a value.
 fn fault_value(alloc: Global, role: Role, key: FaultKey, fault: Fault) -> Result<Value, AllocError>
     ensures { IfOk result (λ value. view value ≡ fault_data role key fault) }
 {
@@ -117,11 +117,11 @@ fn fault_value(alloc: Global, role: Role, key: FaultKey, fault: Fault) -> Result
     })
 }
 
-/// Writes a value as one line of JSON.
-///
-/// # Errors
-///
-/// As `write_json`.
+// Writes a value as one line of JSON.
+//
+// # Errors
+//
+// As `write_json`.
 fn write_value<W: Write>(alloc: Global, value: &Value, writer: &mut W) -> Result<(), RunFault>
     requires { has_float (view value.now) ≡ false }
     ensures ok { OnOk result (Appends (W.contents writer.old) (W.contents writer.new) (line (compact_text (view value.now)))) }
@@ -133,7 +133,7 @@ fn write_value<W: Write>(alloc: Global, value: &Value, writer: &mut W) -> Result
     }
 }
 
-/// A value as one line of JSON.
+// A value as one line of JSON.
 fn line_of(alloc: Global, value: &Value) -> Result<Vec<u8>, AllocError>
     ensures { IfOk result (λ text. has_float (view value.now) ≡ false → text.items ≡ line (compact_text (view value.now))) }
 {

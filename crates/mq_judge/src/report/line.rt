@@ -51,11 +51,11 @@ pub fn write_line<D: Display + Drop, W: Write>(
     }
 }
 
-/// Appends a value as a line to those that wait.
-///
-/// # Errors
-///
-/// If there is no room for it. A beginning of it may then have been appended.
+// Appends a value as a line to those that wait.
+//
+// # Errors
+//
+// If there is no room for it. A beginning of it may then have been appended.
 fn put_line<D: Display + Drop>(lines: &mut Lines, value: D) -> fmt::Result
     ensures { OnOk result (IfSome (D.output value) (λ text. lines.new ≡ lines.old ++ line text)) }
 {

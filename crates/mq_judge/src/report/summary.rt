@@ -1,196 +1,142 @@
-//! What a line says of a packet.
-ghost use Rattle.std.specs.Prelude.{◌≡◌};
-ghost use Rattle.mq_packet.specs.Reading.{view};
-ghost use Rattle.mq_judge.specs.Summaries.{packet_summary};
+//! Reports in short: a line for each statement that has faults.
+ghost use Rattle.std.specs.Prelude.{◌≡◌, length, Some, IfErr, OnOk};
+ghost use Rattle.std.specs.FinMap as map;
+ghost use Rattle.std.specs.Io.KnownBytes.{Appends};
+ghost use Rattle.mq_trace.specs.Writing.{AppendsBeginning};
+ghost use Rattle.mq_judge.specs.declared.report.Form.TheVariants.{Summary};
+ghost use Rattle.mq_judge.specs.declared.report.RunFault.TheVariants as run_faults;
+ghost use Rattle.mq_judge.specs.Report.{faults_of, first_fault_of, rule_text, rule_line, rule_lines, report_on};
 
-use mq_packet::{Packet, Qos};
+use super::super::lines::Lines;
+use super::line::write_line;
+use super::{Counts, RunFault};
+use crate::judge::Verdict;
+use mq_rules::{Fault, FaultKey, Faults, Role, Rule};
+use std::fmt;
+use std::io::Write;
 
-/// What a line says of a packet, besides its size.
-#[derive(Clone, Copy, Debug, PartialEq, Eq)]
-pub enum PacketSummary {
-    /// CONNECT.
-    Connect,
-    /// CONNACK.
-    Connack {
-        /// Session Present: whether the server resumed a session that it had.
-        session_present: bool,
-        /// The Reason Code: 0x00 accepts the connection.
-        code: u8,
-    },
-    /// PUBLISH.
-    Publish {
-        /// The Packet Identifier, if the QoS is above 0.
-        identifier: Option<u16>,
-        /// The Quality of Service.
-        qos: Qos,
-        /// The DUP flag.
-        duplicate: bool,
-    },
-    /// PUBACK.
-    Puback {
-        /// The Packet Identifier of the PUBLISH that it answers.
-        identifier: u16,
-        /// The Reason Code.
-        code: u8,
-    },
-    /// PUBREC.
-    Pubrec {
-        /// The Packet Identifier of the PUBLISH that it answers.
-        identifier: u16,
-        /// The Reason Code: 0x80 or more refuses the PUBLISH.
-        code: u8,
-    },
-    /// PUBREL.
-    Pubrel {
-        /// The Packet Identifier of the PUBLISH that it is about.
-        identifier: u16,
-        /// The Reason Code.
-        code: u8,
-    },
-    /// PUBCOMP.
-    Pubcomp {
-        /// The Packet Identifier of the PUBLISH that it is about.
-        identifier: u16,
-        /// The Reason Code.
-        code: u8,
-    },
-    /// SUBSCRIBE, with its Packet Identifier.
-    Subscribe(u16),
-    /// SUBACK, with the Packet Identifier of the SUBSCRIBE that it answers.
-    Suback(u16),
-    /// UNSUBSCRIBE, with its Packet Identifier.
-    Unsubscribe(u16),
-    /// UNSUBACK, with the Packet Identifier of the UNSUBSCRIBE that it answers.
-    Unsuback(u16),
-    /// PINGREQ.
-    Pingreq,
-    /// PINGRESP.
-    Pingresp,
-    /// DISCONNECT, with its Reason Code.
-    Disconnect(u8),
-    /// AUTH, with its Reason Code.
-    Auth(u8),
+/// The faults of a statement: how many there are, and the first one.
+struct Tally {
+    count: usize,
+    first: Option<(FaultKey, Fault)>,
 }
 
-impl PacketSummary {
-    /// What a line says of this packet.
-    #[inline(always)]
-    pub fn of(packet: &Packet<'_>) -> PacketSummary
-        ensures { result ≡ packet_summary (view packet.now) }
-    {
-        match packet {
-            Packet::Connect(_) => PacketSummary::Connect,
-            Packet::Connack(connack) => PacketSummary::Connack {
-                session_present: connack.session_present,
-                code: connack.code,
-            },
-            Packet::Publish(publish) => PacketSummary::Publish {
-                identifier: publish.identifier,
-                qos: publish.qos,
-                duplicate: publish.duplicate,
-            },
-            Packet::Puback(puback) => PacketSummary::Puback {
-                identifier: puback.identifier,
-                code: puback.code,
-            },
-            Packet::Pubrec(pubrec) => PacketSummary::Pubrec {
-                identifier: pubrec.identifier,
-                code: pubrec.code,
-            },
-            Packet::Pubrel(pubrel) => PacketSummary::Pubrel {
-                identifier: pubrel.identifier,
-                code: pubrel.code,
-            },
-            Packet::Pubcomp(pubcomp) => PacketSummary::Pubcomp {
-                identifier: pubcomp.identifier,
-                code: pubcomp.code,
-            },
-            Packet::Subscribe(subscribe) => PacketSummary::Subscribe(subscribe.identifier),
-            Packet::Suback(suback) => PacketSummary::Suback(suback.identifier),
-            Packet::Unsubscribe(unsubscribe) => PacketSummary::Unsubscribe(unsubscribe.identifier),
-            Packet::Unsuback(unsuback) => PacketSummary::Unsuback(unsuback.identifier),
-            Packet::Pingreq => PacketSummary::Pingreq,
-            Packet::Pingresp => PacketSummary::Pingresp,
-            Packet::Disconnect(disconnect) => PacketSummary::Disconnect(disconnect.code),
-            Packet::Auth(auth) => PacketSummary::Auth(auth.code),
-        }
+/// A statement that has faults, as a report in short shows it.
+#[derive(Clone, Copy)]
+struct Broken {
+    role: Role,
+    rule: Rule,
+    count: usize,
+    key: FaultKey,
+    fault: Fault,
+}
+
+impl fmt::Display for Broken {
+    ghost output = { λ broken. Some (rule_text broken.role broken.rule broken.count broken.key broken.fault) };
+
+    fn fmt<W: fmt::Write>(&self, f: &mut fmt::Formatter<W>) -> fmt::Result {
+        let code = self.rule.code();
+        let citation = self.rule.citation(self.role);
+        let count = self.count;
+        let position = self.key.position;
+        let record_no = self.fault.record_no;
+        write!(
+            f,
+            "{code} {citation} faults {count} first {position} record {record_no}"
+        )
     }
 }
 
-#[cfg(test)]
-mod tests {
-    use super::*;
-    use mq_packet::decode;
+/// Writes the report in short on a verdict for an end in this role: a line for each statement that has faults, in the order of the statements, and a last line
+/// as in the form `Text`. It takes no memory.
+///
+/// # Errors
+///
+/// `Write` if a write failed: the writer returned an error, also one for an interruption, or took no byte. A beginning of the report, but not all
+/// of it, was then written.
+pub fn write_summary<W: Write>(
+    verdict: &Verdict,
+    role: Role,
+    writer: &mut W,
+) -> Result<(), RunFault>
+    ensures ok { OnOk result (Appends (W.contents writer.old) (W.contents writer.new)
+        (report_on Summary role (map.entries verdict.now.faults) verdict.now.events)) }
+    ensures write { IfErr result (λ fault. (fault ≡ run_faults.Write) × AppendsBeginning (W.contents writer.old) (W.contents writer.new)
+        (report_on Summary role (map.entries verdict.now.faults) verdict.now.events)) }
+{
+    write_rules(Rule::all(), &verdict.faults, role, writer)?;
+    let counts = Counts {
+        faults: verdict.faults.len(),
+        events: verdict.events,
+    };
+    write_line(counts, &mut Lines::new(), writer)
+}
 
-    /// The summary of the packet that has this first byte and this short body.
-    fn summary_of(first: u8, body: &[u8]) -> Option<PacketSummary> {
-        if body.len() > 20 {
-            return None;
+// Writes a line for each of these statements that has faults.
+//
+// # Errors
+//
+// `Write` if a write failed.
+fn write_rules<W: Write>(
+    rules: &[Rule],
+    faults: &Faults,
+    role: Role,
+    writer: &mut W,
+) -> Result<(), RunFault>
+    ensures ok { OnOk result (Appends (W.contents writer.old) (W.contents writer.new) (rule_lines role (map.entries faults.now) rules.now)) }
+    ensures write { IfErr result (λ fault. (fault ≡ run_faults.Write)
+        × AppendsBeginning (W.contents writer.old) (W.contents writer.new) (rule_lines role (map.entries faults.now) rules.now)) }
+{
+    for rule in rules {
+        write_rule(*rule, faults, role, writer)?;
+    }
+    Ok(())
+}
+
+// Writes the line of a statement, if it has faults.
+//
+// # Errors
+//
+// `Write` if a write failed.
+fn write_rule<W: Write>(
+    rule: Rule,
+    faults: &Faults,
+    role: Role,
+    writer: &mut W,
+) -> Result<(), RunFault>
+    ensures ok { OnOk result (Appends (W.contents writer.old) (W.contents writer.new) (rule_line role rule (faults_of rule (map.entries faults.now)))) }
+    ensures write { IfErr result (λ fault. (fault ≡ run_faults.Write)
+        × AppendsBeginning (W.contents writer.old) (W.contents writer.new) (rule_line role rule (faults_of rule (map.entries faults.now)))) }
+{
+    let Tally { count, first } = tally_of(rule, faults);
+    match first {
+        Some((key, fault)) => {
+            let broken = Broken {
+                role,
+                rule,
+                count,
+                key,
+                fault,
+            };
+            write_line(broken, &mut Lines::new(), writer)
         }
-        match decode(first, body) {
-            Ok(packet) => Some(PacketSummary::of(&packet)),
-            Err(_) => None,
+        None => Ok(()),
+    }
+}
+
+// Counts the faults of a statement: all faults minus those of other statements.
+fn tally_of(rule: Rule, faults: &Faults) -> Tally
+    ensures count { result.count ≡ length (faults_of rule (map.entries faults.now)) }
+    ensures first { result.first ≡ first_fault_of (faults_of rule (map.entries faults.now)) }
+{
+    let mut count = faults.len();
+    let mut first = None;
+    for (key, fault) in faults.iter() {
+        if key.rule == rule {
+            first = first.or(Some((*key, *fault)));
+        } else {
+            count -= 1;
         }
     }
-
-    #[test]
-    fn each_packet_is_summed_up(rt: HostRuntime) {
-        let connack = PacketSummary::Connack {
-            session_present: true,
-            code: 0,
-        };
-        let publish = PacketSummary::Publish {
-            identifier: Some(7),
-            qos: Qos::ExactlyOnce,
-            duplicate: true,
-        };
-        let puback = PacketSummary::Puback {
-            identifier: 7,
-            code: 0x10,
-        };
-        let pubrec = PacketSummary::Pubrec {
-            identifier: 7,
-            code: 0x80,
-        };
-        let pubrel = PacketSummary::Pubrel {
-            identifier: 7,
-            code: 0,
-        };
-        let pubcomp = PacketSummary::Pubcomp {
-            identifier: 7,
-            code: 0x92,
-        };
-        let rows: [(u8, &[u8], PacketSummary); 15] = [
-            (
-                0x10,
-                b"\x00\x04MQTT\x05\x02\x00\x3c\x00\x00\x00",
-                PacketSummary::Connect,
-            ),
-            (0x20, b"\x01\x00\x00", connack),
-            (0x3c, b"\x00\x01a\x00\x07\x00", publish),
-            (0x40, b"\x00\x07\x10", puback),
-            (0x50, b"\x00\x07\x80", pubrec),
-            (0x62, b"\x00\x07", pubrel),
-            (0x70, b"\x00\x07\x92", pubcomp),
-            (
-                0x82,
-                b"\x00\x07\x00\x00\x01a\x00",
-                PacketSummary::Subscribe(7),
-            ),
-            (0x90, b"\x00\x07\x00\x00", PacketSummary::Suback(7)),
-            (
-                0xa2,
-                b"\x00\x07\x00\x00\x01a",
-                PacketSummary::Unsubscribe(7),
-            ),
-            (0xb0, b"\x00\x07\x00\x00", PacketSummary::Unsuback(7)),
-            (0xc0, b"", PacketSummary::Pingreq),
-            (0xd0, b"", PacketSummary::Pingresp),
-            (0xe0, b"\x04", PacketSummary::Disconnect(4)),
-            (0xf0, b"\x18\x00", PacketSummary::Auth(0x18)),
-        ];
-        for (first, body, note) in rows {
-            assert!(rt; summary_of(first, body) == Some(note), "{first}");
-        }
-    }
+    Tally { count, first }
 }

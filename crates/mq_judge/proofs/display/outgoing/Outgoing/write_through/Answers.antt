@@ -7,7 +7,7 @@ returns g c =
     puts_two g.W.Write.contents c.args.self.now c.write_out.new.self _ [] c.args.bytes.now c.args.bytes.now c.write_out.ensures.puts (record {
       same = refl;
       carries = λ held whole so_far.
-          sends_directly c.write_out.new.self.failed c.fails-self.result held (g.W.Write.contents c.write_out.new.self.writer.now)
-          (g.W.Write.contents c.fails-self.new.writer) whole c.args.bytes.now c.write_out.new.self.lines c.write_out.ensures.empty c.fails-self.ensures.written
-          c.fails-self.ensures.stopped so_far;
+          sends_directly c.write_out.new.self.failed c.write_unless_failed-self.result held (g.W.Write.contents c.write_out.new.self.writer.now)
+          (g.W.Write.contents c.write_unless_failed-self.new.writer) whole c.args.bytes.now c.write_out.new.self.lines c.write_out.ensures.empty c.write_unless_failed-self.ensures.written
+          c.write_unless_failed-self.ensures.stopped so_far;
     }) refl
