@@ -28,7 +28,7 @@ pub fn choose(faults: &Faults, choice: Choice) -> Option<FaultRow>
     }
 }
 
-/// The fault at this index, in the order of reports, if there are so many.
+// The fault at this index, in the order of reports, if there are so many.
 fn fault_at_index(faults: &Faults, index: usize) -> Option<FaultRow>
     ensures { IsRowOf (nth (map.entries faults.now) index) result }
 {
@@ -36,7 +36,7 @@ fn fault_at_index(faults: &Faults, index: usize) -> Option<FaultRow>
     Some(FaultRow::of(*key, *fault))
 }
 
-/// The fault at this index among those at a position, in the order of the statements, if there are so many.
+// The fault at this index among those at a position, in the order of the statements, if there are so many.
 fn fault_at_position(faults: &Faults, position: u32, index: usize) -> Option<FaultRow>
     ensures { IsRowOf (nth (faults_at position (map.entries faults.now)) index) result }
 {
@@ -44,7 +44,7 @@ fn fault_at_position(faults: &Faults, position: u32, index: usize) -> Option<Fau
     Some(FaultRow::of(*key, *fault))
 }
 
-/// The first fault at this position or after it, in the order of reports, if there is one.
+// The first fault at this position or after it, in the order of reports, if there is one.
 fn fault_from(faults: &Faults, position: u32) -> Option<FaultRow>
     ensures { IsRowOf (first_fault_from position (map.entries faults.now)) result }
 {

@@ -35,7 +35,7 @@ pub fn make(alloc: Global, judge: &mut Handle, limit: u32) -> u32
     }
 }
 
-/// The limit that a number stands for, if it stands for one.
+// The limit that a number stands for, if it stands for one.
 fn limit_by(limit: u32) -> Option<u32>
     ensures { result ≡ limit_for limit }
 {
@@ -51,7 +51,7 @@ fn limit_by(limit: u32) -> Option<u32>
     Some(limit)
 }
 
-/// Makes a judge with this limit in an empty handle.
+// Makes a judge with this limit in an empty handle.
 fn fill(alloc: Global, judge: &mut Handle, limit: u32) -> u32
     requires { held judge.old ≡ None }
     ensures { MakesWith limit (held judge.new) result }
@@ -187,7 +187,7 @@ pub fn finish(alloc: Global, judge: &mut Handle, events: &mut u32) -> u32
     }
 }
 
-/// Says which end is judged, by two numbers that are 0 or 1.
+// Says which end is judged, by two numbers that are 0 or 1.
 fn begin_with(alloc: Global, live: &mut Live, server: u32, releases: u32) -> Result<(), Trouble>
     ensures { BeginsWith server releases live.old live.new result }
 {
@@ -205,7 +205,7 @@ fn begin_with(alloc: Global, live: &mut Live, server: u32, releases: u32) -> Res
     live.begin(alloc, header)
 }
 
-/// Writes a fault for the caller, if there is one.
+// Writes a fault for the caller, if there is one.
 fn show(found: Option<FaultRow>, fault: &mut FaultRow) -> u32
     ensures { ShowsFound found fault.old fault.new result }
 {

@@ -147,7 +147,7 @@ impl Live {
     }
 }
 
-/// Whether the log has ended.
+// Whether the log has ended.
 fn has_ended(source: Source) -> bool
     ensures { result ≡ is_end source }
 {
@@ -157,7 +157,7 @@ fn has_ended(source: Source) -> bool
     }
 }
 
-/// Takes in the next bytes of a log that isn't refused.
+// Takes in the next bytes of a log that isn't refused.
 fn take_in(judge: &mut Judge, refused: &mut Option<Refusal>, bytes: &[u8]) -> Result<(), Trouble>
     ensures { TakesIn bytes.now judge.old judge.new refused.old refused.new result }
 {

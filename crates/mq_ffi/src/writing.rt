@@ -29,7 +29,7 @@ pub fn record_in(buffer: Vec<u8>, event: Event<'_>) -> (Vec<u8>, bool)
     (log.into_inner(), written)
 }
 
-/// Writes an event as a record.
+// Writes an event as a record.
 fn write(event: Event<'_>, log: &mut TraceWriter<Vec<u8>>) -> Result<(), WriteFault>
     requires { IsTrue (fits event) }
     ensures { OnOk result (WritesAll (λ v. Some v.items) log.old log.new (record_bytes log.old.version log.old.moment (record_of event.entry))) }
