@@ -194,7 +194,7 @@ def main() -> int:
         self_test(comparison)
         for name, log in logs(given.seed, given.logs):
             made = converted(log)
-            if len(log) < 200_000:  # reference.py reads byte by byte
+            if len(log) < 200_000:  # reference.py takes time by the square of it
                 comparison.compare_meaning(name, log, made)
             if program is not None:
                 comparison.compare_program(name, log, made)

@@ -28,8 +28,6 @@ def logs(version: int) -> Iterator[tuple[str, int, bytes]]:
         for events in (*SIZES, LARGER.get(kind, 242)):
             yield f"{kind} of {events} events", events, b"".join(session_logs.log(kind, events, version))
     for kind in make_log.KINDS:
-        if kind == "large":  # reference.py reads byte by byte
-            continue
         yield f"{kind} of {MESSAGES} messages", make_log.events_of(kind, MESSAGES), b"".join(make_log.log(kind, MESSAGES, version))
 
 

@@ -6,7 +6,7 @@ the whole log, so it doesn't matter where a CONNACK is.
 from bisect import bisect_left
 from collections.abc import Callable
 from dataclasses import dataclass, field
-from functools import cached_property
+from functools import cached_property, lru_cache
 
 # ---- packets (MQTT 5.0, sections 1.5, 2 and 3)
 
@@ -16,6 +16,7 @@ NAMES = ("", "CONNECT", "CONNACK", "PUBLISH", "PUBACK", "PUBREC", "PUBREL", "PUB
          "PINGREQ", "PINGRESP", "DISCONNECT", "AUTH")
 FROM_CLIENT_ALONE = {CONNECT, SUBSCRIBE, UNSUBSCRIBE, PINGREQ}
 FROM_SERVER_ALONE = {CONNACK, SUBACK, UNSUBACK, PINGRESP}
+SHORT, MOST_KEPT = 200, 16_384  # packets of so many bytes are decoded once, as long as so many are kept
 WILL = 0  # the list of a Will's properties, beside those of the packets' types
 ACKNOWLEDGEMENTS = (PUBACK, PUBREC, PUBREL, PUBCOMP)
 WITH_REASON = {CONNACK, *ACKNOWLEDGEMENTS, SUBACK, UNSUBACK, DISCONNECT, AUTH}
@@ -77,7 +78,7 @@ REASON_CODES = {
 }
 
 
-@dataclass
+@dataclass(slots=True)
 class Packet:
     type: int
     size: int = 0
@@ -110,8 +111,11 @@ class OtherVersion(Exception):
     version: int
 
 
+@dataclass
 class Lost:
-    pass
+    """A Remaining Length that is none, as these first bytes of a packet show."""
+
+    size: int
 
 
 class Reader:
@@ -215,12 +219,22 @@ def is_filter(text: bytes) -> bool:
     )
 
 
-def decode(packet: bytes, begin: int) -> Packet:
-    """Reads a whole packet, whose body begins there. It raises Bad or OtherVersion where it has to."""
+def decode(packet: bytes, begin: int) -> Packet | Bad | OtherVersion:
+    """What a whole packet is, whose body begins there."""
+    return decode_short(packet, begin) if len(packet) <= SHORT else decode_anew(packet, begin)
+
+
+def decode_anew(packet: bytes, begin: int) -> Packet | Bad | OtherVersion:
     try:
         return decode_fields(packet[0], Reader(packet, begin))
     except Bad as bad:
-        raise Bad(bad.rule, bad.at, packet) from None
+        return Bad(bad.rule, bad.at, packet)
+    except OtherVersion as other:
+        return OtherVersion(other.version)
+
+
+# (Sessions have the same short packets again and again. Nobody changes one.)
+decode_short = lru_cache(maxsize=MOST_KEPT)(decode_anew)
 
 
 def decode_fields(first: int, reader: Reader) -> Packet:
@@ -368,19 +382,34 @@ BODIES: dict[int, Callable[[Packet, Reader], None]] = {
 
 REFUSALS = ("", "Header", "Version", "Role", "Flags", "Kind", "Length", "Nested", "NotOpen", "ReleaseUnrecorded", "Cut", "TooLarge",
             "OtherVersion", "TooManyEarly", "TooLong")
+# For each byte of a header: the refusal of another one, and the bytes that it may be.
+HEADER = (*((1, (byte,)) for byte in b"MQTR"), (2, (1, 2)), (3, (0, 1)), (4, (0, 1)), (4, (0,)))
 MOST_EARLY = 4_096  # events of a connection before its CONNACK
 OPEN, SENT, RECV, CLOSE, REST, RELEASE = range(1, 7)
 MOST_IN_RECORD = {1: 1_048_576, 2: 16_777_216}  # by version
 DEFAULT_LIMIT = 16_777_216  # the size of a packet, in bytes
+BROKEN, LOST = 16, 17  # in place of a packet's type
+Subject = tuple[int, int]  # an event's kind, and its packet's type
 
 
-@dataclass
+@dataclass(slots=True)
 class Event:
     kind: int
     record: int
     item: Packet | Bad | Lost | None = None
     released: int = 0
     moment: int = 0
+
+    def subject(self) -> Subject:
+        """What it is, so far as that decides which statements are about it."""
+        match self.item:
+            case Packet() as packet:
+                return self.kind, packet.type
+            case Bad():
+                return self.kind, BROKEN
+            case Lost():
+                return self.kind, LOST
+        return self.kind, 0
 
 
 @dataclass
@@ -401,12 +430,13 @@ def frame(stream: bytes) -> tuple[int, int] | Lost | None:
         byte = stream[n + 1]
         length |= (byte & 0x7F) << (7 * n)
         if byte < 0x80:
-            return Lost() if n > 0 and byte == 0 else (n + 2, n + 2 + length)
-    return Lost()
+            return Lost(n + 2) if n > 0 and byte == 0 else (n + 2, n + 2 + length)
+    return Lost(5)
 
 
 class Recording:
-    """The events of a log's bytes. The bytes are looked at in turn, so the first refusal that is met is the earliest."""
+    """The events of a log's bytes, up to where it is refused. The bytes are looked at in turn, so the first refusal that is met is the
+    earliest."""
 
     def __init__(self, log: bytes, limit: int = DEFAULT_LIMIT):
         self.log, self.limit = log, limit
@@ -417,13 +447,16 @@ class Recording:
         self.is_open, self.has_connack, self.begun_after = False, False, 0
         # What has come of an unfinished packet in each direction; None after Lost.
         self.streams: dict[int, bytearray | None] = {}
-        self.frames: dict[int, tuple[int, int] | Lost | None] = {}
-        self.read()
+        self.refusal: Refusal | None = None
+        try:
+            self.read()
+        except Refusal as refusal:
+            self.refusal = refusal.with_traceback(None)
 
-    def byte(self, at: int) -> int:
-        if at >= len(self.log):
+    def check_end(self, end: int) -> None:
+        """Whether there are so many bytes."""
+        if end > len(self.log):
             raise Refusal(10, len(self.log))
-        return self.log[at]
 
     def read(self) -> None:
         self.read_header()
@@ -432,26 +465,23 @@ class Recording:
             record += 1
             kind = self.log[at]
             self.check_kind(kind, at)
-            for n in range(1, 5):
-                self.byte(at + n)
+            self.check_end(at + 5)
             length = int.from_bytes(self.log[at + 1 : at + 5], "big")
             most = MOST_IN_RECORD[self.version] if kind in (SENT, RECV) else 2 if kind == RELEASE else 0
             if length > most or (kind == RELEASE and length != 2):
                 raise Refusal(6, at + 4)
             at += 5
             if self.version == 2:
-                self.byte(at + 7)
+                self.check_end(at + 8)
                 self.moment = int.from_bytes(self.log[at : at + 8], "big")
                 at += 8
             self.read_body(kind, record, at, length)
             at += length
 
     def read_header(self) -> None:
-        for at, wanted in enumerate(b"MQTR"):
-            if self.byte(at) != wanted:
-                raise Refusal(1, at)
-        for at, number, taken in ((4, 2, (1, 2)), (5, 3, (0, 1)), (6, 4, (0, 1)), (7, 4, (0,))):
-            if self.byte(at) not in taken:
+        for at, (number, taken) in enumerate(HEADER):
+            self.check_end(at + 1)
+            if self.log[at] not in taken:
                 raise Refusal(number, at)
         self.version, self.role, self.releases = self.log[4], ("client", "server")[self.log[5]], self.log[6] == 1
 
@@ -466,46 +496,42 @@ class Recording:
             raise Refusal(9, at)
 
     def read_body(self, kind: int, record: int, begin: int, length: int) -> None:
+        end = begin + length
         if kind in (SENT, RECV):
-            for at in range(begin, begin + length):
-                self.take(kind, record, at)
+            self.take(kind, record, begin, min(end, len(self.log)))
+            self.check_end(end)
             return
-        self.byte(begin + length - 1)
+        self.check_end(end)
         if kind == OPEN:
             self.is_open, self.has_connack, self.begun_after = True, False, len(self.events)
             self.streams = {SENT: bytearray(), RECV: bytearray()}
-        released = int.from_bytes(self.log[begin : begin + length], "big")
-        self.add(Event(kind, record, None, released), begin + length - 1)
+        released = int.from_bytes(self.log[begin:end], "big")
+        self.add(Event(kind, record, None, released), end - 1)
         if kind == CLOSE:
             self.is_open = False
 
-    def take(self, way: int, record: int, at: int) -> None:
-        """One byte of a stream of packets."""
-        byte = self.byte(at)
-        stream = self.streams[way]
-        if stream is None:
-            return
-        stream.append(byte)
-        if len(stream) <= 5:
-            self.frames[way] = frame(stream)
-        match self.frames[way]:
-            case Lost() as lost:
-                self.streams[way] = None
-                self.add(Event(way, record, lost), at)
-            case (header, size):
-                if len(stream) == header and size > self.limit:
-                    raise Refusal(11, at)
-                if len(stream) == size:
+    def take(self, way: int, record: int, at: int, end: int) -> None:
+        """Bytes of a stream of packets. What a packet is shows at the end of its fixed header, and at its own end."""
+        while at < end and (stream := self.streams[way]) is not None:
+            begin = at - len(stream)  # of the packet, were all of it in this record
+            match frame(stream[:5] + self.log[at : min(end, begin + 5)]):
+                case Lost(size) as lost:
+                    self.streams[way] = None
+                    self.add(Event(way, record, lost), begin + size - 1)
+                case (header, size) if size > self.limit:
+                    raise Refusal(11, begin + header - 1)
+                case (header, size) if begin + size <= end:
                     self.streams[way] = bytearray()
-                    self.end_packet(bytes(stream), header, way, record, at)
+                    self.end_packet(bytes(stream + self.log[at : begin + size]), header, way, record, begin + size - 1)
+                    at = begin + size
+                case _:
+                    stream += self.log[at:end]
+                    at = end
 
     def end_packet(self, packet: bytes, begin: int, way: int, record: int, at: int) -> None:
-        try:
-            item: Packet | Bad = decode(packet, begin)
-        except OtherVersion:
-            raise Refusal(12, at) from None
-        except Bad as bad:
-            item = bad
+        item = decode(packet, begin)
+        if isinstance(item, OtherVersion):
+            raise Refusal(12, at)
         from_server = (way == SENT) == (self.role == "server")
         if isinstance(item, Packet) and item.type == CONNACK and from_server:
             self.has_connack = True
@@ -533,12 +559,18 @@ class Log:
     def __init__(self, events: list[Event], role: str, releases: bool):
         self.events, self.role, self.releases = events, role, releases
         self.last = len(events)
+        # What is at each position, from 1 on.
+        self.items_sent = [None, *[e.item if e.kind == SENT else None for e in events]]
+        self.items_received = [None, *[e.item if e.kind == RECV else None for e in events]]
+        self.packets_sent = [item if isinstance(item, Packet) else None for item in self.items_sent]
+        self.packets_received = [item if isinstance(item, Packet) else None for item in self.items_received]
         self.numbers = [0]  # the number of the latest connection at each position
-        for e in events:
-            self.numbers.append(self.numbers[-1] + (e.kind == OPEN))
-        self.spans: list[list[int]] = [[] for _ in range(self.numbers[-1] + 1)]
-        for k in range(1, self.last + 1):
-            self.spans[self.numbers[k]].append(k)
+        self.spans: list[list[int]] = [[]]
+        for k, e in enumerate(events, 1):
+            if e.kind == OPEN:
+                self.spans.append([])
+            self.numbers.append(len(self.spans) - 1)
+            self.spans[-1].append(k)
 
     # -- what is at a position
 
@@ -546,20 +578,18 @@ class Log:
         return self.events[k - 1]
 
     def sent(self, k: int) -> Packet | Bad | Lost | None:
-        e = self.event(k)
-        return e.item if e.kind == SENT else None
+        return self.items_sent[k]
 
     def received(self, k: int) -> Packet | Bad | Lost | None:
-        e = self.event(k)
-        return e.item if e.kind == RECV else None
+        return self.items_received[k]
 
     def sent_packet(self, k: int, *types: int) -> Packet | None:
-        item = self.sent(k)
-        return item if isinstance(item, Packet) and (not types or item.type in types) else None
+        p = self.packets_sent[k]
+        return p if p is not None and (not types or p.type in types) else None
 
     def received_packet(self, k: int, *types: int) -> Packet | None:
-        item = self.received(k)
-        return item if isinstance(item, Packet) and (not types or item.type in types) else None
+        p = self.packets_received[k]
+        return p if p is not None and (not types or p.type in types) else None
 
     def sends(self, k: int, type: int, i: int) -> bool:
         p = self.sent_packet(k, type)

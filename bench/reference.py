@@ -2,9 +2,9 @@
 """Judges a log of one end of an MQTT 5.0 session, and prints what `mqjudge check` is to print.
 
 This is a second opinion, and no part of the program. It was written from the words of the statements alone (statements.py), and
-reads logs by the standard and docs/LOG_FORMAT.md (reading.py). It looks at the whole log for each position and statement: it keeps
-no state from one position to the next, so it takes time that grows with the square of the log's length. What it shares with the
-program is nothing but the standard: where the two differ, one of them is wrong.
+reads logs by the standard and docs/LOG_FORMAT.md (reading.py). It looks at the whole log for each position and each statement that
+can be false there: it keeps no state from one position to the next, so it takes time that grows with the square of the log's length.
+What it shares with the program is nothing but the standard: where the two differ, one of them is wrong.
 
 Packets before the CONNACK need no words of their own here. Whether their connection is accepted, and which session they are in, is
 looked up in the whole log, so it doesn't matter where the CONNACK is; and `decided` is found by trying the log's beginnings.
@@ -16,12 +16,13 @@ import sys
 from pathlib import Path
 
 sys.dont_write_bytecode = True  # the repository stays as it is
-from reading import Bad, DEFAULT_LIMIT, Log, RELEASE, Recording, Refusal
-from statements import CITATIONS, STATEMENTS
+from reading import Bad, DEFAULT_LIMIT, Log, RELEASE, Recording
+from statements import CITATIONS, STATEMENTS, about
 
 
 def is_judged(log: Log, k: int, rule: str) -> bool:
-    if log.role not in CITATIONS[rule] or (rule[0] == "L" and not log.releases):
+    """Whether a statement that binds this end is judged there."""
+    if rule[0] == "L" and not log.releases:
         return False
     if rule[0] in "WC" or log.is_accepted(log.places[k]):
         return True
@@ -40,6 +41,8 @@ def decided(log: Log, k: int, rule: str) -> int:
 
 
 def beginning(log: Log, length: int) -> Log:
+    if length == log.last:
+        return log
     kept = log.__dict__.setdefault("beginnings", {})
     if length not in kept:
         kept[length] = Log(log.events[:length], log.role, log.releases)
@@ -47,7 +50,7 @@ def beginning(log: Log, length: int) -> Log:
 
 
 def faults(log: Log) -> list[tuple[int, str]]:
-    return [(k, rule) for k in range(1, log.last + 1) for rule in CITATIONS if fails(log, k, rule)]
+    return [(k, rule) for k in range(1, log.last + 1) for rule in about(log.event(k).subject(), log.role) if fails(log, k, rule)]
 
 
 def offset(log: Log, k: int, rule: str) -> str:
@@ -58,10 +61,13 @@ def offset(log: Log, k: int, rule: str) -> str:
 
 
 def report(bytes: bytes, limit: int = DEFAULT_LIMIT) -> str:
-    try:
-        recording = Recording(bytes, limit)
-    except Refusal as refusal:
-        return refusal.text() + "\n"
+    return reported(Recording(bytes, limit))
+
+
+def reported(recording: Recording) -> str:
+    """The report on a log that has been read."""
+    if recording.refusal is not None:
+        return recording.refusal.text() + "\n"
     log = Log(recording.events, recording.role, recording.releases)
     lines = []
     for k, rule in faults(log):

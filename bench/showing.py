@@ -2,25 +2,13 @@
 from datetime import UTC, datetime, timedelta
 
 import reading
-from reading import Bad, Event, Lost, OtherVersion, Packet, Recording, Refusal
+from reading import Bad, Event, Lost, OtherVersion, Packet, Recording
 
 WAYS = {reading.SENT: "SENT", reading.RECV: "RECV"}
 MARKS = {reading.OPEN: "OPEN", reading.CLOSE: "CLOSE", reading.REST: "REST", reading.RELEASE: "RELEASE"}
 EPOCH = datetime(1970, 1, 1, tzinfo=UTC)
 MICROSECOND = timedelta(microseconds=1)
 Answer = tuple[int, str]  # status and output
-
-
-class Beginning(Recording):
-    """The events of a log up to where it is refused."""
-
-    refusal: Refusal | None = None
-
-    def read(self) -> None:
-        try:
-            super().read()
-        except Refusal as refusal:
-            self.refusal = refusal
 
 
 def item_text(item: Packet | Bad | Lost | None) -> str:
@@ -42,7 +30,11 @@ def event_text(event: Event) -> str:
 
 def show(log: bytes) -> Answer:
     """What `show` answers."""
-    read = Beginning(log)
+    return shown(Recording(log))
+
+
+def shown(read: Recording) -> Answer:
+    """The same of a log that has been read."""
     moments = [f" moment {event.moment}" if read.version == 2 else "" for event in read.events]
     lines = [
         f"{at} record {event.record}{moment} {event_text(event)}\n"
@@ -75,9 +67,10 @@ def packet(data: bytes) -> Answer:
             return 1, f"left over {len(data) - size} bytes\n"
         case (header, _):
             begin = header
-    try:
-        return 0, f"{item_text(reading.decode(data, begin))}\n"
-    except Bad as bad:
-        return 1, f"{item_text(bad)}\n"
-    except OtherVersion as other:
-        return 1, f"other version {other.version}\n"
+    match reading.decode(data, begin):
+        case OtherVersion() as other:
+            return 1, f"other version {other.version}\n"
+        case Bad() as bad:
+            return 1, f"{item_text(bad)}\n"
+        case item:
+            return 0, f"{item_text(item)}\n"

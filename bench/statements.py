@@ -1,15 +1,16 @@
-"""What each statement says of a log: whether it is false at a position; and its citations.
+"""What each statement says of a log: whether it is false at a position; at which events it can be; and its citations.
 
 It is a part of the second opinion that reference.py gives, and no part of the program. It was written from the words of the
 statements alone. It looks at the whole log for each position and statement, and keeps no state from one position to the next.
 """
-from collections.abc import Callable
+from collections.abc import Callable, Iterable
+from functools import cache
 
 from reading import (
-    AUTH, Bad, CONNACK, CONNECT, DISCONNECT, FROM_CLIENT_ALONE, FROM_SERVER_ALONE, Log, Lost,
+    AUTH, BROKEN, Bad, CONNACK, CONNECT, DISCONNECT, FROM_CLIENT_ALONE, FROM_SERVER_ALONE, LOST, Log, Lost,
     MAXIMUM_PACKET_SIZE, MAXIMUM_QOS, PINGREQ, PINGRESP, PUBACK, PUBCOMP, PUBLISH, PUBREC, PUBREL,
-    Packet, RECEIVE_MAXIMUM, RELEASE, RESUMED, SUBACK, SUBSCRIBE, TOPIC_ALIAS_MAXIMUM, UNSUBACK,
-    UNSUBSCRIBE, VOID,
+    Packet, RECEIVE_MAXIMUM, RECV, RELEASE, REST, RESUMED, SENT, SUBACK, SUBSCRIBE, Subject,
+    TOPIC_ALIAS_MAXIMUM, UNSUBACK, UNSUBSCRIBE, VOID,
 )
 
 # ---- names and citations, in the order of reports: code, citation for a client, citation for a server (None: isn't bound)
@@ -102,15 +103,38 @@ for line in SHAPES.split("\n"):
 
 Statement = Callable[[Log, int], bool]
 STATEMENTS: dict[str, Statement] = {}
+SUBJECTS: dict[str, set[Subject]] = {}  # at which events each can be false
+ANY = range(CONNECT, AUTH + 1)
 
 
-def says(*rules: str) -> Callable[[Statement], Statement]:
-    def keep(statement: Statement) -> Statement:
-        for rule in rules:
-            STATEMENTS[rule] = statement
+def sent(types: Iterable[int]) -> set[Subject]:
+    return {(SENT, type) for type in types}
+
+
+def received(types: Iterable[int]) -> set[Subject]:
+    return {(RECV, type) for type in types}
+
+
+def mark(kind: int) -> set[Subject]:
+    return {(kind, 0)}
+
+
+def keep(rule: str, subjects: set[Subject], statement: Statement) -> None:
+    STATEMENTS[rule], SUBJECTS[rule] = statement, subjects
+
+
+def says(rule: str, subjects: set[Subject]) -> Callable[[Statement], Statement]:
+    def kept(statement: Statement) -> Statement:
+        keep(rule, subjects, statement)
         return statement
 
-    return keep
+    return kept
+
+
+@cache
+def about(subject: Subject, role: str) -> tuple[str, ...]:
+    """The statements on this end that can be false at an event, in the order of reports. (Most can't at most events.)"""
+    return tuple(rule for rule, roles in CITATIONS.items() if role in roles and subject in SUBJECTS[rule])
 
 
 # -- W, on a packet's bytes: `Bad` names its rule, and Lost breaks W03
@@ -125,7 +149,7 @@ def breaks_bytes(rule: str) -> Statement:
 
 
 for number in range(1, 22):
-    STATEMENTS[f"W{number:02}"] = breaks_bytes(f"W{number:02}")
+    keep(f"W{number:02}", sent((BROKEN, LOST)), breaks_bytes(f"W{number:02}"))
 
 # -- C, on the past of a connection. In C01 to C06 bytes that break a rule count by their type.
 
@@ -139,57 +163,57 @@ def type_of(item: Packet | Bad | Lost | None) -> int | None:
     return None
 
 
-@says("C01")
+@says("C01", sent((*ANY, BROKEN)))
 def sends_a_foreign_type(log: Log, k: int) -> bool:
     return type_of(log.sent(k)) in (FROM_SERVER_ALONE if log.role == "client" else FROM_CLIENT_ALONE)
 
 
-@says("C02")
+@says("C02", sent((*ANY, BROKEN)))
 def begins_without_connect(log: Log, k: int) -> bool:
     kind = type_of(log.sent(k))
     is_first = all(type_of(log.sent(j)) is None for j in log.before_on(k))
     return kind is not None and is_first and kind != CONNECT
 
 
-@says("C03")
+@says("C03", sent((CONNECT, BROKEN)))
 def sends_a_second_connect(log: Log, k: int) -> bool:
     return type_of(log.sent(k)) == CONNECT and any(type_of(log.sent(j)) == CONNECT for j in log.before_on(k))
 
 
-@says("C04")
+@says("C04", sent((CONNACK, BROKEN)))
 def answers_no_connect(log: Log, k: int) -> bool:
     return type_of(log.sent(k)) == CONNACK and all(type_of(log.received(j)) != CONNECT for j in log.before_on(k))
 
 
-@says("C05")
+@says("C05", sent((*ANY, BROKEN)))
 def sends_before_connack(log: Log, k: int) -> bool:
     return type_of(log.sent(k)) not in (None, CONNACK, AUTH) and all(type_of(log.sent(j)) != CONNACK for j in log.before_on(k))
 
 
-@says("C06")
+@says("C06", sent((CONNACK, BROKEN)))
 def sends_a_second_connack(log: Log, k: int) -> bool:
     return type_of(log.sent(k)) == CONNACK and any(type_of(log.sent(j)) == CONNACK for j in log.before_on(k))
 
 
-@says("C07")
+@says("C07", sent([CONNACK]))
 def resumes_a_clean_start(log: Log, k: int) -> bool:
     connack, connect = log.sent_packet(k, CONNACK), log.connect_before(k)
     return connack is not None and connack.session_present and connect is not None and connect.clean_start
 
 
-@says("C08")
+@says("C08", sent([CONNACK]))
 def resumes_no_session(log: Log, k: int) -> bool:
     connack = log.sent_packet(k, CONNACK)
     return connack is not None and connack.code == 0 and connack.session_present and not log.alive_before(log.places[k])
 
 
-@says("C09")
+@says("C09", sent([CONNACK]))
 def refuses_with_a_session(log: Log, k: int) -> bool:
     connack = log.sent_packet(k, CONNACK)
     return connack is not None and connack.code != 0 and connack.session_present
 
 
-@says("C10")
+@says("C10", sent([CONNACK]))
 def assigns_no_identifier(log: Log, k: int) -> bool:
     connack, connect = log.sent_packet(k, CONNACK), log.connect_before(k)
     is_unnamed = connect is not None and connect.client_identifier == b""
@@ -210,17 +234,17 @@ def has_disconnected(log: Log, k: int) -> bool:
     return at is not None and at < k
 
 
-@says("C11")
+@says("C11", sent((*ANY, BROKEN)))
 def sends_after_disconnect(log: Log, k: int) -> bool:
     return is_subject(log.sent(k)) and has_disconnected(log, k)
 
 
-@says("C12")
+@says("C12", sent((*ANY, BROKEN)))
 def sends_after_refusing(log: Log, k: int) -> bool:
     return is_subject(log.sent(k)) and has_refused(log, k)
 
 
-@says("C13")
+@says("C13", sent(ANY))
 def goes_on_without_its_session(log: Log, k: int) -> bool:
     p, c = log.sent_packet(k), log.places[k]
     if p is None or p.type == DISCONNECT or not log.is_after_connack(k) or log.fates[c] != RESUMED:
@@ -234,13 +258,13 @@ def is_bound_by_peer(log: Log, k: int) -> bool:
     return log.role == "server" or log.is_after_connack(k)
 
 
-@says("C14")
+@says("C14", sent(ANY))
 def is_too_large(log: Log, k: int) -> bool:
     p, most = log.sent_packet(k), log.parameter(MAXIMUM_PACKET_SIZE, k)
     return p is not None and is_bound_by_peer(log, k) and most is not None and p.size > most
 
 
-@says("C15")
+@says("C15", sent([PUBLISH]))
 def takes_too_high_an_alias(log: Log, k: int) -> bool:
     p = log.sent_packet(k, PUBLISH)
     alias = p and p.get(0x23)
@@ -252,37 +276,37 @@ def sets_alias(log: Log, j: int, alias: int) -> bool:
     return p is not None and p.topic != b"" and p.get(0x23) == alias
 
 
-@says("C16")
+@says("C16", sent([PUBLISH]))
 def takes_an_unset_alias(log: Log, k: int) -> bool:
     p = log.sent_packet(k, PUBLISH)
     return p is not None and p.topic == b"" and not any(sets_alias(log, j, p.get(0x23)) for j in log.before_on(k))
 
 
-@says("C17")
+@says("C17", sent([PUBLISH]))
 def takes_too_high_a_qos(log: Log, k: int) -> bool:
     p = log.sent_packet(k, PUBLISH)
     return p is not None and is_bound_by_peer(log, k) and p.qos > log.parameter(MAXIMUM_QOS, k)
 
 
-@says("C18")
+@says("C18", sent([PUBLISH]))
 def names_a_subscription(log: Log, k: int) -> bool:
     p = log.sent_packet(k, PUBLISH)
     return p is not None and p.get(0x0B) is not None
 
 
-@says("C19")
+@says("C19", sent([DISCONNECT]))
 def sets_expiry_as_server(log: Log, k: int) -> bool:
     p = log.sent_packet(k, DISCONNECT)
     return p is not None and p.get(0x11) is not None
 
 
-@says("C20")
+@says("C20", sent([DISCONNECT]))
 def revives_its_session(log: Log, k: int) -> bool:
     p, connect = log.sent_packet(k, DISCONNECT), log.connect_before(k)
     return p is not None and p.get(0x11) not in (None, 0) and connect is not None and connect.get(0x11) in (None, 0)
 
 
-@says("C21")
+@says("C21", sent(ANY))
 def explains_unasked(log: Log, k: int) -> bool:
     p, connect = log.sent_packet(k), log.connect_before(k)
     if p is None or p.type in (PUBLISH, CONNACK, DISCONNECT) or connect is None or connect.get(0x17) != 0:
@@ -290,13 +314,13 @@ def explains_unasked(log: Log, k: int) -> bool:
     return p.get(0x1F) is not None or p.get(0x26) is not None
 
 
-@says("C22")
+@says("C22", sent([CONNACK]))
 def informs_unasked(log: Log, k: int) -> bool:
     p, connect = log.sent_packet(k, CONNACK), log.connect_before(k)
     return p is not None and p.get(0x1A) is not None and connect is not None and connect.get(0x19) != 1
 
 
-@says("C23")
+@says("C23", mark(REST))
 def rests_unclosed(log: Log, k: int) -> bool:
     return log.is_rest(k) and (has_disconnected(log, k) or (log.role == "server" and has_refused(log, k)))
 
@@ -346,7 +370,7 @@ def is_busy(log: Log, k: int, i: int) -> bool:
     return open_by(log, k, i) is not None
 
 
-@says("S01")
+@says("S01", sent((PUBLISH, SUBSCRIBE, UNSUBSCRIBE)))
 def takes_a_used_identifier(log: Log, k: int) -> bool:
     i = opener(log, k)
     if i is None and log.role == "client" and (p := log.sent_packet(k, SUBSCRIBE, UNSUBSCRIBE)):
@@ -354,7 +378,7 @@ def takes_a_used_identifier(log: Log, k: int) -> bool:
     return i is not None and is_busy(log, k, i)
 
 
-@says("S02")
+@says("S02", sent([PUBLISH]))
 def resends_what_is_not_open(log: Log, k: int) -> bool:
     i = resend(log, k)
     if i is None or open_by(log, k, i) is not None:
@@ -362,20 +386,20 @@ def resends_what_is_not_open(log: Log, k: int) -> bool:
     return not any(publish_id(log, j) == i and log.fates[log.places[j]] == VOID for j in range(1, k) if log.places[j] > 0)
 
 
-@says("S03")
+@says("S03", sent([PUBLISH]))
 def resends_on_one_connection(log: Log, k: int) -> bool:
     i, before = resend(log, k), log.before_on(k)
     return i is not None and any(publish_id(log, j) == i and not any(closer(log, m) == i for m in before if m > j) for j in before)
 
 
-@says("S04")
+@says("S04", sent([PUBLISH]))
 def resends_after_pubrel(log: Log, k: int) -> bool:
     i = resend(log, k)
     j = None if i is None else open_by(log, k, i)
     return j is not None and log.sent_packet(j).qos == 2 and any(log.sends(m, PUBREL, i) for m in log.before_in(k) if m > j)
 
 
-@says("S05")
+@says("S05", sent([PUBLISH]))
 def resends_out_of_order(log: Log, k: int) -> bool:
     i = resend(log, k)
     own = None if i is None else open_by(log, k, i)
@@ -396,7 +420,7 @@ def stretches_used(log: Log, end: int) -> int:
     return greatest
 
 
-@says("S06")
+@says("S06", sent([PUBLISH]))
 def does_not_send_again(log: Log, k: int) -> bool:
     i = opener(log, k)
     if i is None:
@@ -419,7 +443,7 @@ def is_owed_again(log: Log, k: int, i: int, t: int) -> bool:
     return not (quota <= 0 or log.announced(MAXIMUM_PACKET_SIZE, t) or log.announced(MAXIMUM_QOS, t))
 
 
-@says("S07")
+@says("S07", sent([PUBLISH]))
 def passes_the_quota(log: Log, k: int) -> bool:
     return publish_id(log, k) is not None and is_bound_by_peer(log, k) and stretches_used(log, k) > log.parameter(RECEIVE_MAXIMUM, k)
 
@@ -460,6 +484,15 @@ EXCHANGES: dict[str, tuple[Named, Named]] = {
     "E4": (received_of(PUBREL), sent_of(PUBCOMP)),
     "E5": (received_of(SUBSCRIBE), sent_of(SUBACK)),
     "E6": (received_of(UNSUBSCRIBE), sent_of(UNSUBACK)),
+}
+# The packets' types in them.
+CAUSES_AND_ANSWERS = {
+    "E1": (PUBLISH, PUBACK),
+    "E2": (PUBLISH, PUBREC),
+    "E3": (PUBREC, PUBREL),
+    "E4": (PUBREL, PUBCOMP),
+    "E5": (SUBSCRIBE, SUBACK),
+    "E6": (UNSUBSCRIBE, UNSUBACK),
 }
 
 
@@ -517,14 +550,14 @@ def breaks_order(exchange: str) -> Statement:
     return breaks
 
 
-for exchange in EXCHANGES:
-    STATEMENTS[exchange + "A"] = breaks_answered(exchange)
-    STATEMENTS[exchange + "R"] = breaks_owed(exchange)
+for exchange, (cause, answer) in CAUSES_AND_ANSWERS.items():
+    keep(exchange + "A", sent([answer]), breaks_answered(exchange))
+    keep(exchange + "R", received([cause]), breaks_owed(exchange))
     if exchange in ("E1", "E2", "E3"):
-        STATEMENTS[exchange + "O"] = breaks_order(exchange)
+        keep(exchange + "O", sent([answer]), breaks_order(exchange))
 
 
-@says("E7R")
+@says("E7R", mark(REST))
 def leaves_pings_unanswered(log: Log, k: int) -> bool:
     if not log.is_rest(k) or not log.is_binding(k):
         return False
@@ -556,19 +589,19 @@ def is_release(log: Log, k: int, i: int) -> bool:
     return log.event(k).kind == RELEASE and log.event(k).released == i
 
 
-@says("L1")
+@says("L1", mark(RELEASE))
 def releases_nothing(log: Log, k: int) -> bool:
     i = log.event(k).released
     return log.event(k).kind == RELEASE and not any(is_brought(log, j, i) for j in not_ended(log, k, i))
 
 
-@says("L2")
+@says("L2", mark(RELEASE))
 def releases_twice(log: Log, k: int) -> bool:
     i = log.event(k).released
     return log.event(k).kind == RELEASE and any(is_release(log, j, i) for j in not_ended(log, k, i))
 
 
-@says("L3")
+@says("L3", sent([PUBCOMP]))
 def completes_unreleased(log: Log, k: int) -> bool:
     p = log.sent_packet(k, PUBCOMP)
     if p is None or p.code != 0:
@@ -637,12 +670,12 @@ def matching(log: Log, k: int) -> list[int] | None:
     return [ceiling for filter, ceiling in standing(log, k) if matches(filter, topic)]
 
 
-@says("B01")
+@says("B01", sent([PUBLISH]))
 def sends_what_nobody_asked_for(log: Log, k: int) -> bool:
     return matching(log, k) == []
 
 
-@says("B02")
+@says("B02", sent([PUBLISH]))
 def sends_above_the_granted_qos(log: Log, k: int) -> bool:
     ceilings = matching(log, k)
     return bool(ceilings) and max(ceilings) < log.sent_packet(k).qos
@@ -657,6 +690,6 @@ def breaks_count(exchange: str, type: int) -> Statement:
     return breaks
 
 
-STATEMENTS["B03"] = breaks_count("E5", SUBACK)
-STATEMENTS["B04"] = breaks_count("E6", UNSUBACK)
+keep("B03", sent([SUBACK]), breaks_count("E5", SUBACK))
+keep("B04", sent([UNSUBACK]), breaks_count("E6", UNSUBACK))
 assert set(STATEMENTS) == set(CITATIONS)
