@@ -11,10 +11,10 @@ of the logs are of version 2.
 usage: bench/honest_logs.py SEED NUMBER > FILE
 """
 import argparse
-import copy
 import random
 import sys
-from dataclasses import dataclass, field
+from dataclasses import dataclass, field, replace
+from itertools import accumulate
 
 sys.dont_write_bytecode = True  # the repository stays as it is
 from make_log import CLOSE, OPEN, PINGREQ, PINGRESP, RECV, REST, SENT, record, varint
@@ -52,6 +52,10 @@ class State:
     of_peer: list[Message] = field(default_factory=list)
     to_complete: dict[int, bool] = field(default_factory=dict)  # received messages of QoS 2, and whether they were released
     filters: dict[str, int] = field(default_factory=dict)  # that the client subscribed to, each with the QoS
+
+    def copy(self) -> "State":
+        messages = [replace(one) for one in self.own], [replace(one) for one in self.of_peer]
+        return State(*messages, dict(self.to_complete), dict(self.filters))
 
 
 @dataclass
@@ -128,7 +132,7 @@ class Honest:
     def _connection(self, is_last: bool) -> None:
         wants_session, keeps = self.chance(0.8), self.chance(0.8)
         resumes = self.is_kept and wants_session and self.chance(0.85)
-        before = copy.deepcopy(self.state)
+        before = self.state.copy()
         if not resumes:
             self.state = State()
         fate = self.draw.choices(("accepted", "refused", "closed"), (0.88, 0.06, 0.06))[0]
@@ -221,9 +225,7 @@ class Honest:
     # -- what happens on a connection
 
     def _step(self) -> None:
-        steps = {self._publish: 6, self._answer: 8, self._peer_answer: 9, self._peer_publish: 5, self._send_again: 4}
-        steps |= {self._request: 3, self._ping: 1, self._release: 2, self._rest: 2, self._auth: 0.3}
-        self.draw.choices(list(steps), list(steps.values()))[0]()
+        self.draw.choices(STEPS, cum_weights=SUMS)[0](self)
 
     def _come_to_rest(self) -> None:
         """The tested end does all that it owes."""
@@ -466,6 +468,12 @@ class Honest:
             if kind == Type.SUBACK and code < 0x80:
                 self.state.filters[one] = code
         say(packet(kind << 4, number(identifier) + b"\0" + bytes(codes)))
+
+
+# What happens on a connection, and how often.
+OFTEN = {Honest._publish: 6, Honest._answer: 8, Honest._peer_answer: 9, Honest._peer_publish: 5, Honest._send_again: 4}
+OFTEN |= {Honest._request: 3, Honest._ping: 1, Honest._release: 2, Honest._rest: 2, Honest._auth: 0.3}
+STEPS, SUMS = list(OFTEN), list(accumulate(OFTEN.values()))
 
 
 def listed(properties: bytes) -> bytes:

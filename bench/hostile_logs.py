@@ -6,6 +6,7 @@ same bytes.
 import random
 from collections.abc import Callable
 from dataclasses import dataclass
+from itertools import accumulate
 
 import check_rows
 import showing
@@ -290,6 +291,9 @@ KINDS: dict[str, tuple[Maker, int]] = {
 }
 
 
+NAMES, SUMS = list(KINDS), list(accumulate(often for _, often in KINDS.values()))
+
+
 def some_packet(draw: random.Random, log: bytes) -> bytes:
     """One of the log's packets, or an example, changed or not."""
     found = packets(log) if draw.random() < 0.6 else []
@@ -304,6 +308,6 @@ def some_packet(draw: random.Random, log: bytes) -> bytes:
 def made(seed: int, which: int) -> Made:
     """The log of this number among those of the seed."""
     draw = random.Random(f"fuzz {seed} {which}")
-    kind = draw.choices(list(KINDS), [often for _, often in KINDS.values()])[0]
+    kind = draw.choices(NAMES, cum_weights=SUMS)[0]
     log = with_version(draw, kind, KINDS[kind][0](draw))
     return Made(kind, log, some_packet(draw, log))

@@ -33,14 +33,14 @@ def body_size(part: bytes) -> int:
 
 def records(log: bytes) -> Iterator[bytes]:
     """The records of a log, each whole, but for the last one if the log ends in it."""
-    yield from records_in(log[HEADER_SIZE:], version_of(log))
+    return records_in(log[HEADER_SIZE:], version_of(log))
 
 
 def records_in(block: bytes, version: int) -> Iterator[bytes]:
     """The same of records without a header."""
     at, head = 0, HEAD_SIZES[version]
     while at < len(block):
-        end = at + head + body_size(block[at : at + LENGTH_END])
+        end = at + head + int.from_bytes(block[at + 1 : at + LENGTH_END], "big")
         yield block[at:end]
         at = end
 
