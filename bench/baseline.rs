@@ -5,6 +5,11 @@
 //! usage: baseline [FILE]
 //!        baseline count FILE
 //!        baseline packet HEX
+//!        baseline many
+//!
+//! `many` answers requests on standard input, one after another, which saves starting it for each: `l` for a log or `p` for a
+//! packet, how long it is as four bytes, the most significant one first, and its bytes. The answer is the status as a byte, how
+//! long the text is, and the text.
 //!
 //! Build: rustc -O --edition 2021 -o baseline bench/baseline.rs
 //! Test:  rustc --test -O --edition 2021 -o baseline-tests bench/baseline.rs && ./baseline-tests
@@ -76,18 +81,22 @@ fn main() -> ExitCode {
     let words: Vec<&str> = words.iter().map(String::as_str).collect();
     let status = match words[..] {
         ["packet", hex] => show_packet(hex),
-        [] => show(io::stdin().lock()),
+        ["many"] => match answer_many(io::stdin().lock(), io::stdout().lock()) {
+            Ok(()) => 0,
+            Err(_) => fail("read or write failed"),
+        },
+        [] => show(io::stdin().lock(), io::stdout().lock()),
         ["count", file] => match File::open(file) {
             Ok(file) => count(file),
             Err(_) => fail("read failed"),
         },
         [file] => match File::open(file) {
-            Ok(file) => show(file),
+            Ok(file) => show(file, io::stdout().lock()),
             Err(_) => fail("read failed"),
         },
         _ => {
             eprintln!(
-                "usage: baseline [FILE]\n       baseline count FILE\n       baseline packet HEX"
+                "usage: baseline [FILE]\n       baseline count FILE\n       baseline packet HEX\n       baseline many"
             );
             MISUSE
         }
@@ -116,9 +125,9 @@ fn read_log<S: Sink>(mut input: impl Read, log: &mut Log<S>) -> io::Result<Resul
     }
 }
 
-fn show(input: impl Read) -> u8 {
+fn show(input: impl Read, output: impl Write) -> u8 {
     let mut log = Log::new(Show {
-        output: io::stdout().lock(),
+        output,
         text: Vec::new(),
     });
     let Ok(stop) = read_log(input, &mut log) else {
@@ -164,6 +173,37 @@ fn show_packet(hex: &str) -> u8 {
         Ok(()) => status,
         Err(_) => fail("write failed"),
     }
+}
+
+/// Answers requests until there is no further one.
+fn answer_many(mut input: impl Read, mut output: impl Write) -> io::Result<()> {
+    loop {
+        let mut head = [0; 5];
+        match input.read_exact(&mut head) {
+            Err(error) if error.kind() == ErrorKind::UnexpectedEof => return Ok(()),
+            result => result?,
+        }
+        let [task, length @ ..] = head;
+        let mut bytes = vec![0; u32::from_be_bytes(length) as usize];
+        input.read_exact(&mut bytes)?;
+        let (text, status) = answer(task, &bytes);
+        let mut said = vec![status];
+        said.extend((text.len() as u32).to_be_bytes());
+        said.extend(text);
+        output.write_all(&said)?;
+        output.flush()?;
+    }
+}
+
+// What it would print of a packet or of a log, and the status.
+fn answer(task: u8, bytes: &[u8]) -> (Vec<u8>, u8) {
+    if task == b'p' {
+        let (text, status) = describe(bytes);
+        return (format!("{text}\n").into_bytes(), status);
+    }
+    let mut text = Vec::new();
+    let status = show(bytes, &mut text);
+    (text, status)
 }
 
 fn from_hex(hex: &str) -> Option<Vec<u8>> {

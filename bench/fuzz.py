@@ -6,10 +6,10 @@ The logs are those of hostile_logs.py: sessions in which the tested end does rig
 of them are of version 2, with moments of any kind, and records that are cut inside their heads. `check`, as text and as JSON, is
 compared with reference.py; `show` and `packet` with reference.py's reading and, where there is rustc, with the plain program of this
 folder. A log in which the tested end does right must pass. A divergence is printed with its seed, its number, and a log that is made
-as short as it can be, which is also written to a file. The last line says how many there were.
+as short as it can be, which is also written to a file. The last line says how many there were, and how many logs it tried a minute.
 
 With --seconds it ends after that time, and says how many logs it has tried; with --only it tries the log of one number.
---self-test tries programs that each have one flaw, and checks that it is found.
+--self-test tries programs, and plain ones, that each have one flaw, and checks that it is found.
 
 usage: bench/fuzz.py [--seed 1] [--count 20000] [--seconds N] [--only NUMBER] [--program PATH] [--jobs N] [--out FOLDER]
        bench/fuzz.py --self-test [--program PATH]
@@ -20,7 +20,6 @@ import os
 import shlex
 import shutil
 import signal
-import subprocess
 import sys
 import tempfile
 import time
@@ -30,6 +29,8 @@ from concurrent.futures import ProcessPoolExecutor
 from contextlib import redirect_stdout
 from dataclasses import dataclass, field, replace
 from functools import lru_cache
+from multiprocessing import Value
+from multiprocessing.sharedctypes import Synchronized
 from pathlib import Path
 
 sys.dont_write_bytecode = True  # the repository stays as it is
@@ -37,22 +38,25 @@ import check_forms
 import hostile_logs
 import reference
 import showing
+from asking import Answer, Memory, Runner, Server
 from hostile_logs import Made
 from judges import BUILT, STATUSES
 from program import CAPTURE_HINT, GZIP_HINT
+from reading import Recording
 from run import build_baseline
 from shortening import shortest, shortest_packet, words
 
-PATIENCE = 60  # seconds that a program has for one log
-MOST_FOUND = 3  # divergences after which a worker ends, and all of them soon after
+PATIENCE = 60  # seconds that the programs have for one log
+MOST_FOUND = 3  # divergences after which all workers end
+BATCH = 100  # logs that a worker gets at once, at most
 PORTION = 10_000  # logs after which it says how many there were
+HERE = Path(__file__).resolve().parent
 FOUND = Path(tempfile.gettempdir()) / "mqjudge-fuzz"
 LOG_TASKS = ("check", "check --json", "show")
 PACKET = "packet"
 # The bytes that captures begin with (pcap in microseconds and nanoseconds, of both byte orders, and pcapng), and those of gzip.
 CAPTURES = (b"\xd4\xc3\xb2\xa1", b"\xa1\xb2\xc3\xd4", b"\x4d\x3c\xb2\xa1", b"\xa1\xb2\x3c\x4d", b"\x0a\x0d\x0d\x0a")
 GZIP = b"\x1f\x8b"
-Answer = tuple[int, str, str]  # status, output and errors
 
 
 @dataclass(frozen=True)
@@ -69,8 +73,13 @@ def hint(log: bytes) -> str:
 
 
 @lru_cache(maxsize=2)
+def read(log: bytes) -> Recording:
+    return Recording(log)
+
+
+@lru_cache(maxsize=2)
 def report_of(log: bytes) -> str:
-    return reference.report(log)
+    return reference.reported(read(log))
 
 
 def by_reference(task: str, data: bytes) -> Answer:
@@ -78,56 +87,61 @@ def by_reference(task: str, data: bytes) -> Answer:
     if task == PACKET:
         return (*showing.packet(data), "")
     if task == "show":
-        return (*showing.show(data), hint(data))
+        return (*showing.shown(read(data)), hint(data))
     text = report_of(data)
-    status = STATUSES[text.splitlines()[-1].split()[0]]
-    return status, check_forms.as_json(text) if "--json" in task else text, hint(data)
+    return STATUSES[verdict(text)], check_forms.as_json(text) if "--json" in task else text, hint(data)
+
+
+def verdict(report: str) -> str:
+    return report.splitlines()[-1].split(" ", 1)[0]
 
 
 class Programs:
     """The program, and the plain one if there is one."""
 
-    def __init__(self, program: Path, plain: Path | None, folder: Path):
-        self.program, self.plain = str(program), str(plain) if plain else ""
-        self.path = folder / f"{os.getpid()}.log"
+    def __init__(self, program: Path, plain: Path | None):
+        self.program, self.plain = str(program), Server(plain) if plain else None
+        self.log = Memory("log")
+        self.runners = {task: Runner() for task in (*LOG_TASKS, PACKET)}
+        signal.signal(signal.SIGALRM, lambda *_: self.kill())
 
-    def command(self, task: str, data: bytes) -> list[str]:
-        return [self.program, PACKET, data.hex()] if task == PACKET else [self.program, *task.split(), str(self.path)]
+    def command(self, task: str, packet: bytes) -> list[str]:
+        return [self.program, *task.split(), packet.hex() if task == PACKET else self.log.path]
 
-    def plain_command(self, task: str, data: bytes) -> list[str]:
-        return [self.plain, PACKET, data.hex()] if task == PACKET else [self.plain, str(self.path)]
-
-    def start(self, command: list[str]) -> subprocess.Popen[bytes]:
-        # (Python starts a process faster if it needn't close files, and none that is open here is inherited.)
-        return subprocess.Popen(command, stdin=subprocess.DEVNULL, stdout=subprocess.PIPE, stderr=subprocess.PIPE, close_fds=False)
-
-    def divergences(self, tasks: tuple[str, ...], log: bytes, packet: bytes = b"") -> Iterator[Divergence]:
-        """What differs in these tasks. All programs run while reference.py judges."""
-        self.path.write_bytes(log)
+    def divergences(self, tasks: tuple[str, ...], log: bytes, packet: bytes) -> list[Divergence]:
+        """What differs in these tasks. All programs run while reference.py judges. One that hangs is ended, and has the status of a
+        signal."""
+        self.log.put(log)
         data = {task: packet if task == PACKET else log for task in tasks}
-        running = {task: self.start(self.command(task, data[task])) for task in tasks}
-        doubled = [task for task in tasks if self.plain and task in (PACKET, "show")]
-        plain = {task: self.start(self.plain_command(task, data[task])) for task in doubled}
-        wanted = {task: by_reference(task, data[task]) for task in tasks}
+        doubled = [task for task in tasks if self.plain and task in ("show", PACKET)]
+        signal.setitimer(signal.ITIMER_REAL, PATIENCE, PATIENCE)
         for task in tasks:
-            got = answer_of(running[task])
-            if got != wanted[task]:
-                yield Divergence(task, "reference.py", wanted[task], got)
-            if task in plain and (said := answer_of(plain[task]))[:2] != got[:2]:
-                yield Divergence(task, "the plain program", said, got)
+            self.runners[task].start(self.command(task, packet))
+        if doubled:
+            self.plain.ask([("p" if task == PACKET else "l", data[task]) for task in doubled])
+        wanted = {task: by_reference(task, data[task]) for task in tasks}
+        got = {task: self.runners[task].answer() for task in tasks}
+        plain = dict(zip(doubled, self.plain.answers(), strict=True)) if doubled else {}
+        signal.setitimer(signal.ITIMER_REAL, 0)
+        return list(differing(wanted, got, plain))
+
+    def kill(self) -> None:
+        for one in (*self.runners.values(), *([self.plain] if self.plain else [])):
+            one.kill()
 
 
-def answer_of(process: subprocess.Popen[bytes]) -> Answer:
-    """What it answers. One that hangs is ended, and has the status of a signal."""
-    signal.signal(signal.SIGALRM, lambda *_: process.kill())
-    signal.alarm(PATIENCE)
-    try:
-        output, errors = process.stdout.read(), process.stderr.read()
-        return process.wait(), output.decode(errors="replace"), errors.decode(errors="replace")
-    finally:
-        signal.alarm(0)
-        process.stdout.close()
-        process.stderr.close()
+def differing(wanted: dict[str, Answer], got: dict[str, Answer], plain: dict[str, Answer]) -> Iterator[Divergence]:
+    for task, answer in got.items():
+        if answer != wanted[task]:
+            yield Divergence(task, "reference.py", wanted[task], answer)
+        if task in plain and plain[task][:2] != answer[:2]:
+            yield Divergence(task, "the plain program", plain[task], answer)
+
+
+@lru_cache(maxsize=1)
+def programs_of(program: Path, plain: Path | None) -> Programs:
+    """Those of this process."""
+    return Programs(program, plain)
 
 
 # ---- what is found
@@ -136,6 +150,7 @@ def answer_of(process: subprocess.Popen[bytes]) -> Answer:
 @dataclass
 class Tally:
     logs: int = 0
+    seconds: float = 0  # of the run
     files: list[Path] = field(default_factory=list)  # of the divergences
     verdicts: Counter[str] = field(default_factory=Counter)
 
@@ -147,32 +162,41 @@ class Tally:
 
 @dataclass(frozen=True)
 class Plan:
-    """What a worker does."""
+    """What a worker does at once."""
 
     seed: int
     numbers: range  # of the logs
     until: float  # the time at which it ends
     program: Path
     plain: Path | None
-    folder: Path
     out: Path
     most: int = MOST_FOUND
 
 
+found_by_all: Synchronized = Value("i", 0)  # how many divergences all workers have found
+
+
+def share(found: Synchronized) -> None:
+    """Counts with the other workers from now on."""
+    global found_by_all
+    found_by_all = found
+
+
 def work(plan: Plan) -> Tally:
-    tally, programs = Tally(), Programs(plan.program, plan.plain, plan.folder)
+    tally, programs = Tally(), programs_of(plan.program, plan.plain)
     for number in plan.numbers:
-        if time.monotonic() > plan.until or len(tally.files) >= plan.most:
+        if time.monotonic() > plan.until or found_by_all.value >= plan.most:
             break
         made = hostile_logs.made(plan.seed, number)
         tally.logs += 1
-        found = list(programs.divergences((*LOG_TASKS, PACKET), made.log, made.packet))
-        verdict = report_of(made.log).splitlines()[-1].split()[0]
-        tally.verdicts[verdict] += 1
-        if found:
-            tally.files.append(tell(plan, programs, number, made, found))
-        elif made.kind == hostile_logs.HONEST and verdict != "pass":
-            tally.files.append(tell_unpassed(plan, number, made.log))
+        found = programs.divergences((*LOG_TASKS, PACKET), made.log, made.packet)
+        word = verdict(report_of(made.log))
+        tally.verdicts[word] += 1
+        is_unpassed = made.kind == hostile_logs.HONEST and word != "pass"
+        if found or is_unpassed:
+            with found_by_all:
+                found_by_all.value += 1
+            tally.files.append(tell(plan, programs, number, made, found) if found else tell_unpassed(plan, number, made.log))
     return tally
 
 
@@ -190,7 +214,7 @@ def tell(plan: Plan, programs: Programs, number: int, made: Made, found: list[Di
     """Prints what differs, makes it short, and writes it to a file."""
     first, task = found[0], found[0].task
     least = shortened(programs, first, made)
-    again = next((one for one in list(programs.divergences((task,), least, least)) if one.by == first.by), first)
+    again = next((one for one in programs.divergences((task,), least, least) if one.by == first.by), first)
     path = plan.out / f"{plan.seed}-{number}.{'packet' if task == PACKET else 'log'}"
     path.write_bytes(least)
     lines = [f"seed {plan.seed}, log {number} ({made.kind}): {'; '.join(f'{one.task}, by {one.by}' for one in found)}"]
@@ -203,8 +227,7 @@ def tell(plan: Plan, programs: Programs, number: int, made: Made, found: list[Di
 
 def shortened(programs: Programs, first: Divergence, made: Made) -> bytes:
     def differs(data: bytes) -> bool:
-        found = list(programs.divergences((first.task,), data, data))
-        return any(one.by == first.by for one in found)
+        return any(one.by == first.by for one in programs.divergences((first.task,), data, data))
 
     return shortest_packet(made.packet, differs) if first.task == PACKET else shortest(made.log, differs)
 
@@ -228,23 +251,26 @@ def run(given: argparse.Namespace) -> Tally:
     """Tries all logs, by as many workers as there are jobs."""
     numbers = range(given.count) if given.only is None else range(given.only, given.only + 1)
     until = time.monotonic() + given.seconds if given.seconds is not None else float("inf")
-    total = Tally()
+    total, portions = Tally(), 0
     given.out.mkdir(parents=True, exist_ok=True)
-    with tempfile.TemporaryDirectory(prefix="mqjudge-fuzz-") as name, ProcessPoolExecutor(given.jobs) as pool:
-        plan = Plan(given.seed, numbers, until, given.program, plain_program(Path(name)), Path(name), given.out)
-        for begin in range(0, len(numbers), PORTION):
-            portion = numbers[begin : begin + PORTION]
-            for tally in pool.map(work, (replace(plan, numbers=portion[n :: given.jobs]) for n in range(given.jobs))):
+    with tempfile.TemporaryDirectory(prefix="mqjudge-fuzz-") as name:
+        plan = Plan(given.seed, numbers, until, given.program, plain_program(Path(name)), given.out)
+        size = max(1, min(BATCH, len(numbers) // (4 * given.jobs)))
+        batches = (numbers[begin : begin + size] for begin in range(0, len(numbers), size))
+        begun = time.monotonic()
+        with ProcessPoolExecutor(given.jobs, initializer=share, initargs=(Value("i", 0),)) as pool:
+            for tally in pool.map(work, [replace(plan, numbers=batch) for batch in batches]):
                 total.add(tally)
-            if time.monotonic() > until or len(total.files) >= MOST_FOUND:
-                break
-            if portion.stop < numbers.stop:
-                print(f"{total.logs} logs, {len(total.files)} divergences so far", file=sys.stderr, flush=True)
+                if total.logs // PORTION > portions and total.logs < len(numbers):
+                    portions = total.logs // PORTION
+                    print(f"{total.logs} logs, {len(total.files)} divergences so far", file=sys.stderr, flush=True)
+        total.seconds = time.monotonic() - begun
     return total
 
 
-# ---- the self-test: what is wrong in a program, as sed sees its answer, and how long the log that shows it may be, in bytes
+# ---- the self-test
 
+# What is wrong in a program, as sed sees its answer, and how long the log that shows it may be, in bytes.
 FLAWS = {
     "a fault that isn't reported": ("/ S01 /d", 120),
     "a decided position in JSON": (r's/"decided":\([0-9]*\),/"decided":1\1,/', 40),
@@ -253,32 +279,62 @@ FLAWS = {
     "a moment as it is shown": (r"s/ moment \([0-9]*\) / moment 1\1 /", 40),
     "a refusal's byte": (r"s/^refused 5 Kind at \(.*\)/refused 5 Kind at 1\1/", 40),
 }
+# The same of the plain program, by what Python makes of its answer.
+FLAWS_OF_PLAIN = {
+    "a RELEASE that the plain program shows otherwise": ("text = text.replace('RELEASE', 'REST')", 40),
+    "a plain program that ends at a PINGREQ": ("text == 'PINGREQ size 2\\n' and sys.exit(7)", 3),
+}
+PLAIN = """\
+#!/usr/bin/env python3
+import sys
+sys.path.insert(0, {folder!r})
+sys.dont_write_bytecode = True
+import showing
+while head := sys.stdin.buffer.read(5):
+    data = sys.stdin.buffer.read(int.from_bytes(head[1:], "big"))
+    status, text = showing.packet(data) if head[:1] == b"p" else showing.show(data)
+    {flaw}
+    sys.stdout.buffer.write(bytes([status]) + len(text).to_bytes(4, "big") + text.encode())
+    sys.stdout.buffer.flush()
+"""
 
 
 def wrong_program(program: Path, path: Path, flaw: str) -> Path:
     """A program that alters what this one says."""
     lines = [f"said=$({shlex.quote(str(program))} \"$@\")", "status=$?"]
     lines += [f"[ -z \"$said\" ] || printf '%s\\n' \"$said\" | sed {shlex.quote(flaw)}", "exit $status"]
-    path.write_text("\n".join(["#!/bin/sh", *lines, ""]))
+    return script(path, "\n".join(["#!/bin/sh", *lines, ""]))
+
+
+def script(path: Path, text: str) -> Path:
+    path.write_text(text)
     path.chmod(0o755)
     return path
 
 
-def self_test(program: Path, seed: int) -> int:
-    """Whether each flaw is found, with a short log that shows it."""
-    not_found = 0
+def is_found(what: str, program: Path, plain: Path | None, seed: int, most: int) -> bool:
+    """Whether these programs' flaw is found, with a log of so many bytes at most that shows it."""
     with tempfile.TemporaryDirectory(prefix="mqjudge-fuzz-test-") as name, redirect_stdout(io.StringIO()) as said:
-        folder = Path(name)
+        share(Value("i", 0))
+        tally = work(Plan(seed, range(2_000), float("inf"), program, plain, Path(name), most=1))
+        size = tally.files[0].stat().st_size if tally.files else 0
+        found = 0 < size <= most and str(tally.files[0]) in said.getvalue()
+    print(f"{'found' if found else 'NOT FOUND'}: {what}, in {tally.logs} logs, shortened to {size} bytes", file=sys.stderr, flush=True)
+    return found
+
+
+def self_test(program: Path, seed: int) -> int:
+    """Whether each flaw is found."""
+    found = []
+    with tempfile.TemporaryDirectory(prefix="mqjudge-fuzz-test-") as name:
+        wrong = Path(name) / "wrong"
         for what, (flaw, most) in FLAWS.items():
-            wrong = wrong_program(program, folder / "wrong", flaw)
-            tally = work(Plan(seed, range(2_000), float("inf"), wrong, None, folder, folder, most=1))
-            size = tally.files[0].stat().st_size if tally.files else 0
-            is_found = 0 < size <= most and str(tally.files[0]) in said.getvalue()
-            not_found += not is_found
-            line = f"{'found' if is_found else 'NOT FOUND'}: {what}, in {tally.logs} logs, shortened to {size} bytes"
-            print(line, file=sys.stderr, flush=True)
-    print(f"{len(FLAWS)} flaws, {not_found} not found")
-    return 1 if not_found else 0
+            found.append(is_found(what, wrong_program(program, wrong, flaw), None, seed, most))
+        for number, (what, (flaw, most)) in enumerate(FLAWS_OF_PLAIN.items()):
+            plain = script(Path(name) / f"plain-{number}", PLAIN.format(folder=str(HERE), flaw=flaw))
+            found.append(is_found(what, program, plain, seed, most))
+    print(f"{len(found)} flaws, {found.count(False)} not found")
+    return 0 if all(found) else 1
 
 
 def main() -> int:
@@ -298,10 +354,10 @@ def main() -> int:
         arguments.error(f"there is no program at {given.program}")
     if given.self_test:
         return self_test(given.program, given.seed)
-    begun = time.monotonic()
     tally = run(given)
     verdicts = ", ".join(f"{count} {word}" for word, count in sorted(tally.verdicts.items()))
-    print(f"seed {given.seed}: {tally.logs} logs in {time.monotonic() - begun:.0f} s ({verdicts}), {len(tally.files)} divergences")
+    speed = f"{tally.logs} logs in {tally.seconds:.0f} s, {tally.logs / tally.seconds * 60:.0f} a minute"
+    print(f"seed {given.seed}: {speed} ({verdicts}), {len(tally.files)} divergences")
     return 1 if tally.files else 0
 
 

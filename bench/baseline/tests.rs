@@ -1,5 +1,5 @@
 use crate::log::{Log, Stop};
-use crate::{describe, from_hex, Show};
+use crate::{answer_many, describe, from_hex, Show};
 use std::panic::catch_unwind;
 
 const HEADER: &str = "4D51545201000100";
@@ -406,4 +406,41 @@ fn shows_the_same_in_any_pieces() {
             assert_eq!(shown(&log, size), text, "{log:02X?}");
         }
     }
+}
+
+fn request(task: u8, data: &[u8]) -> Vec<u8> {
+    [&[task], &(data.len() as u32).to_be_bytes()[..], data].concat()
+}
+
+fn said(status: u8, text: &str) -> Vec<u8> {
+    request(status, text.as_bytes())
+}
+
+#[test]
+fn answers_many_requests() {
+    let header = bytes(HEADER);
+    let requests = [
+        request(b'p', &bytes("40020001")),
+        request(b'l', &accepted(&[])),
+        request(b'p', &[]),
+        request(b'l', &header),
+        request(b'l', &header[..3]),
+    ];
+    let answers = [
+        said(0, "PUBACK size 4 id 1\n"),
+        said(
+            0,
+            "1 record 1 OPEN\n2 record 2 SENT CONNECT size 15\n3 record 3 RECV CONNACK size 5\n",
+        ),
+        said(1, "need more bytes\n"),
+        said(0, ""),
+        said(2, "refused 10 Cut at 3\n"),
+    ];
+    let mut output = Vec::new();
+    answer_many(&requests.concat()[..], &mut output).expect("whole requests");
+    assert_eq!(output, answers.concat());
+    // One that isn't whole has no answer.
+    output.clear();
+    assert!(answer_many(&requests[0][..7], &mut output).is_err());
+    assert!(output.is_empty());
 }
