@@ -321,10 +321,7 @@ impl Note {
     pub fn sent_publish(&self) -> Option<&PublishNote>
         ensures { option_map (λ publish. publish.now) result ≡ notes.sent_publish self.now }
     {
-        match self {
-            Note::Sent(ItemNote::Packet(packet)) => packet.fields.publish(),
-            _ => None,
-        }
+        self.sent_fields()?.publish()
     }
 
     /// The PUBLISH that the tested end received.
@@ -332,10 +329,7 @@ impl Note {
     pub fn received_publish(&self) -> Option<&PublishNote>
         ensures { option_map (λ publish. publish.now) result ≡ notes.received_publish self.now }
     {
-        match self {
-            Note::Recv(ItemNote::Packet(packet)) => packet.fields.publish(),
-            _ => None,
-        }
+        self.received_fields()?.publish()
     }
 
     /// The DISCONNECT that the tested end sent.
@@ -343,10 +337,7 @@ impl Note {
     pub fn sent_disconnect(&self) -> Option<DisconnectNote>
         ensures { result ≡ notes.sent_disconnect self.now }
     {
-        match self {
-            Note::Sent(ItemNote::Packet(packet)) => packet.fields.disconnect(),
-            _ => None,
-        }
+        self.sent_fields()?.disconnect()
     }
 
     /// The CONNACK that the tested end sent.
@@ -354,10 +345,7 @@ impl Note {
     pub fn sent_connack(&self) -> Option<&ConnackNote>
         ensures { option_map (λ connack. connack.now) result ≡ notes.sent_connack self.now }
     {
-        match self {
-            Note::Sent(ItemNote::Packet(packet)) => packet.fields.connack(),
-            _ => None,
-        }
+        self.sent_fields()?.connack()
     }
 
     /// The CONNECT, if it is from the client; the tested end has this role.
@@ -365,10 +353,7 @@ impl Note {
     pub fn connect(&self, role: Role) -> Option<&ConnectNote>
         ensures { option_map (λ connect. connect.now) result ≡ notes.connect_of role self.now }
     {
-        match self.from_client(role) {
-            Some(fields) => fields.connect(),
-            None => None,
-        }
+        self.from_client(role)?.connect()
     }
 
     /// The CONNACK, if it is from the server; the tested end has this role.
@@ -376,10 +361,7 @@ impl Note {
     pub fn connack(&self, role: Role) -> Option<&ConnackNote>
         ensures { option_map (λ connack. connack.now) result ≡ notes.connack_of role self.now }
     {
-        match self.from_server(role) {
-            Some(fields) => fields.connack(),
-            None => None,
-        }
+        self.from_server(role)?.connack()
     }
 
     /// The DISCONNECT, if it is from the client; the tested end has this role.
@@ -387,10 +369,7 @@ impl Note {
     pub fn client_disconnect(&self, role: Role) -> Option<DisconnectNote>
         ensures { result ≡ notes.client_disconnect role self.now }
     {
-        match self.from_client(role) {
-            Some(fields) => fields.disconnect(),
-            None => None,
-        }
+        self.from_client(role)?.disconnect()
     }
 
     /// What becomes of the connection by this event, if that wasn't decided before: a CONNACK from the server decides it, and so
@@ -413,10 +392,7 @@ impl Note {
     pub fn delivery(&self) -> Option<u16>
         ensures { result ≡ notes.delivery_of self.now }
     {
-        match self.sent_publish() {
-            Some(publish) => publish.delivery(),
-            None => None,
-        }
+        self.sent_publish()?.delivery()
     }
 
     /// The Packet Identifier that the event opens: a new PUBLISH of QoS above 0 is sent (MQTT 5.0, section 2.2.1).
@@ -424,10 +400,7 @@ impl Note {
     pub fn opener(&self) -> Option<u16>
         ensures { result ≡ notes.opener_of self.now }
     {
-        match self.sent_publish() {
-            Some(publish) => publish.opener(),
-            None => None,
-        }
+        self.sent_publish()?.opener()
     }
 
     /// The Packet Identifier of a PUBLISH of QoS above 0 that the tested end sent with DUP 1 (MQTT 5.0, section 4.4).
@@ -435,10 +408,7 @@ impl Note {
     pub fn resend(&self) -> Option<u16>
         ensures { result ≡ notes.resend_of self.now }
     {
-        match self.sent_publish() {
-            Some(publish) => publish.resend(),
-            None => None,
-        }
+        self.sent_publish()?.resend()
     }
 
     /// The Packet Identifier that the event closes: a PUBACK, a PUBCOMP or a refusing PUBREC is received (MQTT 5.0, section 2.2.1).
@@ -446,10 +416,7 @@ impl Note {
     pub fn closer(&self) -> Option<u16>
         ensures { result ≡ notes.closer_of self.now }
     {
-        match self {
-            Note::Recv(ItemNote::Packet(packet)) => packet.fields.settled_identifier(),
-            _ => None,
-        }
+        self.received_fields()?.settled_identifier()
     }
 
     /// The Packet Identifier that the event takes: it opens it, or a client sends a SUBSCRIBE or UNSUBSCRIBE under it (MQTT 5.0,
@@ -469,10 +436,7 @@ impl Note {
     fn client_takes(&self) -> Option<u16>
         ensures { result ≡ taken_by roles.Client self.now }
     {
-        match self {
-            Note::Sent(ItemNote::Packet(packet)) => packet.fields.client_takes(),
-            _ => None,
-        }
+        self.sent_fields()?.client_takes()
     }
 
     /// The Packet Identifier of the PUBLISH of QoS 1 that the tested end received: it is answered by a PUBACK (MQTT 5.0, section 4.3.2).
@@ -480,10 +444,7 @@ impl Note {
     pub fn received_at_least_once(&self) -> Option<u16>
         ensures { result ≡ notes.received_once_acknowledged self.now }
     {
-        match self.received_publish() {
-            Some(publish) => publish.at_least_once(),
-            None => None,
-        }
+        self.received_publish()?.at_least_once()
     }
 
     /// The Packet Identifier of the PUBLISH of QoS 2 that the tested end received: it is answered by a PUBREC (MQTT 5.0, section 4.3.3).
@@ -491,10 +452,7 @@ impl Note {
     pub fn received_exactly_once(&self) -> Option<u16>
         ensures { result ≡ notes.received_exactly_once self.now }
     {
-        match self.received_publish() {
-            Some(publish) => publish.exactly_once(),
-            None => None,
-        }
+        self.received_publish()?.exactly_once()
     }
 
     /// The Packet Identifier of the PUBACK that the tested end sent.
@@ -502,10 +460,7 @@ impl Note {
     pub fn sent_puback(&self) -> Option<u16>
         ensures { result ≡ notes.sent_as notes.puback_in self.now }
     {
-        match self {
-            Note::Sent(ItemNote::Packet(packet)) => packet.fields.puback(),
-            _ => None,
-        }
+        self.sent_fields()?.puback()
     }
 
     /// The Packet Identifier of the PUBREC that the tested end sent.
@@ -513,10 +468,7 @@ impl Note {
     pub fn sent_pubrec(&self) -> Option<u16>
         ensures { result ≡ notes.sent_as notes.pubrec_in self.now }
     {
-        match self {
-            Note::Sent(ItemNote::Packet(packet)) => packet.fields.pubrec(),
-            _ => None,
-        }
+        self.sent_fields()?.pubrec()
     }
 
     /// The Packet Identifier of the PUBREL that the tested end sent.
@@ -524,10 +476,7 @@ impl Note {
     pub fn sent_pubrel(&self) -> Option<u16>
         ensures { result ≡ notes.sent_as notes.pubrel_in self.now }
     {
-        match self {
-            Note::Sent(ItemNote::Packet(packet)) => packet.fields.pubrel(),
-            _ => None,
-        }
+        self.sent_fields()?.pubrel()
     }
 
     /// The Packet Identifier of the PUBCOMP that the tested end sent.
@@ -535,10 +484,7 @@ impl Note {
     pub fn sent_pubcomp(&self) -> Option<u16>
         ensures { result ≡ notes.sent_as notes.pubcomp_in self.now }
     {
-        match self {
-            Note::Sent(ItemNote::Packet(packet)) => packet.fields.pubcomp(),
-            _ => None,
-        }
+        self.sent_fields()?.pubcomp()
     }
 
     /// The Packet Identifier of the SUBSCRIBE that the tested end sent.
@@ -546,10 +492,7 @@ impl Note {
     pub fn sent_subscribe(&self) -> Option<u16>
         ensures { result ≡ notes.sent_as notes.subscribe_in self.now }
     {
-        match self {
-            Note::Sent(ItemNote::Packet(packet)) => packet.fields.subscribe(),
-            _ => None,
-        }
+        self.sent_fields()?.subscribe()
     }
 
     /// The Packet Identifier of the SUBACK that the tested end sent.
@@ -557,10 +500,7 @@ impl Note {
     pub fn sent_suback(&self) -> Option<u16>
         ensures { result ≡ notes.sent_as notes.suback_in self.now }
     {
-        match self {
-            Note::Sent(ItemNote::Packet(packet)) => packet.fields.suback(),
-            _ => None,
-        }
+        self.sent_fields()?.suback()
     }
 
     /// The Packet Identifier of the UNSUBSCRIBE that the tested end sent.
@@ -568,10 +508,7 @@ impl Note {
     pub fn sent_unsubscribe(&self) -> Option<u16>
         ensures { result ≡ notes.sent_as notes.unsubscribe_in self.now }
     {
-        match self {
-            Note::Sent(ItemNote::Packet(packet)) => packet.fields.unsubscribe(),
-            _ => None,
-        }
+        self.sent_fields()?.unsubscribe()
     }
 
     /// The Packet Identifier of the UNSUBACK that the tested end sent.
@@ -579,10 +516,7 @@ impl Note {
     pub fn sent_unsuback(&self) -> Option<u16>
         ensures { result ≡ notes.sent_as notes.unsuback_in self.now }
     {
-        match self {
-            Note::Sent(ItemNote::Packet(packet)) => packet.fields.unsuback(),
-            _ => None,
-        }
+        self.sent_fields()?.unsuback()
     }
 
     /// The Packet Identifier of the PUBREL that the tested end received.
@@ -590,10 +524,7 @@ impl Note {
     pub fn received_pubrel(&self) -> Option<u16>
         ensures { result ≡ notes.received_as notes.pubrel_in self.now }
     {
-        match self {
-            Note::Recv(ItemNote::Packet(packet)) => packet.fields.pubrel(),
-            _ => None,
-        }
+        self.received_fields()?.pubrel()
     }
 
     /// The Packet Identifier of the SUBSCRIBE that the tested end received.
@@ -601,10 +532,7 @@ impl Note {
     pub fn received_subscribe(&self) -> Option<u16>
         ensures { result ≡ notes.received_as notes.subscribe_in self.now }
     {
-        match self {
-            Note::Recv(ItemNote::Packet(packet)) => packet.fields.subscribe(),
-            _ => None,
-        }
+        self.received_fields()?.subscribe()
     }
 
     /// The Packet Identifier of the SUBACK that the tested end received.
@@ -612,10 +540,7 @@ impl Note {
     pub fn received_suback(&self) -> Option<u16>
         ensures { result ≡ notes.received_as notes.suback_in self.now }
     {
-        match self {
-            Note::Recv(ItemNote::Packet(packet)) => packet.fields.suback(),
-            _ => None,
-        }
+        self.received_fields()?.suback()
     }
 
     /// The Packet Identifier of the UNSUBSCRIBE that the tested end received.
@@ -623,10 +548,7 @@ impl Note {
     pub fn received_unsubscribe(&self) -> Option<u16>
         ensures { result ≡ notes.received_as notes.unsubscribe_in self.now }
     {
-        match self {
-            Note::Recv(ItemNote::Packet(packet)) => packet.fields.unsubscribe(),
-            _ => None,
-        }
+        self.received_fields()?.unsubscribe()
     }
 
     /// The Packet Identifier of the UNSUBACK that the tested end received.
@@ -634,10 +556,7 @@ impl Note {
     pub fn received_unsuback(&self) -> Option<u16>
         ensures { result ≡ notes.received_as notes.unsuback_in self.now }
     {
-        match self {
-            Note::Recv(ItemNote::Packet(packet)) => packet.fields.unsuback(),
-            _ => None,
-        }
+        self.received_fields()?.unsuback()
     }
 
     /// The Packet Identifier of the PUBREC below 0x80 that the tested end received: it is answered by a PUBREL (MQTT 5.0, section 4.3.3).
@@ -645,10 +564,7 @@ impl Note {
     pub fn received_accepting_pubrec(&self) -> Option<u16>
         ensures { result ≡ notes.received_as notes.accepting_pubrec_in self.now }
     {
-        match self {
-            Note::Recv(ItemNote::Packet(packet)) => packet.fields.accepting_pubrec(),
-            _ => None,
-        }
+        self.received_fields()?.accepting_pubrec()
     }
 
     /// The Packet Identifier of the received QoS 2 PUBLISH whose exchange the tested end ended: it sent a PUBCOMP or a refusing PUBREC
@@ -657,10 +573,7 @@ impl Note {
     pub fn ender(&self) -> Option<u16>
         ensures { result ≡ notes.sent_as notes.ended_in self.now }
     {
-        match self {
-            Note::Sent(ItemNote::Packet(packet)) => packet.fields.ended_identifier(),
-            _ => None,
-        }
+        self.sent_fields()?.ended_identifier()
     }
 
     /// The Packet Identifier of the PUBREC of 0x10, No matching subscribers, that the tested end sent (MQTT 5.0, section 3.5.2.1).
@@ -668,10 +581,7 @@ impl Note {
     pub fn sent_unmatched_pubrec(&self) -> Option<u16>
         ensures { result ≡ notes.sent_as notes.unmatched_pubrec_in self.now }
     {
-        match self {
-            Note::Sent(ItemNote::Packet(packet)) => packet.fields.unmatched_pubrec(),
-            _ => None,
-        }
+        self.sent_fields()?.unmatched_pubrec()
     }
 
     /// The Packet Identifier of the PUBCOMP of 0x00 that the tested end sent (MQTT 5.0, section 3.7.2.1).
@@ -679,10 +589,7 @@ impl Note {
     pub fn sent_success_pubcomp(&self) -> Option<u16>
         ensures { result ≡ notes.sent_as notes.success_pubcomp_in self.now }
     {
-        match self {
-            Note::Sent(ItemNote::Packet(packet)) => packet.fields.success_pubcomp(),
-            _ => None,
-        }
+        self.sent_fields()?.success_pubcomp()
     }
 
     /// Whether the tested end sent a PINGRESP (MQTT 5.0, section 3.13).
