@@ -28,6 +28,7 @@ use indexmap::IndexMap;
 use mq_packet::Qos;
 use mq_rules::{
     Fate, Faults, Memory, Note, NotedFilter, PacketFields, PublishNote, Rule, Tested, Text, Watch,
+    qos_number,
 };
 use mq_trace::Place3;
 use std::alloc::Global;
@@ -257,17 +258,6 @@ fn judged_topic<'a>(
 }
 
 // ---- deliveries
-
-/// The number of a Quality of Service (MQTT 5.0, section 4.3).
-fn qos_number(qos: Qos) -> u8
-    ensures { result ≡ number_of qos }
-{
-    match qos {
-        Qos::AtMostOnce => 0,
-        Qos::AtLeastOnce => 1,
-        Qos::ExactlyOnce => 2,
-    }
-}
 
 /// Whether some filter matches a topic.
 fn is_asked(settled: &StandingFilters, waiting: &Awaited, topic: &str) -> bool

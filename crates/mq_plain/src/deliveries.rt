@@ -14,8 +14,9 @@ ghost use Rattle.mq_plain.specs.Deliveries.{allows, allows_by, codes_ahead, firs
 
 use crate::judging::SessionStatement;
 use crate::session::{begins_at, fate_before, is_accepted};
-use mq_packet::Qos;
-use mq_rules::{Fate, Memory, Note, NotedFilter, PacketFields, PublishNote, Role, Rule, Seen};
+use mq_rules::{
+    Fate, Memory, Note, NotedFilter, PacketFields, PublishNote, Role, Rule, Seen, qos_number,
+};
 use mq_topic::matches;
 use std::alloc::Global;
 
@@ -298,17 +299,6 @@ fn judged_topic<'a>(
         return None;
     }
     topic_of(publish, before)
-}
-
-// The number of a Quality of Service (MQTT 5.0, section 4.3).
-fn qos_number(qos: Qos) -> u8
-    ensures { result ≡ number_of qos }
-{
-    match qos {
-        Qos::AtMostOnce => 0,
-        Qos::AtLeastOnce => 1,
-        Qos::ExactlyOnce => 2,
-    }
 }
 
 // Whether no standing filter matches the topic of a PUBLISH that has these events before it.

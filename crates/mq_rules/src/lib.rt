@@ -20,6 +20,7 @@ mod one_pass;
 mod packet_note;
 mod plain;
 mod position_laws;
+mod qos;
 mod role;
 mod rule;
 mod session_laws;
@@ -55,6 +56,7 @@ pub use position_laws::{
     moments_by_positions, scopes_descend, since_by_positions, some_stretch_by_positions,
     tests_by_positions,
 };
+pub use qos::qos_number;
 pub use role::{Role, Tested};
 pub use rule::Rule;
 pub use session_laws::{

@@ -19,12 +19,12 @@ mod laws;
 mod property;
 mod quoting;
 
-use super::super::report::item::qos_number;
 use super::outgoing::Outgoing;
 use broken::put_broken;
 use detail::{Detail, Shown, put_all, put_detail};
 use mq_packet::{Answer, Codes, Connack, Connect, Filter, Filters, Packet, Publish, Request, Will};
 use mq_props::Props;
+use mq_rules::qos_number;
 use mq_trace::{Event, Item};
 use property::put_properties;
 use std::io::Write;

@@ -1,13 +1,12 @@
 //! The text of what is sent or received.
 ghost use Rattle.std.specs.Prelude.{◌≡◌, ◌<◌, ◌≤◌, ◌+◌, ◌++◌, Some, IfErr, OnOk, length};
 ghost use Rattle.mq_trace.specs.Reception.{item_of};
-ghost use Rattle.mq_rules.specs.Notes.{qos_number};
 ghost use Rattle.mq_judge.specs.ItemText.{type_name, identifier_of, qos_and_dup, flag_number, delivery_words, identifier_words, with_spaces, packet_rule_code, packet_text, broken_text, item_text};
 
 use super::super::lines::Lines;
 use super::packet_summary::PacketSummary;
-use mq_packet::{PacketRule, Qos};
-use mq_rules::Rule;
+use mq_packet::PacketRule;
+use mq_rules::{Rule, qos_number};
 use mq_trace::Item;
 use std::fmt;
 
@@ -163,16 +162,5 @@ fn delivery_of(packet: PacketSummary) -> Option<(u8, u8)>
             Some((qos_number(qos), u8::from(duplicate)))
         }
         _ => None,
-    }
-}
-
-/// A Quality of Service as its number, 0 to 2 (MQTT 5.0, section 4.3).
-pub fn qos_number(qos: Qos) -> u8
-    ensures { result ≡ qos_number qos }
-{
-    match qos {
-        Qos::AtMostOnce => 0,
-        Qos::AtLeastOnce => 1,
-        Qos::ExactlyOnce => 2,
     }
 }

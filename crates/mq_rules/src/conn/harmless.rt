@@ -8,9 +8,10 @@ ghost use Rattle.mq_rules.specs.Keeping.{may_go_on, size_bound, qos_bound, send_
 ghost use Rattle.mq_rules.specs.declared.role.Role.TheVariants as roles;
 
 use super::state::{ConnectionState, is_ordinary};
-use super::verdicts::{has_explanation, qos_number};
+use super::verdicts::has_explanation;
 use crate::note::{ItemNote, Note};
 use crate::packet_note::{PacketFields, PublishNote};
+use crate::qos::qos_number;
 use crate::role::Role;
 
 /// One byte more than the largest packet has.

@@ -3,15 +3,16 @@ ghost use Rattle.std.specs.Prelude.{◌≡◌, ◌==◌, ◌&&◌, ◌||◌, Som
 ghost use Rattle.mq_packet.specs.declared.packet.PacketType.TheVariants as types;
 ghost use Rattle.mq_rules.specs.Words.{is_id, is_some_and};
 ghost use Rattle.mq_rules.specs.declared.role.Role.TheVariants as roles;
-ghost use Rattle.mq_rules.specs.Notes.{may_explain, resumed_by, qos_number as number_of};
+ghost use Rattle.mq_rules.specs.Notes.{may_explain, resumed_by};
 ghost use Rattle.mq_rules.specs.Keeping as keeping;
 
 use super::state::ConnectionState;
 use crate::note::ItemNote;
 use crate::packet_note::{ConnackNote, DisconnectNote, PacketNote, PublishNote};
+use crate::qos::qos_number;
 use crate::role::Role;
 use crate::rule::Rule;
-use mq_packet::{PacketType, Qos};
+use mq_packet::PacketType;
 
 /// A statement, and whether it is false at the event.
 pub type Verdict = (Rule, bool);
@@ -270,18 +271,6 @@ impl ConnectionState {
     {
         let announced = self.connack.and_then(|connack| connack.maximum_qos);
         announced.unwrap_or(2)
-    }
-}
-
-/// The number of a Quality of Service.
-#[inline]
-pub(super) fn qos_number(qos: Qos) -> u8
-    ensures { result ≡ number_of qos }
-{
-    match qos {
-        Qos::AtMostOnce => 0,
-        Qos::AtLeastOnce => 1,
-        Qos::ExactlyOnce => 2,
     }
 }
 
