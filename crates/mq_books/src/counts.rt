@@ -104,7 +104,7 @@ fn is_other(counts: &IndexMap<u16, usize>, reply: Option<Counted>) -> bool
     }
 }
 
-/// The same on a connection that is accepted, if the statement is judged.
+/// Whether an answer has another number of codes than were asked for, on a connection that is accepted, if the statement is judged.
 fn is_broken(bound: bool, fate: Fate, counts: &IndexMap<u16, usize>, reply: Option<Counted>) -> bool
     ensures { result ≡ (bound && (accepts fate && differs (get nat_eq counts.now) reply)) }
 {

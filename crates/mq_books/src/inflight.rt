@@ -57,7 +57,7 @@ pub struct Inflight {
     void: IndexSet<u16>,
     /// Those of SUBSCRIBE packets that were sent on the connection, and not answered.
     subscribing: IndexSet<u16>,
-    /// The same for UNSUBSCRIBE.
+    /// Those of UNSUBSCRIBE packets that were sent on the connection, and not answered.
     unsubscribing: IndexSet<u16>,
     /// The greatest position of an opener whose PUBLISH was sent again on the connection.
     resent: u32,

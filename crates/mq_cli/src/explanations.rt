@@ -124,7 +124,7 @@ fn found(rows: &[Explanation], rule: Rule) -> Option<Explanation>
         .find(|(explained, _)| *explained == rule)
 }
 
-// The same, as contracts see rows.
+// The row of a statement among these, with its texts as contracts see them: as lists of bytes.
 fn found_in(rows: &[Explanation], rule: Rule) -> Option<Explanation>
     ensures { option_map explained_view result
         ≡ find (λ explained. same_rule explained.rule rule) (explained_in rows.now) }

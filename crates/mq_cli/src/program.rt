@@ -218,7 +218,7 @@ fn do_on<R: Read + Drop, W: Output, E: ErrorStream, P: Progress>(
     }
 }
 
-// The same, with the first bytes of the log, and what the reader gives after them.
+// Does a task on the log that begins with these bytes and goes on with what `input` gives, and returns the status.
 fn do_from<R: Read + Drop, W: Output, E: ErrorStream, P: Progress>(
     alloc: Global,
     task: &Task,

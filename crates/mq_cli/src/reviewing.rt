@@ -169,7 +169,8 @@ fn show_readers<R: Read + Drop, W: Output, E: ErrorStream>(
     }
 }
 
-// The same, with the first bytes of the log that is judged, and what the reader gives after them.
+// Judges the log that begins with these bytes and goes on with what `judged` gives, shows the other one with its faults, and returns
+// the status.
 fn show_on<R: Read + Drop, W: Output, E: ErrorStream>(
     alloc: Global,
     plan: Plan<'_>,

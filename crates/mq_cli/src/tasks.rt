@@ -42,7 +42,7 @@ pub enum View<'a> {
         /// Whether it is a long one.
         long: bool,
     },
-    /// The same, with the faults at them.
+    /// A line for each, and the faults at them.
     Faults {
         /// The faults.
         faults: &'a Faults,

@@ -233,7 +233,7 @@ pub fn show<R: Read, W: Write>(
     show_view(alloc, View::Brief, reader, &mut out)
 }
 
-/// The same with long lines: the words of each line are followed by the other fields of its packet and its properties, each by its name.
+/// Shows the events of a log as `show` does, in long lines: the words of each line are followed by the other fields of its packet and its properties, each by its name.
 /// Those of a packet that breaks a rule are followed by `type <TYPE> bytes <bytes>`: the type that its first byte names (`Reserved`
 /// if that is 0), and at most 64 of its bytes, with the one at the offset in brackets. They are the first ones, or if the offset
 /// isn't among them, 32 before it, the one there and 31 after it; `..` stands where bytes are left out, and `[]` at the end if the

@@ -148,7 +148,7 @@ impl Judge {
         Ok(verdict)
     }
 
-    /// The same, with the role of the end that was judged, which `write_text` and its like ask for.
+    /// Ends the log, and returns the verdict on it and the role of the end that was judged, which `write_text` and its like ask for.
     ///
     /// # Errors
     ///

@@ -108,7 +108,7 @@ impl Lines {
         }
     }
 
-    // The same for a number of one digit.
+    // Appends a number of one digit.
     #[inline(always)]
     #[tactic(auto, using(crate::proofs::DigitLaws::digit_alone, crate::proofs::DigitLaws::one_digit))]
     fn put_digit(&mut self, number: u32) -> fmt::Result
@@ -120,7 +120,7 @@ impl Lines {
         self.put_bytes(&[b'0' + number as u8])
     }
 
-    // The same for any number.
+    // Appends the digits of any number.
     #[inline(never)]
     fn put_digits(&mut self, number: u32) -> fmt::Result
         ensures puts { OnOk result (self.new ≡ self.old ++ decimal number) }
@@ -208,7 +208,7 @@ fn write_digits(digits: &mut [u8], number: u32)
     digits[at - 1] = b'0' + rest as u8;
 }
 
-// The same for a number that may have more than 32 bits.
+// How many decimal digits a number has that may be above 32 bits.
 fn long_digit_count(number: u64) -> usize
     ensures count { result ≡ length (decimal number) }
     ensures short { result ≤ 20 }

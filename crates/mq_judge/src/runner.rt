@@ -47,7 +47,8 @@ pub fn run<R: Read, W: Write>(
     run_bounded(alloc, reader, writer, form, u32::MAX)
 }
 
-/// The same, and tells `progress` after each turn how many bytes it gave, and how many faults are known. It is told nothing once the log is refused.
+/// Judges the log that a reader gives, and writes the report, as `run` does. After each turn it tells `progress` how many bytes the
+/// turn gave, and how many faults are known, until the log is refused.
 ///
 /// # Errors
 ///
@@ -87,7 +88,7 @@ pub fn run_bounded<R: Read, W: Write>(
     run_all(alloc, reader, writer, form, turns, &mut ())
 }
 
-// The same, and tells `progress` how far it is.
+// Judges the log that a reader gives in at most `turns` turns, telling `progress` how far it is, and writes the report.
 fn run_all<R: Read, W: Write, P: Progress>(
     alloc: Global,
     reader: &mut R,
@@ -127,7 +128,7 @@ pub fn judge_reader<R: Read>(alloc: Global, reader: &mut R) -> Result<(Verdict, 
     judge_bounded(alloc, reader, u32::MAX, &mut ())
 }
 
-// The same in at most `turns` turns, telling `progress` how far it is.
+// Judges the log that a reader gives in at most `turns` turns, telling `progress` how far it is, and returns the verdict and the role.
 fn judge_bounded<R: Read, P: Progress>(
     alloc: Global,
     reader: &mut R,

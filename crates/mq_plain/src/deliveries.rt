@@ -107,7 +107,7 @@ fn asks_for_shared(note: &Note) -> bool
     }
 }
 
-// The same for an event on a connection that is accepted, which has this fate.
+// Whether an event on a connection with this fate is such a SUBSCRIBE, and the connection is accepted.
 fn asks_for_shared_at(fate: Option<Fate>, note: &Note) -> bool
     ensures { result ≡ (accepted fate && is_some_and (λ s. list_any begins_shared s.filters) (received_subscription note.now)) }
 {
@@ -232,7 +232,7 @@ fn subscribes(topic: &str, least: u8, note: &Note, later: &[Seen]) -> bool
     }
 }
 
-// The same for a packet that was received.
+// Whether a packet that was received is a SUBSCRIBE, and one of its standing filters allows the topic, given the events after it.
 fn subscribes_in(topic: &str, least: u8, fields: &PacketFields, later: &[Seen]) -> bool
     ensures { result ≡ is_some_and (λ s. list_any (allows topic.now least) (granted s.filters (unwrap_or (codes_ahead s.identifier later.now) []))) (subscription_in fields.now) }
 {
@@ -252,7 +252,7 @@ fn subscribes_in(topic: &str, least: u8, fields: &PacketFields, later: &[Seen]) 
 
 // ---- the standing filters of the session
 
-// The same for an event on a connection that is accepted, which has this fate.
+// Whether an event on a connection with this fate is such a SUBSCRIBE, and the connection is accepted.
 fn subscribes_at(fate: Option<Fate>, topic: &str, least: u8, note: &Note, later: &[Seen]) -> bool
     ensures { result ≡ (accepted fate && subscribes_to topic.now least later.now note.now) }
 {

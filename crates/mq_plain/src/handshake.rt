@@ -39,7 +39,7 @@ impl Handshake {
     ghost use Rattle.std.specs.Option.{option_or};
     ghost use Rattle.mq_rules.specs.Notes.{connect_of, connack_of};
 
-    // The same with an event that comes before all of this.
+    // The handshake with an event that comes before all of it.
     fn after(self, role: Role, note: &Note) -> Handshake
         ensures { result ≡ record { connect = option_or (connect_of role note.now) self.connect; connack = option_or (connack_of role note.now) self.connack } }
     {

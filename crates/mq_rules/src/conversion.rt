@@ -454,7 +454,7 @@ impl Note {
         }
     }
 
-    /// The same, where this is kept of the Topic Name. It is made in one piece, since each move of a note costs more than what is
+    /// The note of a PUBLISH in this direction, of which this is kept of the Topic Name. It is made in one piece, since each move of a note costs more than what is
     /// noted.
     #[inline(always)]
     fn with_topic(direction: Direction, size: u32, topic: Text, publish: &Publish<'_>) -> Note

@@ -224,7 +224,7 @@ fn found_saying(sayings: &[Saying], rule: Rule) -> Option<Saying>
     sayings.iter().copied().find(|(said, _)| *said == rule)
 }
 
-/// The same, as contracts see rows.
+/// The row of a statement among these, as contracts see it: its sentence is a list of bytes.
 fn found_saying_in(sayings: &[Saying], rule: Rule) -> Option<Saying>
     ensures { option_map saying_view result ≡ find (λ said. same_rule said.rule rule) (sayings_of sayings.now) }
 {
@@ -246,7 +246,7 @@ fn row_with_code(table: &[Row], code: &str) -> Option<Row>
     table.iter().copied().find(|(_, written, _, _, _, _)| written.eq_ignore_ascii_case(code))
 }
 
-/// The same, as contracts see rows.
+/// The first row with this code, as contracts see it: its texts are lists of bytes.
 fn row_with_code_in(table: &[Row], code: &str) -> Option<Row>
     ensures { option_map line_view result
         ≡ find (λ line. str_eq_ignore_ascii_case line.code code.now) (lines_of table.now) }

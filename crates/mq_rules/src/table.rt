@@ -210,7 +210,7 @@ fn found(table: &[Row], rule: Rule) -> Option<Row>
         .find(|(chosen, _, _, _, _, _)| *chosen == rule)
 }
 
-/// The same, as contracts see rows.
+/// The row of a statement in a table, as contracts see it: its texts are lists of bytes.
 fn found_in(table: &[Row], rule: Rule) -> Option<Row>
     ensures { option_map line_view result ≡ find (λ line. same_rule line.rule rule) (lines_of table.now) }
 {

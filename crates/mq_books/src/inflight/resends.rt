@@ -276,7 +276,7 @@ fn settle_all(
     })
 }
 
-/// The same where what wasn't confirmed is excused.
+/// Adds the faults of what was confirmed and is due at a REST that binds, where what wasn't confirmed is excused.
 #[tactic(auto, using(crate::proofs::BlameLaws::keeps_same))]
 fn settle_confirmed(
     resent: Resent,

@@ -52,7 +52,7 @@ impl Trickle<'_> {
         Trickle::failing(bytes, fails_after, ErrorKind::Other)
     }
 
-    /// The same, with the kind of its error.
+    /// A reader that gives these bytes, and fails with an error of this kind before the byte of this index, if that is some.
     pub fn failing(bytes: &[u8], fails_after: Option<usize>, kind: ErrorKind) -> Trickle<'_> {
         Trickle {
             bytes,

@@ -81,7 +81,7 @@ impl View<'_> {
         }
     }
 
-    // The same by any view. It stays apart, and takes the packet by value: one that another function looks at lies in memory.
+    // Takes in a packet by any view. It stays apart, and takes the packet by value: one that another function looks at lies in memory.
     #[inline(never)]
     fn put_whole_packet<W: Write>(
         &mut self,

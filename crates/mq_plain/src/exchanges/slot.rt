@@ -12,7 +12,7 @@ pub struct Slot {
 }
 
 impl Slot {
-    /// The same with an event before them, at this index, that is a cause.
+    /// The slot with an event before the others, at this index, that is a cause.
     pub fn with_cause(self, index: usize) -> Slot
         ensures { result ≡ asking_at true index self }
     {
@@ -25,7 +25,7 @@ impl Slot {
         }
     }
 
-    /// The same with an event before them that is an answer.
+    /// The slot with an event before the others that is an answer.
     pub fn with_answer(self) -> Slot
         ensures { result ≡ answered true self }
     {
