@@ -83,17 +83,17 @@ module _ {S : Type 0} (agrees : S → List Placed → Type 0) (declines : S → 
   lost_met l = refused-one limit (body_context context) before byte ∙ loses-refusal limit (body_context context) before u byte refl l
 
   pub lost_comes : {A : Type 0} (r : Result A Refusal) (c' : Connections) (old new : S) → fixed_header_of (u ++ byte ∷ []) ≡ headers.Lost
-      → OnOk r ((event_refusal at context.server c (item_event context.direction lost) ≡ None) × (c' ≡ connections_with context.server c (item_event context.direction lost)))
+      → OnOk r (event_refusal at context.server c (item_event context.direction lost) ≡ None) → OnOk r (c' ≡ connections_with context.server c (item_event context.direction lost))
       → ((earlier : List Placed) → agrees old earlier → AreEvents (next_placed c context.in_record (item_event context.direction lost) ∷ earlier) → OnOk r (agrees new (next_placed c context.in_record (item_event context.direction lost) ∷ earlier)))
       → OnOk r (FlowComes agrees limit (body_context context) before (flow_of (at + 1) lost_state c') (byte ∷ []) old new)
-  lost_comes (Err refusal) c' old new gone ok emitted = tt
-  lost_comes (Ok x) c' old new gone ok emitted =
+  lost_comes (Err refusal) c' old new gone met kept emitted = tt
+  lost_comes (Ok x) c' old new gone met kept emitted =
       (let l : is_lost (u ++ byte ∷ []) ≡ true = header_lost (u ++ byte ∷ []) gone in
       let same : (earlier : List Placed) → flow_events (body_context context) before (byte ∷ []) ++ earlier ≡ next_placed c context.in_record (item_event context.direction lost) ∷ earlier
       = λ earlier. ap (λ (completed : List Placed). completed ++ earlier) (lost_events l) in
       record {
-        unrefused = lost_met l ∙ ok.0;
-        kept = lost_after_bytes l ∙ ap (λ (k : Connections). flow_of (at + 1) lost_state k) (sym ok.1);
+        unrefused = lost_met l ∙ met;
+        kept = lost_after_bytes l ∙ ap (λ (k : Connections). flow_of (at + 1) lost_state k) (sym kept);
         emitted = λ earlier was are. subst (agrees new) (sym (same earlier)) (emitted earlier was (subst AreEvents (same earlier) are));
       })
 

@@ -1,13 +1,31 @@
 -- Emitting an event to a sink: which refusals can apply, and what is kept after it.
-use Rattle.std.specs.Prelude.{◌≡◌, ℕ, ◌+◌, ◌-◌, ◌⊎◌, nat_le, Bool, ◌&&◌, ◌||◌, not, if◌then◌else◌, List, [], ◌∷◌, Option, Some, None}
+use Rattle.std.specs.Prelude.{◌≡◌, ℕ, ◌+◌, ◌-◌, ◌⊎◌, nat_le, Bool, true, false, ◌&&◌, ◌||◌, not, if◌then◌else◌, List, [], ◌∷◌, Option, Some, None}
 use Rattle.mq_trace.specs.declared.place.InRecord.{InRecord}
 use Rattle.mq_trace.specs.declared.refusal.Refusal.{Refusal}
 use Rattle.mq_trace.specs.declared.refusal.Refusal.TheVariants as refusals
 use Rattle.mq_trace.specs.declared.connections.Connections.{Connections}
-use Rattle.mq_trace.specs.Events.{Event, Placed}
+use Rattle.mq_trace.specs.declared.connections.Effect.{Effect}
+use Rattle.mq_trace.specs.declared.connections.Effect.TheVariants as effects
+use Rattle.mq_trace.specs.Events.{Event, Placed, opened, closed, rested, released, sent, received}
 use Rattle.mq_trace.specs.Connections.{begins_connection, ends_connection, is_answer, is_too_early}
 use Rattle.mq_trace.specs.Refusals.{first_that_applies}
 use Rattle.mq_trace.specs.Refusing.{moved}
+
+-- what an event does to its connection; the flag says whether the tested end is a server
+abbrev pub effect_of : Bool → Event → Effect
+effect_of server opened = effects.Begins
+effect_of server closed = effects.Ends
+effect_of server rested = effects.Nothing
+effect_of server (released identifier) = effects.Nothing
+effect_of server (sent item) = if is_answer server (sent item) then effects.Answers else effects.Nothing
+effect_of server (received item) = if is_answer server (received item) then effects.Answers else effects.Nothing
+
+-- an event with this effect may come however many came before it without a CONNACK
+abbrev pub decides : Effect → Bool
+decides effects.Begins = false
+decides effects.Answers = true
+decides effects.Ends = true
+decides effects.Nothing = false
 
 -- the refusal that applies to an event that this byte completes; the flag says whether the tested end is a server
 abbrev pub event_refusal : ℕ → Bool → Connections → Event → Option Refusal

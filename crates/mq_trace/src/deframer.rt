@@ -18,7 +18,7 @@ ghost use Rattle.mq_trace.specs.Settling.{IsByteStep, IsStep, IsWhole};
 ghost use Rattle.mq_trace.specs.Flows.{item_event, flow_placed_with, flow_refused, flow_events, flow_after_bytes};
 ghost use Rattle.mq_trace.specs.Deframing.{body_context, flow_of, frame_event, frame_refusal, connections_then, FlowStops, FlowComes};
 
-use super::connections::{Connections, emit, emit_packet, emit_publish};
+use super::connections::{Connections, Effect, emit, emit_packet, emit_publish};
 use super::event::{Item, item_event};
 use super::kind::Direction;
 use super::place::InRecord;
@@ -337,7 +337,8 @@ impl Deframer {
         sink: &mut S,
     ) -> Result<(), Refusal>
         ensures gone { state_in self.new ≡ record { unfinished = []; lost = true } }
-        ensures ok { OnOk result ((event_refusal at context.server connections.old (item_event context.direction lost) ≡ None) × (connections.new ≡ connections_with context.server connections.old (item_event context.direction lost))) }
+        ensures met { OnOk result (event_refusal at context.server connections.old (item_event context.direction lost) ≡ None) }
+        ensures kept { OnOk result (connections.new ≡ connections_with context.server connections.old (item_event context.direction lost)) }
         ensures receives { (earlier : List Placed) → S.agrees sink.old earlier → AreEvents (next_placed connections.old context.in_record (item_event context.direction lost) ∷ earlier)
             → OnOk result (S.agrees sink.new (next_placed connections.old context.in_record (item_event context.direction lost) ∷ earlier)) }
         ensures err { IfErr result (λ refusal. NotEmitted (Declines S.agrees S.refuses) at (event_refusal at context.server connections.old (item_event context.direction lost)) (next_placed connections.old context.in_record (item_event context.direction lost) ∷ []) sink.old sink.new refusal) }
@@ -346,9 +347,9 @@ impl Deframer {
         self.lost = true;
         emit(
             connections,
-            context.server,
             at,
             context.in_record,
+            Effect::Nothing,
             item_event(context.direction, Item::Lost),
             sink,
         )
@@ -685,9 +686,9 @@ fn emit_bad<S: Sink>(
     };
     emit(
         connections,
-        context.server,
         at,
         context.in_record,
+        Effect::Nothing,
         item_event(context.direction, item),
         sink,
     )

@@ -1,6 +1,6 @@
 //! Reads a log: its header, its records, and what they carry.
 
-ghost use Rattle.std.specs.Prelude.{◌≡◌, ◌≢◌, ◌+◌, ◌*◌, ◌^◌, ◌<◌, ◌≤◌, ◌∷◌, ◌++◌, [], List, true, false, cond, Some, None, OnOk, IfOk, IfErr, IfSome, IsTrue, length, take, OnErr};
+ghost use Rattle.std.specs.Prelude.{◌≡◌, ◌≢◌, ◌+◌, ◌*◌, ◌^◌, ◌<◌, ◌≤◌, ◌∷◌, ◌++◌, [], Bool, List, true, false, cond, Some, None, OnOk, IfOk, IfErr, IfSome, IsTrue, length, take, OnErr};
 ghost use Rattle.mq_trace.specs.Keeping.{state_in, context_of, IsUnfinished, IsSound, Advances, Comes, StepStops, HoldsHeader};
 ghost use Rattle.mq_trace.specs.Refusals.{allows_length, header_refusal};
 ghost use Rattle.mq_trace.specs.Refusing.{refusal_offset};
@@ -10,7 +10,7 @@ ghost use Rattle.mq_trace.specs.declared.stage.Stage.TheVariants as stages;
 ghost use Rattle.mq_trace.specs.Framing.{kind_named, opens, moment_in, head_length};
 ghost use Rattle.mq_trace.specs.Events.{Placed};
 ghost use Rattle.mq_trace.specs.Reception.{AreEvents, Declines, event_of};
-ghost use Rattle.mq_trace.specs.Emission.{event_refusal, next_placed, NotEmitted};
+ghost use Rattle.mq_trace.specs.Emission.{effect_of, event_refusal, next_placed, NotEmitted};
 ghost use Rattle.mq_trace.specs.Context.{fresh};
 ghost use Rattle.mq_trace.specs.Stepping.{err_of, after_header_byte, kind_refusal, kind_for, IsBodyHead, BeginsRecord, EndsHead, refused_first, in_head, in_moment, in_record_of, marked, leaving, context_for, deframer_for, flow_for, redirected};
 ghost use Rattle.mq_trace.specs.Flows.{flow_refused, flow_events, flow_after_bytes};
@@ -19,7 +19,7 @@ ghost use Rattle.mq_trace.specs.Settling.{IsWhole};
 
 mod bodies;
 
-use super::connections::{Connections, emit};
+use super::connections::{Connections, Effect, emit};
 use super::deframer::Deframer;
 use super::event::Event;
 use super::header::{
@@ -580,9 +580,9 @@ impl Reading {
         ensures stays { OnErr result (HoldsHeader self.old self.new) }
     {
         match kind {
-            RecordKind::Open => self.end_mark(Event::Open, moment, sink),
-            RecordKind::Close => self.end_mark(Event::Close, moment, sink),
-            RecordKind::Rest => self.end_mark(Event::Rest, moment, sink),
+            RecordKind::Open => self.end_mark(Effect::Begins, Event::Open, moment, sink),
+            RecordKind::Close => self.end_mark(Effect::Ends, Event::Close, moment, sink),
+            RecordKind::Rest => self.end_mark(Effect::Nothing, Event::Rest, moment, sink),
             RecordKind::Release => {
                 self.begin_release(moment);
                 Ok(())
@@ -601,17 +601,19 @@ impl Reading {
         self.stage = Stage::Release(None);
     }
 
-    /// Ends a record of this moment with an event.
+    /// Ends a record of this moment with an event that isn't a packet and has this effect.
     ///
     /// # Errors
     ///
     /// The refusal that applies to the event, or the sink's own refusal, at the byte that is being taken in.
     fn end_mark<S: Sink>(
         &mut self,
+        effect: Effect,
         event: Event<'_>,
         moment: u64,
         sink: &mut S,
     ) -> Result<(), Refusal>
+        requires effect { (server : Bool) → effect_of server (event_of event) ≡ effect }
         requires room { self.old.at + 1 < 2 ^ 64 }
         requires numbered { self.old.records < 4294967295 }
         ensures met { OnOk result (event_refusal self.old.at self.old.header.server self.old.connections (event_of event.entry) ≡ None) }
@@ -623,12 +625,12 @@ impl Reading {
     {
         match emit(
             &mut self.connections,
-            self.header.server,
             self.at,
             InRecord {
                 record_no: self.records + 1,
                 moment,
             },
+            effect,
             event,
             sink,
         ) {
@@ -650,7 +652,8 @@ impl Reading {
         ensures stays { OnErr result (HoldsHeader self.old self.new) }
     {
         let identifier = u16::from_be_bytes([high, low]);
-        self.end_mark(Event::Release(identifier), self.moment, sink)
+        let event = Event::Release(identifier);
+        self.end_mark(Effect::Nothing, event, self.moment, sink)
     }
 
     /// Takes in the last byte of a record.

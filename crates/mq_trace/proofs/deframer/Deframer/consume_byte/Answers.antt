@@ -45,7 +45,7 @@ returns-in-Loses-clause-comes g c =
     (record { unfinished = []; lost = true }) (state_in c.mark_lost.new.self) c.mark_lost.new.connections (c.args.byte ∷ []) c.args.sink.now c.mark_lost.new.sink
     (always c.mark_lost.result (state_in c.mark_lost.new.self) (record { unfinished = []; lost = true }) c.mark_lost.ensures.gone)
     (lost_comes g.S.Sink.agrees (Declines g.S.Sink.agrees g.S.Sink.refuses) c.args.context.limit c.args.context c.args.at c.args.connections.now c.args.self.now.unfinished.items c.args.byte
-    c.mark_lost.result c.mark_lost.new.connections c.args.sink.now c.mark_lost.new.sink c.in-Loses.ensures c.mark_lost.ensures.ok c.mark_lost.ensures.receives))
+    c.mark_lost.result c.mark_lost.new.connections c.args.sink.now c.mark_lost.new.sink c.in-Loses.ensures c.mark_lost.ensures.met c.mark_lost.ensures.kept c.mark_lost.ensures.receives))
 
 pub returns-in-Loses-clause-sound : goal.returns-in-Loses-clause-sound
 returns-in-Loses-clause-sound g c =
