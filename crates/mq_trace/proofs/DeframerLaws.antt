@@ -392,7 +392,3 @@ pub lost_kept : (context : BodyContext) (at : ℕ) (state : StreamState) (c : Co
     → flow_after_bytes context (flow_of at state c) (take (length bytes) bytes) ≡ flow_of (at + length bytes) state c
 lost_kept context at state c bytes e =
     lost-after context (flow_of at state c) (take (length bytes) bytes) e ∙ ap (λ (n : ℕ). flow_of (at + n) state c) (length-take-le (length bytes) bytes (omega arith))
-
--- a direction in which nothing is unfinished, and which isn't lost
-pub empty_state : (state : StreamState) → state.unfinished ≡ [] → state.lost ≡ false → state ≡ record { unfinished = []; lost = false }
-empty_state state nothing open_yet = ap (λ (u : List ℕ). record { unfinished = u; lost = state.lost }) nothing ∙ ap (λ (l : Bool). record { unfinished = []; lost = l }) open_yet

@@ -17,12 +17,10 @@ pub record IsWhole (limit : ℕ) (bytes : List ℕ) (header size : ℕ) : Type 0
   pub within : size ≤ limit
   pub bound : size ≤ header + 268435455
 
--- What the next bytes of a direction are: a whole packet within the limit, with its fixed header's length; the beginning of one; more of an unfinished packet of this size; or a byte that may belong to a fixed header, of which at most four came.
+-- What the next bytes of a direction are, where they don't begin with a whole packet: the beginning of one, while none is unfinished; or anything else.
 abbrev pub IsStep : StreamState → ℕ → List ℕ → Step → Type 0
-IsStep state limit bytes (steps.Whole header size) = (state.unfinished ≡ []) × (frame_size bytes ≡ Some size) × (size ≤ limit) × (fixed_header_of bytes ≡ headers.Whole header size) × (size ≤ header + 268435455)
-IsStep state limit bytes (steps.More size) = (header : ℕ) × (fixed_header_of state.unfinished ≡ headers.Whole header size)
 IsStep state limit bytes steps.Beginning = (state.unfinished ≡ []) × IsShort limit bytes (fixed_header_of bytes)
-IsStep state limit bytes steps.Byte = length state.unfinished ≤ 4
+IsStep state limit bytes steps.Other = Unit {0}
 
 -- What a byte is, after these bytes of an unfinished packet: one of which more is to come; its last byte; the one that ends a fixed header with a size over the limit; or the one that makes the fixed header invalid.
 abbrev pub IsByteStep : ℕ → List ℕ → ℕ → ByteStep → Type 0

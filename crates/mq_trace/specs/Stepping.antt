@@ -1,5 +1,5 @@
 -- The steps of a log's reader: its state after the bytes of one.
-use Rattle.std.specs.Prelude.{◌≡◌, ℕ, ◌+◌, ◌<◌, ◌≤◌, ◌==◌, nat_lt, List, length, slice_index, true, ◌&&◌, not, cond, if◌then◌else◌, [], ◌∷◌, ◌++◌, Option, Some, None, Result, Ok, Err}
+use Rattle.std.specs.Prelude.{◌≡◌, ℕ, ◌+◌, ◌<◌, ◌≤◌, ◌==◌, nat_lt, List, length, slice_index, Bool, true, false, ◌&&◌, not, cond, if◌then◌else◌, [], ◌∷◌, ◌++◌, Option, Some, None, Result, Ok, Err}
 use Rattle.std.specs.Int.{w32, from_be_bytes}
 use Rattle.mq_trace.specs.declared.kind.RecordKind.{RecordKind}
 use Rattle.mq_trace.specs.declared.kind.RecordKind.TheVariants as kinds
@@ -7,6 +7,7 @@ use Rattle.mq_trace.specs.declared.kind.Direction.{Direction}
 use Rattle.mq_trace.specs.declared.place.InRecord.{InRecord}
 use Rattle.mq_trace.specs.declared.refusal.Refusal.{Refusal}
 use Rattle.mq_trace.specs.declared.refusal.Refusal.TheVariants as refusals
+use Rattle.mq_trace.specs.declared.stage.Stage.{Stage}
 use Rattle.mq_trace.specs.declared.stage.Stage.TheVariants as stages
 use Rattle.mq_trace.specs.declared.reading.Reading.{Reading}
 use Rattle.mq_trace.specs.Framing.{kind_named, kind_of, body_length, opens, moment_in, head_length, longest_body}
@@ -36,6 +37,14 @@ after_header_byte r byte = record r {
     releases = if r.at == 6 then byte == 1 else r.header.releases;
   };
 }
+
+-- it is inside the body of a SENT or RECV
+abbrev pub is_in_body : Stage → Bool
+is_in_body stages.Between = false
+is_in_body (stages.Head kind count length_so_far) = false
+is_in_body (stages.Moment kind number count) = false
+is_in_body (stages.Body direction left) = true
+is_in_body (stages.Release first) = false
 
 -- the refusal that applies at the first byte of a record of this kind
 abbrev pub kind_refusal : Reading → RecordKind → Option Refusal

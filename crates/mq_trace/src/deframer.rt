@@ -51,22 +51,13 @@ pub struct BodyContext {
     pub limit: u32,
 }
 
-/// What the next bytes of a direction are.
+/// What the next bytes of a direction are, where they don't begin with a whole packet.
 #[derive(Clone, Copy, Debug, PartialEq, Eq)]
 pub enum Step {
-    /// A whole packet, within the limit.
-    Whole {
-        /// How many bytes its fixed header has.
-        header: usize,
-        /// How many bytes it has.
-        size: usize,
-    },
-    /// The beginning of a packet, of which more is to come.
+    /// The beginning of a packet, of which more is to come, while none is unfinished.
     Beginning,
-    /// More of the unfinished packet, which has this size.
-    More(usize),
-    /// A byte that may belong to a fixed header.
-    Byte,
+    /// Anything else: more of an unfinished packet, a packet larger than the limit, or bytes that can't be parsed.
+    Other,
 }
 
 /// What a byte that may belong to a fixed header is to its packet.
@@ -109,8 +100,8 @@ impl Deframer {
         !self.lost && self.unfinished.is_empty()
     }
 
-    /// Takes in the next bytes of the direction, up to the end of the packet that the first one belongs to, and returns how many.
-    /// The first one has this offset in the log.
+    /// Takes in the next bytes of the direction, which are this and don't begin with a whole packet, up to the end of the packet that
+    /// the first one belongs to. Returns how many. The first one has this offset in the log.
     ///
     /// # Errors
     ///
@@ -121,12 +112,14 @@ impl Deframer {
         context: BodyContext,
         connections: &mut Connections,
         at: u64,
+        step: Step,
         bytes: &[u8],
         sink: &mut S,
     ) -> Result<usize, Refusal>
         requires some { 1 ≤ length bytes.now }
         requires room { at + length bytes.now < 2 ^ 64 }
         requires unfinished { IsUnfinished context.limit (state_in self.old) }
+        requires step { IsStep (state_in self.old) context.limit bytes.now step }
         ensures count { IfOk result (λ n. (1 ≤ n) × (n ≤ length bytes.now)) }
         ensures unrefused { IfOk result (λ n. flow_refused context.limit (body_context context) (flow_of at (state_in self.old) connections.old) (take n bytes.now) ≡ None) }
         ensures kept { IfOk result (λ n. flow_after_bytes (body_context context) (flow_of at (state_in self.old) connections.old) (take n bytes.now) ≡ flow_of (at + n) (state_in self.new) connections.new) }
@@ -139,51 +132,20 @@ impl Deframer {
         if self.lost {
             return Ok(bytes.len());
         }
-        match self.step(context.limit, bytes) {
-            Step::Whole { header, size } => {
-                match consume_whole(context, connections, at, header, &bytes[..size], sink) {
-                    Ok(()) => Ok(size),
-                    Err(refusal) => Err(refusal),
-                }
-            }
+        match step {
             Step::Beginning => match self.buffer(at, bytes) {
                 Ok(()) => Ok(bytes.len()),
                 Err(refusal) => Err(refusal),
             },
-            Step::More(size) => self.go_on(context, connections, at, size, bytes, sink),
-            Step::Byte => match self.consume_byte(context, connections, at, bytes[0], sink) {
-                Ok(()) => Ok(1),
-                Err(refusal) => Err(refusal),
-            },
-        }
-    }
-
-    /// What the next bytes are to the direction, which isn't lost.
-    #[inline(always)]
-    fn step(&self, limit: u32, bytes: &[u8]) -> Step
-        requires { IsUnfinished limit (state_in self.now) }
-        ensures { IsStep (state_in self.now) limit bytes.now result }
-    {
-        if self.unfinished.is_empty() {
-            match fixed_header(bytes) {
-                FixedHeader::Whole { length, size } if size <= limit as usize => {
-                    if size <= bytes.len() {
-                        Step::Whole {
-                            header: length,
-                            size,
-                        }
-                    } else {
-                        Step::Beginning
-                    }
+            Step::Other => match fixed_header(self.unfinished.as_slice()) {
+                FixedHeader::Whole { size, .. } => {
+                    self.go_on(context, connections, at, size, bytes, sink)
                 }
-                FixedHeader::Short => Step::Beginning,
-                _ => Step::Byte,
-            }
-        } else {
-            match fixed_header(self.unfinished.as_slice()) {
-                FixedHeader::Whole { size, .. } => Step::More(size),
-                _ => Step::Byte,
-            }
+                _ => match self.consume_byte(context, connections, at, bytes[0], sink) {
+                    Ok(()) => Ok(1),
+                    Err(refusal) => Err(refusal),
+                },
+            },
         }
     }
 
@@ -356,16 +318,20 @@ impl Deframer {
     }
 }
 
-/// The lengths of the fixed header and of the packet, if the bytes begin with a whole one within the limit.
+/// The lengths of the fixed header and of the packet, if the bytes of an idle direction begin with a whole one within the limit; else
+/// what they are.
 #[inline(always)]
-pub fn whole_packet(limit: u32, bytes: &[u8]) -> Option<(usize, usize)>
-    ensures { IfSome result (λ lengths. IsWhole limit bytes.now lengths.0 lengths.1) }
+pub fn whole_packet(limit: u32, bytes: &[u8]) -> Result<(usize, usize), Step>
+    ensures whole { IfOk result (λ lengths. IsWhole limit bytes.now lengths.0 lengths.1) }
+    ensures step { IfErr result (λ step. IsStep (record { unfinished = []; lost = false }) limit bytes.now step) }
 {
     match fixed_header(bytes) {
         FixedHeader::Whole { length, size } if size <= limit as usize && size <= bytes.len() => {
-            Some((length, size))
+            Ok((length, size))
         }
-        _ => None,
+        FixedHeader::Whole { size, .. } if size <= limit as usize => Err(Step::Beginning),
+        FixedHeader::Short => Err(Step::Beginning),
+        _ => Err(Step::Other),
     }
 }
 

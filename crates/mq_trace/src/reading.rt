@@ -12,7 +12,7 @@ ghost use Rattle.mq_trace.specs.Events.{Placed};
 ghost use Rattle.mq_trace.specs.Reception.{AreEvents, Declines, event_of};
 ghost use Rattle.mq_trace.specs.Emission.{effect_of, event_refusal, next_placed, NotEmitted};
 ghost use Rattle.mq_trace.specs.Context.{fresh};
-ghost use Rattle.mq_trace.specs.Stepping.{err_of, after_header_byte, kind_refusal, kind_for, IsBodyHead, BeginsRecord, EndsHead, refused_first, in_head, in_moment, in_record_of, marked, leaving, context_for, deframer_for, flow_for, redirected};
+ghost use Rattle.mq_trace.specs.Stepping.{err_of, after_header_byte, kind_refusal, kind_for, IsBodyHead, BeginsRecord, EndsHead, is_in_body, refused_first, in_head, in_moment, in_record_of, marked, leaving, context_for, deframer_for, flow_for, redirected};
 ghost use Rattle.mq_trace.specs.Flows.{flow_refused, flow_events, flow_after_bytes};
 ghost use Rattle.mq_trace.specs.Deframing.{flow_of, FlowStops};
 ghost use Rattle.mq_trace.specs.Settling.{IsWhole};
@@ -226,7 +226,7 @@ impl Reading {
         }
     }
 
-    /// The same wherever the log goes on.
+    /// Takes in the next bytes outside of the body of a SENT or RECV: of the header, of a record's head or of a RELEASE.
     ///
     /// # Errors
     ///
@@ -235,6 +235,7 @@ impl Reading {
     fn go_on<S: Sink>(&mut self, bytes: &[u8], sink: &mut S) -> Result<usize, Refusal>
         requires some { 1 ≤ length bytes.now }
         requires sound { IsSound self.old }
+        requires bodiless { is_in_body self.old.stage ≡ false }
         ensures count { IfOk result (λ n. (1 ≤ n) × (n ≤ length bytes.now)) }
         ensures sound { OnOk result (IsSound self.new) }
         ensures comes { IfOk result (λ n. Comes S.agrees self.old self.new (take n bytes.now) sink.old sink.new) }
@@ -266,7 +267,7 @@ impl Reading {
                 Ok(()) => Ok(1),
                 Err(refusal) => Err(refusal),
             },
-            Stage::Body { direction, left } => self.consume_body(direction, left, bytes, sink),
+            Stage::Body { .. } => unreachable!(),
             Stage::Release(None) => {
                 self.at += 1;
                 self.stage = Stage::Release(Some(bytes[0]));

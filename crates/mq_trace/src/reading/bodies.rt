@@ -8,9 +8,9 @@ ghost use Rattle.mq_trace.specs.Reception.{AreEvents, Declines};
 ghost use Rattle.mq_trace.specs.Stepping.{in_record_of, context_for, deframer_for, flow_for, redirected};
 ghost use Rattle.mq_trace.specs.Flows.{flow_refused, flow_events, flow_after_bytes};
 ghost use Rattle.mq_trace.specs.Deframing.{flow_of, FlowStops};
-ghost use Rattle.mq_trace.specs.Settling.{IsWhole};
+ghost use Rattle.mq_trace.specs.Settling.{IsStep, IsWhole};
 
-use super::super::deframer::{BodyContext, consume_whole, whole_packet};
+use super::super::deframer::{BodyContext, Step, consume_whole, whole_packet};
 use super::super::kind::Direction;
 use super::super::place::InRecord;
 use super::super::refusal::Refusal;
@@ -69,21 +69,13 @@ impl Reading {
         ensures sound { OnOk result (IsUnfinished self.old.limit (state_in (deframer_for self.new direction))) }
         ensures stops { IfErr result (λ refusal. FlowStops (Declines S.agrees S.refuses) self.old.limit (context_for self.old direction) (flow_for self.old direction) body.now sink.old sink.new refusal) }
     {
-        match self.whole_packet(direction, body) {
-            Some((header, size)) => self.pass_whole(direction, header, size, body, sink),
-            None => self.pass_any(direction, body, sink),
-        }
-    }
-
-    /// The lengths of the fixed header and of the packet, if the direction's next bytes begin with a whole one within the limit.
-    #[inline(always)]
-    fn whole_packet(&self, direction: Direction, body: &[u8]) -> Option<(usize, usize)>
-        ensures { IfSome result (λ lengths. (state_in (deframer_for self.now direction) ≡ record { unfinished = []; lost = false }) × IsWhole self.now.limit body.now lengths.0 lengths.1) }
-    {
         if !self.is_idle(direction) {
-            return None;
+            return self.pass_part(direction, Step::Other, body, sink);
         }
-        whole_packet(self.limit, body)
+        match whole_packet(self.limit, body) {
+            Ok((header, size)) => self.pass_whole(direction, header, size, body, sink),
+            Err(step) => self.pass_part(direction, step, body, sink),
+        }
     }
 
     /// Whether the direction is neither lost nor inside a packet.
@@ -130,11 +122,12 @@ impl Reading {
         }
     }
 
-    /// Passes on bytes that don't begin with a whole packet.
+    /// Passes on bytes that are this, and don't begin with a whole packet.
     #[inline(never)]
-    fn pass_any<S: Sink>(
+    fn pass_part<S: Sink>(
         &mut self,
         direction: Direction,
+        step: Step,
         body: &[u8],
         sink: &mut S,
     ) -> Result<usize, Refusal>
@@ -142,6 +135,7 @@ impl Reading {
         requires room { self.old.at + length body.now < 2 ^ 64 }
         requires numbered { self.old.records < 4294967295 }
         requires unfinished { IsUnfinished self.old.limit (state_in (deframer_for self.old direction)) }
+        requires step { IsStep (state_in (deframer_for self.old direction)) self.old.limit body.now step }
         ensures is { self.new ≡ record (redirected self.old direction (deframer_for self.new direction)) { connections = self.new.connections } }
         ensures count { IfOk result (λ n. (1 ≤ n) × (n ≤ length body.now)) }
         ensures unrefused { IfOk result (λ n. flow_refused self.old.limit (context_for self.old direction) (flow_for self.old direction) (take n body.now) ≡ None) }
@@ -157,10 +151,10 @@ impl Reading {
         match direction {
             Direction::Sent => self
                 .sent
-                .consume(context, &mut self.connections, at, body, sink),
+                .consume(context, &mut self.connections, at, step, body, sink),
             Direction::Recv => self
                 .recv
-                .consume(context, &mut self.connections, at, body, sink),
+                .consume(context, &mut self.connections, at, step, body, sink),
         }
     }
 
