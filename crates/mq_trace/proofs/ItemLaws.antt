@@ -58,25 +58,9 @@ packet_sized frame header size p bytes whole e is =
     let known : (length frame ≡ size) × (1 ≤ header) × (header ≤ size) = framed frame header size whole e in
     size_of_frame frame header size p bytes (sym e) known.0 (is ∙ ap length rest))
 
--- A packet that was read of a frame's body, with its size.
-pub packet_read : (frame : List ℕ) (header size : ℕ) (p : Packet) → ((i : ℕ) → slice_index frame i < 256) → frame_size frame ≡ Some (length frame) → Whole header size ≡ fixed_header_of frame
-    → remaining_length p ≡ length (take (length frame - header) (drop header frame))
-    → packet (unwrap_or (size_with (remaining_length p)) 0) (view p) ≡ packet (length frame) (view p)
-packet_read frame header size p bytes whole e is = ap (λ (o : Option ℕ). packet (unwrap_or o 0) (view p)) (packet_sized frame header size p bytes whole e is)
-
--- What a frame is, by what its body says.
-pub packet_item : (frame : List ℕ) (header : ℕ) (p : Packet) → ((i : ℕ) → slice_index frame i < 256) → Whole header (length frame) ≡ fixed_header_of frame
-    → remaining_length p ≡ length (take (length frame - header) (drop header frame)) → decoded (slice_index frame 0) (take (length frame - header) (drop header frame)) ≡ Ok (view p)
-    → item_read frame (read_frame frame) ≡ Some (packet (unwrap_or (size_with (remaining_length p)) 0) (view p))
-packet_item frame header p bytes e is read =
-    (let whole : frame_size frame ≡ Some (length frame) = frame_by_header frame header (sym e) in
-    ap (item_read frame) (read_by_body frame header (length frame) e ∙ read)
-    ∙ ap Some (sym (packet_read frame header (length frame) p bytes whole e is)))
-
-pub fault_item : (frame : List ℕ) (header : ℕ) (fault : DecodeFault) → Whole header (length frame) ≡ fixed_header_of frame
-    → decoded (slice_index frame 0) (take (length frame - header) (drop header frame)) ≡ Err fault
-    → item_read frame (read_frame frame) ≡ item_read frame (Err fault)
-fault_item frame header fault e read = ap (item_read frame) (read_by_body frame header (length frame) e ∙ read)
+-- What a frame is, by what it says.
+pub packet_item : (frame : List ℕ) (p : Packet) → size_with (remaining_length p) ≡ Some (length frame) → read_frame frame ≡ Ok (view p) → item_read frame (read_frame frame) ≡ Some (packet (unwrap_or (size_with (remaining_length p)) 0) (view p))
+packet_item frame p sized read = ap (item_read frame) read ∙ ap (λ (o : Option ℕ). Some (packet (unwrap_or o 0) (view p))) (sym sized)
 
 -- A frame that is an item meets what its event meets, and what is kept and received is the event's.
 met_read : (frame : List ℕ) (at : ℕ) (state : StreamState) (c : Connections) (direction : Direction) (item : Item) (read : Result Entry DecodeFault) → item_read frame read ≡ Some item → is_other_version read ≡ false

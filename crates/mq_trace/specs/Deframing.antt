@@ -8,9 +8,9 @@ use Rattle.mq_trace.specs.declared.connections.Connections.{Connections}
 use Rattle.mq_trace.specs.declared.deframer.BodyContext.{BodyContext as ContextInMemory}
 use Rattle.mq_trace.specs.Events.{Event, Placed, item_read, read_frame}
 use Rattle.mq_trace.specs.Refusals.{first_that_applies, is_other_version}
-use Rattle.mq_trace.specs.Context.{StreamState, so_far_in}
+use Rattle.mq_trace.specs.Context.{StreamState, emptied, so_far_in}
 use Rattle.mq_trace.specs.Reception.{AreEvents}
-use Rattle.mq_trace.specs.Flows.{BodyContext, Flow, item_event, flows_too_early, flow_refused, flow_after_bytes, flow_events}
+use Rattle.mq_trace.specs.Flows.{BodyContext, Flow, item_event, flow_placed_with, flows_too_early, flow_refused, flow_after_bytes, flow_events}
 use Rattle.mq_trace.specs.Emission.{connections_with, RefusedBySink}
 
 abbrev pub body_context : ContextInMemory → BodyContext
@@ -30,6 +30,13 @@ frame_refusal at context f frame = first_that_applies (
     ∷ (flows_too_early context f (frame_event context.direction frame), refusals.TooManyEarly at)
     ∷ (is_some (frame_event context.direction frame) && nat_le 4294967295 f.events, refusals.TooLong at)
     ∷ [])
+
+-- that refusal, and that event at its place, where nothing is unfinished before the packet
+abbrev pub refusal_at_frame : ℕ → ContextInMemory → Connections → List ℕ → Option Refusal
+refusal_at_frame at context c frame = frame_refusal at (body_context context) (flow_of at emptied c) frame
+
+abbrev pub placed_frame : ℕ → ContextInMemory → Connections → List ℕ → Option Placed
+placed_frame at context c frame = flow_placed_with (body_context context) (flow_of at emptied c) (frame_event context.direction frame)
 
 -- what is kept of the events after one more, if there is one
 abbrev pub connections_then : Bool → Connections → Option Event → Connections

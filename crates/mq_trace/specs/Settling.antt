@@ -1,7 +1,8 @@
 -- The next bytes of a direction, and the next byte of a packet.
-use Rattle.std.specs.Prelude.{◌≡◌, ℕ, ◌+◌, ◌≤◌, true, List, [], ◌∷◌, ◌++◌, length, Some}
+use Rattle.std.specs.Prelude.{◌≡◌, ℕ, ◌+◌, ◌<◌, ◌≤◌, true, List, [], ◌∷◌, ◌++◌, length, slice_index, Some}
 use Rattle.mq_packet.specs.declared.header.FixedHeader.TheVariants as headers
 use Rattle.mq_packet.specs.Stream.{fixed_header_of, frame_size}
+use Rattle.mq_trace.specs.declared.frame.Frame.{Frame}
 use Rattle.mq_trace.specs.declared.deframer.Step.{Step}
 use Rattle.mq_trace.specs.declared.deframer.Step.TheVariants as steps
 use Rattle.mq_trace.specs.declared.deframer.ByteStep.{ByteStep}
@@ -9,6 +10,12 @@ use Rattle.mq_trace.specs.declared.deframer.ByteStep.TheVariants as byte_steps
 use Rattle.mq_trace.specs.Refusals.{is_too_large}
 use Rattle.mq_trace.specs.Context.{StreamState}
 use Rattle.mq_trace.specs.Keeping.{IsShort}
+
+-- The bytes are those of a whole packet, and so many of them its fixed header.
+pub record IsFrame (frame : Frame) : Type 0 where
+  pub whole : fixed_header_of frame.bytes.now ≡ headers.Whole frame.header (length frame.bytes.now)
+  pub fits : length frame.bytes.now ≤ frame.header + 268435455
+  pub bytes : (i : ℕ) → slice_index frame.bytes.now i < 256
 
 -- The bytes begin with a whole packet within the limit, of this size and with a fixed header of this length.
 pub record IsWhole (limit : ℕ) (bytes : List ℕ) (header size : ℕ) : Type 0 where

@@ -14,6 +14,7 @@ ghost use Rattle.mq_trace.specs.Connections.{is_answer, is_connack, most_early_e
 ghost use Rattle.mq_trace.specs.Reception.{AreEvents, Declines, event_of, item_of};
 ghost use Rattle.mq_trace.specs.Emission.{decides, effect_of, event_refusal, connections_with, next_placed, NotEmitted};
 
+use super::deframer::BodyContext;
 use super::event::Event;
 use super::kind::Direction;
 use super::place::{InRecord, Place3};
@@ -156,73 +157,76 @@ pub fn emit<S: Sink>(
     }
 }
 
-/// Emits the next event, a packet of `size` bytes in this direction.
+/// Emits the next event, a packet of `size` bytes in a body.
 ///
 /// # Errors
 ///
 /// As `emit`.
 #[inline(always)]
 pub fn emit_packet<S: Sink>(
+    context: &BodyContext,
     connections: &mut Connections,
-    server: bool,
     at: u64,
-    in_record: InRecord,
-    direction: Direction,
     size: u32,
     packet: Packet<'_>,
     sink: &mut S,
 ) -> Result<(), Refusal>
     requires { size ≡ unwrap_or (size_with (remaining_length packet)) 0 }
-    ensures met { OnOk result (event_refusal at server connections.old (item_event direction (item_of (items.Packet packet.entry))) ≡ None) }
-    ensures kept { OnOk result (connections.new ≡ connections_with server connections.old (item_event direction (item_of (items.Packet packet.entry)))) }
-    ensures receives { (earlier : List Placed) → S.agrees sink.old earlier → AreEvents (next_placed connections.old in_record (item_event direction (item_of (items.Packet packet.entry))) ∷ earlier)
-        → OnOk result (S.agrees sink.new (next_placed connections.old in_record (item_event direction (item_of (items.Packet packet.entry))) ∷ earlier)) }
-    ensures err { IfErr result (λ refusal. NotEmitted (Declines S.agrees S.refuses) at (event_refusal at server connections.old (item_event direction (item_of (items.Packet packet.entry)))) (next_placed connections.old in_record (item_event direction (item_of (items.Packet packet.entry))) ∷ []) sink.old sink.new refusal) }
+    ensures met { OnOk result (event_refusal at context.now.server connections.old (item_event context.now.direction (item_of (items.Packet packet.entry))) ≡ None) }
+    ensures kept { OnOk result (connections.new ≡ connections_with context.now.server connections.old (item_event context.now.direction (item_of (items.Packet packet.entry)))) }
+    ensures receives { (earlier : List Placed) → S.agrees sink.old earlier → AreEvents (next_placed connections.old context.now.in_record (item_event context.now.direction (item_of (items.Packet packet.entry))) ∷ earlier)
+        → OnOk result (S.agrees sink.new (next_placed connections.old context.now.in_record (item_event context.now.direction (item_of (items.Packet packet.entry))) ∷ earlier)) }
+    ensures err { IfErr result (λ refusal. NotEmitted (Declines S.agrees S.refuses) at (event_refusal at context.now.server connections.old (item_event context.now.direction (item_of (items.Packet packet.entry)))) (next_placed connections.old context.now.in_record (item_event context.now.direction (item_of (items.Packet packet.entry))) ∷ []) sink.old sink.new refusal) }
 {
-    let effect = packet_effect(server, direction, &packet);
+    let effect = packet_effect(context.server, context.direction, &packet);
     match connections.refusal(at, effect) {
         Some(met) => Err(met),
-        None => match sink.packet(connections.next_place(in_record), direction, size, packet) {
-            Ok(()) => {
-                connections.count(effect);
-                Ok(())
+        None => {
+            let place = connections.next_place(context.in_record);
+            match sink.packet(place, context.direction, size, packet) {
+                Ok(()) => {
+                    connections.count(effect);
+                    Ok(())
+                }
+                Err(refusal) => Err(refusal.moved_to(at)),
             }
-            Err(refusal) => Err(refusal.moved_to(at)),
-        },
+        }
     }
 }
 
-/// Emits the next event, a PUBLISH of `size` bytes in this direction.
+/// Emits the next event, a PUBLISH of `size` bytes in a body.
 ///
 /// # Errors
 ///
 /// As `emit`.
 #[inline(always)]
 pub fn emit_publish<S: Sink>(
+    context: &BodyContext,
     connections: &mut Connections,
     at: u64,
-    in_record: InRecord,
-    direction: Direction,
     size: u32,
     publish: Publish<'_>,
     sink: &mut S,
 ) -> Result<(), Refusal>
     requires { size ≡ unwrap_or (size_with (remaining_length (packets.Publish publish))) 0 }
-    ensures met { (server : Bool) → OnOk result (event_refusal at server connections.old (item_event direction (item_of (items.Packet (packets.Publish publish.entry)))) ≡ None) }
-    ensures kept { (server : Bool) → OnOk result (connections.new ≡ connections_with server connections.old (item_event direction (item_of (items.Packet (packets.Publish publish.entry))))) }
-    ensures receives { (earlier : List Placed) → S.agrees sink.old earlier → AreEvents (next_placed connections.old in_record (item_event direction (item_of (items.Packet (packets.Publish publish.entry)))) ∷ earlier)
-        → OnOk result (S.agrees sink.new (next_placed connections.old in_record (item_event direction (item_of (items.Packet (packets.Publish publish.entry)))) ∷ earlier)) }
-    ensures err { (server : Bool) → IfErr result (λ refusal. NotEmitted (Declines S.agrees S.refuses) at (event_refusal at server connections.old (item_event direction (item_of (items.Packet (packets.Publish publish.entry))))) (next_placed connections.old in_record (item_event direction (item_of (items.Packet (packets.Publish publish.entry)))) ∷ []) sink.old sink.new refusal) }
+    ensures met { OnOk result (event_refusal at context.now.server connections.old (item_event context.now.direction (item_of (items.Packet (packets.Publish publish.entry)))) ≡ None) }
+    ensures kept { OnOk result (connections.new ≡ connections_with context.now.server connections.old (item_event context.now.direction (item_of (items.Packet (packets.Publish publish.entry))))) }
+    ensures receives { (earlier : List Placed) → S.agrees sink.old earlier → AreEvents (next_placed connections.old context.now.in_record (item_event context.now.direction (item_of (items.Packet (packets.Publish publish.entry)))) ∷ earlier)
+        → OnOk result (S.agrees sink.new (next_placed connections.old context.now.in_record (item_event context.now.direction (item_of (items.Packet (packets.Publish publish.entry)))) ∷ earlier)) }
+    ensures err { IfErr result (λ refusal. NotEmitted (Declines S.agrees S.refuses) at (event_refusal at context.now.server connections.old (item_event context.now.direction (item_of (items.Packet (packets.Publish publish.entry))))) (next_placed connections.old context.now.in_record (item_event context.now.direction (item_of (items.Packet (packets.Publish publish.entry)))) ∷ []) sink.old sink.new refusal) }
 {
     match connections.refusal(at, Effect::Nothing) {
         Some(met) => Err(met),
-        None => match sink.publish(connections.next_place(in_record), direction, size, publish) {
-            Ok(()) => {
-                connections.count(Effect::Nothing);
-                Ok(())
+        None => {
+            let place = connections.next_place(context.in_record);
+            match sink.publish(place, context.direction, size, publish) {
+                Ok(()) => {
+                    connections.count(Effect::Nothing);
+                    Ok(())
+                }
+                Err(refusal) => Err(refusal.moved_to(at)),
             }
-            Err(refusal) => Err(refusal.moved_to(at)),
-        },
+        }
     }
 }
 

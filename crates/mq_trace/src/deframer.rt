@@ -2,31 +2,31 @@
 //!
 //! The path of a whole packet to the sink is inlined, so that the packet isn't moved; rare cases are functions of their own.
 
-ghost use Rattle.std.specs.Prelude.{◌≡◌, ◌==◌, ◌+◌, ◌-◌, ◌<◌, ◌≤◌, ◌^◌, ◌++◌, ◌⊎◌, ℕ, ◌∷◌, [], List, Some, None, OnOk, OnErr, IfOk, IfSome, IfErr, IsTrue, Err, length, take, drop, slice_index, option_map, true, false};
-ghost use Rattle.mq_packet.specs.Stream.{frame_size, fixed_header_of, HasBounds};
-ghost use Rattle.mq_packet.specs.Decoding.{decoded};
-ghost use Rattle.mq_packet.specs.Reading.{view, Gives};
-ghost use Rattle.mq_packet.specs.Sizes.{remaining_length};
+ghost use Rattle.std.specs.Prelude.{◌≡◌, ◌==◌, ◌+◌, ◌<◌, ◌≤◌, ◌^◌, ◌++◌, ℕ, ◌∷◌, [], List, Some, None, OnOk, OnErr, IfOk, IfErr, IsTrue, Ok, Err, length, take, slice_index, true, false};
+ghost use Rattle.mq_packet.specs.Stream.{fixed_header_of, HasBounds};
+ghost use Rattle.mq_packet.specs.Reading.{view};
+ghost use Rattle.mq_packet.specs.Sizes.{size_with, remaining_length};
 ghost use Rattle.mq_packet.specs.declared.header.FixedHeader.TheVariants as headers;
-ghost use Rattle.mq_trace.specs.Events.{Placed, bad, lost, item_read, read_frame};
+ghost use Rattle.mq_packet.specs.declared.packet.Packet.TheVariants as packets;
+ghost use Rattle.mq_trace.specs.Events.{Placed, bad, lost, read_frame};
 ghost use Rattle.mq_trace.specs.Context.{put};
-ghost use Rattle.mq_trace.specs.Reception.{AreEvents, Declines, event_of, item_of};
-ghost use Rattle.mq_trace.specs.declared.event.Item.TheVariants as items;
+ghost use Rattle.mq_trace.specs.Reception.{AreEvents, Declines};
 ghost use Rattle.mq_trace.specs.Emission.{NotEmitted, event_refusal, connections_with, next_placed};
 ghost use Rattle.mq_trace.specs.Keeping.{state_in, IsUnfinished};
-ghost use Rattle.mq_trace.specs.Settling.{IsByteStep, IsStep, IsWhole};
-ghost use Rattle.mq_trace.specs.Flows.{item_event, flow_placed_with, flow_refused, flow_events, flow_after_bytes};
-ghost use Rattle.mq_trace.specs.Deframing.{body_context, flow_of, frame_event, frame_refusal, connections_then, FlowStops, FlowComes};
+ghost use Rattle.mq_trace.specs.Settling.{IsByteStep, IsFrame, IsStep, IsWhole};
+ghost use Rattle.mq_trace.specs.Flows.{item_event, flow_refused, flow_events, flow_after_bytes};
+ghost use Rattle.mq_trace.specs.Deframing.{body_context, flow_of, frame_event, refusal_at_frame, placed_frame, connections_then, FlowStops, FlowComes};
 
 use super::connections::{Connections, Effect, emit, emit_packet, emit_publish};
 use super::event::{Item, item_event};
+use super::frame::Frame;
 use super::kind::Direction;
 use super::place::InRecord;
 use super::refusal::Refusal;
 use super::sink::Sink;
 use super::unfinished::Unfinished;
 use mq_packet::{
-    DecodeFault, FixedHeader, Packet, PacketRule, decode, decode_brief_acknowledgement,
+    DecodeFault, FixedHeader, Packet, PacketRule, Publish, decode, decode_brief_acknowledgement,
     decode_brief_publish, decode_ping, decode_publish, fixed_header, has_no_properties,
 };
 use std::alloc::Global;
@@ -335,19 +335,7 @@ pub fn whole_packet(limit: u32, bytes: &[u8]) -> Result<(usize, usize), Step>
     }
 }
 
-/// How many bytes the fixed header of a whole packet has.
-pub fn header_of(frame: &[u8]) -> usize
-    requires { frame_size frame.now ≡ Some (length frame.now) }
-    ensures is { fixed_header_of frame.now ≡ headers.Whole result (length frame.now) }
-    ensures fits { length frame.now ≤ result + 268435455 }
-{
-    let FixedHeader::Whole { length, .. } = fixed_header(frame) else {
-        unreachable!()
-    };
-    length
-}
-
-/// Takes in a whole packet, with a fixed header of `header` bytes, while none is unfinished.
+/// Takes in a whole packet, while none is unfinished. Its first byte has this offset in the log.
 ///
 /// # Errors
 ///
@@ -357,269 +345,231 @@ pub fn consume_whole<S: Sink>(
     context: BodyContext,
     connections: &mut Connections,
     at: u64,
-    header: usize,
-    frame: &[u8],
+    frame: Frame<'_>,
     sink: &mut S,
 ) -> Result<(), Refusal>
-    requires some { 1 ≤ length frame.now }
-    requires room { at + length frame.now < 2 ^ 64 }
-    requires whole { fixed_header_of frame.now ≡ headers.Whole header (length frame.now) }
-    requires fits { length frame.now ≤ header + 268435455 }
-    requires within { length frame.now ≤ context.limit }
+    requires some { 1 ≤ length frame.bytes.now }
+    requires room { at + length frame.bytes.now < 2 ^ 64 }
+    requires frame { IsFrame frame }
+    requires within { length frame.bytes.now ≤ context.limit }
     ensures comes { OnOk result (FlowComes S.agrees context.limit (body_context context) (flow_of at (record { unfinished = []; lost = false }) connections.old)
-        (flow_of (at + length frame.now) (record { unfinished = []; lost = false }) connections.new) frame.now sink.old sink.new) }
-    ensures stops { IfErr result (λ refusal. FlowStops (Declines S.agrees S.refuses) context.limit (body_context context) (flow_of at (record { unfinished = []; lost = false }) connections.old) frame.now sink.old sink.new refusal) }
+        (flow_of (at + length frame.entry.bytes.now) (record { unfinished = []; lost = false }) connections.new) frame.entry.bytes.now sink.old sink.new) }
+    ensures stops { IfErr result (λ refusal. FlowStops (Declines S.agrees S.refuses) context.limit (body_context context) (flow_of at (record { unfinished = []; lost = false }) connections.old) frame.entry.bytes.now sink.old sink.new refusal) }
 {
-    let last = at + (frame.len() - 1) as u64;
-    emit_frame(context, connections, last, header, frame, sink)
+    let last = at + (frame.bytes.len() - 1) as u64;
+    emit_frame(&context, connections, last, &frame, sink)
 }
 
-/// Emits a whole packet, with a fixed header of `header` bytes, whose last byte has this offset in the log.
+/// Emits a whole packet, whose last byte has this offset in the log.
 ///
 /// The first byte chooses the function before any byte of the body is read. So reading a PUBLISH takes no stack for others.
 #[inline(always)]
 pub fn emit_frame<S: Sink>(
-    context: BodyContext,
+    context: &BodyContext,
     connections: &mut Connections,
     at: u64,
-    header: usize,
-    frame: &[u8],
+    frame: &Frame<'_>,
     sink: &mut S,
 ) -> Result<(), Refusal>
-    requires whole { fixed_header_of frame.now ≡ headers.Whole header (length frame.now) }
-    requires fits { length frame.now ≤ header + 268435455 }
-    ensures met { OnOk result (frame_refusal at (body_context context) (flow_of at (record { unfinished = []; lost = false }) connections.old) frame.now ≡ None) }
-    ensures kept { OnOk result (connections.new ≡ connections_then context.server connections.old (frame_event context.direction frame.now)) }
-    ensures receives { (earlier : List Placed) → S.agrees sink.old earlier
-        → AreEvents (put (flow_placed_with (body_context context) (flow_of at (record { unfinished = []; lost = false }) connections.old) (frame_event context.direction frame.now)) earlier)
-        → OnOk result (S.agrees sink.new (put (flow_placed_with (body_context context) (flow_of at (record { unfinished = []; lost = false }) connections.old) (frame_event context.direction frame.now)) earlier)) }
-    ensures err { IfErr result (λ refusal. NotEmitted (Declines S.agrees S.refuses) at (frame_refusal at (body_context context) (flow_of at (record { unfinished = []; lost = false }) connections.old) frame.now)
-        (put (flow_placed_with (body_context context) (flow_of at (record { unfinished = []; lost = false }) connections.old) (frame_event context.direction frame.now)) []) sink.old sink.new refusal) }
+    requires frame { IsFrame frame.now }
+    ensures met { OnOk result (refusal_at_frame at context.now connections.old frame.now.bytes.now ≡ None) }
+    ensures kept { OnOk result (connections.new ≡ connections_then context.now.server connections.old (frame_event context.now.direction frame.now.bytes.now)) }
+    ensures receives { (earlier : List Placed) → S.agrees sink.old earlier → AreEvents (put (placed_frame at context.now connections.old frame.now.bytes.now) earlier)
+        → OnOk result (S.agrees sink.new (put (placed_frame at context.now connections.old frame.now.bytes.now) earlier)) }
+    ensures err { IfErr result (λ refusal. NotEmitted (Declines S.agrees S.refuses) at (refusal_at_frame at context.now connections.old frame.now.bytes.now) (put (placed_frame at context.now connections.old frame.now.bytes.now) []) sink.old sink.new refusal) }
 {
-    match frame[0] {
-        0x30..0x32 if has_no_properties(&frame[header..]) => {
-            emit_brief_publish_frame(context, connections, at, header, frame, sink)
+    match frame.first() {
+        0x30..0x32 if has_no_properties(frame.body()) => {
+            emit_brief_publish_frame(context, connections, at, frame, sink)
         }
-        0x30..0x40 => emit_publish_frame(context, connections, at, header, frame, sink),
-        0x40 => emit_puback_frame(context, connections, at, header, frame, sink),
-        0xC0..0xE0 => emit_ping_frame(context, connections, at, header, frame, sink),
-        _ => emit_other_frame(context, connections, at, header, frame, sink),
+        0x30..0x40 => emit_publish_frame(context, connections, at, frame, sink),
+        0x40 => emit_puback_frame(context, connections, at, frame, sink),
+        0xC0..0xE0 => emit_ping_frame(context, connections, at, frame, sink),
+        _ => emit_other_frame(context, connections, at, frame, sink),
     }
 }
 
-/// The same for a PUBLISH of QoS 0 with no properties. Most have a plain Topic Name.
+/// Emits a PUBLISH of QoS 0 with no properties. Most have a plain Topic Name.
 #[inline(never)]
 fn emit_brief_publish_frame<S: Sink>(
-    context: BodyContext,
+    context: &BodyContext,
     connections: &mut Connections,
     at: u64,
-    header: usize,
-    frame: &[u8],
+    frame: &Frame<'_>,
     sink: &mut S,
 ) -> Result<(), Refusal>
-    requires whole { fixed_header_of frame.now ≡ headers.Whole header (length frame.now) }
-    requires publish { (48 ≤ slice_index frame.now 0) × (slice_index frame.now 0 < 64) }
-    requires fits { length frame.now ≤ header + 268435455 }
-    ensures met { OnOk result (frame_refusal at (body_context context) (flow_of at (record { unfinished = []; lost = false }) connections.old) frame.now ≡ None) }
-    ensures kept { OnOk result (connections.new ≡ connections_then context.server connections.old (frame_event context.direction frame.now)) }
-    ensures receives { (earlier : List Placed) → S.agrees sink.old earlier
-        → AreEvents (put (flow_placed_with (body_context context) (flow_of at (record { unfinished = []; lost = false }) connections.old) (frame_event context.direction frame.now)) earlier)
-        → OnOk result (S.agrees sink.new (put (flow_placed_with (body_context context) (flow_of at (record { unfinished = []; lost = false }) connections.old) (frame_event context.direction frame.now)) earlier)) }
-    ensures err { IfErr result (λ refusal. NotEmitted (Declines S.agrees S.refuses) at (frame_refusal at (body_context context) (flow_of at (record { unfinished = []; lost = false }) connections.old) frame.now)
-        (put (flow_placed_with (body_context context) (flow_of at (record { unfinished = []; lost = false }) connections.old) (frame_event context.direction frame.now)) []) sink.old sink.new refusal) }
+    requires frame { IsFrame frame.now }
+    requires publish { (48 ≤ slice_index frame.now.bytes.now 0) × (slice_index frame.now.bytes.now 0 < 64) }
+    ensures met { OnOk result (refusal_at_frame at context.now connections.old frame.now.bytes.now ≡ None) }
+    ensures kept { OnOk result (connections.new ≡ connections_then context.now.server connections.old (frame_event context.now.direction frame.now.bytes.now)) }
+    ensures receives { (earlier : List Placed) → S.agrees sink.old earlier → AreEvents (put (placed_frame at context.now connections.old frame.now.bytes.now) earlier)
+        → OnOk result (S.agrees sink.new (put (placed_frame at context.now connections.old frame.now.bytes.now) earlier)) }
+    ensures err { IfErr result (λ refusal. NotEmitted (Declines S.agrees S.refuses) at (refusal_at_frame at context.now connections.old frame.now.bytes.now) (put (placed_frame at context.now connections.old frame.now.bytes.now) []) sink.old sink.new refusal) }
 {
-    match decode_brief_publish(frame[0], &frame[header..]) {
-        Some(publish) => emit_publish(
-            connections,
-            at,
-            context.in_record,
-            context.direction,
-            frame.len() as u32,
-            publish,
-            sink,
-        ),
-        None => emit_publish_frame(context, connections, at, header, frame, sink),
+    match decode_brief_publish(frame.first(), frame.body()) {
+        Some(publish) => emit_decoded_publish(context, connections, at, frame, publish, sink),
+        None => emit_publish_frame(context, connections, at, frame, sink),
     }
 }
 
-/// The same for any PUBLISH.
+/// Emits any PUBLISH.
 #[inline(never)]
 fn emit_publish_frame<S: Sink>(
-    context: BodyContext,
+    context: &BodyContext,
     connections: &mut Connections,
     at: u64,
-    header: usize,
-    frame: &[u8],
+    frame: &Frame<'_>,
     sink: &mut S,
 ) -> Result<(), Refusal>
-    requires whole { fixed_header_of frame.now ≡ headers.Whole header (length frame.now) }
-    requires publish { (48 ≤ slice_index frame.now 0) × (slice_index frame.now 0 < 64) }
-    requires fits { length frame.now ≤ header + 268435455 }
-    ensures met { OnOk result (frame_refusal at (body_context context) (flow_of at (record { unfinished = []; lost = false }) connections.old) frame.now ≡ None) }
-    ensures kept { OnOk result (connections.new ≡ connections_then context.server connections.old (frame_event context.direction frame.now)) }
-    ensures receives { (earlier : List Placed) → S.agrees sink.old earlier
-        → AreEvents (put (flow_placed_with (body_context context) (flow_of at (record { unfinished = []; lost = false }) connections.old) (frame_event context.direction frame.now)) earlier)
-        → OnOk result (S.agrees sink.new (put (flow_placed_with (body_context context) (flow_of at (record { unfinished = []; lost = false }) connections.old) (frame_event context.direction frame.now)) earlier)) }
-    ensures err { IfErr result (λ refusal. NotEmitted (Declines S.agrees S.refuses) at (frame_refusal at (body_context context) (flow_of at (record { unfinished = []; lost = false }) connections.old) frame.now)
-        (put (flow_placed_with (body_context context) (flow_of at (record { unfinished = []; lost = false }) connections.old) (frame_event context.direction frame.now)) []) sink.old sink.new refusal) }
+    requires frame { IsFrame frame.now }
+    requires publish { (48 ≤ slice_index frame.now.bytes.now 0) × (slice_index frame.now.bytes.now 0 < 64) }
+    ensures met { OnOk result (refusal_at_frame at context.now connections.old frame.now.bytes.now ≡ None) }
+    ensures kept { OnOk result (connections.new ≡ connections_then context.now.server connections.old (frame_event context.now.direction frame.now.bytes.now)) }
+    ensures receives { (earlier : List Placed) → S.agrees sink.old earlier → AreEvents (put (placed_frame at context.now connections.old frame.now.bytes.now) earlier)
+        → OnOk result (S.agrees sink.new (put (placed_frame at context.now connections.old frame.now.bytes.now) earlier)) }
+    ensures err { IfErr result (λ refusal. NotEmitted (Declines S.agrees S.refuses) at (refusal_at_frame at context.now connections.old frame.now.bytes.now) (put (placed_frame at context.now connections.old frame.now.bytes.now) []) sink.old sink.new refusal) }
 {
-    match decode_publish(frame[0], &frame[header..]) {
-        Ok(publish) => emit_publish(
-            connections,
-            at,
-            context.in_record,
-            context.direction,
-            frame.len() as u32,
-            publish,
-            sink,
-        ),
-        Err(fault) => emit_fault(context, connections, at, header, frame, fault, sink),
+    match decode_publish(frame.first(), frame.body()) {
+        Ok(publish) => emit_decoded_publish(context, connections, at, frame, publish, sink),
+        Err(fault) => emit_fault(context, connections, at, frame, fault, sink),
     }
 }
 
-/// The same for a PUBACK. Most are no more than a Packet Identifier. The first byte is a constant here, so that no other packet is
+/// Emits a PUBACK. Most are no more than a Packet Identifier. The first byte is a constant here, so that no other packet is
 /// possible.
 #[inline(never)]
 fn emit_puback_frame<S: Sink>(
-    context: BodyContext,
+    context: &BodyContext,
     connections: &mut Connections,
     at: u64,
-    header: usize,
-    frame: &[u8],
+    frame: &Frame<'_>,
     sink: &mut S,
 ) -> Result<(), Refusal>
-    requires whole { fixed_header_of frame.now ≡ headers.Whole header (length frame.now) }
-    requires puback { slice_index frame.now 0 ≡ 64 }
-    requires fits { length frame.now ≤ header + 268435455 }
-    ensures met { OnOk result (frame_refusal at (body_context context) (flow_of at (record { unfinished = []; lost = false }) connections.old) frame.now ≡ None) }
-    ensures kept { OnOk result (connections.new ≡ connections_then context.server connections.old (frame_event context.direction frame.now)) }
-    ensures receives { (earlier : List Placed) → S.agrees sink.old earlier
-        → AreEvents (put (flow_placed_with (body_context context) (flow_of at (record { unfinished = []; lost = false }) connections.old) (frame_event context.direction frame.now)) earlier)
-        → OnOk result (S.agrees sink.new (put (flow_placed_with (body_context context) (flow_of at (record { unfinished = []; lost = false }) connections.old) (frame_event context.direction frame.now)) earlier)) }
-    ensures err { IfErr result (λ refusal. NotEmitted (Declines S.agrees S.refuses) at (frame_refusal at (body_context context) (flow_of at (record { unfinished = []; lost = false }) connections.old) frame.now)
-        (put (flow_placed_with (body_context context) (flow_of at (record { unfinished = []; lost = false }) connections.old) (frame_event context.direction frame.now)) []) sink.old sink.new refusal) }
+    requires frame { IsFrame frame.now }
+    requires puback { slice_index frame.now.bytes.now 0 ≡ 64 }
+    ensures met { OnOk result (refusal_at_frame at context.now connections.old frame.now.bytes.now ≡ None) }
+    ensures kept { OnOk result (connections.new ≡ connections_then context.now.server connections.old (frame_event context.now.direction frame.now.bytes.now)) }
+    ensures receives { (earlier : List Placed) → S.agrees sink.old earlier → AreEvents (put (placed_frame at context.now connections.old frame.now.bytes.now) earlier)
+        → OnOk result (S.agrees sink.new (put (placed_frame at context.now connections.old frame.now.bytes.now) earlier)) }
+    ensures err { IfErr result (λ refusal. NotEmitted (Declines S.agrees S.refuses) at (refusal_at_frame at context.now connections.old frame.now.bytes.now) (put (placed_frame at context.now connections.old frame.now.bytes.now) []) sink.old sink.new refusal) }
 {
-    match decode_brief_acknowledgement(0x40, &frame[header..]) {
-        Some(packet) => emit_decoded(context, connections, at, header, frame, Ok(packet), sink),
-        None => emit_other_frame(context, connections, at, header, frame, sink),
+    match decode_brief_acknowledgement(0x40, frame.body()) {
+        Some(packet) => emit_decoded(context, connections, at, frame, packet, sink),
+        None => emit_other_frame(context, connections, at, frame, sink),
     }
 }
 
-/// The same for a PINGREQ or PINGRESP.
+/// Emits a PINGREQ or PINGRESP.
 #[inline(never)]
 fn emit_ping_frame<S: Sink>(
-    context: BodyContext,
+    context: &BodyContext,
     connections: &mut Connections,
     at: u64,
-    header: usize,
-    frame: &[u8],
+    frame: &Frame<'_>,
     sink: &mut S,
 ) -> Result<(), Refusal>
-    requires whole { fixed_header_of frame.now ≡ headers.Whole header (length frame.now) }
-    requires fits { length frame.now ≤ header + 268435455 }
-    ensures met { OnOk result (frame_refusal at (body_context context) (flow_of at (record { unfinished = []; lost = false }) connections.old) frame.now ≡ None) }
-    ensures kept { OnOk result (connections.new ≡ connections_then context.server connections.old (frame_event context.direction frame.now)) }
-    ensures receives { (earlier : List Placed) → S.agrees sink.old earlier
-        → AreEvents (put (flow_placed_with (body_context context) (flow_of at (record { unfinished = []; lost = false }) connections.old) (frame_event context.direction frame.now)) earlier)
-        → OnOk result (S.agrees sink.new (put (flow_placed_with (body_context context) (flow_of at (record { unfinished = []; lost = false }) connections.old) (frame_event context.direction frame.now)) earlier)) }
-    ensures err { IfErr result (λ refusal. NotEmitted (Declines S.agrees S.refuses) at (frame_refusal at (body_context context) (flow_of at (record { unfinished = []; lost = false }) connections.old) frame.now)
-        (put (flow_placed_with (body_context context) (flow_of at (record { unfinished = []; lost = false }) connections.old) (frame_event context.direction frame.now)) []) sink.old sink.new refusal) }
+    requires frame { IsFrame frame.now }
+    ensures met { OnOk result (refusal_at_frame at context.now connections.old frame.now.bytes.now ≡ None) }
+    ensures kept { OnOk result (connections.new ≡ connections_then context.now.server connections.old (frame_event context.now.direction frame.now.bytes.now)) }
+    ensures receives { (earlier : List Placed) → S.agrees sink.old earlier → AreEvents (put (placed_frame at context.now connections.old frame.now.bytes.now) earlier)
+        → OnOk result (S.agrees sink.new (put (placed_frame at context.now connections.old frame.now.bytes.now) earlier)) }
+    ensures err { IfErr result (λ refusal. NotEmitted (Declines S.agrees S.refuses) at (refusal_at_frame at context.now connections.old frame.now.bytes.now) (put (placed_frame at context.now connections.old frame.now.bytes.now) []) sink.old sink.new refusal) }
 {
-    match decode_ping(frame[0], &frame[header..]) {
-        Some(packet) => emit_decoded(context, connections, at, header, frame, Ok(packet), sink),
-        None => emit_other_frame(context, connections, at, header, frame, sink),
+    match decode_ping(frame.first(), frame.body()) {
+        Some(packet) => emit_decoded(context, connections, at, frame, packet, sink),
+        None => emit_other_frame(context, connections, at, frame, sink),
     }
 }
 
-/// The same for any other packet.
+/// Emits any packet.
 #[inline(never)]
 fn emit_other_frame<S: Sink>(
-    context: BodyContext,
+    context: &BodyContext,
     connections: &mut Connections,
     at: u64,
-    header: usize,
-    frame: &[u8],
+    frame: &Frame<'_>,
     sink: &mut S,
 ) -> Result<(), Refusal>
-    requires whole { fixed_header_of frame.now ≡ headers.Whole header (length frame.now) }
-    requires fits { length frame.now ≤ header + 268435455 }
-    ensures met { OnOk result (frame_refusal at (body_context context) (flow_of at (record { unfinished = []; lost = false }) connections.old) frame.now ≡ None) }
-    ensures kept { OnOk result (connections.new ≡ connections_then context.server connections.old (frame_event context.direction frame.now)) }
-    ensures receives { (earlier : List Placed) → S.agrees sink.old earlier
-        → AreEvents (put (flow_placed_with (body_context context) (flow_of at (record { unfinished = []; lost = false }) connections.old) (frame_event context.direction frame.now)) earlier)
-        → OnOk result (S.agrees sink.new (put (flow_placed_with (body_context context) (flow_of at (record { unfinished = []; lost = false }) connections.old) (frame_event context.direction frame.now)) earlier)) }
-    ensures err { IfErr result (λ refusal. NotEmitted (Declines S.agrees S.refuses) at (frame_refusal at (body_context context) (flow_of at (record { unfinished = []; lost = false }) connections.old) frame.now)
-        (put (flow_placed_with (body_context context) (flow_of at (record { unfinished = []; lost = false }) connections.old) (frame_event context.direction frame.now)) []) sink.old sink.new refusal) }
+    requires frame { IsFrame frame.now }
+    ensures met { OnOk result (refusal_at_frame at context.now connections.old frame.now.bytes.now ≡ None) }
+    ensures kept { OnOk result (connections.new ≡ connections_then context.now.server connections.old (frame_event context.now.direction frame.now.bytes.now)) }
+    ensures receives { (earlier : List Placed) → S.agrees sink.old earlier → AreEvents (put (placed_frame at context.now connections.old frame.now.bytes.now) earlier)
+        → OnOk result (S.agrees sink.new (put (placed_frame at context.now connections.old frame.now.bytes.now) earlier)) }
+    ensures err { IfErr result (λ refusal. NotEmitted (Declines S.agrees S.refuses) at (refusal_at_frame at context.now connections.old frame.now.bytes.now) (put (placed_frame at context.now connections.old frame.now.bytes.now) []) sink.old sink.new refusal) }
 {
-    let read = decode(frame[0], &frame[header..]);
-    emit_decoded(context, connections, at, header, frame, read, sink)
+    match decode(frame.first(), frame.body()) {
+        Ok(packet) => emit_decoded(context, connections, at, frame, packet, sink),
+        Err(fault) => emit_fault(context, connections, at, frame, fault, sink),
+    }
 }
 
-/// Emits what was decoded from a whole packet.
+/// Emits a whole packet that was decoded as this one.
 #[inline(always)]
 fn emit_decoded<S: Sink>(
-    context: BodyContext,
+    context: &BodyContext,
     connections: &mut Connections,
     at: u64,
-    header: usize,
-    frame: &[u8],
-    read: Result<Packet<'_>, DecodeFault>,
+    frame: &Frame<'_>,
+    packet: Packet<'_>,
     sink: &mut S,
 ) -> Result<(), Refusal>
-    requires whole { fixed_header_of frame.now ≡ headers.Whole header (length frame.now) }
-    requires fits { length frame.now ≤ header + 268435455 }
-    requires exact { Gives view read (decoded (slice_index frame.now 0) (take (length frame.now - header) (drop header frame.now))) }
-    requires size { IfOk read (λ packet. remaining_length packet ≡ length (take (length frame.now - header) (drop header frame.now))) }
-    ensures met { OnOk result (frame_refusal at (body_context context) (flow_of at (record { unfinished = []; lost = false }) connections.old) frame.now ≡ None) }
-    ensures kept { OnOk result (connections.new ≡ connections_then context.server connections.old (frame_event context.direction frame.now)) }
-    ensures receives { (earlier : List Placed) → S.agrees sink.old earlier
-        → AreEvents (put (flow_placed_with (body_context context) (flow_of at (record { unfinished = []; lost = false }) connections.old) (frame_event context.direction frame.now)) earlier)
-        → OnOk result (S.agrees sink.new (put (flow_placed_with (body_context context) (flow_of at (record { unfinished = []; lost = false }) connections.old) (frame_event context.direction frame.now)) earlier)) }
-    ensures err { IfErr result (λ refusal. NotEmitted (Declines S.agrees S.refuses) at (frame_refusal at (body_context context) (flow_of at (record { unfinished = []; lost = false }) connections.old) frame.now)
-        (put (flow_placed_with (body_context context) (flow_of at (record { unfinished = []; lost = false }) connections.old) (frame_event context.direction frame.now)) []) sink.old sink.new refusal) }
+    requires frame { IsFrame frame.now }
+    requires read { read_frame frame.now.bytes.now ≡ Ok (view packet) }
+    requires sized { size_with (remaining_length packet) ≡ Some (length frame.now.bytes.now) }
+    ensures met { OnOk result (refusal_at_frame at context.now connections.old frame.now.bytes.now ≡ None) }
+    ensures kept { OnOk result (connections.new ≡ connections_then context.now.server connections.old (frame_event context.now.direction frame.now.bytes.now)) }
+    ensures receives { (earlier : List Placed) → S.agrees sink.old earlier → AreEvents (put (placed_frame at context.now connections.old frame.now.bytes.now) earlier)
+        → OnOk result (S.agrees sink.new (put (placed_frame at context.now connections.old frame.now.bytes.now) earlier)) }
+    ensures err { IfErr result (λ refusal. NotEmitted (Declines S.agrees S.refuses) at (refusal_at_frame at context.now connections.old frame.now.bytes.now) (put (placed_frame at context.now connections.old frame.now.bytes.now) []) sink.old sink.new refusal) }
 {
-    match read {
-        Ok(packet) => emit_packet(
-            connections,
-            context.server,
-            at,
-            context.in_record,
-            context.direction,
-            frame.len() as u32,
-            packet,
-            sink,
-        ),
-        Err(fault) => emit_fault(context, connections, at, header, frame, fault, sink),
-    }
+    emit_packet(context, connections, at, frame.size(), packet, sink)
+}
+
+/// Emits a whole packet that was decoded as this PUBLISH.
+#[inline(always)]
+fn emit_decoded_publish<S: Sink>(
+    context: &BodyContext,
+    connections: &mut Connections,
+    at: u64,
+    frame: &Frame<'_>,
+    publish: Publish<'_>,
+    sink: &mut S,
+) -> Result<(), Refusal>
+    requires frame { IsFrame frame.now }
+    requires read { read_frame frame.now.bytes.now ≡ Ok (view (packets.Publish publish)) }
+    requires sized { size_with (remaining_length (packets.Publish publish)) ≡ Some (length frame.now.bytes.now) }
+    ensures met { OnOk result (refusal_at_frame at context.now connections.old frame.now.bytes.now ≡ None) }
+    ensures kept { OnOk result (connections.new ≡ connections_then context.now.server connections.old (frame_event context.now.direction frame.now.bytes.now)) }
+    ensures receives { (earlier : List Placed) → S.agrees sink.old earlier → AreEvents (put (placed_frame at context.now connections.old frame.now.bytes.now) earlier)
+        → OnOk result (S.agrees sink.new (put (placed_frame at context.now connections.old frame.now.bytes.now) earlier)) }
+    ensures err { IfErr result (λ refusal. NotEmitted (Declines S.agrees S.refuses) at (refusal_at_frame at context.now connections.old frame.now.bytes.now) (put (placed_frame at context.now connections.old frame.now.bytes.now) []) sink.old sink.new refusal) }
+{
+    emit_publish(context, connections, at, frame.size(), publish, sink)
 }
 
 /// Emits a whole packet that has this fault.
 #[inline(always)]
 fn emit_fault<S: Sink>(
-    context: BodyContext,
+    context: &BodyContext,
     connections: &mut Connections,
     at: u64,
-    header: usize,
-    frame: &[u8],
+    frame: &Frame<'_>,
     fault: DecodeFault,
     sink: &mut S,
 ) -> Result<(), Refusal>
-    requires whole { fixed_header_of frame.now ≡ headers.Whole header (length frame.now) }
-    requires exact { decoded (slice_index frame.now 0) (take (length frame.now - header) (drop header frame.now)) ≡ Err fault }
-    ensures met { OnOk result (frame_refusal at (body_context context) (flow_of at (record { unfinished = []; lost = false }) connections.old) frame.now ≡ None) }
-    ensures kept { OnOk result (connections.new ≡ connections_then context.server connections.old (frame_event context.direction frame.now)) }
-    ensures receives { (earlier : List Placed) → S.agrees sink.old earlier
-        → AreEvents (put (flow_placed_with (body_context context) (flow_of at (record { unfinished = []; lost = false }) connections.old) (frame_event context.direction frame.now)) earlier)
-        → OnOk result (S.agrees sink.new (put (flow_placed_with (body_context context) (flow_of at (record { unfinished = []; lost = false }) connections.old) (frame_event context.direction frame.now)) earlier)) }
-    ensures err { IfErr result (λ refusal. NotEmitted (Declines S.agrees S.refuses) at (frame_refusal at (body_context context) (flow_of at (record { unfinished = []; lost = false }) connections.old) frame.now)
-        (put (flow_placed_with (body_context context) (flow_of at (record { unfinished = []; lost = false }) connections.old) (frame_event context.direction frame.now)) []) sink.old sink.new refusal) }
+    requires read { read_frame frame.now.bytes.now ≡ Err fault }
+    ensures met { OnOk result (refusal_at_frame at context.now connections.old frame.now.bytes.now ≡ None) }
+    ensures kept { OnOk result (connections.new ≡ connections_then context.now.server connections.old (frame_event context.now.direction frame.now.bytes.now)) }
+    ensures receives { (earlier : List Placed) → S.agrees sink.old earlier → AreEvents (put (placed_frame at context.now connections.old frame.now.bytes.now) earlier)
+        → OnOk result (S.agrees sink.new (put (placed_frame at context.now connections.old frame.now.bytes.now) earlier)) }
+    ensures err { IfErr result (λ refusal. NotEmitted (Declines S.agrees S.refuses) at (refusal_at_frame at context.now connections.old frame.now.bytes.now) (put (placed_frame at context.now connections.old frame.now.bytes.now) []) sink.old sink.new refusal) }
 {
     match fault {
         DecodeFault::Broken(broken) => emit_bad(
             context,
             connections,
             at,
-            frame,
+            frame.bytes,
             broken.rule,
             broken.at,
             sink,
@@ -631,7 +581,7 @@ fn emit_fault<S: Sink>(
 /// Emits a packet with these bytes, which breaks a rule at this offset.
 #[inline(never)]
 fn emit_bad<S: Sink>(
-    context: BodyContext,
+    context: &BodyContext,
     connections: &mut Connections,
     at: u64,
     frame: &[u8],
@@ -639,11 +589,11 @@ fn emit_bad<S: Sink>(
     place: u32,
     sink: &mut S,
 ) -> Result<(), Refusal>
-    ensures met { OnOk result (event_refusal at context.server connections.old (item_event context.direction (bad frame.now rule place)) ≡ None) }
-    ensures kept { OnOk result (connections.new ≡ connections_with context.server connections.old (item_event context.direction (bad frame.now rule place))) }
-    ensures receives { (earlier : List Placed) → S.agrees sink.old earlier → AreEvents (next_placed connections.old context.in_record (item_event context.direction (bad frame.now rule place)) ∷ earlier)
-        → OnOk result (S.agrees sink.new (next_placed connections.old context.in_record (item_event context.direction (bad frame.now rule place)) ∷ earlier)) }
-    ensures err { IfErr result (λ refusal. NotEmitted (Declines S.agrees S.refuses) at (event_refusal at context.server connections.old (item_event context.direction (bad frame.now rule place))) (next_placed connections.old context.in_record (item_event context.direction (bad frame.now rule place)) ∷ []) sink.old sink.new refusal) }
+    ensures met { OnOk result (event_refusal at context.now.server connections.old (item_event context.now.direction (bad frame.now rule place)) ≡ None) }
+    ensures kept { OnOk result (connections.new ≡ connections_with context.now.server connections.old (item_event context.now.direction (bad frame.now rule place))) }
+    ensures receives { (earlier : List Placed) → S.agrees sink.old earlier → AreEvents (next_placed connections.old context.now.in_record (item_event context.now.direction (bad frame.now rule place)) ∷ earlier)
+        → OnOk result (S.agrees sink.new (next_placed connections.old context.now.in_record (item_event context.now.direction (bad frame.now rule place)) ∷ earlier)) }
+    ensures err { IfErr result (λ refusal. NotEmitted (Declines S.agrees S.refuses) at (event_refusal at context.now.server connections.old (item_event context.now.direction (bad frame.now rule place))) (next_placed connections.old context.now.in_record (item_event context.now.direction (bad frame.now rule place)) ∷ []) sink.old sink.new refusal) }
 {
     let item = Item::Bad {
         bytes: frame,

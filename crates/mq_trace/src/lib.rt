@@ -7,6 +7,7 @@ mod converting_laws;
 mod deframer;
 mod event;
 mod feeding;
+mod frame;
 mod framing_laws;
 mod header;
 mod joined_laws;

@@ -6,7 +6,8 @@ ghost use Rattle.mq_trace.specs.Reception.{Declines};
 ghost use Rattle.mq_trace.specs.Deframing.{body_context, flow_of, FlowStops, FlowComes};
 
 use super::connections::Connections;
-use super::deframer::{BodyContext, emit_frame, header_of};
+use super::deframer::{BodyContext, emit_frame};
+use super::frame::Frame;
 use super::refusal::Refusal;
 use super::sink::Sink;
 use bytes::BytesMut;
@@ -114,8 +115,8 @@ impl Unfinished {
         let last = at + (bytes.len() - 1) as u64;
         match self.bytes.extend_from_slice(bytes) {
             Ok(()) => {
-                let frame = self.bytes.as_slice();
-                let emitted = emit_frame(context, connections, last, header_of(frame), frame, sink);
+                let frame = Frame::of(self.bytes.as_slice());
+                let emitted = emit_frame(&context, connections, last, &frame, sink);
                 self.bytes.clear();
                 emitted
             }

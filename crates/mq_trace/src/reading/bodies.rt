@@ -11,6 +11,7 @@ ghost use Rattle.mq_trace.specs.Deframing.{flow_of, FlowStops};
 ghost use Rattle.mq_trace.specs.Settling.{IsStep, IsWhole};
 
 use super::super::deframer::{BodyContext, Step, consume_whole, whole_packet};
+use super::super::frame::Frame;
 use super::super::kind::Direction;
 use super::super::place::InRecord;
 use super::super::refusal::Refusal;
@@ -115,8 +116,8 @@ impl Reading {
         ensures stops { IfErr result (λ refusal. FlowStops (Declines S.agrees S.refuses) self.old.limit (context_for self.old direction) (flow_for self.old direction) body.now sink.old sink.new refusal) }
     {
         let context = self.body_context(direction);
-        let frame = &body[..size];
-        match consume_whole(context, &mut self.connections, self.at, header, frame, sink) {
+        let frame = Frame::new(&body[..size], header);
+        match consume_whole(context, &mut self.connections, self.at, frame, sink) {
             Ok(()) => Ok(size),
             Err(refusal) => Err(refusal),
         }

@@ -7,12 +7,12 @@ use Rattle.mq_trace.proofs.deframer.consume_whole.Goals as goal
 
 pub returns-clause-comes : goal.returns-clause-comes
 returns-clause-comes g c =
-    comes_of g.S.Sink.agrees (Declines g.S.Sink.agrees g.S.Sink.refuses) c.args.context.limit c.args.context c.args.at _ c.args.connections.now [] c.args.frame.now
-    (frame_by_header c.args.frame.now c.args.header c.requires.whole) (omega (arith, c.requires.some)) (omega (arith, c.requires.some)) c.requires.within
+    comes_of g.S.Sink.agrees (Declines g.S.Sink.agrees g.S.Sink.refuses) c.args.context.limit c.args.context c.args.at _ c.args.connections.now [] c.args.frame.bytes.now
+    (frame_by_header c.args.frame.bytes.now c.args.frame.header c.requires.frame.whole) (omega (arith, c.requires.some)) (omega (arith, c.requires.some)) c.requires.within
     c.emit_frame.result c.emit_frame.new.connections c.args.sink.now c.emit_frame.new.sink c.emit_frame.ensures.met c.emit_frame.ensures.kept c.emit_frame.ensures.receives
 
 pub returns-clause-stops : goal.returns-clause-stops
 returns-clause-stops g c =
-    stops_of g.S.Sink.agrees (Declines g.S.Sink.agrees g.S.Sink.refuses) c.args.context.limit c.args.context c.args.at _ c.args.connections.now [] c.args.frame.now
-    (frame_by_header c.args.frame.now c.args.header c.requires.whole) (omega (arith, c.requires.some)) (omega (arith, c.requires.some)) c.requires.within
+    stops_of g.S.Sink.agrees (Declines g.S.Sink.agrees g.S.Sink.refuses) c.args.context.limit c.args.context c.args.at _ c.args.connections.now [] c.args.frame.bytes.now
+    (frame_by_header c.args.frame.bytes.now c.args.frame.header c.requires.frame.whole) (omega (arith, c.requires.some)) (omega (arith, c.requires.some)) c.requires.within
     c.emit_frame.result c.args.sink.now c.emit_frame.new.sink c.emit_frame.ensures.err

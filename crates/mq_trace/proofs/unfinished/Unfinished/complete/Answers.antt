@@ -8,16 +8,16 @@ use Rattle.mq_trace.proofs.unfinished.Unfinished.complete.Goals as goal
 
 pub returns-in-Ok-clause-comes : goal.returns-in-Ok-clause-comes
 returns-in-Ok-clause-comes g c =
-    let frame : c.as_slice-frame.result.now ≡ c.args.self.now.items ++ c.args.bytes.now = c.as_slice-frame.ensures ∙ c.in-Ok.ensures.ok ∙ ap (λ (b : Filled). b.items ++ c.args.bytes.now) c.self.view_is in
-    ended g.S.Sink.agrees (Declines g.S.Sink.agrees g.S.Sink.refuses) c.args.context.limit c.args.context c.args.at _ c.args.connections.now c.args.self.now.items c.args.bytes.now c.as_slice-frame.result.now
+    let frame : c.of-frame.result.bytes.now ≡ c.args.self.now.items ++ c.args.bytes.now = c.of-frame.ensures.bytes ∙ c.as_slice.ensures ∙ c.in-Ok.ensures.ok ∙ ap (λ (b : Filled). b.items ++ c.args.bytes.now) c.self.view_is in
+    ended g.S.Sink.agrees (Declines g.S.Sink.agrees g.S.Sink.refuses) c.args.context.limit c.args.context c.args.at _ c.args.connections.now c.args.self.now.items c.args.bytes.now c.of-frame.result.bytes.now
     frame c.requires.whole (omega (arith, c.requires.some)) (omega (arith, c.requires.some)) c.requires.within
     c.emit_frame-emitted.result c.emit_frame-emitted.new.connections c.args.sink.now c.emit_frame-emitted.new.sink
     c.emit_frame-emitted.ensures.met c.emit_frame-emitted.ensures.kept c.emit_frame-emitted.ensures.receives
 
 pub returns-in-Ok-clause-stops : goal.returns-in-Ok-clause-stops
 returns-in-Ok-clause-stops g c =
-    let frame : c.as_slice-frame.result.now ≡ c.args.self.now.items ++ c.args.bytes.now = c.as_slice-frame.ensures ∙ c.in-Ok.ensures.ok ∙ ap (λ (b : Filled). b.items ++ c.args.bytes.now) c.self.view_is in
-    ended_stops g.S.Sink.agrees (Declines g.S.Sink.agrees g.S.Sink.refuses) c.args.context.limit c.args.context c.args.at _ c.args.connections.now c.args.self.now.items c.args.bytes.now c.as_slice-frame.result.now
+    let frame : c.of-frame.result.bytes.now ≡ c.args.self.now.items ++ c.args.bytes.now = c.of-frame.ensures.bytes ∙ c.as_slice.ensures ∙ c.in-Ok.ensures.ok ∙ ap (λ (b : Filled). b.items ++ c.args.bytes.now) c.self.view_is in
+    ended_stops g.S.Sink.agrees (Declines g.S.Sink.agrees g.S.Sink.refuses) c.args.context.limit c.args.context c.args.at _ c.args.connections.now c.args.self.now.items c.args.bytes.now c.of-frame.result.bytes.now
     frame c.requires.whole (omega (arith, c.requires.some)) (omega (arith, c.requires.some)) c.requires.within
     c.emit_frame-emitted.result c.args.sink.now c.emit_frame-emitted.new.sink c.emit_frame-emitted.ensures.err
 
