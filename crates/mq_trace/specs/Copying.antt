@@ -1,5 +1,5 @@
 -- The steps of copying a log of version 1 into version 2: what is kept of the log, and what each byte adds to what is written.
-use Rattle.std.specs.Prelude.{◌≡◌, ℕ, ◌+◌, ◌*◌, ◌<◌, ◌≤◌, ◌==◌, nat_lt, Bool, true, false, ◌&&◌, not, ⊤, ◌-◌, if◌then◌else◌, List, [], ◌∷◌, ◌++◌, length, Option, Some, None}
+use Rattle.std.specs.Prelude.{◌≡◌, ℕ, ◌+◌, ◌*◌, ◌<◌, ◌≤◌, ◌==◌, Bool, true, false, ⊤, ◌-◌, if◌then◌else◌, List, [], ◌∷◌, ◌++◌, length, Option, Some, None}
 use Rattle.std.specs.Io.KnownBytes.{Appends}
 use Rattle.mq_trace.specs.declared.kind.RecordKind.{RecordKind}
 use Rattle.mq_trace.specs.declared.kind.RecordKind.TheVariants as kinds
@@ -17,7 +17,7 @@ use Rattle.mq_trace.specs.declared.converting.Copying.{Copying}
 use Rattle.mq_trace.specs.Framing.{header_by, kind_named, kind_of, body_length, length_end, longest_record, records, spelled_from}
 use Rattle.mq_trace.specs.Events.{events}
 use Rattle.mq_trace.specs.Connections.{has_open_connection}
-use Rattle.mq_trace.specs.Refusals.{first_that_applies, is_open_kind, needs_connection, is_release_kind}
+use Rattle.mq_trace.specs.Refusals.{first_byte_refusal}
 use Rattle.mq_trace.specs.Writing.{AppendsBeginning, header_bytes}
 use Rattle.mq_trace.specs.Converting.{no_moment, timed, unconverted, unconverted_at}
 
@@ -89,12 +89,7 @@ past_header_byte c byte = record c {
 
 -- the refusal that applies at the first byte of a record of this kind
 abbrev pub refused_kind : Copying → RecordKind → Option Refusal
-refused_kind c kind = first_that_applies (
-    (is_open_kind (Some kind) && c.connected, refusals.Nested c.at)
-    ∷ (needs_connection (Some kind) && not c.connected, refusals.NotOpen c.at)
-    ∷ (is_release_kind (Some kind) && not c.header.releases, refusals.ReleaseUnrecorded c.at)
-    ∷ (nat_lt 4294967295 (c.records + 1), refusals.TooLong c.at)
-    ∷ [])
+refused_kind c kind = first_byte_refusal c.at c.header.releases c.connected c.records kind
 
 -- the refusal that applies at the first byte of a record, whose kind, if it names one, is this
 abbrev pub refused_begin : Copying → Option RecordKind → Option Refusal

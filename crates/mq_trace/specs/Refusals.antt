@@ -1,5 +1,5 @@
 -- Which logs are refused: the earliest byte at which a condition applies decides, and at one byte the lowest number.
-use Rattle.std.specs.Prelude.{ℕ, ◌==◌, nat_lt, nat_le, Bool, true, false, ◌&&◌, ◌||◌, not, cond, if◌then◌else◌, List, [], ◌∷◌, ◌++◌, length, reverse, slice_index, Option, Some, None, is_some, is_none, Result, Ok, Err}
+use Rattle.std.specs.Prelude.{ℕ, ◌+◌, ◌==◌, nat_lt, nat_le, Bool, true, false, ◌&&◌, ◌||◌, not, cond, if◌then◌else◌, List, [], ◌∷◌, ◌++◌, length, reverse, slice_index, Option, Some, None, is_some, is_none, Result, Ok, Err}
 use Rattle.std.specs.Option.{option_or}
 use Rattle.mq_packet.specs.declared.header.FixedHeader.{FixedHeader}
 use Rattle.mq_packet.specs.declared.header.FixedHeader.TheVariants as headers
@@ -114,6 +114,15 @@ comes_too_early s event = is_too_early s.header.server s.connected s.connack_see
 abbrev pub first_that_applies : List (Bool × Refusal) → Option Refusal
 first_that_applies [] = None
 first_that_applies (line ∷ lines) = cond line.0 (Some line.1) (first_that_applies lines)
+
+-- the refusal that applies at the first byte of a record of this kind, given whether the log has releases, whether a connection is open, and how many records came before it
+abbrev pub first_byte_refusal : ℕ → (releases connected : Bool) → ℕ → RecordKind → Option Refusal
+first_byte_refusal at releases connected records kind = first_that_applies (
+    (is_open_kind (Some kind) && connected, refusals.Nested at)
+    ∷ (needs_connection (Some kind) && not connected, refusals.NotOpen at)
+    ∷ (is_release_kind (Some kind) && not releases, refusals.ReleaseUnrecorded at)
+    ∷ (nat_lt 4294967295 (records + 1), refusals.TooLong at)
+    ∷ [])
 
 -- The conditions of the refusals of a byte after the header, in the order of their numbers.
 abbrev pub conditions : ℕ → Situation → List (Bool × Refusal)

@@ -1,5 +1,5 @@
 -- The steps of a log's reader: its state after the bytes of one.
-use Rattle.std.specs.Prelude.{◌≡◌, ℕ, ◌+◌, ◌<◌, ◌≤◌, ◌==◌, nat_lt, List, length, slice_index, Bool, true, false, ◌&&◌, not, cond, if◌then◌else◌, [], ◌∷◌, ◌++◌, Option, Some, None, Result, Ok, Err}
+use Rattle.std.specs.Prelude.{◌≡◌, ℕ, ◌+◌, ◌<◌, ◌≤◌, ◌==◌, List, length, slice_index, Bool, true, false, cond, if◌then◌else◌, [], ◌∷◌, ◌++◌, Option, Some, None, Result, Ok, Err}
 use Rattle.std.specs.Int.{w32, from_be_bytes}
 use Rattle.mq_trace.specs.declared.kind.RecordKind.{RecordKind}
 use Rattle.mq_trace.specs.declared.kind.RecordKind.TheVariants as kinds
@@ -12,7 +12,7 @@ use Rattle.mq_trace.specs.declared.stage.Stage.TheVariants as stages
 use Rattle.mq_trace.specs.declared.reading.Reading.{Reading}
 use Rattle.mq_trace.specs.Framing.{kind_named, kind_of, body_length, opens, moment_in, head_length, longest_body}
 use Rattle.mq_trace.specs.Events.{Event}
-use Rattle.mq_trace.specs.Refusals.{first_that_applies, allows_length, is_open_kind, needs_connection, is_release_kind}
+use Rattle.mq_trace.specs.Refusals.{first_byte_refusal, allows_length}
 use Rattle.mq_trace.specs.Context.{emptied}
 use Rattle.mq_trace.specs.declared.connections.Connections.{Connections}
 use Rattle.mq_trace.specs.declared.deframer.Deframer.{Deframer}
@@ -48,12 +48,7 @@ is_in_body (stages.Release first) = false
 
 -- the refusal that applies at the first byte of a record of this kind
 abbrev pub kind_refusal : Reading → RecordKind → Option Refusal
-kind_refusal r kind = first_that_applies (
-    (is_open_kind (Some kind) && r.connections.connected, refusals.Nested r.at)
-    ∷ (needs_connection (Some kind) && not r.connections.connected, refusals.NotOpen r.at)
-    ∷ (is_release_kind (Some kind) && not r.header.releases, refusals.ReleaseUnrecorded r.at)
-    ∷ (nat_lt 4294967295 (r.records + 1), refusals.TooLong r.at)
-    ∷ [])
+kind_refusal r kind = first_byte_refusal r.at r.header.releases r.connections.connected r.records kind
 
 -- after the first byte of a record of this kind
 pub record BeginsRecord (r r' : Reading) (kind : RecordKind) : Type 0 where

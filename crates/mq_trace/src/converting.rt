@@ -2,7 +2,7 @@
 ghost use Rattle.std.specs.Prelude.{◌≡◌, ◌+◌, ◌*◌, ◌<◌, ◌≤◌, ◌^◌, ◌∷◌, ◌++◌, [], ℕ, List, IfOk, IfErr, IfSome, OnOk, OnErr, None, Some, true, false, length, take};
 ghost use Rattle.std.specs.Io.KnownBytes.{Appends};
 ghost use Rattle.mq_trace.specs.Converting.{Converts, first_version_refusal, unconverted_at};
-ghost use Rattle.mq_trace.specs.Copying.{Adds, BeginsCopy, IsCopyOf, IsSound, StopsCopying, WritesMore, added_bytes, connected_after, fault_of, header_addition, in_length, is_between, is_body, past_body, past_header_byte, past_length, refused_begin, refused_kind};
+ghost use Rattle.mq_trace.specs.Copying.{Adds, BeginsCopy, IsCopyOf, IsSound, StopsCopying, WritesMore, added_bytes, connected_after, fault_of, header_addition, in_length, is_between, is_body, past_body, past_header_byte, past_length, refused_begin};
 ghost use Rattle.mq_trace.specs.Framing.{kind_named};
 ghost use Rattle.mq_trace.specs.Refusals.{allows_length, is_cut_short};
 ghost use Rattle.mq_trace.specs.Writing.{AppendsBeginning};
@@ -292,7 +292,12 @@ impl Copying {
         let Some(kind) = RecordKind::from_byte(byte) else {
             return Err(Refusal::Kind(self.at));
         };
-        if let Some(refusal) = self.refused_kind(kind) {
+        if let Some(refusal) = kind.refusal(
+            self.at,
+            self.header.releases,
+            self.connected,
+            self.records,
+        ) {
             return Err(refusal);
         }
         self.at += 1;
@@ -302,23 +307,6 @@ impl Copying {
             length: 0,
         };
         Ok(Addition::Byte(byte))
-    }
-
-    /// The refusal that applies at the first byte of a record of this kind.
-    fn refused_kind(&self, kind: RecordKind) -> Option<Refusal>
-        ensures { result ≡ refused_kind self.now kind }
-    {
-        if kind == RecordKind::Open && self.connected {
-            Some(Refusal::Nested(self.at))
-        } else if kind.needs_connection() && !self.connected {
-            Some(Refusal::NotOpen(self.at))
-        } else if kind == RecordKind::Release && !self.header.releases {
-            Some(Refusal::ReleaseUnrecorded(self.at))
-        } else if self.records == u32::MAX {
-            Some(Refusal::TooLong(self.at))
-        } else {
-            None
-        }
     }
 
     /// Takes in the next byte of the length of a record of this kind, after `count` bytes of it, which spell this number.

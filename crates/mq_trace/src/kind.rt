@@ -1,10 +1,11 @@
 //! The kinds of records, and the two directions of a connection.
 
-ghost use Rattle.std.specs.Prelude.{◌≡◌, ◌&&◌, Some, List};
-ghost use Rattle.mq_trace.specs.Framing.{kind_named, direction_of, opens};
-ghost use Rattle.mq_trace.specs.Refusals.{allows_length, needs_connection, is_open_kind, is_release_kind};
+ghost use Rattle.std.specs.Prelude.{◌≡◌, ◌<◌, Some, None};
+ghost use Rattle.mq_trace.specs.Framing.{kind_named, direction_of};
+ghost use Rattle.mq_trace.specs.Refusals.{allows_length, first_byte_refusal, needs_connection};
 
 use super::header::longest_body;
+use super::refusal::Refusal;
 
 /// The kind of a record of the log, which its first byte names.
 #[derive(Clone, Copy, Debug, PartialEq, Eq)]
@@ -80,6 +81,26 @@ impl RecordKind {
         match self {
             RecordKind::Sent | RecordKind::Recv | RecordKind::Close | RecordKind::Rest => true,
             RecordKind::Open | RecordKind::Release => false,
+        }
+    }
+
+    /// The refusal that applies at the byte at this offset, the first one of a record of this kind: by whether the log has releases,
+    /// whether a connection is open, and how many records came before it.
+    #[inline(always)]
+    pub fn refusal(self, at: u64, releases: bool, connected: bool, records: u32) -> Option<Refusal>
+        ensures met { result ≡ first_byte_refusal at releases connected records self }
+        ensures room { result ≡ None → records < 4294967295 }
+    {
+        if self == RecordKind::Open && connected {
+            Some(Refusal::Nested(at))
+        } else if self.needs_connection() && !connected {
+            Some(Refusal::NotOpen(at))
+        } else if self == RecordKind::Release && !releases {
+            Some(Refusal::ReleaseUnrecorded(at))
+        } else if records == u32::MAX {
+            Some(Refusal::TooLong(at))
+        } else {
+            None
         }
     }
 }

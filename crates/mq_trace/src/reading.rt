@@ -368,30 +368,17 @@ impl Reading {
         let Some(kind) = RecordKind::from_byte(byte) else {
             return Err(Refusal::Kind(self.at));
         };
-        if let Some(refusal) = self.kind_refusal(kind) {
+        let connected = self.connections.connected;
+        if let Some(refusal) = kind.refusal(
+            self.at,
+            self.header.releases,
+            connected,
+            self.records,
+        ) {
             return Err(refusal);
         }
         self.begin(kind);
         Ok(kind)
-    }
-
-    /// The refusal that applies at the first byte of a record of this kind.
-    #[inline(always)]
-    fn kind_refusal(&self, kind: RecordKind) -> Option<Refusal>
-        ensures met { result ≡ kind_refusal self.now kind }
-        ensures room { result ≡ None → self.now.records < 4294967295 }
-    {
-        if kind == RecordKind::Open && self.connections.connected {
-            Some(Refusal::Nested(self.at))
-        } else if kind.needs_connection() && !self.connections.connected {
-            Some(Refusal::NotOpen(self.at))
-        } else if kind == RecordKind::Release && !self.header.releases {
-            Some(Refusal::ReleaseUnrecorded(self.at))
-        } else if self.records == u32::MAX {
-            Some(Refusal::TooLong(self.at))
-        } else {
-            None
-        }
     }
 
     /// Sets the state after the first byte of a record of this kind.

@@ -6,5 +6,5 @@ pub begin-requires : goal.begin-requires
 begin-requires c =
     let none : begun_in c.args.self.now.stage ≡ 0 = ap begun_in c.requires.between in
     let counted = c.requires.sound.counted in
-    let room = c.kind_refusal.ensures.room c.in_default-kind_refusal.is in
+    let room = c.refusal.ensures.room c.in_default-refusal.is in
     omega arith
