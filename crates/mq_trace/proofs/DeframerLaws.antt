@@ -277,7 +277,7 @@ module _ {S : Type 0} (agrees : S → List Placed → Type 0) (declines : S → 
   stops_of (Ok x) old new unemitted = tt
   stops_of (Err refusal) old new unemitted = stops_by (has_last bytes some) old new refusal unemitted
 
--- The same for a packet whose bytes in memory are these.
+-- A whole packet whose bytes in memory are these, and the part of them that came last: what emitting it comes to, and what stops it.
 module _ {S : Type 0} (agrees : S → List Placed → Type 0) (declines : S → S → List Placed → Refusal → Type 0) (limit : ℕ) (context : ContextInMemory) (at last : ℕ) (c : Connections) (u bytes frame : List ℕ)
     (is : frame ≡ u ++ bytes) (whole : frame_size (u ++ bytes) ≡ Some (length (u ++ bytes))) (some : 0 < length bytes) (is_last : last + 1 ≡ at + length bytes) (within : length (u ++ bytes) ≤ limit) where
   pub ended : {A : Type 0} (r : Result A Refusal) (c' : Connections) (old new : S) → OnOk r (frame_refusal last (body_context context) (flow_of last (going_on []) c) frame ≡ None)

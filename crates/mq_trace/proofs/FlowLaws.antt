@@ -70,7 +70,7 @@ pub record IsQuiet (limit : ℕ) (context : BodyContext) (f : Flow) (bytes : Lis
   pub completed : flow_events context f bytes ≡ []
   pub after_bytes : flow_after_bytes context f bytes ≡ record f { at = f.at + length bytes; state = state }
 
--- the same of one byte
+-- what one byte does that completes nothing and isn't refused
 record IsQuietByte (limit : ℕ) (context : BodyContext) (f : Flow) (byte : ℕ) (state : StreamState) : Type 0 where
   refused : flow_refusal limit context f byte ≡ None
   placed : flow_placed context f byte ≡ None
@@ -257,7 +257,7 @@ pub quiet-after : (context : BodyContext) (f : Flow) (u bytes : List ℕ) (heade
     → flow_after_bytes context f bytes ≡ record f { at = f.at + length bytes; state = record { unfinished = u ++ bytes; lost = false } }
 quiet-after context f u bytes header size e whole less = (unfinished_quiet size context f u bytes header size e whole less (inl (omega arith))).after_bytes
 
--- The same where they don't show its size.
+-- Bytes that don't yet show their packet's size aren't refused, and complete nothing.
 pub short-refused : (limit : ℕ) (context : BodyContext) (f : Flow) (u bytes : List ℕ) → f.state ≡ record { unfinished = u; lost = false } → fixed_header_of (u ++ bytes) ≡ headers.Short
     → flow_refused limit context f bytes ≡ None
 short-refused limit context f u bytes e short = (short_quiet limit context f u bytes e short).refused

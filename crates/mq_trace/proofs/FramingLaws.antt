@@ -81,7 +81,7 @@ module _ (ahead : ℕ) (least : length_end ≤ ahead) where
   pub record_settles : Settles (record_size ahead)
   record_settles = record { bound = record_bound; stays = record_stays; back = record_stood }
 
--- the same of the records of a log
+-- what cutting a log into records rests on
 abbrev pub cuts : (log : List ℕ) → Settles (record_size (ahead_in log))
 cuts log = record_settles (ahead_in log) (head_least (header_by log).version)
 

@@ -104,7 +104,7 @@ events_counted c at count (byte ∷ bytes) h h' =
     ∙ events_counted (after c byte) (at + 1) (count_after c count byte) bytes (omega arith) (omega arith))
     (placed_counted c at count byte h h')
 
--- the same within a body: the number of the record, and how many bytes of the log came
+-- what stays in a body, with another number of its record, and a flow with another count of the log's bytes
 abbrev numbered : BodyContext → ℕ → BodyContext
 numbered around count = record around { in_record = record { record_no = count; moment = around.in_record.moment } }
 

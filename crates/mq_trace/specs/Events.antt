@@ -58,7 +58,7 @@ item_at so_far = cond (is_lost so_far) (Some lost) (cond (is_some (frame_size so
 abbrev pub packet_with : List ℕ → ℕ → List ℕ
 packet_with before byte = cond (is_lost (stream before).rest) [] ((stream before).rest ++ byte ∷ [])
 
--- the same for the body byte of a record of this kind, none for one that carries no packets
+-- The bytes so far of the packet that the next byte of a record's body belongs to, if the record carries bytes in a direction; none if it doesn't.
 abbrev pub packet_by : ℕ → Option Direction → List (List ℕ) → ℕ → List ℕ
 packet_by ahead None parts byte = []
 packet_by ahead (Some direction) parts byte = packet_with (carried ahead direction parts) byte

@@ -33,7 +33,7 @@ IsAt ahead moment (stages.Body direction left) part =
 IsAt ahead moment (stages.Release None) part = (kind_of part ≡ Some kinds.Release) × (length part ≡ ahead) × (body_length part ≡ 2) × (moment_in ahead part ≡ moment)
 IsAt ahead moment (stages.Release (Some high)) part = (kind_of part ≡ Some kinds.Release) × (length part ≡ ahead + 1) × (body_length part ≡ 2) × (moment_in ahead part ≡ moment) × (slice_index part ahead ≡ high)
 
--- the same of what a reader keeps
+-- this part is the unfinished record of what a reader keeps
 abbrev pub StandsAt : Reading → List ℕ → Type 0
 StandsAt r part = IsAt (head_length r.header.version) r.moment r.stage part
 

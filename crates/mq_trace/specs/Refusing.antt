@@ -69,7 +69,7 @@ refusal_offset (Memory at) = at
 abbrev pub refused_text : Refusal → List ℕ
 refused_text refusal = spaced (codes "refused" ∷ decimal (number_of refusal) ∷ name_of refusal ∷ codes "at" ∷ decimal (refusal_offset refusal) ∷ [])
 
--- the same refusal at another byte
+-- a refusal, at another byte
 abbrev pub moved : Refusal → ℕ → Refusal
 moved (Header _) at = Header at
 moved (Version _) at = Version at

@@ -82,7 +82,7 @@ pub record Stops {S : Type 0} (agrees : S → List Placed → Type 0) (refuses :
 abbrev pub StopsAt : {S : Type 0} → (S → List Placed → Type 0) → (S → List Placed → Refusal → Type 0) → ℕ → List ℕ → List ℕ → S → S → Reading → Refusal → Type 0
 StopsAt agrees refuses limit log piece old new reading refusal = (stops : Stops agrees refuses limit log piece old new refusal) × KeepsHeader reading (log ++ stops.taken)
 
--- The same for a byte of the log's header, where no sink is asked.
+-- A piece stops at a byte of the log's header, where no sink is asked.
 abbrev pub StopsInHeader : ℕ → List ℕ → List ℕ → Reading → Refusal → Type 0
 StopsInHeader limit log piece reading refusal =
     (stops : StopsAt {S = Unit {0}} (λ _ _. Unit {0}) (λ _ _ _. ⊥) limit log piece tt tt reading refusal) × (length (log ++ stops.0.taken) < 8)

@@ -1,5 +1,5 @@
 //! Converts a log of version 1 into one of version 2: each record the same, with the moment 0.
-ghost use Rattle.std.specs.Prelude.{◌≡◌, ◌+◌, ◌*◌, ◌<◌, ◌≤◌, ◌^◌, ◌∷◌, ◌++◌, [], ℕ, List, IfOk, IfErr, IfSome, OnOk, OnErr, None, Some, true, false, length, take};
+ghost use Rattle.std.specs.Prelude.{◌≡◌, ◌+◌, ◌*◌, ◌<◌, ◌≤◌, ◌^◌, ◌∷◌, ◌++◌, [], ℕ, List, IfOk, IfErr, IfSome, OnOk, None, Some, true, false, length, take};
 ghost use Rattle.std.specs.Io.KnownBytes.{Appends};
 ghost use Rattle.mq_trace.specs.Converting.{Converts, first_version_refusal, unconverted_at};
 ghost use Rattle.mq_trace.specs.Copying.{Adds, BeginsCopy, IsCopyOf, IsSound, StopsCopying, WritesMore, added_bytes, connected_after, fault_of, header_addition, in_length, is_between, is_body, past_body, past_header_byte, past_length, refused_begin};
@@ -499,7 +499,7 @@ pub fn convert<R: Read, W: Write>(reader: &mut R, writer: &mut W) -> Result<(), 
     convert_all::<R, W, Brand>(reader, writer)
 }
 
-/// The same to a writer that was picked.
+/// Converts as `convert` does, to a writer of which it is known what it holds, if that was picked.
 fn convert_all<R: Read, W: Write, K: Holding>(
     reader: &mut R,
     writer: &mut W,

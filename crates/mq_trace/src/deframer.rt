@@ -578,7 +578,7 @@ fn emit_fault<S: Sink>(
     }
 }
 
-/// Emits a packet with these bytes, which breaks a rule at this offset.
+/// Emits a packet with these bytes, which breaks a rule at this offset in it.
 #[inline(never)]
 fn emit_bad<S: Sink>(
     context: &BodyContext,
@@ -586,19 +586,19 @@ fn emit_bad<S: Sink>(
     at: u64,
     frame: &[u8],
     rule: PacketRule,
-    place: u32,
+    offset: u32,
     sink: &mut S,
 ) -> Result<(), Refusal>
-    ensures met { OnOk result (event_refusal at context.now.server connections.old (item_event context.now.direction (bad frame.now rule place)) ≡ None) }
-    ensures kept { OnOk result (connections.new ≡ connections_with context.now.server connections.old (item_event context.now.direction (bad frame.now rule place))) }
-    ensures receives { (earlier : List Placed) → S.agrees sink.old earlier → AreEvents (next_placed connections.old context.now.in_record (item_event context.now.direction (bad frame.now rule place)) ∷ earlier)
-        → OnOk result (S.agrees sink.new (next_placed connections.old context.now.in_record (item_event context.now.direction (bad frame.now rule place)) ∷ earlier)) }
-    ensures err { IfErr result (λ refusal. NotEmitted (Declines S.agrees S.refuses) at (event_refusal at context.now.server connections.old (item_event context.now.direction (bad frame.now rule place))) (next_placed connections.old context.now.in_record (item_event context.now.direction (bad frame.now rule place)) ∷ []) sink.old sink.new refusal) }
+    ensures met { OnOk result (event_refusal at context.now.server connections.old (item_event context.now.direction (bad frame.now rule offset)) ≡ None) }
+    ensures kept { OnOk result (connections.new ≡ connections_with context.now.server connections.old (item_event context.now.direction (bad frame.now rule offset))) }
+    ensures receives { (earlier : List Placed) → S.agrees sink.old earlier → AreEvents (next_placed connections.old context.now.in_record (item_event context.now.direction (bad frame.now rule offset)) ∷ earlier)
+        → OnOk result (S.agrees sink.new (next_placed connections.old context.now.in_record (item_event context.now.direction (bad frame.now rule offset)) ∷ earlier)) }
+    ensures err { IfErr result (λ refusal. NotEmitted (Declines S.agrees S.refuses) at (event_refusal at context.now.server connections.old (item_event context.now.direction (bad frame.now rule offset))) (next_placed connections.old context.now.in_record (item_event context.now.direction (bad frame.now rule offset)) ∷ []) sink.old sink.new refusal) }
 {
     let item = Item::Bad {
         bytes: frame,
         rule,
-        at: place,
+        at: offset,
     };
     emit(
         connections,

@@ -1,10 +1,10 @@
 //! Reads a log: its header, its records, and what they carry.
 
-ghost use Rattle.std.specs.Prelude.{◌≡◌, ◌≢◌, ◌+◌, ◌*◌, ◌^◌, ◌<◌, ◌≤◌, ◌∷◌, ◌++◌, [], Bool, List, true, false, cond, Some, None, OnOk, IfOk, IfErr, IfSome, IsTrue, length, take, OnErr};
-ghost use Rattle.mq_trace.specs.Keeping.{state_in, context_of, IsUnfinished, IsSound, Advances, Comes, StepStops, HoldsHeader};
-ghost use Rattle.mq_trace.specs.Refusals.{allows_length, header_refusal};
+ghost use Rattle.std.specs.Prelude.{◌≡◌, ◌≢◌, ◌+◌, ◌*◌, ◌^◌, ◌<◌, ◌≤◌, ◌∷◌, [], Bool, List, true, false, cond, Some, None, OnOk, IfOk, IfErr, IfSome, IsTrue, length, take, OnErr};
+ghost use Rattle.mq_trace.specs.Keeping.{state_in, context_of, IsSound, Comes, StepStops, HoldsHeader};
+ghost use Rattle.mq_trace.specs.Refusals.{header_refusal};
 ghost use Rattle.mq_trace.specs.Refusing.{refusal_offset};
-ghost use Rattle.std.specs.Int.{w16, w32, from_be_bytes};
+ghost use Rattle.std.specs.Int.{w32, from_be_bytes};
 ghost use Rattle.mq_trace.specs.declared.kind.RecordKind.TheVariants as kinds;
 ghost use Rattle.mq_trace.specs.declared.stage.Stage.TheVariants as stages;
 ghost use Rattle.mq_trace.specs.Framing.{kind_named, opens, moment_in, head_length};
@@ -12,10 +12,7 @@ ghost use Rattle.mq_trace.specs.Events.{Placed};
 ghost use Rattle.mq_trace.specs.Reception.{AreEvents, Declines, event_of};
 ghost use Rattle.mq_trace.specs.Emission.{effect_of, event_refusal, next_placed, NotEmitted};
 ghost use Rattle.mq_trace.specs.Context.{fresh};
-ghost use Rattle.mq_trace.specs.Stepping.{err_of, after_header_byte, kind_refusal, kind_for, IsBodyHead, BeginsRecord, EndsHead, is_in_body, refused_first, in_head, in_moment, in_record_of, marked, leaving, context_for, deframer_for, flow_for, redirected};
-ghost use Rattle.mq_trace.specs.Flows.{flow_refused, flow_events, flow_after_bytes};
-ghost use Rattle.mq_trace.specs.Deframing.{flow_of, FlowStops};
-ghost use Rattle.mq_trace.specs.Settling.{IsWhole};
+ghost use Rattle.mq_trace.specs.Stepping.{err_of, after_header_byte, kind_refusal, kind_for, IsBodyHead, BeginsRecord, EndsHead, is_in_body, refused_first, in_head, in_moment, in_record_of, marked, leaving};
 
 mod bodies;
 
@@ -548,8 +545,8 @@ impl Reading {
         }
     }
 
-    /// The same for a record that carries no packets. It is a function of its own, so that its events take no stack while packets
-    /// are read.
+    /// Takes in the last byte of the head of a record that carries no packets. It is a function of its own, so that its events take
+    /// no stack while packets are read.
     #[inline(never)]
     fn end_other<S: Sink>(
         &mut self,

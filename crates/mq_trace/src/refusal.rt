@@ -118,7 +118,7 @@ impl Refusal {
 }
 
 impl Refusal {
-    /// The same refusal at another byte.
+    /// This refusal, at another byte.
     pub fn moved_to(self, at: u64) -> Refusal
         ensures { result ≡ moved self at }
     {

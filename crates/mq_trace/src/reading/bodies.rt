@@ -1,6 +1,6 @@
 //! Passing the bytes of a body on to their direction.
 
-ghost use Rattle.std.specs.Prelude.{◌≡◌, ◌+◌, ◌^◌, ◌<◌, ◌≤◌, ◌++◌, [], List, false, None, OnOk, IfOk, IfErr, IfSome, IsTrue, length, take, OnErr};
+ghost use Rattle.std.specs.Prelude.{◌≡◌, ◌+◌, ◌^◌, ◌<◌, ◌≤◌, ◌++◌, [], List, false, None, OnOk, IfOk, IfErr, IsTrue, length, take, OnErr};
 ghost use Rattle.mq_trace.specs.Keeping.{state_in, IsUnfinished, IsSound, Comes, StepStops, HoldsHeader};
 ghost use Rattle.mq_trace.specs.declared.stage.Stage.TheVariants as stages;
 ghost use Rattle.mq_trace.specs.Events.{Placed};
