@@ -614,20 +614,6 @@ impl Note {
         }
     }
 
-    /// Whether it is a packet that needs a session, sent or received, or a release (MQTT 5.0, section 4.1).
-    #[inline]
-    pub fn needs_session(&self) -> bool
-        ensures { result ≡ notes.needs_session self.now }
-    {
-        match self {
-            Note::Release(_) => true,
-            Note::Sent(ItemNote::Packet(packet)) | Note::Recv(ItemNote::Packet(packet)) => {
-                packet.fields.is_session_packet()
-            }
-            _ => false,
-        }
-    }
-
     /// The rule that the bytes break which the tested end sent, and where in the packet.
     #[inline]
     pub fn body_fault(&self) -> Option<BodyFault>
