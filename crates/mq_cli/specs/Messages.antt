@@ -18,8 +18,8 @@ use Rattle.mq_cli.specs.Digits.{bytes_of}
 use Rattle.mq_cli.specs.Listing.{listed_for}
 use Rattle.mq_cli.specs.declared.command_line.Task.{Task}
 use Rattle.mq_cli.specs.declared.command_line.Task.TheVariants.{Check, Show, Packet, Rules, Explain}
-use Rattle.mq_cli.specs.declared.tasks.View.{View}
-use Rattle.mq_cli.specs.declared.tasks.View.TheVariants.{Lines, Faults}
+use Rattle.mq_cli.specs.declared.tasks.EventView.{EventView}
+use Rattle.mq_cli.specs.declared.tasks.EventView.TheVariants.{Lines, Faults}
 use Rattle.mq_cli.specs.declared.command_line.EarlyExit.{EarlyExit}
 use Rattle.mq_cli.specs.declared.command_line.EarlyExit.TheVariants.{Help, Usage, Memory}
 use Rattle.mq_cli.specs.declared.failure.Failure.{Failure}
@@ -95,7 +95,7 @@ text_for timed false = short_lines_of timed
 text_for timed true = long_lines_of timed
 
 -- the text of events by a view of them
-abbrev pub text_in_view : (timed : Bool) → View → List Placed → List ℕ
+abbrev pub text_in_view : (timed : Bool) → EventView → List Placed → List ℕ
 text_in_view timed (Lines long) = text_for timed long
 text_in_view timed (Faults faults role around long) = annotated timed (record { role = role; faults = map.entries faults.now; around = around; long = long })
 

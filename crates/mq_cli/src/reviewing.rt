@@ -15,7 +15,7 @@ use crate::host::Host;
 use crate::misuse::Misuse;
 use crate::noting::Noting;
 use crate::output::Output;
-use crate::tasks::{View, refuse, show_log};
+use crate::tasks::{EventView, refuse, show_log};
 use crate::trouble::Trouble;
 use mq_judge::{Form, judge_reader};
 use std::alloc::Global;
@@ -230,7 +230,7 @@ pub fn show_twice<R: Read, S: Read, W: Write>(
 {
     match judge_reader(alloc, judged) {
         Ok((verdict, role)) => {
-            let view = View::Faults {
+            let view = EventView::Faults {
                 faults: &verdict.faults,
                 role,
                 around: plan.around,

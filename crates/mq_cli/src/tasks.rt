@@ -36,7 +36,7 @@ use std::io::{Read, Write};
 
 /// What is shown of the events of a log.
 #[derive(Clone, Copy)]
-pub enum View<'a> {
+pub enum EventView<'a> {
     /// A line for each.
     Lines {
         /// Whether it is a long one.
@@ -99,7 +99,7 @@ pub fn attempt<'a, R: Read, W: Write, P: Progress>(
         },
         Task::Show { long, .. } => match show_log(
             alloc,
-            View::Lines { long: *long },
+            EventView::Lines { long: *long },
             input,
             output,
         ) {
@@ -159,7 +159,7 @@ fn check<R: Read, W: Write, P: Progress>(
 /// What failed.
 pub fn show_log<R: Read, W: Write>(
     alloc: Global,
-    view: View<'_>,
+    view: EventView<'_>,
     input: &mut R,
     output: &mut W,
 ) -> Result<u8, Failure>
@@ -183,7 +183,7 @@ pub fn show_log<R: Read, W: Write>(
 // Writes what is shown of the events of a log.
 fn show_lines<R: Read, W: Write>(
     alloc: Global,
-    view: View<'_>,
+    view: EventView<'_>,
     input: &mut R,
     output: &mut W,
 ) -> Result<(), RunFault>
@@ -191,9 +191,9 @@ fn show_lines<R: Read, W: Write>(
         (W.contents output.old) (W.contents output.new)) }
 {
     match view {
-        View::Lines { long: false } => show(alloc, input, output),
-        View::Lines { long: true } => show_long(alloc, input, output),
-        View::Faults {
+        EventView::Lines { long: false } => show(alloc, input, output),
+        EventView::Lines { long: true } => show_long(alloc, input, output),
+        EventView::Faults {
             faults,
             role,
             around,
