@@ -3,8 +3,12 @@
 mod early;
 mod emission;
 mod examples;
+mod headers;
 mod keeping;
+mod kinds;
 pub mod logs;
 mod moments;
+mod naming;
 mod refusals;
 mod sessions;
+mod writing;

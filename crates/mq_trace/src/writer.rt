@@ -335,6 +335,3 @@ pub fn write_bytes<W: Write>(bytes: &[u8], writer: &mut W) -> Result<(), WriteFa
     }
     Ok(())
 }
-
-#[cfg(test)]
-mod tests;

@@ -1,7 +1,7 @@
 //! Logs that are written, byte for byte, and writers that fail.
-use super::super::header::Header;
-use super::super::tests::logs::{CONNACK, CONNECT, PUBACK, PUBLISH};
-use super::{TraceWriter, WriteFault};
+use super::logs::{CONNACK, CONNECT, PUBACK, PUBLISH};
+use crate::header::Header;
+use crate::writer::{TraceWriter, WriteFault};
 use std::alloc::AllocError;
 use std::io;
 use std::io::{ErrorKind, Write};
