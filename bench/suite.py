@@ -2,8 +2,8 @@
 """Makes and checks the conformance suite, `examples/suite/`: for each statement, for one end that it binds, a log that breaks it
 and one that keeps it, each with its exact report as text and as JSON.
 
-The logs and their reports are the rows of suite_rows.txt, in the form of the worked logs of mq_judge's tests: what the row shows,
-the log in words, and the report, with a semicolon between its lines. The reports were written from the statements' words before any
+The logs and their reports are the rows of `tests/statements/suite.rt` of mq_judge, whose tests judge them too: what the row shows, the
+log in words, and the report, with a semicolon between its lines. The reports were written from the statements' words before any
 program judged the logs. The two logs of a statement differ in one record, which is changed, added or missing.
 
 With --check (or without options) it compares the files with the rows, byte by byte, and the reports with reference.py's. With
@@ -33,7 +33,7 @@ from shortening import KINDS
 from versions import HEAD_SIZES, HEADER_SIZE, records
 
 HERE = Path(__file__).resolve().parent
-ROWS = HERE / "suite_rows.txt"
+ROWS = check_rows.FOLDER / "suite.rt"
 FOLDER = HERE.parent / "examples/suite"
 BROKEN, KEPT = "broken", "kept"
 FORMS: tuple[tuple[list[str], str], ...] = (([], "report"), (["--json"], "json"))  # words, and which file has the report
@@ -110,7 +110,7 @@ class Row:
 
 def rows() -> Iterator[Row]:
     names = check_rows.packets()
-    for line in ROWS.read_text().splitlines():
+    for line in "\n".join(check_rows.TABLE.findall(ROWS.read_text())).split("\n"):
         head, words, report = (part.strip() for part in line.split("|"))
         first, _, what = head.partition(": ")
         code, which, role = first.replace(",", "").split()

@@ -14,4 +14,5 @@ mod reports;
 mod rules;
 mod runs;
 mod statements;
+mod suite;
 mod summaries;

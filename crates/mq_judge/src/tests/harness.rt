@@ -82,11 +82,22 @@ pub const DISCONNECT: &[u8] = b"\xe0\x00";
 
 pub const AUTH: &[u8] = b"\xf0\x00";
 
-/// Appends a record to the log.
-pub fn add_record(log: &mut Vec<u8>, kind: u8, body: &[u8]) -> Result<(), AllocError> {
+/// Appends a record to the log, with these bytes of a moment: eight in version 2, none in version 1.
+pub fn add_timed_record(
+    log: &mut Vec<u8>,
+    kind: u8,
+    moment: &[u8],
+    body: &[u8],
+) -> Result<(), AllocError> {
     let [_, _, _, _, a, b, c, d] = body.len().to_be_bytes();
     log.extend_from_slice(&[kind, a, b, c, d])?;
+    log.extend_from_slice(moment)?;
     log.extend_from_slice(body)
+}
+
+/// Appends a record to a log of version 1.
+pub fn add_record(log: &mut Vec<u8>, kind: u8, body: &[u8]) -> Result<(), AllocError> {
+    add_timed_record(log, kind, &[], body)
 }
 
 /// The log of an end in this role, in which releases are recorded.
@@ -119,11 +130,11 @@ pub struct Pieces<'a> {
 }
 
 impl Pieces<'_> {
-    /// Gives these bytes one by one, without an interruption, and ends.
-    pub fn single(left: &[u8]) -> Pieces<'_> {
+    /// Gives these bytes without an interruption, and ends.
+    pub fn of(left: &[u8], size: usize) -> Pieces<'_> {
         Pieces {
             left,
-            size: 1,
+            size,
             interrupts: false,
             fails: false,
             interrupted: false,
@@ -209,18 +220,23 @@ pub const FAULTY: Option<Outcome> = Some(Outcome::Fail);
 /// In place of an outcome, for a log that is refused.
 pub const REFUSED: Option<Outcome> = None;
 
-// Whether judging what the reader gives has this outcome, and writes this report; for a refused log that is its line.
-fn reports<R: Read>(
+/// Whether judging what the reader gives has this outcome, and writes this report in this form; for a refused log that is its line.
+///
+/// # Errors
+///
+/// `Fail` if that line can't be written.
+pub fn reports<R: Read>(
     alloc: Global,
     reader: &mut R,
+    form: Form,
     outcome: Option<Outcome>,
     report: &str,
 ) -> Result<bool, Fail> {
     let mut written = Vec::new(alloc);
-    let answer = match run(alloc, reader, &mut written, Form::Text) {
+    let answer = match run(alloc, reader, &mut written, form) {
         Ok(outcome) => Some(outcome),
         Err(RunFault::Refused(refusal)) => {
-            write_refused(alloc, &refusal, Form::Text, &mut written).map_err(
+            write_refused(alloc, &refusal, form, &mut written).map_err(
                 |_| "the line was not written",
             )?;
             None
@@ -242,7 +258,7 @@ pub fn is_reported(
     outcome: Option<Outcome>,
     report: &str,
 ) -> Result<bool, Fail> {
-    let whole = reports(alloc, &mut &log[..], outcome, report)?;
-    let cut = reports(alloc, &mut Pieces::single(log), outcome, report)?;
+    let whole = reports(alloc, &mut &log[..], Form::Text, outcome, report)?;
+    let cut = reports(alloc, &mut Pieces::of(log, 1), Form::Text, outcome, report)?;
     Ok(whole && cut)
 }

@@ -125,7 +125,7 @@ fn shows_moments_on_short_lines(rt: HostRuntime) {
 // The header may come in any pieces.
 #[test]
 fn shows_moments_of_a_log_that_comes_in_pieces(rt: HostRuntime) {
-    assert!(rt; is_shown(rt.alloc(), &mut Pieces::single(LOG), SHORT));
+    assert!(rt; is_shown(rt.alloc(), &mut Pieces::of(LOG, 1), SHORT));
     for size in [5, 7, 8, 9] {
         let mut reader = Pieces::interrupted(LOG, size, false);
         assert!(rt; is_shown(rt.alloc(), &mut reader, SHORT), "{size}");

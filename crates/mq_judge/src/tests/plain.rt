@@ -1,10 +1,9 @@
 //! The judge finds the same faults as the plain evaluators, which look back over all events.
 use crate::judge::{Judge, Options};
-use mq_plain::plain_sessions;
-use mq_rules::{Faults, Memory, Note, Seen, Tested, plain_connections};
+use mq_plain::{plain_lb, plain_se, plain_sessions};
+use mq_rules::{Faults, Memory, Note, Seen, Tested, plain_c, plain_connections, plain_w};
 use mq_trace::{Event, Place3, Refusal, Sink, Tracer};
 use std::alloc::Global;
-use std::test::Fail;
 
 // The events of a log, as the statements see them.
 #[derive(Drop)]
@@ -31,41 +30,72 @@ impl Sink for Notes {
     }
 }
 
-// The faults by the plain evaluators.
+// The faults by the four plain evaluators.
 fn plain_faults(alloc: Global, tested: Tested, seen: &[Seen]) -> Result<Faults, Memory> {
+    let mut faults = Faults::new(alloc);
+    plain_w(alloc, tested, seen, &mut faults)?;
+    plain_c(alloc, tested, seen, &mut faults)?;
+    plain_se(alloc, tested, seen, &mut faults)?;
+    plain_lb(alloc, tested, seen, &mut faults)?;
+    Ok(faults)
+}
+
+// The faults by the two that judge by all these statements in one pass each.
+fn plain_faults_at_once(alloc: Global, tested: Tested, seen: &[Seen]) -> Result<Faults, Memory> {
     let mut faults = Faults::new(alloc);
     plain_connections(alloc, tested, seen, &mut faults)?;
     plain_sessions(alloc, tested, seen, &mut faults)?;
     Ok(faults)
 }
 
-// Whether two collections have the same faults.
-fn are_same(these: &Faults, those: &Faults) -> bool {
+/// The faults that the plain evaluators find in a log; `None` if it is refused, if its header isn't whole, or if those that go
+/// through it once find others.
+///
+/// # Errors
+///
+/// `Memory` if there is none.
+pub fn plain_faults_in(alloc: Global, log: &[u8]) -> Result<Option<Faults>, Memory> {
+    let mut tracer = Tracer::new(alloc, Options::default().limit);
+    let mut notes = Notes {
+        alloc,
+        seen: Vec::new(alloc),
+    };
+    match tracer.feed(log, &mut notes) {
+        Ok(()) => (),
+        Err(Refusal::Memory(_)) => return Err(Memory),
+        Err(_) => return Ok(None),
+    }
+    let Some(header) = tracer.header() else {
+        return Ok(None);
+    };
+    let tested = Tested::of(header);
+    let faults = plain_faults(alloc, tested, notes.seen.as_slice())?;
+    let at_once = plain_faults_at_once(alloc, tested, notes.seen.as_slice())?;
+    if are_same(&faults, &at_once) {
+        Ok(Some(faults))
+    } else {
+        Ok(None)
+    }
+}
+
+/// Whether two collections have the same faults.
+pub fn are_same(these: &Faults, those: &Faults) -> bool {
     these.len() == those.len()
         && these
             .iter()
             .all(|(key, fault)| those.get(*key) == Some(*fault))
 }
 
-/// Whether both find the same faults in a log, unless it is refused.
+/// Whether the judge and the plain evaluators find the same faults in a log, or both refuse it.
 ///
 /// # Errors
 ///
-/// `Fail` if there is no memory.
-pub fn are_faults_alike(alloc: Global, log: &[u8]) -> Result<bool, Fail> {
+/// `Memory` if there is none.
+pub fn are_faults_alike(alloc: Global, log: &[u8]) -> Result<bool, Memory> {
     let mut judge = Judge::new(alloc, Options::default());
-    let mut tracer = Tracer::new(alloc, Options::default().limit);
-    let mut notes = Notes {
-        alloc,
-        seen: Vec::new(alloc),
-    };
     let judged = judge.feed(log);
-    if tracer.feed(log, &mut notes).is_err() {
-        return Ok(judged.is_err());
+    match plain_faults_in(alloc, log)? {
+        Some(faults) => Ok(judged.is_ok() && are_same(judge.known(), &faults)),
+        None => Ok(judged.is_err() || judge.role().is_none()),
     }
-    let Some(header) = tracer.header() else {
-        return Ok(true);
-    };
-    let plain = plain_faults(alloc, Tested::of(header), notes.seen.as_slice())?;
-    Ok(are_same(judge.known(), &plain))
 }

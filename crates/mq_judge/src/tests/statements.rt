@@ -19,9 +19,10 @@ mod releases;
 mod resends;
 mod shapes;
 mod subscriptions;
+pub mod suite;
 mod worked;
 
-use super::harness::{FAULTY, PASSED, REFUSED, add_record, is_reported};
+use super::harness::{FAULTY, PASSED, REFUSED, add_timed_record, is_reported};
 use super::plain::are_faults_alike;
 use crate::judge::{Judge, Options};
 use crate::report::Outcome;
@@ -64,45 +65,59 @@ fn bytes_of(alloc: Global, digits: &str) -> Result<Vec<u8>, AllocError> {
 fn add_bytes(
     alloc: Global,
     log: &mut Vec<u8>,
+    moment: &[u8],
     kind: u8,
     word: &'static str,
 ) -> Result<(), AllocError> {
     let bytes = bytes_of(alloc, digits_of(word))?;
-    add_record(log, kind, &bytes)
+    add_timed_record(log, kind, moment, &bytes)
+}
+
+// Appends a header to the log: of version 2 if records have a moment, else of version 1.
+fn add_header(log: &mut Vec<u8>, moment: &[u8], end: &[u8]) -> Result<(), AllocError> {
+    log.extend_from_slice(b"MQTR")?;
+    log.push(if moment.is_empty() { 1 } else { 2 })?;
+    log.extend_from_slice(end)
 }
 
 // Appends what the word says to the log: its header, or a record.
-fn add_word(alloc: Global, log: &mut Vec<u8>, word: &'static str) -> Result<(), AllocError> {
+pub fn add_word(
+    alloc: Global,
+    log: &mut Vec<u8>,
+    moment: &[u8],
+    word: &'static str,
+) -> Result<(), AllocError> {
     if let Some(packet) = word.strip_prefix('>') {
-        return add_bytes(alloc, log, 2, packet);
+        return add_bytes(alloc, log, moment, 2, packet);
     }
     if let Some(packet) = word.strip_prefix('<') {
-        return add_bytes(alloc, log, 3, packet);
+        return add_bytes(alloc, log, moment, 3, packet);
     }
     match word {
-        "client" => log.extend_from_slice(b"MQTR\x01\x00\x01\x00"),
-        "silent-client" => log.extend_from_slice(b"MQTR\x01\x00\x00\x00"),
-        "server" => log.extend_from_slice(b"MQTR\x01\x01\x01\x00"),
-        "OPEN" => add_record(log, 1, &[]),
-        "CLOSE" => add_record(log, 4, &[]),
-        "REST" => add_record(log, 5, &[]),
-        "RELEASE:0" => add_record(log, 6, &[0, 0]),
-        "RELEASE:1" => add_record(log, 6, &[0, 1]),
-        "RELEASE:2" => add_record(log, 6, &[0, 2]),
+        "client" => add_header(log, moment, b"\x00\x01\x00"),
+        "silent-client" => add_header(log, moment, b"\x00\x00\x00"),
+        "server" => add_header(log, moment, b"\x01\x01\x00"),
+        "OPEN" => add_timed_record(log, 1, moment, &[]),
+        "CLOSE" => add_timed_record(log, 4, moment, &[]),
+        "REST" => add_timed_record(log, 5, moment, &[]),
+        "RELEASE:0" => add_timed_record(log, 6, moment, &[0, 0]),
+        "RELEASE:1" => add_timed_record(log, 6, moment, &[0, 1]),
+        "RELEASE:2" => add_timed_record(log, 6, moment, &[0, 2]),
         _ => Err(AllocError),
     }
 }
 
-fn log_of(alloc: Global, words: &'static str) -> Result<Vec<u8>, AllocError> {
+// The log of these words, in version 2 if there is a moment, which each record then has.
+pub fn log_of(alloc: Global, moment: &[u8], words: &'static str) -> Result<Vec<u8>, AllocError> {
     let mut log = Vec::new(alloc);
     for word in words.split_whitespace() {
-        add_word(alloc, &mut log, word)?;
+        add_word(alloc, &mut log, moment, word)?;
     }
     Ok(log)
 }
 
 // The outcome of a judging that writes this report.
-fn outcome_of(report: &str) -> Option<Outcome> {
+pub fn outcome_of(report: &str) -> Option<Outcome> {
     if report.starts_with("pass") {
         PASSED
     } else if report.starts_with("refused") {
@@ -113,7 +128,7 @@ fn outcome_of(report: &str) -> Option<Outcome> {
 }
 
 // The report with these lines, which are separated by semicolons.
-fn report_of(alloc: Global, lines: &'static str) -> Result<String, AllocError> {
+pub fn report_of(alloc: Global, lines: &'static str) -> Result<String, AllocError> {
     let mut report = String::new(alloc);
     for line in lines.split(';') {
         report.push_str(line.trim())?;
@@ -123,21 +138,24 @@ fn report_of(alloc: Global, lines: &'static str) -> Result<String, AllocError> {
 }
 
 fn is_judged_so(alloc: Global, words: &'static str, lines: &'static str) -> Result<bool, Fail> {
-    let log = log_of(alloc, words)?;
+    let log = log_of(alloc, &[], words)?;
     let report = report_of(alloc, lines)?;
     let alike = are_faults_alike(alloc, &log)?;
     Ok(alike && is_reported(alloc, &log, outcome_of(report.as_str()), report.as_str())?)
 }
 
-// Whether the log of a row is judged as the row says. A row has three parts.
+// The words of a row's log, and the lines of its report.
+pub fn parts_of(row: &'static str) -> Option<(&'static str, &'static str)> {
+    let (_, rest) = row.split_once('|')?;
+    rest.split_once('|')
+}
+
+// Whether the log of a row is judged as the row says.
 fn is_row_right(alloc: Global, row: &'static str) -> Result<bool, Fail> {
-    let Some((_, rest)) = row.split_once('|') else {
-        return Ok(false);
-    };
-    let Some((words, lines)) = rest.split_once('|') else {
-        return Ok(false);
-    };
-    is_judged_so(alloc, words, lines)
+    match parts_of(row) {
+        Some((words, lines)) => is_judged_so(alloc, words, lines),
+        None => Ok(false),
+    }
 }
 
 // The first row whose log is judged differently.
@@ -152,7 +170,7 @@ fn first_wrong(alloc: Global, rows: &'static str) -> Result<Option<&'static str>
 
 // What a judge weighs that has taken in this log, if it isn't refused.
 fn weight_after(alloc: Global, words: &'static str) -> Result<Option<usize>, Fail> {
-    let log = log_of(alloc, words)?;
+    let log = log_of(alloc, &[], words)?;
     let mut judge = Judge::new(alloc, Options::default());
     if judge.feed(&log).is_err() {
         return Ok(None);

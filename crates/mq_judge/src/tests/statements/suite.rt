@@ -1,3 +1,8 @@
+//! The conformance suite: for each statement, for one end that it binds, a log that breaks it and one that keeps it, which differ
+//! in one record. `bench/suite.py` makes the files of `examples/suite` of these rows.
+
+// Statements on a packet's bytes: flags, integers, texts, identifiers and properties.
+pub const SHAPES: &str = "\
 W01 broken, server: a PINGRESP has a reserved flag set | server OPEN <CONNECT-NAMED >CONNACK <PINGREQ >D100 CLOSE | fault 5 W01 MQTT-2.1.3-1 decided 5 record 5 offset 0; fail 1 faults 6 events
 W01 kept, server: its flags are 0 | server OPEN <CONNECT-NAMED >CONNACK <PINGREQ >PINGRESP CLOSE | pass 6 events
 W02 broken, client: a packet has the type 0 | client OPEN >CONNECT-NAMED <CONNACK >0000 CLOSE | fault 4 W02 sec-2.1.2 decided 4 record 4 offset 0; fail 1 faults 5 events
@@ -23,7 +28,10 @@ W11 kept, client: it has it once | client OPEN >CONNECT-NAMED <CONNACK >30070001
 W12 broken, server: a PUBLISH has the Subscription Identifier 0 | server OPEN <CONNECT-NAMED >CONNACK <82090001020B0100016102 >SUBACK:1 >3007000161020B0078 CLOSE | fault 6 W12 sec-2.2.2.2 decided 6 record 6 offset 7; fail 1 faults 7 events
 W12 kept, server: it has 1 | server OPEN <CONNECT-NAMED >CONNACK <82090001020B0100016102 >SUBACK:1 >3007000161020B0178 CLOSE | pass 7 events
 W13 broken, server: a DISCONNECT has the Reason Code 0x8A, which only a CONNACK may have | server OPEN <CONNECT-NAMED >CONNACK >E0018A CLOSE | fault 4 W13 sec-2.4 decided 4 record 4 offset 2; fail 1 faults 5 events
-W13 kept, server: it has 0x8B | server OPEN <CONNECT-NAMED >CONNACK >E0018B CLOSE | pass 5 events
+W13 kept, server: it has 0x8B | server OPEN <CONNECT-NAMED >CONNACK >E0018B CLOSE | pass 5 events";
+
+// The same: topics, filters, and what opens a connection.
+pub const TOPICS: &str = "\
 W14 broken, client: the Topic Name is a wildcard | client OPEN >CONNECT-NAMED <CONNACK >30050001230078 CLOSE | fault 4 W14 sec-3.3.2 decided 4 record 4 offset 2; fail 1 faults 5 events
 W14 kept, client: it is the letter a | client OPEN >CONNECT-NAMED <CONNACK >PUBLISH0 CLOSE | pass 5 events
 W15 broken, client: in a Topic Filter a wildcard isn't a level of its own | client OPEN >CONNECT-NAMED <CONNACK >82080001000002612302 CLOSE | fault 4 W15 sec-4.7 decided 4 record 4 offset 5; fail 1 faults 5 events
@@ -39,7 +47,10 @@ W19 kept, client: it isn't | client OPEN >CONNECT-NAMED CLOSE | pass 3 events
 W20 broken, server: a reserved bit of the Connect Acknowledge Flags is set | server OPEN <CONNECT-NAMED >BAD-CONNACK CLOSE | fault 3 W20 MQTT-3.2.2-1 decided 3 record 3 offset 2; fail 1 faults 4 events
 W20 kept, server: none is | server OPEN <CONNECT-NAMED >CONNACK CLOSE | pass 4 events
 W21 broken, client: a PUBLISH has neither a Topic Name nor a Topic Alias | client OPEN >CONNECT-NAMED <CONNACK >300400000078 CLOSE | fault 4 W21 sec-3.3.2 decided 4 record 4 offset 4; fail 1 faults 5 events
-W21 kept, client: it has a Topic Name | client OPEN >CONNECT-NAMED <CONNACK >PUBLISH0 CLOSE | pass 5 events
+W21 kept, client: it has a Topic Name | client OPEN >CONNECT-NAMED <CONNACK >PUBLISH0 CLOSE | pass 5 events";
+
+// Statements on the past of a connection: how it begins and ends.
+pub const BEGINNINGS: &str = "\
 C01 broken, client: it sends a PINGRESP | client OPEN >CONNECT-NAMED <CONNACK >PINGRESP CLOSE | fault 4 C01 sec-2.1.2 decided 4 record 4 offset -; fail 1 faults 5 events
 C01 kept, client: it sends a PINGREQ | client OPEN >CONNECT-NAMED <CONNACK >PINGREQ CLOSE | pass 5 events
 C02 broken, client: it sends a PINGREQ before its CONNECT | client OPEN >PINGREQ >CONNECT-NAMED <CONNACK CLOSE | fault 2 C02 MQTT-3.1.0-1 decided 2 record 2 offset -; fail 1 faults 5 events
@@ -65,7 +76,10 @@ C11 kept, client: it sends nothing after it | client OPEN >CONNECT-NAMED <CONNAC
 C12 broken, server: it sends a DISCONNECT after a CONNACK that refuses | server OPEN <CONNECT-NAMED >CONNACK-REFUSED >DISCONNECT CLOSE | fault 4 C12 MQTT-3.2.2-7 decided 4 record 4 offset -; fail 1 faults 5 events
 C12 kept, server: it sends nothing after it | server OPEN <CONNECT-NAMED >CONNACK-REFUSED CLOSE | pass 4 events
 C13 broken, client: it has no session, gets Session Present 1, and sends a PINGREQ | client OPEN >CONNECT-NAMED <CONNACK-RESUMED >PINGREQ CLOSE | fault 4 C13 MQTT-3.2.2-4 decided 4 record 4 offset -; fail 1 faults 5 events
-C13 kept, client: it sends a DISCONNECT | client OPEN >CONNECT-NAMED <CONNACK-RESUMED >DISCONNECT CLOSE | pass 5 events
+C13 kept, client: it sends a DISCONNECT | client OPEN >CONNECT-NAMED <CONNACK-RESUMED >DISCONNECT CLOSE | pass 5 events";
+
+// The same: what the peer announced, and rest.
+pub const LIMITS: &str = "\
 C14 broken, client: it sends a packet of 11 bytes, and the server's Maximum Packet Size is 10 | client OPEN >CONNECT-NAMED <CONNACK-SIZE-10 >3009000161007878787878 CLOSE | fault 4 C14 MQTT-3.2.2-15 decided 4 record 4 offset -; fail 1 faults 5 events
 C14 kept, client: it sends one of 10 | client OPEN >CONNECT-NAMED <CONNACK-SIZE-10 >30080001610078787878 CLOSE | pass 5 events
 C15 broken, server: it sends the Topic Alias 6, and the client's Topic Alias Maximum is 5 | server OPEN <CONNECT-ALIASES-5 >CONNACK <SUBSCRIBE:1 >SUBACK:1 >30080001610323000678 CLOSE | fault 6 C15 MQTT-3.1.2-26 decided 6 record 6 offset -; fail 1 faults 7 events
@@ -85,7 +99,10 @@ C21 kept, server: it has none | server OPEN <CONNECT-TERSE >CONNACK <SUBSCRIBE:1
 C22 broken, server: its CONNACK has Response Information, and the client didn't ask for it | server OPEN <CONNECT-NAMED >CONNACK-INFORMING CLOSE | fault 3 C22 MQTT-3.1.2-28 decided 3 record 3 offset -; fail 1 faults 4 events
 C22 kept, server: the client asked for it | server OPEN <CONNECT-ASKING >CONNACK-INFORMING CLOSE | pass 4 events
 C23 broken, client: it is at rest after its DISCONNECT, and the connection is open | client OPEN >CONNECT-NAMED <CONNACK >DISCONNECT REST CLOSE | fault 5 C23 MQTT-3.14.4-2 decided 5 record 5 offset -; fail 1 faults 6 events
-C23 kept, client: the connection is closed after it | client OPEN >CONNECT-NAMED <CONNACK >DISCONNECT CLOSE | pass 5 events
+C23 kept, client: the connection is closed after it | client OPEN >CONNECT-NAMED <CONNACK >DISCONNECT CLOSE | pass 5 events";
+
+// Statements on Packet Identifiers, on what is sent again, and on the send quota.
+pub const IDENTIFIERS: &str = "\
 S01 broken, client: a PUBLISH takes the Packet Identifier of one that isn't acknowledged | client OPEN >CONNECT-NAMED <CONNACK >PUBLISH1:1 >PUBLISH1:1 CLOSE | fault 5 S01 MQTT-2.2.1-3 decided 5 record 5 offset -; fail 1 faults 6 events
 S01 kept, client: a PUBACK came between | client OPEN >CONNECT-NAMED <CONNACK >PUBLISH1:1 <PUBACK:1 >PUBLISH1:1 CLOSE | pass 7 events
 S02 broken, client: a PUBLISH that was never sent before has DUP 1 | client OPEN >CONNECT-NAMED <CONNACK >RESEND1:1 CLOSE | fault 4 S02 MQTT-4.3.2-2,MQTT-4.3.3-2 decided 4 record 4 offset -; fail 1 faults 5 events
@@ -99,7 +116,10 @@ S05 kept, client: it sends none again before the first | client OPEN >CONNECT-KE
 S06 broken, client: its session is resumed, and it comes to rest without sending its PUBLISH again | client OPEN >CONNECT-KEPT <CONNACK >PUBLISH1:1 CLOSE OPEN >RECONNECT <CONNACK-RESUMED REST CLOSE | fault 4 S06 MQTT-4.4.0-1 decided 9 record 4 offset -; fail 1 faults 10 events
 S06 kept, client: it sent it again | client OPEN >CONNECT-KEPT <CONNACK >PUBLISH1:1 CLOSE OPEN >RECONNECT <CONNACK-RESUMED >RESEND1:1 REST CLOSE | pass 11 events
 S07 broken, client: it has two PUBLISHes in flight, and the server's Receive Maximum is 1 | client OPEN >CONNECT-NAMED <CONNACK-RECEIVES-1 >PUBLISH1:1 >PUBLISH1:2 CLOSE | fault 5 S07 MQTT-4.9.0-2 decided 5 record 5 offset -; fail 1 faults 6 events
-S07 kept, client: a PUBACK for the first came between | client OPEN >CONNECT-NAMED <CONNACK-RECEIVES-1 >PUBLISH1:1 <PUBACK:1 >PUBLISH1:2 CLOSE | pass 7 events
+S07 kept, client: a PUBACK for the first came between | client OPEN >CONNECT-NAMED <CONNACK-RECEIVES-1 >PUBLISH1:1 <PUBACK:1 >PUBLISH1:2 CLOSE | pass 7 events";
+
+// Statements on exchanges of PUBLISH, PUBREC and PUBREL.
+pub const EXCHANGES: &str = "\
 E1A broken, client: it sends a PUBACK, and no PUBLISH came | client OPEN >CONNECT-NAMED <CONNACK >PUBACK:1 CLOSE | fault 4 E1A MQTT-2.2.1-5 decided 4 record 4 offset -; fail 1 faults 5 events
 E1A kept, client: a PUBLISH of QoS 1 came before it | client OPEN >CONNECT-NAMED <CONNACK <PUBLISH1:1 >PUBACK:1 CLOSE | pass 6 events
 E1R broken, client: it comes to rest without a PUBACK for a PUBLISH of QoS 1 | client OPEN >CONNECT-NAMED <CONNACK <PUBLISH1:1 REST CLOSE | fault 4 E1R MQTT-4.3.2-4 decided 5 record 4 offset -; fail 1 faults 6 events
@@ -117,7 +137,10 @@ E3A kept, client: a PUBREC came before it | client OPEN >CONNECT-NAMED <CONNACK 
 E3R broken, client: it comes to rest without a PUBREL for a PUBREC | client OPEN >CONNECT-NAMED <CONNACK >PUBLISH2:1 <PUBREC:1 REST CLOSE | fault 5 E3R MQTT-4.3.3-4 decided 6 record 5 offset -; fail 1 faults 7 events
 E3R kept, client: it sent the PUBREL | client OPEN >CONNECT-NAMED <CONNACK >PUBLISH2:1 <PUBREC:1 >PUBREL:1 REST CLOSE | pass 8 events
 E3O broken, client: two PUBRECs came, and it sends the PUBREL for the second first | client OPEN >CONNECT-NAMED <CONNACK >PUBLISH2:1 >PUBLISH2:2 <PUBREC:1 <PUBREC:2 >PUBREL:2 CLOSE | fault 8 E3O MQTT-4.6.0-4 decided 8 record 8 offset -; fail 1 faults 9 events
-E3O kept, client: it sends that for the first | client OPEN >CONNECT-NAMED <CONNACK >PUBLISH2:1 >PUBLISH2:2 <PUBREC:1 <PUBREC:2 >PUBREL:1 CLOSE | pass 9 events
+E3O kept, client: it sends that for the first | client OPEN >CONNECT-NAMED <CONNACK >PUBLISH2:1 >PUBLISH2:2 <PUBREC:1 <PUBREC:2 >PUBREL:1 CLOSE | pass 9 events";
+
+// The same: PUBCOMP and the answers to requests.
+pub const ANSWERS: &str = "\
 E4A broken, server: it sends a PUBCOMP, and no PUBREL came | server OPEN <CONNECT-NAMED >CONNACK <PUBLISH2:1 RELEASE:1 >PUBREC:1 >PUBCOMP:1 CLOSE | fault 7 E4A MQTT-2.2.1-5 decided 7 record 7 offset -; fail 1 faults 8 events
 E4A kept, server: a PUBREL came before it | server OPEN <CONNECT-NAMED >CONNACK <PUBLISH2:1 RELEASE:1 >PUBREC:1 <PUBREL:1 >PUBCOMP:1 CLOSE | pass 9 events
 E4R broken, server: it comes to rest without a PUBCOMP for a PUBREL | server OPEN <CONNECT-NAMED >CONNACK <PUBLISH2:1 RELEASE:1 >PUBREC:1 <PUBREL:1 REST CLOSE | fault 7 E4R MQTT-4.3.3-11 decided 8 record 7 offset -; fail 1 faults 9 events
@@ -131,7 +154,10 @@ E6A kept, server: an UNSUBSCRIBE came before it | server OPEN <CONNECT-NAMED >CO
 E6R broken, server: it comes to rest without an UNSUBACK for an UNSUBSCRIBE | server OPEN <CONNECT-NAMED >CONNACK <UNSUBSCRIBE:1 REST CLOSE | fault 4 E6R MQTT-3.10.4-4 decided 5 record 4 offset -; fail 1 faults 6 events
 E6R kept, server: it sent the UNSUBACK | server OPEN <CONNECT-NAMED >CONNACK <UNSUBSCRIBE:1 >UNSUBACK:1 REST CLOSE | pass 7 events
 E7R broken, server: it comes to rest without a PINGRESP for a PINGREQ | server OPEN <CONNECT-NAMED >CONNACK <PINGREQ REST CLOSE | fault 5 E7R MQTT-3.12.4-1 decided 5 record 5 offset -; fail 1 faults 6 events
-E7R kept, server: it sent the PINGRESP | server OPEN <CONNECT-NAMED >CONNACK <PINGREQ >PINGRESP REST CLOSE | pass 7 events
+E7R kept, server: it sent the PINGRESP | server OPEN <CONNECT-NAMED >CONNACK <PINGREQ >PINGRESP REST CLOSE | pass 7 events";
+
+// Statements on releases and subscriptions.
+pub const MESSAGES: &str = "\
 L1 broken, client: it releases a message that it didn't receive | client OPEN >CONNECT-NAMED <CONNACK RELEASE:1 CLOSE | fault 4 L1 sec-4.3.3 decided 4 record 4 offset -; fail 1 faults 5 events
 L1 kept, client: the message came before | client OPEN >CONNECT-NAMED <CONNACK <PUBLISH2:1 RELEASE:1 CLOSE | pass 6 events
 L2 broken, server: it releases a message twice | server OPEN <CONNECT-NAMED >CONNACK <PUBLISH2:1 RELEASE:1 RELEASE:1 CLOSE | fault 6 L2 MQTT-4.3.3-10 decided 6 record 6 offset -; fail 1 faults 7 events
@@ -145,4 +171,4 @@ B02 kept, server: it sends one of QoS 1 | server OPEN <CONNECT-NAMED >CONNACK <S
 B03 broken, server: its SUBACK has two Reason Codes for one filter | server OPEN <CONNECT-NAMED >CONNACK <SUBSCRIBE:1 >90050001000202 CLOSE | fault 5 B03 MQTT-3.8.4-6 decided 5 record 5 offset -; fail 1 faults 6 events
 B03 kept, server: it has one | server OPEN <CONNECT-NAMED >CONNACK <SUBSCRIBE:1 >SUBACK:1 CLOSE | pass 6 events
 B04 broken, server: its UNSUBACK has two Reason Codes for one filter | server OPEN <CONNECT-NAMED >CONNACK <UNSUBSCRIBE:1 >B0050001000000 CLOSE | fault 5 B04 sec-3.11.3 decided 5 record 5 offset -; fail 1 faults 6 events
-B04 kept, server: it has one | server OPEN <CONNECT-NAMED >CONNACK <UNSUBSCRIBE:1 >UNSUBACK:1 CLOSE | pass 6 events
+B04 kept, server: it has one | server OPEN <CONNECT-NAMED >CONNACK <UNSUBSCRIBE:1 >UNSUBACK:1 CLOSE | pass 6 events";
