@@ -6,6 +6,7 @@ mod details;
 mod early;
 mod examples;
 mod harness;
+mod hostile;
 mod logs;
 mod long_logs;
 mod moments;

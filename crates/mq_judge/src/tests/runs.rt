@@ -1,7 +1,8 @@
 //! Logs that are judged from a reader, in turns of several sizes, and readers and writers that fail.
-use super::harness::Part::{Open, Recv, Rest, Sent};
+use super::harness::Part::{Close, Open, Recv, Rest, Sent};
 use super::harness::{
-    CLIENT, CONNACK, CONNECT, HEADER, PUBACK, PUBLISH_ONCE, PUBLISH_UNIDENTIFIED, Pieces, log_of,
+    CLIENT, CONNACK, CONNECT, Failing, HEADER, PUBACK, PUBLISH_ONCE, PUBLISH_UNIDENTIFIED, Pieces,
+    log_of,
 };
 use crate::report::{Form, Outcome, RunFault};
 use crate::runner::run;
@@ -68,11 +69,16 @@ fn reports_an_identifier_that_is_in_use(rt: HostRuntime) -> Result<(), AllocErro
 
 #[test]
 fn refuses_where_the_reader_fails(rt: HostRuntime) -> Result<(), AllocError> {
-    let log = log_of(
-        rt.alloc(),
-        CLIENT,
-        &[Open, Sent(CONNECT), Recv(CONNACK), Rest],
-    )?;
+    let parts = [
+        Open,
+        Sent(CONNECT),
+        Recv(CONNACK),
+        Sent(PUBLISH_ONCE),
+        Recv(PUBACK),
+        Rest,
+        Close,
+    ];
+    let log = log_of(rt.alloc(), CLIENT, &parts)?;
     for count in 0..log.len() + 1 {
         let mut written = Vec::new(rt.alloc());
         let mut reader = Pieces::interrupted(&log[..count], 5, true);
@@ -84,12 +90,35 @@ fn refuses_where_the_reader_fails(rt: HostRuntime) -> Result<(), AllocError> {
     Ok(())
 }
 
+// A CONNACK that allows packets of 10 bytes and no Topic Alias, and a PUBLISH of 11 bytes that has one.
+const NARROW_CONNACK: &[u8] = b"\x20\x08\x00\x00\x05\x27\x00\x00\x00\x0a";
+
+const WIDE_PUBLISH: &[u8] = b"\x30\x09\x00\x01a\x03\x23\x00\x01xy";
+
+const TEXT: &[u8] = b"fault 4 C14 MQTT-3.2.2-15 decided 4 record 4 offset -\n\
+    fault 4 C15 MQTT-3.2.2-17 decided 4 record 4 offset -\nfail 2 faults 4 events\n";
+
+const JSON: &[u8] = b"{\"events\":4,\"faults\":[\
+    {\"citation\":\"MQTT-3.2.2-15\",\"code\":\"C14\",\"decided\":4,\"offset\":null,\"position\":4,\"record\":4},\
+    {\"citation\":\"MQTT-3.2.2-17\",\"code\":\"C15\",\"decided\":4,\"offset\":null,\"position\":4,\"record\":4}\
+    ],\"verdict\":\"fail\"}\n";
+
 #[test]
-fn stops_where_the_writer_fails(rt: HostRuntime) {
-    let mut room = [0; 10];
-    let mut writer = &mut room[..];
-    let mut reader = Pieces::interrupted(HEADER, 8, false);
-    let ran = run(rt.alloc(), &mut reader, &mut writer, Form::Text);
-    assert_eq!(rt; ran, Err(RunFault::Write));
-    assert_eq!(rt; &room, b"pass 0 eve");
+fn stops_where_the_writer_fails(rt: HostRuntime) -> Result<(), AllocError> {
+    let parts = [
+        Open,
+        Sent(CONNECT),
+        Recv(NARROW_CONNACK),
+        Sent(WIDE_PUBLISH),
+    ];
+    let log = log_of(rt.alloc(), CLIENT, &parts)?;
+    for (form, report) in [(Form::Text, TEXT), (Form::Json, JSON)] {
+        for room in 0..report.len() {
+            let mut writer = Failing::after(rt.alloc(), room, None);
+            let ran = run(rt.alloc(), &mut log.as_slice(), &mut writer, form);
+            assert_eq!(rt; ran, Err(RunFault::Write), "{room}");
+            assert!(rt; writer.taken.as_slice() == &report[..room], "{room}");
+        }
+    }
+    Ok(())
 }
