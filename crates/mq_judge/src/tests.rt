@@ -9,6 +9,7 @@ mod harness;
 mod hostile;
 mod logs;
 mod long_logs;
+mod memory;
 mod moments;
 mod plain;
 mod reports;

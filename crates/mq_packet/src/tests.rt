@@ -8,6 +8,7 @@ mod examples;
 mod faults;
 mod harness;
 mod lists;
+mod memory;
 mod packets;
 mod props;
 mod reasons;
