@@ -22,8 +22,9 @@ RUN = "recorders run"
 SUITE = f"bench/suite.py --check --program {BUILT}"
 CONVERTED = f"bench/check_convert.py --mqjudge {BUILT}"
 FUZZED = ["bench/fuzz.py --self-test", "bench/fuzz.py --seed 1 --count 20000"]
-TRIED = [SUITE, CONVERTED, *FUZZED]
-NOT_TRIED = "bench/suite.py, bench/check_convert.py and bench/fuzz.py aren't run"
+REFUSED = "bench/refusing.py"
+TRIED = [SUITE, CONVERTED, REFUSED, *FUZZED]
+NOT_TRIED = "bench/suite.py, bench/check_convert.py, bench/refusing.py and bench/fuzz.py aren't run"
 LIBRARY_FOLDERS = ("crates/mq_ffi/out", "crates/mq_trace/src", "crates/mq_cli/src", "crates/mq_trace/out/src")
 NO_LIBRARY = "examples/live/test isn't run: it needs the library, which this builds: (cd crates/mq_ffi && rt lib)"
 
@@ -60,6 +61,8 @@ class Gate(unittest.TestCase):
         recorders: int = 0,
         suite: int = 0,
         convert: int = 0,
+        refusing: int = 0,
+        compiler: str = "",
         fuzz: int = 0,
         is_built: bool = True,
         live_missing: str = "",
@@ -68,6 +71,8 @@ class Gate(unittest.TestCase):
         """The status and the lines of the gate, where `rt ci`, the recorders' tests and the others say this and end so."""
         for name, ends in (("suite", suite), ("check_convert", convert), ("fuzz", fuzz)):
             self.script(f"bench/{name}.py", f'echo "bench/{name}.py $*"\nexit {ends}')
+        lacks = f'test "$1" = --missing && echo "{compiler}" && exit 0'
+        self.script("bench/refusing.py", f'{lacks}\necho "{REFUSED}"\nexit {refusing}')
         if is_built:
             self.script(BUILT, "exit 1")
         self.script("bin/rt", f'test "$*" = ci && pwd && echo "{said}"\nexit {status}')
@@ -134,8 +139,15 @@ class Gate(unittest.TestCase):
         said = "14 passed, 0 failed"
         self.assertEqual(self.gate(said, 0, suite=1), (1, [said, RUN, *TRIED, "14 passed, 1 failed"]))
         self.assertEqual(self.gate(said, 0, convert=1), (1, [said, RUN, *TRIED, "14 passed, 1 failed"]))
+        self.assertEqual(self.gate(said, 0, refusing=1), (1, [said, RUN, *TRIED, "14 passed, 1 failed"]))
         self.assertEqual(self.gate(said, 0, fuzz=1), (1, [said, RUN, *TRIED, "14 passed, 2 failed"]))
         self.assertEqual(self.gate(said, 0, recorders=1, suite=1, fuzz=1), (1, [said, RUN, *TRIED, "14 passed, 4 failed"]))
+
+    def test_without_a_compiler(self) -> None:
+        said = "14 passed, 0 failed"
+        line = f"{REFUSED} isn't run: not installed: cc"
+        wanted = (0, [said, RUN, SUITE, CONVERTED, line, *FUZZED, said])
+        self.assertEqual(self.gate(said, 0, compiler="cc", refusing=1), wanted)
 
     def test_no_program_is_built(self) -> None:
         said = "12 passed, 2 failed"
