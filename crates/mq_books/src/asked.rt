@@ -21,7 +21,8 @@ use mq_trace::Place3;
 use std::alloc::Global;
 use std::marker::PhantomData;
 
-/// Watches that each answer has a cause in its session, which isn't answered on the answer's connection.
+/// Watches that each answer has a cause in its session, which isn't answered on the answer's
+/// connection.
 #[derive(Drop)]
 pub struct Asked<X: Exchange> {
     alloc: Global,
@@ -29,12 +30,13 @@ pub struct Asked<X: Exchange> {
     fate: Fate,
     // The position of the latest OPEN; 1 before the first one.
     opened: u32,
-    // Under each identifier with a cause in the session: the position of the latest answer since the latest cause, or 0.
+    // Under each identifier with a cause in the session: the position of the latest answer since
+    // the latest cause, or 0.
     answered: IndexMap<u16, u32>,
     exchange: PhantomData<X>,
 }
 
-/// Takes in an event of a connection that has this fate. What isn't accepted changes nothing.
+// Takes in an event of a connection that has this fate. What isn't accepted changes nothing.
 fn take_answered(
     answered: &mut IndexMap<u16, u32>,
     alloc: Global,
@@ -74,7 +76,7 @@ pub fn opened_after(opened: u32, position: u32, note: &Note) -> u32
     if note.is_open() { position } else { opened }
 }
 
-/// Whether the statement is judged, and an answer has no cause that is owed.
+// Whether the statement is judged, and an answer has no cause that is owed.
 fn is_unasked(
     binds: bool,
     fate: Fate,

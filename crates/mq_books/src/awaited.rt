@@ -47,7 +47,8 @@ impl Model for Request {
     ghost view = { λ r. r.filters.items };
 }
 
-/// The SUBSCRIBEs that wait under one Packet Identifier. There is one, unless the client uses the identifier again too early.
+/// The SUBSCRIBEs that wait under one Packet Identifier. There is one, unless the client uses the
+/// identifier again too early.
 #[derive(Drop)]
 pub struct Requests {
     first: Request,
@@ -89,7 +90,7 @@ impl Drop for Awaited {
 
 // ---- filters
 
-/// Adds a filter.
+// Adds a filter.
 fn add(alloc: Global, kept: &mut Vec<Kept>, filter: &str, ceiling: u8) -> Result<(), Memory>
     ensures { OnOk result (kept.new.items ≡ kept.old.items ++ (record { filter = filter.now; ceiling = ceiling } ∷ [])) }
 {
@@ -98,7 +99,7 @@ fn add(alloc: Global, kept: &mut Vec<Kept>, filter: &str, ceiling: u8) -> Result
     Ok(())
 }
 
-/// The filters of a SUBSCRIBE, with the QoS that each asks for.
+// The filters of a SUBSCRIBE, with the QoS that each asks for.
 fn asked_filters(alloc: Global, filters: &[NotedFilter]) -> Result<Vec<Kept>, Memory>
     ensures { IfOk result (λ kept. kept.items ≡ granted filters.now []) }
 {
@@ -111,7 +112,7 @@ fn asked_filters(alloc: Global, filters: &[NotedFilter]) -> Result<Vec<Kept>, Me
     Ok(kept)
 }
 
-/// Adds a filter with its Reason Code, unless that refuses it. Without a code it keeps its ceiling.
+// Adds a filter with its Reason Code, unless that refuses it. Without a code it keeps its ceiling.
 fn add_granted(
     alloc: Global,
     settled: &mut StandingFilters,
@@ -135,7 +136,7 @@ fn add_granted(
     }
 }
 
-/// The first of the Reason Codes that are left, if there is one, and the others.
+// The first of the Reason Codes that are left, if there is one, and the others.
 fn next_code(codes: &[u8]) -> (Option<u8>, &[u8])
     ensures first { result.0 ≡ first_code codes.now }
     ensures others { result.1.now ≡ other_codes codes.now }
@@ -146,7 +147,7 @@ fn next_code(codes: &[u8]) -> (Option<u8>, &[u8])
     }
 }
 
-/// Adds filters with their Reason Codes (MQTT 5.0, section 3.9.3).
+// Adds filters with their Reason Codes (MQTT 5.0, section 3.9.3).
 fn settle(
     alloc: Global,
     settled: &mut StandingFilters,
@@ -189,7 +190,7 @@ impl Request {
         Ok(Request { filters })
     }
 
-    /// Settles its filters by the Reason Codes of its SUBACK.
+    // Settles its filters by the Reason Codes of its SUBACK.
     fn settle(
         &self,
         alloc: Global,
@@ -219,7 +220,7 @@ impl Request {
             .any(|filter| allows_at(filter, topic, qos))
     }
 
-    /// How much it counts: itself, and its filters.
+    // How much it counts: itself, and its filters.
     fn size(&self) -> usize
         ensures { result ≤ 1 + length self.now }
     {
@@ -241,7 +242,7 @@ fn any_request_allowing(requests: &[Request], topic: &str, qos: u8) -> bool
         .any(|request| request.any_allowing(topic, qos))
 }
 
-/// Settles all by the Reason Codes of one SUBACK.
+// Settles all by the Reason Codes of one SUBACK.
 fn settle_each(
     alloc: Global,
     settled: &mut StandingFilters,
@@ -285,7 +286,7 @@ impl Requests {
         Ok(())
     }
 
-    /// Settles filters for which no SUBACK comes any more.
+    // Settles filters for which no SUBACK comes any more.
     #[tactic(auto, using(crate::proofs::KeepLaws::codes_none))]
     fn settle_as_asked(&self, alloc: Global, settled: &mut StandingFilters) -> Result<(), Memory>
         ensures { OnOk result ((among : List ℕ → Bool) (qos : ℕ) → list_any (allows among qos) settled.new ≡ (list_any (allows among qos) settled.old || list_any (λ filters. list_any (allows among qos) filters) self.now)) }
@@ -306,7 +307,7 @@ impl Requests {
             || any_request_allowing(self.others.as_slice(), topic, qos)
     }
 
-    /// How much they count, with the entry of their identifier.
+    // How much they count, with the entry of their identifier.
     fn size(&self) -> usize
         ensures { result ≤ sum_by (λ filters. 1 + length filters) self.now }
     {
@@ -316,7 +317,7 @@ impl Requests {
     }
 }
 
-/// One more under an identifier.
+// One more under an identifier.
 fn with_request(
     alloc: Global,
     earlier: Option<Requests>,
@@ -336,7 +337,7 @@ fn with_request(
     }
 }
 
-/// Takes out those under an identifier.
+// Takes out those under an identifier.
 fn take(requests: &mut IndexMap<u16, Requests>, identifier: u16) -> Option<Requests>
     ensures any { (t : Waits → Bool) → list_any t (waits_of requests.old.entries) ≡ (list_any t (taken identifier result) || list_any t (waits_of requests.new.entries)) }
     ensures sums { (weigh : Waits → ℕ) → sum_by weigh (waits_of requests.old.entries) ≡ sum_by weigh (taken identifier result) + sum_by weigh (waits_of requests.new.entries) }

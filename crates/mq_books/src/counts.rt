@@ -66,7 +66,7 @@ pub trait Replies {
     ghost compares: { IsCounting counting breaks };
 }
 
-/// Keeps the count of the first packet of an identifier that isn't answered.
+// Keeps the count of the first packet of an identifier that isn't answered.
 fn keep_count(
     counts: &mut IndexMap<u16, usize>,
     alloc: Global,
@@ -91,7 +91,7 @@ fn keep_count(
     Ok(())
 }
 
-/// Whether a packet answers one whose count is another.
+// Whether a packet answers one whose count is another.
 fn is_other(counts: &IndexMap<u16, usize>, reply: Option<Counted>) -> bool
     ensures { result ≡ differs (get nat_eq counts.now) reply }
 {
@@ -104,7 +104,8 @@ fn is_other(counts: &IndexMap<u16, usize>, reply: Option<Counted>) -> bool
     }
 }
 
-/// Whether an answer has another number of codes than were asked for, on a connection that is accepted, if the statement is judged.
+// Whether an answer has another number of codes than were asked for, on a connection that is
+// accepted, if the statement is judged.
 fn is_broken(bound: bool, fate: Fate, counts: &IndexMap<u16, usize>, reply: Option<Counted>) -> bool
     ensures { result ≡ (bound && (accepts fate && differs (get nat_eq counts.now) reply)) }
 {
@@ -198,7 +199,7 @@ impl<R: Replies> Selective for Counts<R> {
 #[derive(Drop)]
 pub struct Subacks;
 
-/// How many filters a SUBSCRIBE has.
+// How many filters a SUBSCRIBE has.
 fn subscribe_request(note: &Note) -> Option<Counted>
     ensures { result ≡ the_subscribe note.now }
 {
@@ -216,7 +217,7 @@ fn subscribe_request(note: &Note) -> Option<Counted>
     }
 }
 
-/// How many Reason Codes a SUBACK has.
+// How many Reason Codes a SUBACK has.
 fn suback_reply(note: &Note) -> Option<Counted>
     ensures { result ≡ the_suback note.now }
 {
@@ -259,7 +260,7 @@ impl Replies for Subacks {
 #[derive(Drop)]
 pub struct Unsubacks;
 
-/// How many filters an UNSUBSCRIBE has.
+// How many filters an UNSUBSCRIBE has.
 fn unsubscribe_request(note: &Note) -> Option<Counted>
     ensures { result ≡ the_unsubscribe note.now }
 {
@@ -277,7 +278,7 @@ fn unsubscribe_request(note: &Note) -> Option<Counted>
     }
 }
 
-/// How many Reason Codes an UNSUBACK has.
+// How many Reason Codes an UNSUBACK has.
 fn unsuback_reply(note: &Note) -> Option<Counted>
     ensures { result ≡ the_unsuback note.now }
 {

@@ -14,8 +14,8 @@ use mq_rules::{Both, Fate, Faults, Memory, Note, Tested, Watch};
 use mq_trace::Place3;
 use std::alloc::Global;
 
-/// Watches all statements of an exchange: each answer was asked for, each cause is answered before a REST, and answers are sent in the order of
-/// their causes if the exchange has such a statement.
+/// Watches all statements of an exchange: each answer was asked for, each cause is answered before
+/// a REST, and answers are sent in the order of their causes if the exchange has such a statement.
 #[derive(Drop)]
 pub struct Debts<X: Exchange> {
     // Answers that weren't asked for; what is due, and its order.

@@ -1,4 +1,5 @@
-//! Events of a connection are held until its fate is decided: a client may send packets before its CONNACK (MQTT 5.0, section 3.1.4).
+//! Events of a connection are held until its fate is decided: a client may send packets before its
+//! CONNACK (MQTT 5.0, section 3.1.4).
 ghost use Rattle.std.specs.Prelude.{◌≡◌, ◌≤◌, ◌∷◌, ◌++◌, ◌&&◌, ◌||◌, ◌+◌, [], ℕ, List, Option, Some, None, is_some, not, reverse, length, cond, OnOk, OnErr, IfOk};
 ghost use Rattle.std.specs.Option.{option_or};
 ghost use Rattle.std.specs.List.{sum_by};
@@ -16,7 +17,8 @@ use mq_rules::{Fate, Faults, Memory, Note, PacketFields, Role, Seen, Skipping, T
 use mq_trace::Place3;
 use std::alloc::Global;
 
-/// A watcher that holds the events of an undecided connection, and passes them on, in order, with the event that decides it.
+/// A watcher that holds the events of an undecided connection, and passes them on, in order, with
+/// the event that decides it.
 #[derive(Drop)]
 pub struct Early<W> {
     alloc: Global,
@@ -26,7 +28,7 @@ pub struct Early<W> {
     watcher: W,
 }
 
-/// Passes held events on, with the fate of their connection.
+// Passes held events on, with the fate of their connection.
 fn hand<W: Fated>(
     watcher: &mut W,
     decided: u32,
@@ -44,7 +46,7 @@ fn hand<W: Fated>(
     Ok(())
 }
 
-/// Passes on the held events, and then the one that decides their connection or comes after that.
+// Passes on the held events, and then the one that decides their connection or comes after that.
 fn pass<W: Fated>(
     watcher: &mut W,
     held: &[Seen],
@@ -62,7 +64,7 @@ fn pass<W: Fated>(
     Ok(())
 }
 
-/// The fate of the latest connection after an event.
+// The fate of the latest connection after an event.
 fn fate_next(role: Role, fate: Option<Fate>, note: &Note) -> Option<Fate>
     ensures { result ≡ cond (is_open note.now) None (option_or fate (decides role note.now)) }
 {
@@ -72,7 +74,7 @@ fn fate_next(role: Role, fate: Option<Fate>, note: &Note) -> Option<Fate>
     fate.or(note.decides(role))
 }
 
-/// Holds an event.
+// Holds an event.
 fn hold(alloc: Global, held: &mut Vec<Seen>, place: Place3, note: &Note) -> Result<(), Memory>
     ensures { OnOk result (held.new.items ≡ held.old.items ++ (seen place note.now ∷ [])) }
 {
@@ -81,7 +83,7 @@ fn hold(alloc: Global, held: &mut Vec<Seen>, place: Place3, note: &Note) -> Resu
     Ok(())
 }
 
-/// How many filters a SUBSCRIBE has that is received.
+// How many filters a SUBSCRIBE has that is received.
 fn filters_in(note: &Note) -> usize
     ensures { result ≡ number_in (λ s. length s.filters) (received_subscription note.now) }
 {
@@ -91,7 +93,7 @@ fn filters_in(note: &Note) -> usize
     }
 }
 
-/// How many Reason Codes a SUBACK has that is sent.
+// How many Reason Codes a SUBACK has that is sent.
 fn codes_in(note: &Note) -> usize
     ensures { result ≡ number_in (λ a. length a.codes) (sent_grant note.now) }
 {
@@ -101,14 +103,14 @@ fn codes_in(note: &Note) -> usize
     }
 }
 
-/// How much an event counts: itself, and the filters or Reason Codes that it carries.
+// How much an event counts: itself, and the filters or Reason Codes that it carries.
 fn event_size(note: &Note) -> usize
     ensures { result ≤ size_of note.now }
 {
     1_usize.saturating_add(filters_in(note).saturating_add(codes_in(note)))
 }
 
-/// How much is held.
+// How much is held.
 fn held_size(held: &[Seen]) -> usize
     ensures { result ≤ sum_by (λ e. size_of e.note) held.now }
 {
@@ -135,7 +137,7 @@ impl<W: Fated> Early<W> {
 }
 
 impl<W> Early<W> {
-    /// Whether an event is of a connection that is decided. No other events are held then.
+    // Whether an event is of a connection that is decided. No other events are held then.
     #[inline]
     fn is_settled(&self, note: &Note) -> bool
         ensures { result ≡ (is_some self.now.fate && (is_nothing self.now.held.items && not (is_open note.now))) }

@@ -1,8 +1,10 @@
-//! Exchanges: what is received, the cause, asks for an answer, which is sent (MQTT 5.0, sections 3.8.4, 3.10.4 and 4.3).
+//! Exchanges: what is received, the cause, asks for an answer, which is sent (MQTT 5.0, sections
+//! 3.8.4, 3.10.4 and 4.3).
 
 use mq_rules::{Note, Rule};
 
-/// An exchange: under which Packet Identifier an event is a cause, and under which one it is an answer.
+/// An exchange: under which Packet Identifier an event is a cause, and under which one it is an
+/// answer.
 pub trait Exchange {
     ghost use Rattle.std.specs.Prelude.{◌≡◌, Option, Some};
     ghost use Rattle.mq_rules.specs.declared.role.Role.{Role};
@@ -36,7 +38,8 @@ pub trait Exchange {
     fn settled_rule() -> Rule
         ensures { result ≡ settled };
 
-    /// The statement that answers are sent in the order of their causes, if there is one (MQTT 5.0, section 4.6).
+    /// The statement that answers are sent in the order of their causes, if there is one (MQTT 5.0,
+    /// section 4.6).
     fn ordered_rule() -> Option<Rule>
         ensures { result ≡ ordered };
 

@@ -13,17 +13,20 @@ use mq_trace::Place3;
 
 /// A watcher that can take in an event of a connection before the event that decides its fate.
 ///
-/// Its law: a state that agrees with some events, their latest connection taken to have the fate, agrees afterwards with these and the event under it, and the
-/// faults grow by exactly the pairs of its statements that turn out to fail there under that fate.
+/// Its law: a state that agrees with some events, their latest connection taken to have the fate,
+/// agrees afterwards with these and the event under it, and the faults grow by exactly the pairs of
+/// its statements that turn out to fail there under that fate.
 pub trait Fated: Watch {
     /// The statements that it judges.
     ghost judges: { Rule → Bool };
 
-    /// Takes in an event of a connection that has this fate. What it shows is decided at this position.
+    /// Takes in an event of a connection that has this fate. What it shows is decided at this
+    /// position.
     ///
     /// # Errors
     ///
-    /// `Memory` if there is no memory for what it keeps, or for a fault. Then it may have added some of the faults, and its state is of no use.
+    /// `Memory` if there is no memory for what it keeps, or for a fault. Then it may have added
+    /// some of the faults, and its state is of no use.
     fn fated(
         &mut self,
         at: Place3,

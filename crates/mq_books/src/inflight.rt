@@ -73,7 +73,7 @@ pub struct Inflight {
     bounds: Option<bool>,
 }
 
-/// Puts in what is begun, after what is ended is out. An OPEN ends all.
+// Puts in what is begun, after what is ended is out. An OPEN ends all.
 fn await_answer(
     waiting: &mut IndexSet<u16>,
     alloc: Global,
@@ -96,7 +96,7 @@ fn await_answer(
     Ok(())
 }
 
-/// Puts in the identifier of a PUBLISH that is sent on a void connection.
+// Puts in the identifier of a PUBLISH that is sent on a void connection.
 fn take_void(void: &mut IndexSet<u16>, fate: Fate, note: &Note) -> Result<(), Memory>
     ensures { OnOk result ((i : ℕ) → contains nat_eq void.new i ≡ void_next fate note.now i (contains nat_eq void.old i)) }
 {
@@ -109,7 +109,7 @@ fn take_void(void: &mut IndexSet<u16>, fate: Fate, note: &Note) -> Result<(), Me
     Ok(())
 }
 
-/// Takes in a PUBLISH and what acknowledges it.
+// Takes in a PUBLISH and what acknowledges it.
 fn take_delivering(delivering: &mut IndexSet<u16>, alloc: Global, note: &Note) -> Result<(), Memory>
     ensures { OnOk result ((i : ℕ) → contains nat_eq delivering.new i ≡ waits_next (delivery_of note.now) (closer_of note.now) (opens note.now) i (contains nat_eq delivering.old i)) }
 {
@@ -123,7 +123,7 @@ fn take_delivering(delivering: &mut IndexSet<u16>, alloc: Global, note: &Note) -
     Ok(())
 }
 
-/// Takes in a SUBSCRIBE and a SUBACK.
+// Takes in a SUBSCRIBE and a SUBACK.
 fn take_subscribing(
     subscribing: &mut IndexSet<u16>,
     alloc: Global,
@@ -141,7 +141,7 @@ fn take_subscribing(
     Ok(())
 }
 
-/// Takes in an UNSUBSCRIBE and an UNSUBACK.
+// Takes in an UNSUBSCRIBE and an UNSUBACK.
 fn take_unsubscribing(
     unsubscribing: &mut IndexSet<u16>,
     alloc: Global,
@@ -188,7 +188,7 @@ impl Inflight {
         }
     }
 
-    /// What an event of a connection with this fate breaks.
+    // What an event of a connection with this fate breaks.
     fn broken_by(&self, fate: Fate, note: &Note) -> Broken
         ensures { result ≡ breaks self.now fate note.now }
     {
@@ -208,7 +208,7 @@ impl Inflight {
         }
     }
 
-    /// Takes in an event of a connection with this fate.
+    // Takes in an event of a connection with this fate.
     fn take_in(&mut self, at: Place3, fate: Fate, note: &Note) -> Result<(), Memory>
         ensures role { OnOk result (self.new.role ≡ self.old.role) }
         ensures fate { OnOk result (self.new.fate ≡ fate) }
@@ -322,7 +322,7 @@ impl Selective for Inflight {
     }
 }
 
-/// Whether an event may have to do with Packet Identifiers that are in use.
+// Whether an event may have to do with Packet Identifiers that are in use.
 #[inline(always)]
 fn may_concern_identifiers(note: &Note) -> bool
     ensures { result ≡ selecting.may_concern_identifiers note.now }

@@ -13,11 +13,13 @@ use crate::sessions::Sessions;
 use mq_rules::{Faults, Memory, Seen, Tested, Watch};
 use std::alloc::Global;
 
-/// Lets a watcher take in the events of a log, the oldest first: the faults grow by exactly the failing pairs of its statements in the log.
+/// Lets a watcher take in the events of a log, the oldest first: the faults grow by exactly the
+/// failing pairs of its statements in the log.
 ///
 /// # Errors
 ///
-/// `Memory` if there is no memory for what it keeps, or for a fault. Then some of the pairs were added, and no others.
+/// `Memory` if there is no memory for what it keeps, or for a fault. Then some of the pairs were
+/// added, and no others.
 pub fn watch_all<W: Watch>(
     watcher: &mut W,
     seen: &[Seen],
@@ -32,11 +34,13 @@ pub fn watch_all<W: Watch>(
     Ok(())
 }
 
-/// Watches S01 to S07, E1A to E7R, L1 to L3 and B01 to B04 in the events of a log, the oldest first: the faults grow by exactly their failing pairs in the log.
+/// Watches S01 to S07, E1A to E7R, L1 to L3 and B01 to B04 in the events of a log, the oldest
+/// first: the faults grow by exactly their failing pairs in the log.
 ///
 /// # Errors
 ///
-/// `Memory` if there is no memory for what is kept, or for a fault. Then some of the pairs were added, and no others.
+/// `Memory` if there is no memory for what is kept, or for a fault. Then some of the pairs were
+/// added, and no others.
 pub fn watch_sessions(
     alloc: Global,
     tested: Tested,

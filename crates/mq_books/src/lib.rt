@@ -1,8 +1,9 @@
-//! Watchers of the statements on sessions: S01 to S07, E1A to E7R, L1 to L3 and B01 to B04. Each event is taken in once, and what is kept doesn't grow with
-//! the log.
+//! Watchers of the statements on sessions: S01 to S07, E1A to E7R, L1 to L3 and B01 to B04. Each
+//! event is taken in once, and what is kept doesn't grow with the log.
 //!
-//! A session packet may come before the CONNACK that decides its connection: `Early` holds the events of an undecided connection, and a `Fated` watcher takes
-//! them in with the fate that is then known.
+//! A session packet may come before the CONNACK that decides its connection: `Early` holds the
+//! events of an undecided connection, and a `Fated` watcher takes them in with the fate that is
+//! then known.
 #![tactic(auto)]
 
 mod asked;

@@ -96,7 +96,7 @@ impl Selective for Messages {
     }
 }
 
-/// Whether an event may have to do with an exchange of messages.
+// Whether an event may have to do with an exchange of messages.
 #[inline(always)]
 fn may_concern_messages(note: &Note) -> bool
     ensures { result ≡ selecting.may_concern_messages note.now }

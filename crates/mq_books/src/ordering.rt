@@ -20,7 +20,7 @@ pub struct Debt {
     position: u32,
 }
 
-/// Whether this debt is what is due under its identifier.
+// Whether this debt is what is due under its identifier.
 fn is_still_due(due: &IndexMap<u16, Place3>, debt: Debt) -> bool
     ensures { result ≡ keeping.is_still_due (get nat_eq due.now) debt }
 {
@@ -39,7 +39,7 @@ fn first_of(queue: &VecDeque<Debt>) -> Option<Debt>
     }
 }
 
-/// Drops what is before the first debt that is still due. Each debt is dropped once.
+// Drops what is before the first debt that is still due. Each debt is dropped once.
 fn drop_settled(queue: &mut VecDeque<Debt>, due: &IndexMap<u16, Place3>)
     ensures { queue.new.items ≡ from_due (get nat_eq due.now) queue.old.items }
 {
@@ -51,7 +51,8 @@ fn drop_settled(queue: &mut VecDeque<Debt>, due: &IndexMap<u16, Place3>)
     }
 }
 
-/// Whether this identifier isn't the first one under which something is due, though something is due under it.
+/// Whether this identifier isn't the first one under which something is due, though something is
+/// due under it.
 pub fn passes_over(
     queue: &mut VecDeque<Debt>,
     due: &IndexMap<u16, Place3>,
@@ -115,15 +116,16 @@ pub fn take_queue(
     Ok(())
 }
 
-/// Drops all that is no longer due.
+// Drops all that is no longer due.
 fn drop_all_settled(queue: &mut VecDeque<Debt>, due: &IndexMap<u16, Place3>)
     ensures { queue.new.items ≡ filter (keeping.is_still_due (get nat_eq due.now)) queue.old.items }
 {
     queue.retain(|debt| is_still_due(due, *debt));
 }
 
-/// Drops all that is no longer due, once it is more than half of the queue, so that after a cause the queue is at most twice as long as what is due.
-/// Each debt that is dropped pays for one that is kept.
+/// Drops all that is no longer due, once it is more than half of the queue, so that after a cause
+/// the queue is at most twice as long as what is due. Each debt that is dropped pays for one that
+/// is kept.
 pub fn tidy(queue: &mut VecDeque<Debt>, due: &IndexMap<u16, Place3>, cause: Option<u16>)
     ensures tidied { IsTidied (get nat_eq due.now) queue.old.items queue.new.items }
     ensures bounded { (n : ℕ) (test : ℕ → Bool) → is_some cause ≡ true → IsQueue (get nat_eq due.now) queue.old.items n → ((i : ℕ) → is_some (get nat_eq due.now i) ≡ true → test i ≡ true) → length queue.new.items ≤ 2 * ids_where test }

@@ -1,4 +1,5 @@
-//! Each cause is answered before a REST, and answers are sent in the order of their causes (MQTT 5.0, sections 3.8.4, 3.10.4, 4.3 and 4.6).
+//! Each cause is answered before a REST, and answers are sent in the order of their causes (MQTT
+//! 5.0, sections 3.8.4, 3.10.4, 4.3 and 4.6).
 ghost use Rattle.std.specs.Prelude.{◌≡◌, ◌*◌, ℕ, ◌||◌, ◌&&◌, true, false, OnOk, OnErr, nat_eq, [], Some, cond, refl};
 ghost use Rattle.indexmap.specs.IndexMap.{get, values, IsUnique};
 ghost use Rattle.mq_rules.specs.declared.fate.Fate.TheVariants.{Void};
@@ -25,7 +26,8 @@ use std::alloc::Global;
 use std::collections::VecDeque;
 use std::marker::PhantomData;
 
-/// Takes in an event: an answer settles what is due under its identifier, and a cause falls due where nothing is.
+// Takes in an event: an answer settles what is due under its identifier, and a cause falls due
+// where nothing is.
 fn fall_due(
     due: &mut IndexMap<u16, Place3>,
     alloc: Global,
@@ -52,7 +54,7 @@ fn fall_due(
     Ok(())
 }
 
-/// Takes in an event of a connection that has this fate. What isn't accepted changes nothing.
+// Takes in an event of a connection that has this fate. What isn't accepted changes nothing.
 fn take_due(
     due: &mut IndexMap<u16, Place3>,
     alloc: Global,
@@ -73,7 +75,7 @@ fn take_due(
     Ok(())
 }
 
-/// Adds the faults of what is due.
+// Adds the faults of what is due.
 #[tactic(auto, using(crate::proofs::BlameLaws::keeps_with_fault, crate::proofs::BlameLaws::keeps_blamed))]
 fn blame(
     due: &IndexMap<u16, Place3>,
@@ -100,7 +102,7 @@ fn blame(
     Ok(())
 }
 
-/// Adds the faults of what is due, if a REST binds.
+// Adds the faults of what is due, if a REST binds.
 #[tactic(auto, using(crate::proofs::BlameLaws::keeps_same))]
 fn settle(
     rests: bool,
@@ -120,14 +122,16 @@ fn settle(
     Ok(())
 }
 
-/// Whether the statement is judged, and this is a REST that binds: its connection is decided and accepted, and nothing ended binding.
+// Whether the statement is judged, and this is a REST that binds: its connection is decided and
+// accepted, and nothing ended binding.
 fn rests_now(is_judged: bool, fate: Fate, is_decided: bool, ended: bool, note: &Note) -> bool
     ensures { result ≡ (is_judged && binds_by fate is_decided ended note.now) }
 {
     is_judged && (note.is_rest() && (is_decided && (fate.accepts() && !ended)))
 }
 
-/// Watches that each cause is answered before a REST, and the order of answers if the exchange has one.
+/// Watches that each cause is answered before a REST, and the order of answers if the exchange has
+/// one.
 #[derive(Drop)]
 pub struct Owed<X: Exchange> {
     alloc: Global,
@@ -143,7 +147,7 @@ pub struct Owed<X: Exchange> {
     exchange: PhantomData<X>,
 }
 
-/// Whether a statement is judged, if there is one.
+// Whether a statement is judged, if there is one.
 fn is_any_judged(rule: Option<Rule>, tested: Tested) -> bool
     ensures { result ≡ is_some_and (λ r. is_bound r tested) rule }
 {
@@ -153,7 +157,7 @@ fn is_any_judged(rule: Option<Rule>, tested: Tested) -> bool
     }
 }
 
-/// Whether the statement on the order is judged, and an answer passes over what is due.
+// Whether the statement on the order is judged, and an answer passes over what is due.
 fn is_out_of_order(
     binds: bool,
     fate: Fate,

@@ -28,7 +28,7 @@ pub struct Pings {
     answered: u64,
 }
 
-/// Whether no REST binds after this event on its connection.
+// Whether no REST binds after this event on its connection.
 fn ends(note: &Note) -> bool
     ensures { result ≡ keeping.ends_by note.now }
 {
@@ -41,15 +41,16 @@ fn ends(note: &Note) -> bool
     }
 }
 
-/// Whether no REST binds any more on the latest connection after an event, given whether that was so before it: a DISCONNECT,
-/// bytes that break a rule or a lost direction end it, and the next OPEN begins anew.
+/// Whether no REST binds any more on the latest connection after an event, given whether that was
+/// so before it: a DISCONNECT, bytes that break a rule or a lost direction end it, and the next
+/// OPEN begins anew.
 pub fn ended_after(ended: bool, note: &Note) -> bool
     ensures { result ≡ (keeping.ends_by note.now || (not (is_open note.now) && ended)) }
 {
     ends(note) || (!note.is_open() && ended)
 }
 
-/// How many there are after an event.
+// How many there are after an event.
 fn counted(passes: bool, opens: bool, old: u64, position: u32) -> u64
     ensures { old < position → result ≡ keeping.counted passes opens old }
 {
@@ -57,7 +58,7 @@ fn counted(passes: bool, opens: bool, old: u64, position: u32) -> u64
     if passes { more(old, position) } else { old }
 }
 
-/// Whether this is a REST that binds, and a ping wasn't answered.
+// Whether this is a REST that binds, and a ping wasn't answered.
 fn is_unanswered(
     role: Role,
     fate: Fate,
@@ -163,7 +164,7 @@ impl Selective for Pings {
     }
 }
 
-/// Whether an event may have to do with pings.
+// Whether an event may have to do with pings.
 #[inline(always)]
 fn may_concern_pings(note: &Note) -> bool
     ensures { result ≡ selecting.may_concern_pings note.now }

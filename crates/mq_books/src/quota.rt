@@ -32,7 +32,7 @@ pub struct Quota {
     in_flight: u64,
 }
 
-/// The Receive Maximum that the peer announces by this event.
+// The Receive Maximum that the peer announces by this event.
 fn announced(role: Role, note: &Note) -> Option<u16>
     ensures { result ≡ keeping.announced role note.now }
 {
@@ -95,7 +95,7 @@ pub fn peer_after(role: Role, peer: Option<u16>, note: &Note) -> Option<u16>
     peer.or(announced(role, note))
 }
 
-/// Whether a PUBLISH is sent that passes the quota.
+// Whether a PUBLISH is sent that passes the quota.
 fn exceeds(fate: Fate, note: &Note, role: Role, peer: Option<u16>, old: u64) -> bool
     ensures { result ≡ keeping.exceeds fate note.now role peer old }
 {
@@ -178,7 +178,7 @@ impl Selective for Quota {
     }
 }
 
-/// Whether an event may have to do with the send quota.
+// Whether an event may have to do with the send quota.
 #[inline(always)]
 fn may_concern_quota(note: &Note) -> bool
     ensures { result ≡ selecting.may_concern_quota note.now }

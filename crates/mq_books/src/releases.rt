@@ -26,7 +26,8 @@ use std::alloc::Global;
 
 /// Watches L1, L2 and L3.
 ///
-/// A RELEASE between connections, or on a void one, belongs to the session of the latest accepted connection.
+/// A RELEASE between connections, or on a void one, belongs to the session of the latest accepted
+/// connection.
 #[derive(Drop)]
 pub struct Releases {
     alloc: Global,
@@ -42,28 +43,28 @@ pub struct Releases {
     due: IndexSet<u16>,
 }
 
-/// Whether an event is in a session.
+// Whether an event is in a session.
 fn is_inside(fate: Fate, note: &Note, has_accepted: bool) -> bool
     ensures { result ≡ keeping.is_inside fate note.now has_accepted }
 {
     fate.accepts() || (note.is_release() && has_accepted)
 }
 
-/// Whether some connection was accepted, after an event.
+// Whether some connection was accepted, after an event.
 fn has_accepted(fate: Fate, note: &Note, before: bool) -> bool
     ensures { result ≡ (before || (is_open note.now && accepts fate)) }
 {
     before || (note.is_open() && fate.accepts())
 }
 
-/// Whether the session starts over with an event.
+// Whether the session starts over with an event.
 fn starts_over(fate: Fate, note: &Note) -> bool
     ensures { result ≡ keeping.starts_over fate note.now }
 {
     note.is_open() && matches!(fate, Fate::New)
 }
 
-/// Takes out what is lost by an event of the session, and puts in what is gained.
+// Takes out what is lost by an event of the session, and puts in what is gained.
 fn revise(
     set: &mut IndexSet<u16>,
     alloc: Global,
@@ -90,7 +91,7 @@ fn revise(
     Ok(())
 }
 
-/// Whether a PUBLISH with a Message Expiry Interval is received (MQTT 5.0, section 3.3.2.3.3).
+// Whether a PUBLISH with a Message Expiry Interval is received (MQTT 5.0, section 3.3.2.3.3).
 fn expires(note: &Note) -> bool
     ensures { result ≡ keeping.expires note.now }
 {
@@ -100,7 +101,7 @@ fn expires(note: &Note) -> bool
     }
 }
 
-/// The identifier of a QoS 2 PUBLISH that is the first under it, and can't expire.
+// The identifier of a QoS 2 PUBLISH that is the first under it, and can't expire.
 fn lasting(note: &Note, brought: &IndexSet<u16>) -> Option<u16>
     ensures { result ≡ keeping.lasting note.now (contains nat_eq brought.now) }
 {
@@ -110,7 +111,7 @@ fn lasting(note: &Note, brought: &IndexSet<u16>) -> Option<u16>
     }
 }
 
-/// Takes in an event for the messages that need a RELEASE.
+// Takes in an event for the messages that need a RELEASE.
 fn revise_due(
     due: &mut IndexSet<u16>,
     alloc: Global,
@@ -133,7 +134,7 @@ fn revise_due(
     Ok(())
 }
 
-/// Whether an event releases a message that wasn't received.
+// Whether an event releases a message that wasn't received.
 fn is_unreceived(releases: bool, note: &Note, brought: &IndexSet<u16>) -> bool
     ensures { result ≡ (releases && keeping.is_unreceived note.now (contains nat_eq brought.now)) }
 {
@@ -144,7 +145,7 @@ fn is_unreceived(releases: bool, note: &Note, brought: &IndexSet<u16>) -> bool
         }
 }
 
-/// Whether an event releases a message again.
+// Whether an event releases a message again.
 fn is_repeated(releases: bool, note: &Note, released: &IndexSet<u16>) -> bool
     ensures { result ≡ (releases && keeping.is_repeated note.now (contains nat_eq released.now)) }
 {
@@ -155,7 +156,8 @@ fn is_repeated(releases: bool, note: &Note, released: &IndexSet<u16>) -> bool
         }
 }
 
-/// Whether an event completes an exchange with success, and the RELEASE that its message needs is missing.
+// Whether an event completes an exchange with success, and the RELEASE that its message needs is
+// missing.
 fn is_unreleased(
     releases: bool,
     fate: Fate,
@@ -272,7 +274,7 @@ impl Selective for Releases {
     }
 }
 
-/// Whether an event may have to do with a QoS 2 message that is received.
+// Whether an event may have to do with a QoS 2 message that is received.
 #[inline(always)]
 fn may_concern_releases(note: &Note) -> bool
     ensures { result ≡ selecting.may_concern_releases note.now }

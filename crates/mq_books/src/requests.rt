@@ -1,4 +1,5 @@
-//! Requests to subscribe and to unsubscribe, and their answers: E5A to E6R (MQTT 5.0, sections 3.8.4 and 3.10.4).
+//! Requests to subscribe and to unsubscribe, and their answers: E5A to E6R (MQTT 5.0, sections
+//! 3.8.4 and 3.10.4).
 ghost use Rattle.std.specs.Prelude.{◌≡◌, [], Some};
 ghost use Rattle.mq_rules.specs.declared.fate.Fate.TheVariants.{Void};
 ghost use Rattle.mq_rules.specs.Under.{turns_known};
@@ -91,7 +92,7 @@ impl Selective for Requests {
     }
 }
 
-/// Whether an event may have to do with a SUBSCRIBE, an UNSUBSCRIBE or its answer.
+// Whether an event may have to do with a SUBSCRIBE, an UNSUBSCRIBE or its answer.
 #[inline(always)]
 fn may_concern_requests(note: &Note) -> bool
     ensures { result ≡ selecting.may_concern_requests note.now }

@@ -11,7 +11,8 @@ use crate::fated::Fated;
 use mq_rules::{Both, Fate, Faults, Memory, Note, Skipping, Watch};
 use mq_trace::Place3;
 
-/// A watcher of which it is known which events concern it: any other event leaves what it keeps as it is, and shows none of its statements to be false.
+/// A watcher of which it is known which events concern it: any other event leaves what it keeps as
+/// it is, and shows none of its statements to be false.
 pub trait Selective: Fated {
     /// The notes of the events that concern it.
     ghost concerns: { Tested → TheNote → Bool };

@@ -41,7 +41,7 @@ impl Drop for Sessions {
     }
 }
 
-/// What is sent, before any event.
+// What is sent, before any event.
 fn sending(alloc: Global, tested: Tested) -> Sending
     ensures { ⟦<Both<Selecting<Inflight>, Both<Selecting<Quota>, Selecting<Pings>>> as Watch>⟧.agrees result tested (Some Void) [] }
 {
@@ -54,7 +54,7 @@ fn sending(alloc: Global, tested: Tested) -> Sending
     )
 }
 
-/// The exchanges, before any event.
+// The exchanges, before any event.
 fn exchanges(alloc: Global, tested: Tested) -> Exchanges
     ensures { ⟦<Both<Selecting<Messages>, Selecting<Requests>> as Watch>⟧.agrees result tested (Some Void) [] }
 {
@@ -64,7 +64,7 @@ fn exchanges(alloc: Global, tested: Tested) -> Exchanges
     )
 }
 
-/// What is delivered, before any event.
+// What is delivered, before any event.
 fn delivering(alloc: Global, tested: Tested) -> Delivering
     ensures { ⟦<Both<Selecting<Releases>, Selecting<Subs>> as Watch>⟧.agrees result tested (Some Void) [] }
 {

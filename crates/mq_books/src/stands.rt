@@ -1,4 +1,5 @@
-//! Topic Filters that stand, each with the greatest QoS of what may be sent for it (MQTT 5.0, sections 3.8.4 and 4.7).
+//! Topic Filters that stand, each with the greatest QoS of what may be sent for it (MQTT 5.0,
+//! sections 3.8.4 and 4.7).
 ghost use Rattle.std.specs.Prelude.{◌≡◌, ◌≤◌, ◌∷◌, [], ◌||◌, ◌&&◌, nat_le, ℕ, Bool, true, None, List, OnOk, IfOk, cond};
 ghost use Rattle.std.specs.List.{list_any};
 ghost use Rattle.std.specs.Set.{distinct_count};
@@ -15,7 +16,7 @@ use mq_topic::{check_name, matches};
 use std::alloc::Global;
 use std::marker::Model;
 
-/// Whether a filter stands with at least this ceiling.
+// Whether a filter stands with at least this ceiling.
 fn stands(standing: &IndexMap<String, u8>, filter: &str, ceiling: u8) -> bool
     ensures { result ≡ is_some_and (nat_le ceiling) (get_by_text standing.now filter.now) }
 {
@@ -25,7 +26,7 @@ fn stands(standing: &IndexMap<String, u8>, filter: &str, ceiling: u8) -> bool
     }
 }
 
-/// A copy of a text.
+// A copy of a text.
 fn copy_of(alloc: Global, text: &str) -> Result<String, Memory>
     ensures { IfOk result (λ copy. string_bytes copy ≡ text.now) }
 {
@@ -34,7 +35,7 @@ fn copy_of(alloc: Global, text: &str) -> Result<String, Memory>
     Ok(copy)
 }
 
-/// Adds a filter to a map, or raises its ceiling there.
+// Adds a filter to a map, or raises its ceiling there.
 fn raise(
     alloc: Global,
     standing: &mut IndexMap<String, u8>,
@@ -53,7 +54,7 @@ fn raise(
     Ok(())
 }
 
-/// The ceiling of the filter that matches a topic, among those without a wildcard.
+// The ceiling of the filter that matches a topic, among those without a wildcard.
 fn literal_ceiling(literal: &IndexMap<String, u8>, topic: &str) -> Option<u8>
     ensures { result ≡ cond (empty topic.now) None (get_by_text literal.now topic.now) }
 {
@@ -66,7 +67,7 @@ fn literal_ceiling(literal: &IndexMap<String, u8>, topic: &str) -> Option<u8>
     }
 }
 
-/// Whether there is a ceiling that allows this QoS.
+// Whether there is a ceiling that allows this QoS.
 fn is_within(ceiling: Option<u8>, qos: u8) -> bool
     ensures { result ≡ is_some_and (nat_le qos) ceiling }
 {
@@ -76,7 +77,7 @@ fn is_within(ceiling: Option<u8>, qos: u8) -> bool
     }
 }
 
-/// Whether some filter of a map matches a topic.
+// Whether some filter of a map matches a topic.
 fn any_key(standing: &IndexMap<String, u8>, topic: &str) -> bool
     ensures { result ≡ list_any (λ k. is_match (string_bytes k) topic.now) (keys standing.now) }
 {
@@ -85,14 +86,14 @@ fn any_key(standing: &IndexMap<String, u8>, topic: &str) -> bool
         .any(|filter| matches(filter.as_str(), topic))
 }
 
-/// Whether a filter matches a topic, and its ceiling allows this QoS.
+// Whether a filter matches a topic, and its ceiling allows this QoS.
 fn allows_at(filter: &str, ceiling: u8, topic: &str, qos: u8) -> bool
     ensures { result ≡ (is_match filter.now topic.now && nat_le qos ceiling) }
 {
     matches(filter, topic) && qos <= ceiling
 }
 
-/// Whether some filter of a map matches a topic, and allows this QoS.
+// Whether some filter of a map matches a topic, and allows this QoS.
 fn any_entry(standing: &IndexMap<String, u8>, topic: &str, qos: u8) -> bool
     ensures { result ≡ list_any (λ e. is_match (string_bytes e.0) topic.now && nat_le qos e.1) standing.now.entries }
 {
@@ -101,7 +102,8 @@ fn any_entry(standing: &IndexMap<String, u8>, topic: &str, qos: u8) -> bool
 
 /// Filters that stand, each with the greatest QoS of what may be sent for it.
 ///
-/// A filter without a wildcard matches the topic that equals it and no other, so it is looked up. Only those with wildcards are gone through.
+/// A filter without a wildcard matches the topic that equals it and no other, so it is looked up.
+/// Only those with wildcards are gone through.
 pub struct StandingFilters {
     literal: IndexMap<String, u8>,
     wild: IndexMap<String, u8>,
@@ -165,7 +167,8 @@ impl StandingFilters {
         is_within(literal_ceiling(&self.literal, topic), qos) || any_entry(&self.wild, topic, qos)
     }
 
-    /// How many filters there are. They are no more than the different ones among filters that have each of them.
+    /// How many filters there are. They are no more than the different ones among filters that have
+    /// each of them.
     pub fn len(&self) -> usize
         ensures { (filters : List (List ℕ)) → ((f : List ℕ) → list_any (λ s. bytes_eq f s.filter) self.now ≡ true → list_any (bytes_eq f) filters ≡ true) → result ≤ distinct_count bytes_eq filters }
     {

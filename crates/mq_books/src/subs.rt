@@ -1,5 +1,5 @@
-//! What a server may deliver: topics that were subscribed to, at no more than the QoS that was granted (MQTT 5.0, sections 3.3.1.2,
-//! 3.8.4 and 4.7).
+//! What a server may deliver: topics that were subscribed to, at no more than the QoS that was
+//! granted (MQTT 5.0, sections 3.3.1.2, 3.8.4 and 4.7).
 ghost use Rattle.std.specs.Prelude.{refl};
 ghost use Rattle.std.specs.Prelude.{◌≡◌, ◌+◌, ◌*◌, ◌&&◌, ◌||◌, ◌==◌, nat_le, ℕ, Bool, List, cond, not, OnOk, nat_eq, [], Some, length, option_map};
 ghost use Rattle.std.specs.List.{list_any, sum_by};
@@ -35,7 +35,7 @@ use std::alloc::Global;
 
 // ---- SUBSCRIBEs
 
-/// Settles the SUBSCRIBEs that wait under this identifier.
+// Settles the SUBSCRIBEs that wait under this identifier.
 fn answer(
     alloc: Global,
     settled: &mut StandingFilters,
@@ -53,7 +53,7 @@ fn answer(
     }
 }
 
-/// Takes in an OPEN of a connection that has this fate.
+// Takes in an OPEN of a connection that has this fate.
 fn open(
     alloc: Global,
     settled: &mut StandingFilters,
@@ -74,7 +74,7 @@ fn open(
     Ok(())
 }
 
-/// Takes in a SUBACK, if the event sends one.
+// Takes in a SUBACK, if the event sends one.
 fn take_grant(
     alloc: Global,
     settled: &mut StandingFilters,
@@ -94,7 +94,7 @@ fn take_grant(
     }
 }
 
-/// Takes in a SUBSCRIBE, if the event is one that is received on a connection that is accepted.
+// Takes in a SUBSCRIBE, if the event is one that is received on a connection that is accepted.
 fn take_request(
     alloc: Global,
     waiting: &mut Awaited,
@@ -122,7 +122,7 @@ fn take_request(
     }
 }
 
-/// Takes in what an event of a connection that has this fate says of filters.
+// Takes in what an event of a connection that has this fate says of filters.
 fn take_filters(
     alloc: Global,
     settled: &mut StandingFilters,
@@ -145,7 +145,7 @@ fn take_filters(
 
 // ---- shared subscriptions
 
-/// Whether a filter asks for a shared subscription (MQTT 5.0, section 4.8.2).
+// Whether a filter asks for a shared subscription (MQTT 5.0, section 4.8.2).
 fn is_shared(filter: &NotedFilter) -> bool
     ensures { result ≡ begins_shared filter.now }
 {
@@ -158,7 +158,7 @@ fn any_shared(filters: &[NotedFilter]) -> bool
     filters.iter().any(|filter| is_shared(filter))
 }
 
-/// Whether a SUBSCRIBE asks for a shared subscription.
+// Whether a SUBSCRIBE asks for a shared subscription.
 fn has_shared(fields: &PacketFields) -> bool
     ensures { result ≡ is_some_and (λ s. list_any begins_shared s.filters) (subscription_in fields.now) }
 {
@@ -168,7 +168,7 @@ fn has_shared(fields: &PacketFields) -> bool
     }
 }
 
-/// Whether an event is a SUBSCRIBE that is received and asks for a shared subscription.
+// Whether an event is a SUBSCRIBE that is received and asks for a shared subscription.
 fn asks_for_shared(note: &Note) -> bool
     ensures { result ≡ is_some_and (λ s. list_any begins_shared s.filters) (received_subscription note.now) }
 {
@@ -178,14 +178,14 @@ fn asks_for_shared(note: &Note) -> bool
     }
 }
 
-/// Whether the session goes on with an event of a connection that has this fate.
+// Whether the session goes on with an event of a connection that has this fate.
 fn goes_on(fate: Fate, note: &Note) -> bool
     ensures { result ≡ keeps_session fate note.now }
 {
     !(note.is_open() && matches!(fate, Fate::New))
 }
 
-/// Whether the session has asked for a shared subscription after an event.
+// Whether the session has asked for a shared subscription after an event.
 fn shares(fate: Fate, note: &Note, old: bool) -> bool
     ensures { result ≡ sharing_next fate note.now old }
 {
@@ -194,7 +194,7 @@ fn shares(fate: Fate, note: &Note, old: bool) -> bool
 
 // ---- topics
 
-/// Keeps the Topic Name that a PUBLISH sets for its Topic Alias (MQTT 5.0, section 3.3.2.3.4).
+// Keeps the Topic Name that a PUBLISH sets for its Topic Alias (MQTT 5.0, section 3.3.2.3.4).
 fn set_alias(
     alloc: Global,
     topics: &mut IndexMap<u16, Text>,
@@ -212,7 +212,7 @@ fn set_alias(
     Ok(())
 }
 
-/// Takes in what an event says of topics.
+// Takes in what an event says of topics.
 fn take_topic(alloc: Global, topics: &mut IndexMap<u16, Text>, note: &Note) -> Result<(), Memory>
     ensures { OnOk result ((alias : ℕ) → get nat_eq topics.new alias ≡ topic_next note.now alias (get nat_eq topics.old alias)) }
 {
@@ -226,7 +226,7 @@ fn take_topic(alloc: Global, topics: &mut IndexMap<u16, Text>, note: &Note) -> R
     Ok(())
 }
 
-/// The topic of a PUBLISH.
+// The topic of a PUBLISH.
 fn topic_of<'a>(publish: &'a PublishNote, topics: &'a IndexMap<u16, Text>) -> Option<&'a str>
     ensures { option_map (λ topic. topic.now) result ≡ topic_kept (get nat_eq topics.now) publish.now }
 {
@@ -240,7 +240,7 @@ fn topic_of<'a>(publish: &'a PublishNote, topics: &'a IndexMap<u16, Text>) -> Op
     }
 }
 
-/// The topic of a PUBLISH, if B01 and B02 look at it.
+// The topic of a PUBLISH, if B01 and B02 look at it.
 fn judged_topic<'a>(
     publish: &'a PublishNote,
     sharing: bool,
@@ -259,21 +259,21 @@ fn judged_topic<'a>(
 
 // ---- deliveries
 
-/// Whether some filter matches a topic.
+// Whether some filter matches a topic.
 fn is_asked(settled: &StandingFilters, waiting: &Awaited, topic: &str) -> bool
     ensures { result ≡ any_kept (λ s. is_match s.filter topic.now) settled.now waiting.now }
 {
     settled.any_for(topic) || waiting.any_for(topic)
 }
 
-/// Whether some filter matches a topic, and allows this QoS.
+// Whether some filter matches a topic, and allows this QoS.
 fn is_allowed(settled: &StandingFilters, waiting: &Awaited, topic: &str, qos: Qos) -> bool
     ensures { result ≡ any_kept (λ s. is_match s.filter topic.now && nat_le (number_of qos) s.ceiling) settled.now waiting.now }
 {
     settled.any_allowing(topic, qos_number(qos)) || waiting.any_allowing(topic, qos_number(qos))
 }
 
-/// Whether some filter matches the topic of a PUBLISH, and none that does allows its QoS.
+// Whether some filter matches the topic of a PUBLISH, and none that does allows its QoS.
 fn is_over(settled: &StandingFilters, waiting: &Awaited, publish: &PublishNote, topic: &str) -> bool
     ensures { result ≡ above settled.now waiting.now publish.now topic.now }
 {
@@ -317,7 +317,7 @@ impl Deliveries {
         self.bound
     }
 
-    /// Whether no filter matches the topic of a PUBLISH.
+    // Whether no filter matches the topic of a PUBLISH.
     fn is_unasked(&self, publish: &PublishNote) -> bool
         ensures { result ≡ is_some_and (unasked self.now.settled self.now.waiting publish.now) (topic_judged self.now.sharing (get nat_eq self.now.topics) publish.now) }
     {
@@ -327,7 +327,7 @@ impl Deliveries {
         }
     }
 
-    /// Whether some filter matches the topic of a PUBLISH, and none that does allows its QoS.
+    // Whether some filter matches the topic of a PUBLISH, and none that does allows its QoS.
     fn is_above(&self, publish: &PublishNote) -> bool
         ensures { result ≡ is_some_and (above self.now.settled self.now.waiting publish.now) (topic_judged self.now.sharing (get nat_eq self.now.topics) publish.now) }
     {
@@ -337,7 +337,7 @@ impl Deliveries {
         }
     }
 
-    /// Whether an event delivers a message to which nobody subscribed.
+    // Whether an event delivers a message to which nobody subscribed.
     fn breaks_asked(&self, fate: Fate, note: &Note) -> bool
         ensures { result ≡ (self.now.bound && (accepts fate && delivers_so note.now self.now.sharing (get nat_eq self.now.topics) (unasked self.now.settled self.now.waiting))) }
     {
@@ -349,7 +349,7 @@ impl Deliveries {
                 })
     }
 
-    /// Whether an event delivers a message at a higher QoS than was granted.
+    // Whether an event delivers a message at a higher QoS than was granted.
     fn breaks_granted(&self, fate: Fate, note: &Note) -> bool
         ensures { result ≡ (self.now.bound && (accepts fate && delivers_so note.now self.now.sharing (get nat_eq self.now.topics) (above self.now.settled self.now.waiting))) }
     {

@@ -95,7 +95,8 @@ impl Selective for Subs {
     }
 }
 
-/// Whether an event may have to do with what a client subscribed to, where deliveries are judged or not.
+// Whether an event may have to do with what a client subscribed to, where deliveries are judged or
+// not.
 #[inline(always)]
 fn may_concern_subscriptions(bound: bool, note: &Note) -> bool
     ensures { result ≡ selecting.may_concern_subscriptions bound note.now }

@@ -11,12 +11,14 @@ use mq_rules::{Both, Conn, Faults, Memory, Note, Shapes, Skipping, Tested, Watch
 use mq_trace::Place3;
 use std::alloc::Global;
 
-/// Watches all 74 statements: W and C as the events come, and those on sessions once their connection is decided.
+/// Watches all 74 statements: W and C as the events come, and those on sessions once their
+/// connection is decided.
 pub struct Watchers {
     parts: Both<Shapes, Both<Conn, Early<Sessions>>>,
 }
 
-// As a derived one, but a call of its own: what is to be freed is much, and else each function that drops watchers would spell it out.
+// As a derived one, but a call of its own: what is to be freed is much, and else each function that
+// drops watchers would spell it out.
 impl Drop for Watchers {
     #[inline(never)]
     fn drop(self) {

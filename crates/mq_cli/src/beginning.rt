@@ -82,8 +82,8 @@ fn hint(start: &[u8]) -> &'static str
     ""
 }
 
-// Whether a file that begins with these bytes is a capture of network packets: pcap, in either order of bytes, with times in
-// microseconds or nanoseconds, or pcapng.
+// Whether a file that begins with these bytes is a capture of network packets: pcap, in either
+// order of bytes, with times in microseconds or nanoseconds, or pcapng.
 fn is_capture(start: &[u8]) -> bool
     ensures { result ≡ is_capture start.now }
 {

@@ -36,13 +36,13 @@ pub struct Files<'a> {
 
 /// Converts a log of version 1 into one of version 2, and returns the status to exit with.
 ///
-/// The log is opened, and its first bytes are read, before the other file is made, so nothing is made
-/// if the log can't be opened or not be read. All of the log in version 2 is written to that file,
-/// and nothing to `output`: 0. If the log is refused, the line that says so is written to `output`:
-/// 2; the file then has the log in version 2 up to there. Two words that are the same are a misuse,
-/// which is reported on `error`, and nothing is opened: 3. If reading or writing failed or memory ran
-/// out, what failed is reported on `error`: 4. For a refused log whose first bytes show that it is
-/// another kind of file, a line on `error` says what to do with it.
+/// The log is opened, and its first bytes are read, before the other file is made, so nothing is
+/// made if the log can't be opened or not be read. All of the log in version 2 is written to that
+/// file, and nothing to `output`: 0. If the log is refused, the line that says so is written to
+/// `output`: 2; the file then has the log in version 2 up to there. Two words that are the same are
+/// a misuse, which is reported on `error`, and nothing is opened: 3. If reading or writing failed
+/// or memory ran out, what failed is reported on `error`: 4. For a refused log whose first bytes
+/// show that it is another kind of file, a line on `error` says what to do with it.
 pub fn convert_file<H: Host, W: Output, E: ErrorStream>(
     alloc: Global,
     host: &H,
@@ -66,7 +66,8 @@ pub fn convert_file<H: Host, W: Output, E: ErrorStream>(
     }
 }
 
-// The files that the words name, or why nothing is converted: making a file of the same name would empty the log.
+// The files that the words name, or why nothing is converted: making a file of the same name would
+// empty the log.
 fn files_of(asked: &Conversion) -> Result<Files<'_>, Misuse<'_>>
     ensures ok { IfOk result (λ files. files_of asked.now ≡ Ok (files_view files)) }
     ensures err { IfErr result (λ why. files_of asked.now ≡ Err (misuse_line why)) }
@@ -118,7 +119,8 @@ fn convert_files<H: Host, W: Output, E: ErrorStream>(
     }
 }
 
-// Reads the first bytes of a log, makes the file at this path, and converts the log into it, and returns the status.
+// Reads the first bytes of a log, makes the file at this path, and converts the log into it, and
+// returns the status.
 fn convert_source<H: Host, R: Read + Drop, W: Output, E: ErrorStream>(
     alloc: Global,
     host: &H,
@@ -155,10 +157,10 @@ fn convert_source<H: Host, R: Read + Drop, W: Output, E: ErrorStream>(
 /// Converts the log that begins with these bytes, and goes on with those that `input` gives, and
 /// returns the status to exit with. Messages call the log by the name of its place.
 ///
-/// All of the log in version 2 is written to `made` and saved, and nothing is printed: 0. If the log
-/// is refused, what is written of the log up to there is written to `made` and saved, and the line
-/// that says so is written to `output`: 2. If reading or writing failed, that is reported on `error`, and `made` got no
-/// more than a beginning: 4.
+/// All of the log in version 2 is written to `made` and saved, and nothing is printed: 0. If the
+/// log is refused, what is written of the log up to there is written to `made` and saved, and the
+/// line that says so is written to `output`: 2. If reading or writing failed, that is reported on
+/// `error`, and `made` got no more than a beginning: 4.
 pub fn perform_convert<R: Read + Drop, M: NewFile, W: Output, E: ErrorStream>(
     alloc: Global,
     place: &str,

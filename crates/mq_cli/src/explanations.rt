@@ -69,7 +69,8 @@ pub const CONNECTIONS: [Explanation; 23] = [
     (Rule::C23, connections::C23),
 ];
 
-/// The texts of `explain` for the statements on Packet Identifiers, resends and the send quota, in the order of reports.
+/// The texts of `explain` for the statements on Packet Identifiers, resends and the send quota, in
+/// the order of reports.
 pub const SESSIONS: [Explanation; 7] = [
     (Rule::S01, sessions::S01),
     (Rule::S02, sessions::S02),
@@ -100,7 +101,8 @@ pub const EXCHANGES: [Explanation; 16] = [
     (Rule::E7R, exchanges::E7R),
 ];
 
-/// The texts of `explain` for the statements on releases of QoS 2 messages, in the order of reports.
+/// The texts of `explain` for the statements on releases of QoS 2 messages, in the order of
+/// reports.
 pub const RELEASES: [Explanation; 3] = [
     (Rule::L1, releases::L1),
     (Rule::L2, releases::L2),
@@ -219,8 +221,8 @@ pub fn each_statement_is_explained()
     ensures { map (λ explained. explained.rule) explanations ≡ all_rules }
 {}
 
-/// The first word of each explanation is the code of its statement. Since no two statements have one code, no two have one
-/// explanation.
+/// The first word of each explanation is the code of its statement. Since no two statements have
+/// one code, no two have one explanation.
 pub fn each_explanation_begins_with_its_code()
     ensures { map (λ explained. take_while (λ byte. not (byte == 32)) explained.text) explanations ≡ map (λ line. line.code) lines }
 {}

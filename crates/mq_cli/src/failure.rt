@@ -5,7 +5,8 @@ ghost use Rattle.mq_cli.specs.Streams.{IsTold, failure_line, stream};
 use crate::error_stream::ErrorStream;
 use crate::misuse::Misuse;
 
-/// The status if a log was judged and has no fault, if a log was shown, and if bytes are one packet.
+/// The status if a log was judged and has no fault, if a log was shown, and if bytes are one
+/// packet.
 pub const PASSED: u8 = 0;
 
 /// The status if a log was judged and has faults, or if bytes aren't one packet.
@@ -42,8 +43,8 @@ pub enum Failure {
 }
 
 impl Failure {
-    /// Writes to `error` what failed, and returns the status to exit with. If that fails too, only a
-    /// beginning of the line may be written.
+    /// Writes to `error` what failed, and returns the status to exit with. If that fails too, only
+    /// a beginning of the line may be written.
     pub fn report<E: ErrorStream>(self, error: &mut E) -> u8
         ensures status { result ≡ 4 }
         ensures printed { IsTold (stream E.contents E.has_failed error.old error.new) (failure_line self) }

@@ -51,8 +51,8 @@ pub trait Host {
         ensures opened { IfOk result (λ _. (gives self.now).opened (Some path.now)) }
         ensures failed { IfErr result ((gives self.now).unopened path.now) };
 
-    /// Makes the file at this path, or empties it, to be written from its first byte. What is read was
-    /// opened before, so that nothing is made if that fails.
+    /// Makes the file at this path, or empties it, to be written from its first byte. What is read
+    /// was opened before, so that nothing is made if that fails.
     ///
     /// # Errors
     ///

@@ -10,8 +10,8 @@ const STEP: u64 = 50_000_000;
 // How many bytes a line calls a megabyte.
 const MEGABYTE: u64 = 1_000_000;
 
-/// Says on a terminal how far judging is: after each 50 MB a line in place of the one before. If it isn't to be shown, it writes
-/// nothing.
+/// Says on a terminal how far judging is: after each 50 MB a line in place of the one before. If it
+/// isn't to be shown, it writes nothing.
 #[derive(Drop)]
 pub struct Meter<E> {
     error: E,

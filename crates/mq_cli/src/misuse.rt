@@ -72,7 +72,8 @@ fn write_misuse<E: ErrorStream>(text: &str, error: &mut E) -> u8
     }
 }
 
-// Writes that a word names nothing, in a line that begins with `start`, and then what there is, and returns the status.
+// Writes that a word names nothing, in a line that begins with `start`, and then what there is, and
+// returns the status.
 fn refuse_word<E: ErrorStream>(
     alloc: Global,
     start: &str,

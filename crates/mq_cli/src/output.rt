@@ -12,8 +12,8 @@ pub trait Output: Write {
     // Nobody reads it any more.
     ghost is_closed: { Self → Bool };
 
-    /// Whether the latest write or flush that failed did so because nobody reads the stream any more,
-    /// as where a pipe's reader has ended.
+    /// Whether the latest write or flush that failed did so because nobody reads the stream any
+    /// more, as where a pipe's reader has ended.
     fn is_closed(&self) -> bool
         ensures { result ≡ is_closed self.now };
 }

@@ -27,13 +27,13 @@ use std::io::Read;
 const COMMAND_LINE: &str = "the command line";
 
 /// Does what the words of the command line ask for, and returns the status to exit with: that of
-/// `attempt` for a task, of `review` for a log that is read twice, of `convert_file` for one that is
-/// converted, and of `stop` for help, the version and a misuse; 3 too if a word names nothing, and 4
-/// if something failed.
+/// `attempt` for a task, of `review` for a log that is read twice, of `convert_file` for one that
+/// is converted, and of `stop` for help, the version and a misuse; 3 too if a word names nothing,
+/// and 4 if something failed.
 ///
-/// What failed is reported on `error`, unless nobody reads `output` any more. If that was reading, a
-/// second line says what couldn't be read, and why. For a refused log whose first bytes show that it
-/// is another kind of file, a line on `error` says what to do with it. While a log is checked,
+/// What failed is reported on `error`, unless nobody reads `output` any more. If that was reading,
+/// a second line says what couldn't be read, and why. For a refused log whose first bytes show that
+/// it is another kind of file, a line on `error` says what to do with it. While a log is checked,
 /// `progress` is told how far that is.
 pub fn run<H: Host, W: Output, E: ErrorStream, P: Progress>(
     alloc: Global,
@@ -179,7 +179,8 @@ fn read_and_do<H: Host, W: Output, E: ErrorStream, P: Progress>(
     }
 }
 
-// Does the task on the log that a reader gives, and returns the status to exit with. Messages call the reader by this name.
+// Does the task on the log that a reader gives, and returns the status to exit with. Messages call
+// the reader by this name.
 fn do_on<R: Read + Drop, W: Output, E: ErrorStream, P: Progress>(
     alloc: Global,
     task: &Task,
@@ -218,7 +219,8 @@ fn do_on<R: Read + Drop, W: Output, E: ErrorStream, P: Progress>(
     }
 }
 
-// Does a task on the log that begins with these bytes and goes on with what `input` gives, and returns the status.
+// Does a task on the log that begins with these bytes and goes on with what `input` gives, and
+// returns the status.
 fn do_from<R: Read + Drop, W: Output, E: ErrorStream, P: Progress>(
     alloc: Global,
     task: &Task,

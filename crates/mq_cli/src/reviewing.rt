@@ -39,8 +39,8 @@ pub struct Plan<'a> {
 /// the refusal is written, since nothing is known of its faults: 2. Words that name no file, or no
 /// number after `--around`, or don't ask for faults are a misuse, which is reported on `error`: 3.
 /// If reading or writing failed or memory ran out, what failed is reported on `error`: 4; what was
-/// written until then is part of what would have been. For a refused log whose first bytes show that
-/// it is another kind of file, a line on `error` says what to do with it.
+/// written until then is part of what would have been. For a refused log whose first bytes show
+/// that it is another kind of file, a line on `error` says what to do with it.
 pub fn review<H: Host, W: Output, E: ErrorStream>(
     alloc: Global,
     host: &H,
@@ -169,8 +169,8 @@ fn show_readers<R: Read + Drop, W: Output, E: ErrorStream>(
     }
 }
 
-// Judges the log that begins with these bytes and goes on with what `judged` gives, shows the other one with its faults, and returns
-// the status.
+// Judges the log that begins with these bytes and goes on with what `judged` gives, shows the other
+// one with its faults, and returns the status.
 fn show_on<R: Read + Drop, W: Output, E: ErrorStream>(
     alloc: Global,
     plan: Plan<'_>,

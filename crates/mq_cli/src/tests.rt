@@ -1,4 +1,5 @@
-//! The program by its words: what it writes to both outputs, and its status, without and with failures.
+//! The program by its words: what it writes to both outputs, and its status, without and with
+//! failures.
 
 mod commands;
 mod converting;

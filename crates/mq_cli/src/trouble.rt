@@ -87,9 +87,9 @@ impl Trouble {
         }
     }
 
-    /// Writes to `error` what failed; if that was reading, a second line says what couldn't be read,
-    /// which `place` names, and why. Nothing is written if `output` couldn't be written because
-    /// nobody reads it any more. Returns the status to exit with.
+    /// Writes to `error` what failed; if that was reading, a second line says what couldn't be
+    /// read, which `place` names, and why. Nothing is written if `output` couldn't be written
+    /// because nobody reads it any more. Returns the status to exit with.
     pub fn report<W: Output, E: ErrorStream>(self, place: &str, output: &W, error: &mut E) -> u8
         ensures status { result ≡ 4 }
         ensures told { Tells (W.is_closed output.now) place.now self (stream E.contents E.has_failed error.old error.new) }

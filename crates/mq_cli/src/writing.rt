@@ -21,7 +21,8 @@ pub fn write_out<W: Write>(text: &str, writer: &mut W) -> Result<(), Failure>
     flush(writer)
 }
 
-// Writes the text. If a write fails, also by an interruption, a beginning of the text, but not all of it, was written.
+// Writes the text. If a write fails, also by an interruption, a beginning of the text, but not all
+// of it, was written.
 fn write_text<W: Write>(text: &str, writer: &mut W) -> Result<(), Failure>
     ensures written { OnOk result (Appends (W.contents writer.old) (W.contents writer.new) text.now) }
     ensures failed { IfErr result (λ failure. failure ≡ Failure.Write) }

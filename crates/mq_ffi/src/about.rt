@@ -6,7 +6,8 @@ ghost use Rattle.mq_ffi.specs.Texts.{PutsText, TellsText, TellsCitation};
 use crate::answer::{Trouble, code_of};
 use crate::fault::{role_at, statement_at};
 
-/// Puts a text and a zero byte at the start of a buffer. `length` is then that of the text, also if there is no room.
+/// Puts a text and a zero byte at the start of a buffer. `length` is then that of the text, also if
+/// there is no room.
 pub fn put_text(text: &str, buffer: &mut [u8], length: &mut usize) -> Result<(), Trouble>
     ensures { PutsText text.now buffer.old buffer.new length.new result }
 {

@@ -15,7 +15,8 @@ pub enum Trouble {
     Memory,
     /// The log is refused, by this call or an earlier one.
     Refused,
-    /// The call may not come here: bytes of a log and events are mixed, events come before `begin`, or the log has ended.
+    /// The call may not come here: bytes of a log and events are mixed, events come before `begin`,
+    /// or the log has ended.
     Order,
     /// More bytes than a record can have.
     Length,

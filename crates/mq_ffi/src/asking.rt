@@ -36,7 +36,8 @@ fn fault_at_index(faults: &Faults, index: usize) -> Option<FaultRow>
     Some(FaultRow::of(*key, *fault))
 }
 
-// The fault at this index among those at a position, in the order of the statements, if there are so many.
+// The fault at this index among those at a position, in the order of the statements, if there are
+// so many.
 fn fault_at_position(faults: &Faults, position: u32, index: usize) -> Option<FaultRow>
     ensures { IsRowOf (nth (faults_at position (map.entries faults.now)) index) result }
 {

@@ -1,4 +1,5 @@
-//! What the exported functions do: each takes the judge out of the handle, asks it, and puts it back.
+//! What the exported functions do: each takes the judge out of the handle, asks it, and puts it
+//! back.
 ghost use Rattle.std.specs.Prelude.{◌≡◌, ℕ, None};
 ghost use Rattle.mq_ffi.specs.Asking.{AsksFault, CountsFaults, ShowsFound, chosen_fault};
 ghost use Rattle.mq_ffi.specs.Calling.{Asked, AskedInto, Makes, MakesWith, limit_by as limit_for, Frees, FeedsAs, BeginsAs, TellsAs, AsksRefusal, AsksName, FinishesAs, BeginsWith};

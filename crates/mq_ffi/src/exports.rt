@@ -43,7 +43,8 @@ pub extern "C" fn mqjudge_feed(alloc: Global, judge: &mut Handle, bytes: &[u8]) 
     feed(alloc, judge, bytes)
 }
 
-/// Says which end is judged, before its events are told: 0 for a client, 1 for a server; and whether releases are told: 0 or 1.
+/// Says which end is judged, before its events are told: 0 for a client, 1 for a server; and
+/// whether releases are told: 0 or 1.
 #[unsafe(no_mangle)]
 pub extern "C" fn mqjudge_begin(
     alloc: Global,
@@ -96,7 +97,8 @@ pub extern "C" fn mqjudge_rest(alloc: Global, judge: &mut Handle) -> u32
     tell(alloc, judge, Event::Rest)
 }
 
-/// Tells the judge that the end released the QoS 2 message that it received under this Packet Identifier.
+/// Tells the judge that the end released the QoS 2 message that it received under this Packet
+/// Identifier.
 #[unsafe(no_mangle)]
 pub extern "C" fn mqjudge_release(alloc: Global, judge: &mut Handle, identifier: u16) -> u32
     ensures { Asked (TellsAs (happened.Release identifier)) (held judge.old) (held judge.new) result }
@@ -152,7 +154,8 @@ pub extern "C" fn mqjudge_fault_from(
     ask_fault(alloc, judge, Choice::From(position), fault)
 }
 
-/// Why the log is refused: the number of the refusal, and the offset in the log of the refused byte.
+/// Why the log is refused: the number of the refusal, and the offset in the log of the refused
+/// byte.
 #[unsafe(no_mangle)]
 pub extern "C" fn mqjudge_refusal(
     alloc: Global,

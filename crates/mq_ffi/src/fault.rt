@@ -12,7 +12,8 @@ pub struct FaultRow {
     pub position: u32,
     /// The number of the statement that is false there, in the order of reports, counted from 0.
     pub statement: u32,
-    /// The last position of the shortest beginning of the log in which the statement is false there.
+    /// The last position of the shortest beginning of the log in which the statement is false
+    /// there.
     pub decided: u32,
     /// The number of the record of the fault's position.
     pub record: u32,

@@ -11,7 +11,8 @@ use std::mem::replace;
 /// The number that says that a handle holds a judge.
 const HOLDS: u64 = 1;
 
-/// A caller's handle. C's `mqjudge` has the same fields, in this order, and its caller never writes them.
+/// A caller's handle. C's `mqjudge` has the same fields, in this order, and its caller never writes
+/// them.
 #[repr(C)]
 #[derive(Drop)]
 pub struct Handle {

@@ -1,5 +1,5 @@
-//! The judge for a caller in C, while what it judges still runs. `include/mqjudge.h` declares each exported function, and says
-//! what a caller must keep.
+//! The judge for a caller in C, while what it judges still runs. `include/mqjudge.h` declares each
+//! exported function, and says what a caller must keep.
 #![tactic(auto)]
 
 mod about;

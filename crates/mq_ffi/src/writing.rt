@@ -17,7 +17,8 @@ pub fn header_in(buffer: Vec<u8>, header: Header) -> (Vec<u8>, bool)
     (log.into_inner(), written)
 }
 
-/// The bytes of an event's record in version 1, in this buffer. `false` if there was no memory for them.
+/// The bytes of an event's record in version 1, in this buffer. `false` if there was no memory for
+/// them.
 pub fn record_in(buffer: Vec<u8>, event: Event<'_>) -> (Vec<u8>, bool)
     requires { IsTrue (fits event) }
     ensures { IsTrue result.1 → result.0.items ≡ bytes_of event.entry }

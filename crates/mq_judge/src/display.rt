@@ -1,4 +1,5 @@
-//! Shows the events of a log from a reader: a line for each, short or long, with or without the faults at them.
+//! Shows the events of a log from a reader: a line for each, short or long, with or without the
+//! faults at them.
 ghost use Rattle.std.specs.Prelude.{◌≡◌, Bool, true, false, IfSome, OnOk, IfErr, [], List, Option, length, ℕ};
 ghost use Rattle.std.specs.FinMap as map;
 ghost use Rattle.mq_judge.specs.Runner.{default_limit};
@@ -27,8 +28,8 @@ use std::alloc::Global;
 use std::io::{Read, Write};
 use std::marker::{Brand, PhantomData};
 
-/// Which `Outgoing` to which writer is used, what the writer held at first, by what text events are shown, and whether the log is
-/// foreseen to be timed. Each call of `show_all` picks them.
+/// Which `Outgoing` to which writer is used, what the writer held at first, by what text events are
+/// shown, and whether the log is foreseen to be timed. Each call of `show_all` picks them.
 trait Given {
     ghost use Rattle.std.specs.Prelude.{ℕ, Bool, List, Option};
     ghost use Rattle.mq_trace.specs.Events.{Placed};
@@ -58,7 +59,8 @@ impl Given for Brand {
     ghost timed = { false };
 }
 
-/// A sink that is told, once the log's header is whole, whether its records have moments; and that may fail between two pieces.
+/// A sink that is told, once the log's header is whole, whether its records have moments; and that
+/// may fail between two pieces.
 trait Told: Sink {
     ghost use Rattle.std.specs.Prelude.{◌≡◌, Bool, true, false, List, OnOk, IfErr};
     ghost use Rattle.mq_trace.specs.Events.{Placed};
@@ -70,7 +72,8 @@ trait Told: Sink {
 
     ghost has_failed: { Self → Bool };
 
-    /// Tells it whether the log's records have moments. It needs to be told before each piece that may complete an event.
+    /// Tells it whether the log's records have moments. It needs to be told before each piece that
+    /// may complete an event.
     fn tell(&mut self, timed: bool)
         ensures { (earlier : List Placed) → received self.old earlier → timed ≡ foreseen → Self.agrees self.new earlier };
 
@@ -86,7 +89,8 @@ trait Told: Sink {
     ghost keeps: { (sink : Self) (earlier : List Placed) → Self.agrees sink earlier → received sink earlier };
 }
 
-/// A sink that writes what is shown of each event. It refuses none: after a failed write it writes nothing more.
+/// A sink that writes what is shown of each event. It refuses none: after a failed write it writes
+/// nothing more.
 struct Display<'a, 'b, 'f, W, K> {
     out: &'b mut Outgoing<'a, W>,
     view: View<'f>,
@@ -113,8 +117,8 @@ impl<W: Write, K: Given> Sink for Display<'_, '_, '_, W, K> {
     ghost use Rattle.mq_judge.specs.Outgoing.{Carries};
     ghost use Rattle.mq_judge.specs.Views.{IsStateAfter, text_by};
 
-    // It was told what was foreseen. What was written and what waits are the text of the events; or a write failed, and what was written
-    // is a beginning of it.
+    // It was told what was foreseen. What was written and what waits are the text of the events; or
+    // a write failed, and what was written is a beginning of it.
     ghost agrees = { λ display received. ((display.out.now.writer.ghost_name ≡ K.name) × (text_by K.timed display.view ≡ K.text)
         × IsStateAfter received display.view × Carries W.contents K.held (K.text received) display.out.now
         × (display.out.ghost_name ≡ K.direction)) × (display.timed ≡ K.timed) };
@@ -191,17 +195,20 @@ impl<S: Told> Feed<S, Refusal> for Showing {
     }
 }
 
-/// Writes a line for each event of the log that a reader gives: `<position> record <n> `, for a log of version 2 `moment <m> ` with
-/// the moment of that record, and then `OPEN`, `CLOSE`, `REST`, `RELEASE <id>`, or `SENT ` or `RECV ` with what `write_packet` writes
-/// of the item: `<TYPE> size <n>`, with ` qos <q> dup <d>` for a PUBLISH and ` id <i>` if there is a Packet Identifier;
-/// `BAD <code> offset <n>` if it breaks a rule; `LOST` if the rest of the direction can't be parsed. Lines are buffered in 8,192 bytes,
-/// and all are written before it returns. It reads at most 4,294,967,295 times, and at most 65,536 bytes each time.
+/// Writes a line for each event of the log that a reader gives: `<position> record <n> `, for a log
+/// of version 2 `moment <m> ` with the moment of that record, and then `OPEN`, `CLOSE`, `REST`,
+/// `RELEASE <id>`, or `SENT ` or `RECV ` with what `write_packet` writes of the item: `<TYPE> size
+/// <n>`, with ` qos <q> dup <d>` for a PUBLISH and ` id <i>` if there is a Packet Identifier; `BAD
+/// <code> offset <n>` if it breaks a rule; `LOST` if the rest of the direction can't be parsed.
+/// Lines are buffered in 8,192 bytes, and all are written before it returns. It reads at most
+/// 4,294,967,295 times, and at most 65,536 bytes each time.
 ///
 /// # Errors
 ///
-/// `Refused` if the log is refused, if the reader fails or hasn't ended after the last read, or if there is no memory. Exactly
-/// the lines of the events before the refused byte were then written. `Write` if a write failed: the writer returned an error,
-/// also one for an interruption, or took no byte. A beginning of the lines, but not all of them, was then written.
+/// `Refused` if the log is refused, if the reader fails or hasn't ended after the last read, or if
+/// there is no memory. Exactly the lines of the events before the refused byte were then written.
+/// `Write` if a write failed: the writer returned an error, also one for an interruption, or took
+/// no byte. A beginning of the lines, but not all of them, was then written.
 ///
 /// # Examples
 ///
@@ -233,11 +240,13 @@ pub fn show<R: Read, W: Write>(
     show_view(alloc, View::Brief, reader, &mut out)
 }
 
-/// Shows the events of a log as `show` does, in long lines: the words of each line are followed by the other fields of its packet and its properties, each by its name.
-/// Those of a packet that breaks a rule are followed by `type <TYPE> bytes <bytes>`: the type that its first byte names (`Reserved`
-/// if that is 0), and at most 64 of its bytes, with the one at the offset in brackets. They are the first ones, or if the offset
-/// isn't among them, 32 before it, the one there and 31 after it; `..` stands where bytes are left out, and `[]` at the end if the
-/// packet ends before the offset.
+/// Shows the events of a log as `show` does, in long lines: the words of each line are followed by
+/// the other fields of its packet and its properties, each by its name. Those of a packet that
+/// breaks a rule are followed by `type <TYPE> bytes <bytes>`: the type that its first byte names
+/// (`Reserved` if that is 0), and at most 64 of its bytes, with the one at the offset in brackets.
+/// They are the first ones, or if the offset isn't among them, 32 before it, the one there and 31
+/// after it; `..` stands where bytes are left out, and `[]` at the end if the packet ends before
+/// the offset.
 ///
 /// # Errors
 ///
@@ -253,11 +262,15 @@ pub fn show_long<R: Read, W: Write>(
     show_view(alloc, View::Long, reader, &mut out)
 }
 
-/// Writes the events of the log that a reader gives, as `show` does, or as `show_long` if `long` is true, and under each the faults at its position, a
-/// line for each: `  fault <code> <citation> <sentence>`, with ` (decided at event <n>)` if that is a later one, ` (offset <n>)` if the fault is on a
-/// packet's bytes, and in a log of version 2 ` (at <date> <time> UTC)` if the moment of the event's record is one from 2000-01-01 to before
-/// 2100-01-01 in microseconds since 1970-01-01 00:00:00 UTC, as in ` (at 2026-11-26 17:03:21.123456 UTC)`. The faults are those of an end in this role. A packet that breaks a rule has its type and its bytes on its line, as in `show_long`.
-/// With `around`, only events at most that many positions from a fault are shown, and each run of others is a line `..`.
+/// Writes the events of the log that a reader gives, as `show` does, or as `show_long` if `long` is
+/// true, and under each the faults at its position, a line for each: `  fault <code> <citation>
+/// <sentence>`, with ` (decided at event <n>)` if that is a later one, ` (offset <n>)` if the fault
+/// is on a packet's bytes, and in a log of version 2 ` (at <date> <time> UTC)` if the moment of the
+/// event's record is one from 2000-01-01 to before 2100-01-01 in microseconds since 1970-01-01
+/// 00:00:00 UTC, as in ` (at 2026-11-26 17:03:21.123456 UTC)`. The faults are those of an end in
+/// this role. A packet that breaks a rule has its type and its bytes on its line, as in
+/// `show_long`. With `around`, only events at most that many positions from a fault are shown, and
+/// each run of others is a line `..`.
 ///
 /// # Errors
 ///
@@ -286,7 +299,8 @@ pub fn show_faults<R: Read, W: Write>(
     show_view(alloc, view, reader, &mut out)
 }
 
-// Shows all that a reader gives, from a view that has shown nothing yet, by an `Outgoing` without text.
+// Shows all that a reader gives, from a view that has shown nothing yet, by an `Outgoing` without
+// text.
 fn show_view<R: Read, W: Write>(
     alloc: Global,
     view: View<'_>,
@@ -310,7 +324,8 @@ fn show_view<R: Read, W: Write>(
     show_all::<R, W, Brand>(&mut showing, &mut display, reader, u32::MAX)
 }
 
-// Shows all that a reader gives in at most `turns` turns, from a sink that has received nothing yet, to the writer that was picked.
+// Shows all that a reader gives in at most `turns` turns, from a sink that has received nothing
+// yet, to the writer that was picked.
 fn show_all<R: Read, W: Write, K: Given>(
     showing: &mut Showing,
     display: &mut Display<'_, '_, '_, W, K>,

@@ -6,12 +6,13 @@ ghost use Rattle.mq_judge.specs.Stopping.{FedBefore};
 use mq_trace::{Feed, Refusal, feed_all};
 use std::io::Read;
 
-/// Feeds all that a reader gives, at most as many bytes a turn as the buffer holds, for at most `turns` turns. The buffer holds 1 to
-/// 65,536 bytes.
+/// Feeds all that a reader gives, at most as many bytes a turn as the buffer holds, for at most
+/// `turns` turns. The buffer holds 1 to 65,536 bytes.
 ///
 /// # Errors
 ///
-/// The feeder's refusal; `Read`, at the number of bytes that were fed, if the reader fails or hasn't ended after `turns` turns.
+/// The feeder's refusal; `Read`, at the number of bytes that were fed, if the reader fails or
+/// hasn't ended after `turns` turns.
 pub fn feed_log<R: Read, S, F: Feed<S, Refusal>>(
     feeder: &mut F,
     sink: &mut S,

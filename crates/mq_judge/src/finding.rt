@@ -113,17 +113,20 @@ fn write_finding<W: Write>(found: Finding, writer: &mut W) -> Result<(), RunFaul
     }
 }
 
-/// Writes the line that says what these bytes are, which should be one Control Packet (MQTT 5.0, section 2.1), and returns
-/// whether they are: one frame, with nothing before or after it, that spells a packet. It takes no memory.
+/// Writes the line that says what these bytes are, which should be one Control Packet (MQTT 5.0,
+/// section 2.1), and returns whether they are: one frame, with nothing before or after it, that
+/// spells a packet. It takes no memory.
 ///
-/// The line is `<TYPE> size <n>` for a packet, with ` qos <q> dup <d>` for a PUBLISH and ` id <i>` if there is a Packet
-/// Identifier; `BAD <code> offset <n>` for a frame that breaks a rule, with the field's offset; `other version <n>` for a
-/// CONNECT of another protocol version; `left over <n> bytes` if bytes follow a whole frame, whatever it holds; `LOST`
-/// if the Remaining Length is invalid; and `need more bytes` if it or the frame isn't whole.
+/// The line is `<TYPE> size <n>` for a packet, with ` qos <q> dup <d>` for a PUBLISH and ` id <i>`
+/// if there is a Packet Identifier; `BAD <code> offset <n>` for a frame that breaks a rule, with
+/// the field's offset; `other version <n>` for a CONNECT of another protocol version; `left over
+/// <n> bytes` if bytes follow a whole frame, whatever it holds; `LOST` if the Remaining Length is
+/// invalid; and `need more bytes` if it or the frame isn't whole.
 ///
 /// # Errors
 ///
-/// `Write` if a write failed: the writer returned an error, also one for an interruption, or took no byte. A beginning of the line was then written.
+/// `Write` if a write failed: the writer returned an error, also one for an interruption, or took
+/// no byte. A beginning of the line was then written.
 ///
 /// # Examples
 ///

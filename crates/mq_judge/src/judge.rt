@@ -77,7 +77,8 @@ impl Judge {
         }
     }
 
-    /// Which end is judged, once the log's header is whole. After a refusal it is what the bytes before the refused one say.
+    /// Which end is judged, once the log's header is whole. After a refusal it is what the bytes
+    /// before the refused one say.
     pub fn role(&self) -> Option<Role>
         ensures { (taken : List ℕ) → Knows self.now taken → result ≡ (if nat_lt (length taken) 8 then None else Some (tested_by taken).role) }
     {
@@ -85,16 +86,18 @@ impl Judge {
         Some(Tested::of(header).role)
     }
 
-    /// The faults that are known: those of the events so far, each with the event that shows it. What is known stays, whatever comes after it. After a refusal
-    /// they are those of the events that are complete before the refused byte.
+    /// The faults that are known: those of the events so far, each with the event that shows it.
+    /// What is known stays, whatever comes after it. After a refusal they are those of the events
+    /// that are complete before the refused byte.
     pub fn known(&self) -> &Faults
         ensures { (taken : List ℕ) → Knows self.now taken → AreFaultsOf taken result.now }
     {
         &self.judging.watching.faults
     }
 
-    /// How much the judge keeps of the log: the sum of the lengths of all its collections but the faults and the bytes of unfinished packets. It is
-    /// within four times what is open in the log: Packet Identifiers, filters, Topic Aliases, and the events of an undecided connection.
+    /// How much the judge keeps of the log: the sum of the lengths of all its collections but the
+    /// faults and the bytes of unfinished packets. It is within four times what is open in the log:
+    /// Packet Identifiers, filters, Topic Aliases, and the events of an undecided connection.
     pub fn weight(&self) -> usize
         ensures { (log : List ℕ) → Follows self.now log → result ≤ 4 * burden self.now.judging.watching.tested (seen_in log) }
     {
@@ -105,8 +108,9 @@ impl Judge {
     ///
     /// # Errors
     ///
-    /// The refusal whose condition applies at the earliest byte, and at one byte the one with the lowest number; or `Memory`, at the byte that was being taken
-    /// in, if no condition applies at it, nor at one before it. From then on each call fails with the same refusal.
+    /// The refusal whose condition applies at the earliest byte, and at one byte the one with the
+    /// lowest number; or `Memory`, at the byte that was being taken in, if no condition applies at
+    /// it, nor at one before it. From then on each call fails with the same refusal.
     pub fn feed(&mut self, piece: &[u8]) -> Result<(), Refusal>
         ensures answers { (log : List ℕ) → Follows self.old log → JudgesPiece log piece.now self.new result }
         ensures limit { self.new.limit ≡ self.old.limit }
@@ -116,7 +120,8 @@ impl Judge {
         consume(&mut self.tracer, &mut self.judging, piece)
     }
 
-    /// Ends the log, and returns how many events it has. The faults stay known: they are the verdict's. It needs no memory.
+    /// Ends the log, and returns how many events it has. The faults stay known: they are the
+    /// verdict's. It needs no memory.
     ///
     /// # Errors
     ///
@@ -139,7 +144,8 @@ impl Judge {
     ///
     /// # Errors
     ///
-    /// The refusal that an earlier call returned; `Cut`, at the log's length, if the log ends inside its header or a record.
+    /// The refusal that an earlier call returned; `Cut`, at the log's length, if the log ends
+    /// inside its header or a record.
     pub fn finish(self) -> Result<Verdict, Refusal>
         ensures verdict { (log : List ℕ) → Follows self log → Finishes (λ v. v.events) (λ v. v.faults) log result }
         ensures for_ever { IfSome self.tracer.refusal (λ refusal. result ≡ Err refusal) }
@@ -148,7 +154,8 @@ impl Judge {
         Ok(verdict)
     }
 
-    /// Ends the log, and returns the verdict on it and the role of the end that was judged, which `write_text` and its like ask for.
+    /// Ends the log, and returns the verdict on it and the role of the end that was judged, which
+    /// `write_text` and its like ask for.
     ///
     /// # Errors
     ///
@@ -173,7 +180,8 @@ impl Judge {
     }
 }
 
-// Takes in a piece of a log: first what belongs to its header, which names the end that is judged, and then the rest, in which events are complete.
+// Takes in a piece of a log: first what belongs to its header, which names the end that is judged,
+// and then the rest, in which events are complete.
 fn consume(tracer: &mut Tracer, judging: &mut Judging<Brand>, piece: &[u8]) -> Result<(), Refusal>
     ensures answers { (limit : ℕ) (log : List ℕ) → FollowsBy limit tracer.old judging.old.watching log → JudgesPieceBy limit tracer.new judging.new.watching log piece.now result }
     ensures refuses { IfErr result (λ refusal. tracer.new.refusal ≡ Some refusal) }

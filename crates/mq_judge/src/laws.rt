@@ -10,12 +10,14 @@ ghost use Rattle.mq_judge.specs.Calendar.{IsDate, day_of_month, month_of, utc_te
 ghost use Rattle.mq_judge.specs.Judging.{AreFaultsOf};
 ghost use Rattle.mq_judge.specs.Report.{report};
 
-/// A fault that is known of a log stays, with the event that decided it, its record and its offset, whatever bytes follow.
+/// A fault that is known of a log stays, with the event that decided it, its record and its offset,
+/// whatever bytes follow.
 pub fn known_faults_stay()
     ensures { (log more : List ℕ) (known later : FaultMap) → AreFaultsOf log known → AreFaultsOf (log ++ more) later → (k : ℕ) (rule : Rule) (fault : Fault) → fault_at known k rule ≡ Some fault → fault_at later k rule ≡ Some fault }
 {}
 
-/// A log of version 1 that isn't refused, and isn't cut short, has the same report once it is converted into version 2.
+/// A log of version 1 that isn't refused, and isn't cut short, has the same report once it is
+/// converted into version 2.
 pub fn converted_logs_have_the_same_report()
     ensures { (limit : ℕ) (log : List ℕ) (form : Form) → slice_index log 4 ≡ 1 → refused limit log ≡ None → is_cut_short log ≡ false → report form (converted log) ≡ report form log }
 {}

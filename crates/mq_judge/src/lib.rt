@@ -1,4 +1,5 @@
-//! Judges the log of one end of an MQTT 5.0 session: which chosen statements of the protocol that end broke, and where.
+//! Judges the log of one end of an MQTT 5.0 session: which chosen statements of the protocol that
+//! end broke, and where.
 #![tactic(auto)]
 
 mod display;

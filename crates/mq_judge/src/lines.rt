@@ -186,7 +186,8 @@ fn digit_count(number: u32) -> usize
     }
 }
 
-// Fills the bytes with a number's decimal digits, from the last ones on. Two digits at a time take half the divisions.
+// Fills the bytes with a number's decimal digits, from the last ones on. Two digits at a time take
+// half the divisions.
 fn write_digits(digits: &mut [u8], number: u32)
     requires { length digits.old ≡ length (decimal number) }
     ensures { digits.new ≡ decimal number }

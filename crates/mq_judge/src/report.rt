@@ -79,13 +79,14 @@ impl fmt::Display for Counts {
     }
 }
 
-/// Writes the line that replaces the report for a log that is refused. It takes memory only in the form `Json`.
+/// Writes the line that replaces the report for a log that is refused. It takes memory only in the
+/// form `Json`.
 ///
 /// # Errors
 ///
-/// `Write` if a write failed: the writer returned an error, also one for an interruption, or took no byte. A beginning of the line, but not all
-/// of it, was then written.
-/// `Memory` if there is no memory for the JSON. Nothing was then written.
+/// `Write` if a write failed: the writer returned an error, also one for an interruption, or took
+/// no byte. A beginning of the line, but not all of it, was then written. `Memory` if there is no
+/// memory for the JSON. Nothing was then written.
 pub fn write_refused<W: Write>(
     alloc: Global,
     refusal: &Refusal,

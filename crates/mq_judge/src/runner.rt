@@ -20,7 +20,8 @@ use mq_trace::Refusal;
 use std::alloc::Global;
 use std::io::{Read, Write};
 
-/// Judges the log that a reader gives, and writes the report on it in this form. It is `run_bounded` with 4,294,967,295 turns.
+/// Judges the log that a reader gives, and writes the report on it in this form. It is
+/// `run_bounded` with 4,294,967,295 turns.
 ///
 /// # Errors
 ///
@@ -47,8 +48,9 @@ pub fn run<R: Read, W: Write>(
     run_bounded(alloc, reader, writer, form, u32::MAX)
 }
 
-/// Judges the log that a reader gives, and writes the report, as `run` does. After each turn it tells `progress` how many bytes the
-/// turn gave, and how many faults are known, until the log is refused.
+/// Judges the log that a reader gives, and writes the report, as `run` does. After each turn it
+/// tells `progress` how many bytes the turn gave, and how many faults are known, until the log is
+/// refused.
 ///
 /// # Errors
 ///
@@ -66,14 +68,15 @@ pub fn run_watched<R: Read, W: Write, P: Progress>(
     run_all(alloc, reader, writer, form, u32::MAX, progress)
 }
 
-/// Judges the log that a reader gives, and writes the report on it in this form. It reads at most `turns` times, counting interrupted reads, and at most 8,192
-/// bytes each time.
+/// Judges the log that a reader gives, and writes the report on it in this form. It reads at most
+/// `turns` times, counting interrupted reads, and at most 8,192 bytes each time.
 ///
 /// # Errors
 ///
-/// `Refused` if the log is refused, if the reader fails or hasn't ended after `turns` reads (refusal 15), or if the judge has no memory (refusal 16). Nothing
-/// was then written. `Write` if a write failed. A beginning of the report, but not all of it, was then written. `Memory` if there is no memory for a report as
-/// JSON. Nothing was then written.
+/// `Refused` if the log is refused, if the reader fails or hasn't ended after `turns` reads
+/// (refusal 15), or if the judge has no memory (refusal 16). Nothing was then written. `Write` if a
+/// write failed. A beginning of the report, but not all of it, was then written. `Memory` if there
+/// is no memory for a report as JSON. Nothing was then written.
 pub fn run_bounded<R: Read, W: Write>(
     alloc: Global,
     reader: &mut R,
@@ -88,7 +91,8 @@ pub fn run_bounded<R: Read, W: Write>(
     run_all(alloc, reader, writer, form, turns, &mut ())
 }
 
-// Judges the log that a reader gives in at most `turns` turns, telling `progress` how far it is, and writes the report.
+// Judges the log that a reader gives in at most `turns` turns, telling `progress` how far it is,
+// and writes the report.
 fn run_all<R: Read, W: Write, P: Progress>(
     alloc: Global,
     reader: &mut R,
@@ -108,12 +112,13 @@ fn run_all<R: Read, W: Write, P: Progress>(
     Ok(outcome(&verdict))
 }
 
-/// Judges the log that a reader gives, and returns the verdict on it and the role of the end that was judged. It reads at most 4,294,967,295 times, and at most
-/// 8,192 bytes each time.
+/// Judges the log that a reader gives, and returns the verdict on it and the role of the end that
+/// was judged. It reads at most 4,294,967,295 times, and at most 8,192 bytes each time.
 ///
 /// # Errors
 ///
-/// Why the log is refused; `Read` if the reader fails, or hasn't ended after the last turn; `Memory` if the judge has no memory.
+/// Why the log is refused; `Read` if the reader fails, or hasn't ended after the last turn;
+/// `Memory` if the judge has no memory.
 ///
 /// # Examples
 ///
@@ -128,7 +133,8 @@ pub fn judge_reader<R: Read>(alloc: Global, reader: &mut R) -> Result<(Verdict, 
     judge_bounded(alloc, reader, u32::MAX, &mut ())
 }
 
-// Judges the log that a reader gives in at most `turns` turns, telling `progress` how far it is, and returns the verdict and the role.
+// Judges the log that a reader gives in at most `turns` turns, telling `progress` how far it is,
+// and returns the verdict and the role.
 fn judge_bounded<R: Read, P: Progress>(
     alloc: Global,
     reader: &mut R,
@@ -146,9 +152,8 @@ fn judge_bounded<R: Read, P: Progress>(
 
 // Writes the report on a verdict in this form.
 //
-// # Errors
-//
-// `Write` if a write failed. A beginning of the report, but not all of it, was then written. `Memory` if there is no memory for a report as JSON.
+// Errors: `Write` if a write failed. A beginning of the report, but not all of it, was then
+// written. `Memory` if there is no memory for a report as JSON.
 fn write_report<W: Write>(
     alloc: Global,
     verdict: &Verdict,

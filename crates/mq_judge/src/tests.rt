@@ -1,4 +1,5 @@
-//! The judge on logs, each with its report or its lines: worked out by hand from the format and the statements, or compared with evaluators that look back.
+//! The judge on logs, each with its report or its lines: worked out by hand from the format and the
+//! statements, or compared with evaluators that look back.
 
 mod annotated;
 mod debts;

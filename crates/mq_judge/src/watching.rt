@@ -60,7 +60,8 @@ impl Watching {
         }
     }
 
-    /// How much is kept of the log: the sum of the lengths of all collections that the watchers keep. The faults don't count.
+    /// How much is kept of the log: the sum of the lengths of all collections that the watchers
+    /// keep. The faults don't count.
     pub fn weight(&self) -> usize
         ensures { (past : List TheSeen) → IsWatching self.now past → result ≤ 4 * burden self.now.tested past }
     {
@@ -74,8 +75,8 @@ impl Watching {
         replace(&mut self.faults, Faults::new(self.alloc))
     }
 
-    // Counts the next event, if the watchers need not take it in: it changes nothing that they keep, and shows no fault. If it returns
-    // false, nothing has changed.
+    // Counts the next event, if the watchers need not take it in: it changes nothing that they
+    // keep, and shows no fault. If it returns false, nothing has changed.
     #[inline(always)]
     fn pass_over(&mut self, place: Place3, note: &Note) -> bool
         ensures tested { self.new.tested ≡ self.old.tested }
@@ -91,9 +92,8 @@ impl Watching {
 
     // Takes in the next event, and finds the faults that it shows.
     //
-    // # Errors
-    //
-    // `Memory` if there is no memory for a fault, or for what is kept. The faults are then those of the events before it, and nothing more can be taken in.
+    // Errors: `Memory` if there is no memory for a fault, or for what is kept. The faults are then
+    // those of the events before it, and nothing more can be taken in.
     fn take_in(&mut self, place: Place3, note: &Note) -> Result<(), Memory>
         ensures tested { self.new.tested ≡ self.old.tested }
         ensures ok { OnOk result (TakesIn self.old self.new place note.now) }
@@ -111,7 +111,8 @@ impl Watching {
         }
     }
 
-    // Counts a PINGREQ or PINGRESP that need not be taken in. If it returns false, nothing has changed.
+    // Counts a PINGREQ or PINGRESP that need not be taken in. If it returns false, nothing has
+    // changed.
     #[inline(always)]
     fn pass_ping(
         &mut self,
@@ -130,8 +131,8 @@ impl Watching {
         }
     }
 
-    // Counts a PUBLISH that has these fields, a short Topic Name, and no properties, if it need not be taken in. If it returns false,
-    // nothing has changed.
+    // Counts a PUBLISH that has these fields, a short Topic Name, and no properties, if it need not
+    // be taken in. If it returns false, nothing has changed.
     #[inline(always)]
     fn pass_bare_publish(
         &mut self,
@@ -152,7 +153,8 @@ impl Watching {
         self.pass_over(place, &note)
     }
 
-    // What makes a note that is taken in is a call of its own: a note that a function makes lies in memory on all ways through it.
+    // What makes a note that is taken in is a call of its own: a note that a function makes lies in
+    // memory on all ways through it.
 
     // Makes a note of an event, and takes it in.
     #[inline(never)]
@@ -167,7 +169,8 @@ impl Watching {
         self.take_in(place, &note)
     }
 
-    // Makes a note of a packet, and takes it in. It takes the packet by value: one that a call looks at lies in memory on all ways to it.
+    // Makes a note of a packet, and takes it in. It takes the packet by value: one that a call
+    // looks at lies in memory on all ways to it.
     #[inline(never)]
     fn take_packet(
         &mut self,
@@ -186,7 +189,8 @@ impl Watching {
         self.take_in(place, &note)
     }
 
-    // Makes a note of a PUBLISH that has these fields, a short Topic Name, and no properties, and takes it in.
+    // Makes a note of a PUBLISH that has these fields, a short Topic Name, and no properties, and
+    // takes it in.
     #[inline(never)]
     fn take_bare_publish(
         &mut self,
@@ -209,9 +213,7 @@ impl Watching {
 
     // Takes in the next event, a packet.
     //
-    // # Errors
-    //
-    // As in `take_in`.
+    // Errors: As in `take_in`.
     #[inline(always)]
     fn receive_packet(
         &mut self,
@@ -230,11 +232,10 @@ impl Watching {
         self.take_packet(place, direction, size, packet)
     }
 
-    // Takes in the next event, a PUBLISH that has these fields, a short Topic Name, and no properties.
+    // Takes in the next event, a PUBLISH that has these fields, a short Topic Name, and no
+    // properties.
     //
-    // # Errors
-    //
-    // As in `take_in`.
+    // Errors: As in `take_in`.
     #[inline(always)]
     fn receive_bare_publish(
         &mut self,

@@ -1,7 +1,8 @@
-//! Packets in their shortest form, which are most packets of a log: a PUBLISH of QoS 0 with no properties, an acknowledgement that is
-//! no more than a Packet Identifier, PINGREQ and PINGRESP.
+//! Packets in their shortest form, which are most packets of a log: a PUBLISH of QoS 0 with no
+//! properties, an acknowledgement that is no more than a Packet Identifier, PINGREQ and PINGRESP.
 //!
-//! Each is decoded by a function in which no other packet is possible, so that it takes no stack for others.
+//! Each is decoded by a function in which no other packet is possible, so that it takes no stack
+//! for others.
 
 ghost use Rattle.std.specs.Prelude.{◌≡◌, ◌≤◌, ◌<◌, IfSome, is_some, Ok, Some, length};
 ghost use Rattle.mq_packet.specs.declared.packet.Packet.TheVariants as packets;
@@ -19,7 +20,8 @@ use crate::reading::{SUCCESS, read_brief_publish};
 use mq_props::{Props, after_empty_list};
 use mq_wire::Cursor;
 
-/// Whether the body of a PUBLISH of QoS 0 has a Topic Name that isn't cut short, and no properties (MQTT 5.0, section 3.3.2).
+/// Whether the body of a PUBLISH of QoS 0 has a Topic Name that isn't cut short, and no properties
+/// (MQTT 5.0, section 3.3.2).
 #[inline(always)]
 pub fn has_no_properties(body: &[u8]) -> bool
     requires { length body.now ≤ 268435455 }
@@ -32,8 +34,9 @@ pub fn has_no_properties(body: &[u8]) -> bool
     }
 }
 
-/// The PUBLISH that has this first byte and this body, if it has QoS 0, a plain Topic Name that isn't empty, and no properties, as
-/// most have: the packet that [`decode`](crate::decode) returns for them. `None` for any other packet, and for a fault.
+/// The PUBLISH that has this first byte and this body, if it has QoS 0, a plain Topic Name that
+/// isn't empty, and no properties, as most have: the packet that [`decode`](crate::decode) returns
+/// for them. `None` for any other packet, and for a fault.
 #[inline(always)]
 pub fn decode_brief_publish<'a>(first: u8, body: &'a [u8]) -> Option<Publish<'a>>
     requires from { 48 ≤ first }
@@ -59,8 +62,9 @@ fn read_brief_body<'a>(first: u8, body: &'a [u8]) -> Option<Publish<'a>>
     read_brief_publish(flags(first), cursor)
 }
 
-/// The PUBACK, PUBREC, PUBREL or PUBCOMP that has this first byte and this body, if the body is no more than a Packet Identifier other
-/// than 0 (MQTT 5.0, sections 3.4 to 3.7): the packet that [`decode`](crate::decode) returns for them. `None` for any other packet, and for a fault.
+/// The PUBACK, PUBREC, PUBREL or PUBCOMP that has this first byte and this body, if the body is no
+/// more than a Packet Identifier other than 0 (MQTT 5.0, sections 3.4 to 3.7): the packet that
+/// [`decode`](crate::decode) returns for them. `None` for any other packet, and for a fault.
 #[inline(always)]
 pub fn decode_brief_acknowledgement<'a>(first: u8, body: &[u8]) -> Option<Packet<'a>>
     ensures brief { is_some result ≡ is_brief_acknowledgement first body.now }
@@ -106,8 +110,9 @@ fn success<'a>(identifier: u16, kind: AcknowledgementKind) -> Acknowledgement<'a
     }
 }
 
-/// The PINGREQ or PINGRESP that has this first byte and this body, which is empty (MQTT 5.0, sections 3.12 and 3.13): the packet that
-/// [`decode`](crate::decode) returns for them. `None` for any other packet, and for a fault.
+/// The PINGREQ or PINGRESP that has this first byte and this body, which is empty (MQTT 5.0,
+/// sections 3.12 and 3.13): the packet that [`decode`](crate::decode) returns for them. `None` for
+/// any other packet, and for a fault.
 #[inline(always)]
 pub fn decode_ping<'a>(first: u8, body: &[u8]) -> Option<Packet<'a>>
     ensures brief { is_some result ≡ is_ping first body.now }

@@ -1,4 +1,5 @@
-//! The Reason Codes of each packet (MQTT 5.0, section 2.4). They are proved equal to those that the contracts cite.
+//! The Reason Codes of each packet (MQTT 5.0, section 2.4). They are proved equal to those that the
+//! contracts cite.
 
 ghost use Rattle.std.specs.Prelude.{◌≡◌};
 ghost use Rattle.mq_packet.specs.Formats.{is_code};

@@ -7,8 +7,9 @@ ghost use Rattle.mq_packet.specs.Frames.{BeginsWithFrame, cut_of};
 use super::frame::Cut;
 use super::header::{FixedHeader, fixed_header};
 
-/// The packet at the front of the bytes: `Frame` exactly if they begin with a whole one, `Lost` exactly if the Remaining Length
-/// after the first byte is invalid, else `Need` (MQTT 5.0, sections 2.1 and 1.5.5).
+/// The packet at the front of the bytes: `Frame` exactly if they begin with a whole one, `Lost`
+/// exactly if the Remaining Length after the first byte is invalid, else `Need` (MQTT 5.0, sections
+/// 2.1 and 1.5.5).
 ///
 /// # Examples
 ///

@@ -1,7 +1,7 @@
 //! Decoding a packet's bytes.
 //!
-//! A packet is large, and an inlined function doesn't move it: so `decode` and the readers of the most frequent packets are inlined,
-//! and the others are functions of their own.
+//! A packet is large, and an inlined function doesn't move it: so `decode` and the readers of the
+//! most frequent packets are inlined, and the others are functions of their own.
 
 ghost use Rattle.std.specs.Prelude.{◌≡◌, ◌≤◌, ◌<◌, ℕ, IfOk, IfErr, Some, Result, length};
 ghost use Rattle.mq_wire.specs.Left.{Gives};
@@ -24,13 +24,13 @@ use crate::read_fault::ReadFault;
 use crate::reading::{read_packet, read_publish};
 use mq_wire::Cursor;
 
-/// The packet that has this first byte, its type and flags, and this body, which is all that follows the Remaining Length
-/// (MQTT 5.0, sections 2.1 and 3.1 to 3.15). A body has at most 268,435,455 bytes (MQTT 5.0, section 2.1.4). Nothing is
-/// copied, and no memory is taken.
+/// The packet that has this first byte, its type and flags, and this body, which is all that
+/// follows the Remaining Length (MQTT 5.0, sections 2.1 and 3.1 to 3.15). A body has at most
+/// 268,435,455 bytes (MQTT 5.0, section 2.1.4). Nothing is copied, and no memory is taken.
 ///
-/// The fields are checked in their order, for each first its spelling and then its value, and the first invalid one decides:
-/// `Broken` if it breaks a rule on a packet's bytes, with its offset, `OtherVersion` if it is the version of a CONNECT and
-/// isn't 5. Last, no bytes may be left over.
+/// The fields are checked in their order, for each first its spelling and then its value, and the
+/// first invalid one decides: `Broken` if it breaks a rule on a packet's bytes, with its offset,
+/// `OtherVersion` if it is the version of a CONNECT and isn't 5. Last, no bytes may be left over.
 ///
 /// # Examples
 ///
@@ -73,8 +73,8 @@ fn read_body<'a>(first: u8, body: &'a [u8]) -> Result<Packet<'a>, DecodeFault>
     }
 }
 
-/// The PUBLISH that has this first byte and this body (MQTT 5.0, section 3.3): the packet that [`decode`] returns for them, or the
-/// fault. It takes no stack for other packets.
+/// The PUBLISH that has this first byte and this body (MQTT 5.0, section 3.3): the packet that
+/// [`decode`] returns for them, or the fault. It takes no stack for other packets.
 #[inline(always)]
 pub fn decode_publish<'a>(first: u8, body: &'a [u8]) -> Result<Publish<'a>, DecodeFault>
     requires from { 48 ≤ first }
@@ -101,7 +101,8 @@ fn read_publish_body<'a>(first: u8, body: &'a [u8]) -> Result<Publish<'a>, Decod
     }
 }
 
-// The fault of a packet whose reading stops for this reason. No offset is past the end of the largest packet.
+// The fault of a packet whose reading stops for this reason. No offset is past the end of the
+// largest packet.
 #[inline(always)]
 fn fault_of(stop: ReadFault) -> DecodeFault
     requires { (at : ℕ) (rule : PacketRule) → stop ≡ stops.Broken at rule → at ≤ 268435460 }

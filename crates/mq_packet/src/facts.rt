@@ -1,4 +1,5 @@
-//! What the types of a packet's fields say of it. The functions here only query the fields: they are there for their contracts.
+//! What the types of a packet's fields say of it. The functions here only query the fields: they
+//! are there for their contracts.
 
 ghost use Rattle.std.specs.Prelude.{IfSome};
 ghost use Rattle.std.specs.Str.{IsUtf8};

@@ -10,8 +10,8 @@ use crate::reading::check_filters;
 use mq_wire::Cursor;
 use std::marker::Model;
 
-/// The filters of a SUBSCRIBE or UNSUBSCRIBE: at least one, each of them valid (MQTT 5.0, sections 3.8.3, 3.10.3 and 4.7). A
-/// contract sees them as a list.
+/// The filters of a SUBSCRIBE or UNSUBSCRIBE: at least one, each of them valid (MQTT 5.0, sections
+/// 3.8.3, 3.10.3 and 4.7). A contract sees them as a list.
 #[derive(Debug, Drop)]
 pub struct Filters<'a> {
     bytes: &'a [u8],
@@ -23,9 +23,9 @@ pub struct Filters<'a> {
 pub struct Filter<'a> {
     /// The Topic Filter.
     pub filter: &'a str,
-    /// The Subscription Options, which only a SUBSCRIBE has (MQTT 5.0, section 3.8.3.1). Bits 1 and 0 are the Maximum
-    /// QoS, 0 to 2; bit 2 is No Local; bit 3 is Retain As Published; bits 5 and 4 are Retain Handling, 0 to 2; bits 7 and 6 are
-    /// 0.
+    /// The Subscription Options, which only a SUBSCRIBE has (MQTT 5.0, section 3.8.3.1). Bits 1 and
+    /// 0 are the Maximum QoS, 0 to 2; bit 2 is No Local; bit 3 is Retain As Published; bits 5 and 4
+    /// are Retain Handling, 0 to 2; bits 7 and 6 are 0.
     pub options: Option<u8>,
 }
 
@@ -45,11 +45,12 @@ impl<'a> Model for Filters<'a> {
 impl<'a> Filters<'a> {
     ghost use Rattle.mq_packet.specs.Asking.{AreFilters};
 
-    /// The filters that the bytes spell, one after another: each with its Subscription Options after it if `options` is true, as
-    /// in a SUBSCRIBE, and without if it is false, as in an UNSUBSCRIBE (MQTT 5.0, sections 3.8.3 and 3.10.3).
+    /// The filters that the bytes spell, one after another: each with its Subscription Options
+    /// after it if `options` is true, as in a SUBSCRIBE, and without if it is false, as in an
+    /// UNSUBSCRIBE (MQTT 5.0, sections 3.8.3 and 3.10.3).
     ///
-    /// `None` if the bytes don't spell such filters: if there are none, if one is misspelled or invalid, if options are missing
-    /// or invalid, or if something is left over.
+    /// `None` if the bytes don't spell such filters: if there are none, if one is misspelled or
+    /// invalid, if options are missing or invalid, or if something is left over.
     ///
     /// # Examples
     ///
@@ -80,7 +81,8 @@ impl<'a> Filters<'a> {
         Filters { bytes, options }
     }
 
-    /// Whether the filters have Subscription Options: in a SUBSCRIBE each has, in an UNSUBSCRIBE none.
+    /// Whether the filters have Subscription Options: in a SUBSCRIBE each has, in an UNSUBSCRIBE
+    /// none.
     #[tactic(auto, using(crate::proofs::FilterLaws::filters_asked))]
     pub fn have_options(&self) -> bool
         ensures { AreAsked result self.now }

@@ -1,5 +1,5 @@
-//! The first byte of a packet: its type in bits 7 to 4, and its flags in bits 3 to 0 (MQTT 5.0, sections 2.1.1 to 2.1.3).
-//! Reading and writing share the table.
+//! The first byte of a packet: its type in bits 7 to 4, and its flags in bits 3 to 0 (MQTT 5.0,
+//! sections 2.1.1 to 2.1.3). Reading and writing share the table.
 
 ghost use Rattle.std.specs.Prelude.{◌≡◌};
 ghost use Rattle.mq_packet.specs.FirstBytes.{flags_in};

@@ -14,6 +14,7 @@ pub enum Cut {
         /// Where its body ends, which is the packet's end.
         body_end: usize,
     },
-    /// No packet, whatever follows: the Remaining Length is no variable byte integer (MQTT 5.0, section 1.5.5).
+    /// No packet, whatever follows: the Remaining Length is no variable byte integer (MQTT 5.0,
+    /// section 1.5.5).
     Lost,
 }

@@ -6,12 +6,14 @@ ghost use Rattle.mq_packet.specs.Stream.{fixed_header_of, HasBounds};
 
 use mq_wire::{Cursor, Reason, varint_len};
 
-/// What the bytes at the front of a stream of packets say of the first packet's fixed header (MQTT 5.0, section 2.1).
+/// What the bytes at the front of a stream of packets say of the first packet's fixed header (MQTT
+/// 5.0, section 2.1).
 #[derive(Clone, Copy, Debug, PartialEq, Eq)]
 pub enum FixedHeader {
     /// The bytes end before the Remaining Length does.
     Short,
-    /// The Remaining Length is invalid (MQTT 5.0, section 1.5.5): the rest of the stream can't be parsed.
+    /// The Remaining Length is invalid (MQTT 5.0, section 1.5.5): the rest of the stream can't be
+    /// parsed.
     Lost,
     /// The fixed header is whole.
     Whole {
@@ -22,8 +24,9 @@ pub enum FixedHeader {
     },
 }
 
-/// The fixed header at the front of the bytes: it is `Short` if the Remaining Length isn't complete yet, and `Lost` if no further
-/// bytes could make it a Variable Byte Integer (MQTT 5.0, section 2.1.4).
+/// The fixed header at the front of the bytes: it is `Short` if the Remaining Length isn't complete
+/// yet, and `Lost` if no further bytes could make it a Variable Byte Integer (MQTT 5.0, section
+/// 2.1.4).
 ///
 /// # Examples
 ///
@@ -56,8 +59,8 @@ pub fn fixed_header(bytes: &[u8]) -> FixedHeader
     }
 }
 
-/// How many bytes the fixed header of a packet with this Remaining Length has: its first byte, and the shortest spelling of the
-/// number (MQTT 5.0, sections 1.5.5 and 2.1.4).
+/// How many bytes the fixed header of a packet with this Remaining Length has: its first byte, and
+/// the shortest spelling of the number (MQTT 5.0, sections 1.5.5 and 2.1.4).
 #[inline(always)]
 pub fn header_len(remaining: u32) -> usize
     ensures len { result ≡ 1 + length (varint_spelling remaining) }

@@ -1,5 +1,5 @@
-//! What distinguishes packets that have the same fields: the places of their property lists, the Reason Codes that they may have,
-//! and whether their filters have options.
+//! What distinguishes packets that have the same fields: the places of their property lists, the
+//! Reason Codes that they may have, and whether their filters have options.
 
 ghost use Rattle.std.specs.Prelude.{◌≡◌};
 ghost use Rattle.mq_packet.specs.Entries.{acknowledgement_place, acknowledgement_codes, request_place, has_options, answer_place, answer_codes, reason_packet_place, reason_packet_codes};

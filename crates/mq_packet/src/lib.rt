@@ -1,7 +1,7 @@
 //! MQTT 5.0 Control Packets: an exact codec of all fifteen (MQTT 5.0, sections 2 and 3).
 //!
-//! `fixed_header` says how long the packet at the front of a stream is, `cut` finds it, and `decode` says which packet a body
-//! spells or which rule it breaks and where.
+//! `fixed_header` says how long the packet at the front of a stream is, `cut` finds it, and
+//! `decode` says which packet a body spells or which rule it breaks and where.
 #![tactic(auto)]
 
 mod brief;

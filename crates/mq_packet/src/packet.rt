@@ -1,5 +1,5 @@
-//! The fifteen Control Packets (MQTT 5.0, section 2.1.2), whose texts, payloads and lists borrow the body that they were read
-//! from.
+//! The fifteen Control Packets (MQTT 5.0, section 2.1.2), whose texts, payloads and lists borrow
+//! the body that they were read from.
 
 use crate::filters::Filters;
 use crate::reason_codes::Codes;
@@ -89,7 +89,8 @@ pub struct Acknowledgement<'a> {
     pub code: u8,
     /// The properties.
     pub properties: Props<'a>,
-    /// The body's length as it was read, which may be longer than needed; `None` if the packet wasn't read.
+    /// The body's length as it was read, which may be longer than needed; `None` if the packet
+    /// wasn't read.
     pub read_len: Option<u32>,
 }
 
@@ -122,7 +123,8 @@ pub struct ReasonPacket<'a> {
     pub code: u8,
     /// The properties.
     pub properties: Props<'a>,
-    /// The body's length as it was read, which may be longer than needed; `None` if the packet wasn't read.
+    /// The body's length as it was read, which may be longer than needed; `None` if the packet
+    /// wasn't read.
     pub read_len: Option<u32>,
 }
 

@@ -1,4 +1,5 @@
-//! The protocol's name and version, and the flags of a CONNECT and a PUBLISH. Reading and writing share them.
+//! The protocol's name and version, and the flags of a CONNECT and a PUBLISH. Reading and writing
+//! share them.
 
 /// The protocol's name (MQTT 5.0, section 3.1.2.1).
 pub const PROTOCOL_NAME: &str = "MQTT";

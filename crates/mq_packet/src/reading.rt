@@ -33,9 +33,10 @@ pub use publish::{names_topic, read_brief_publish, read_publish};
 use reason_packet::read_reason_packet;
 pub use request::{read_answer, read_request};
 
-/// The packet with this first byte, whose body, of this size, is left in the cursor; or why reading it stops. Each type has one
-/// first byte, except PUBLISH, which has flags of its own (MQTT 5.0, sections 2.1.2 and 2.1.3). A packet that has several
-/// spellings keeps the size (MQTT 5.0, sections 3.4 to 3.7, 3.14 and 3.15).
+/// The packet with this first byte, whose body, of this size, is left in the cursor; or why reading
+/// it stops. Each type has one first byte, except PUBLISH, which has flags of its own (MQTT 5.0,
+/// sections 2.1.2 and 2.1.3). A packet that has several spellings keeps the size (MQTT 5.0,
+/// sections 3.4 to 3.7, 3.14 and 3.15).
 #[inline(always)]
 pub fn read_packet<'a>(first: u8, cursor: Cursor<'a>, size: usize) -> Result<Packet<'a>, ReadFault>
     requires bound { size ≤ max_varint }
@@ -56,13 +57,14 @@ pub fn read_packet<'a>(first: u8, cursor: Cursor<'a>, size: usize) -> Result<Pac
         PUBCOMP => read_acknowledgement(cursor, AcknowledgementKind::Pubcomp, size).map(
             Packet::Pubcomp,
         ),
-        // Unwrapping and wrapping the result gives this packet a place of its own, so that the others need none here.
+        // Unwrapping and wrapping the result gives this packet a place of its own, so that the
+        // others need none here.
         _ => Ok(read_other(first, cursor, size)?),
     }
 }
 
-// The same for all packets except PUBLISH and its acknowledgements. It is a function of its own, so that reading those takes no
-// stack for its packets.
+// The same for all packets except PUBLISH and its acknowledgements. It is a function of its own, so
+// that reading those takes no stack for its packets.
 #[inline(never)]
 fn read_other<'a>(first: u8, cursor: Cursor<'a>, size: usize) -> Result<Packet<'a>, ReadFault>
     requires bound { size ≤ max_varint }

@@ -5,8 +5,8 @@ ghost use Rattle.std.specs.Iterator.{YieldsFirstBy, item_count};
 
 use std::marker::Model;
 
-/// The Reason Codes of a SUBACK or UNSUBACK, one for each filter (MQTT 5.0, sections 3.9.3 and 3.11.3). A contract sees them as
-/// a list of bytes.
+/// The Reason Codes of a SUBACK or UNSUBACK, one for each filter (MQTT 5.0, sections 3.9.3 and
+/// 3.11.3). A contract sees them as a list of bytes.
 #[derive(Debug, Drop)]
 pub struct Codes<'a> {
     bytes: &'a [u8],

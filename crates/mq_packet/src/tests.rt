@@ -1,5 +1,6 @@
-//! The codec by its bytes, as MQTT 5.0 spells them: packets, and the fields, topics and property lists below them. All its tests are here, since the
-//! functions of a crate that has tests are proved once more for them.
+//! The codec by its bytes, as MQTT 5.0 spells them: packets, and the fields, topics and property
+//! lists below them. All its tests are here, since the functions of a crate that has tests are
+//! proved once more for them.
 
 mod changed;
 mod cuts;

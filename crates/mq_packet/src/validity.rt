@@ -189,10 +189,11 @@ fn passes(packet: &Packet<'_>) -> bool
     }
 }
 
-/// Whether some bytes spell the packet (MQTT 5.0, sections 3.1 to 3.15): its property lists are those of its type, its texts
-/// have at most 65,535 bytes and no U+0000, its binary data has at most 65,535 bytes, its Packet Identifier isn't 0 and is there
-/// exactly if it must be, its Reason Codes are of its type, its Topic Name has no wildcard and isn't missing, and its filters
-/// have options exactly if it is a SUBSCRIBE. `decode` returns only such packets.
+/// Whether some bytes spell the packet (MQTT 5.0, sections 3.1 to 3.15): its property lists are
+/// those of its type, its texts have at most 65,535 bytes and no U+0000, its binary data has at
+/// most 65,535 bytes, its Packet Identifier isn't 0 and is there exactly if it must be, its Reason
+/// Codes are of its type, its Topic Name has no wildcard and isn't missing, and its filters have
+/// options exactly if it is a SUBSCRIBE. `decode` returns only such packets.
 pub fn is_valid(packet: &Packet<'_>) -> bool
     ensures exact { result ≡ valid (view packet.now) }
     ensures spelled { (result ≡ true) ↔ ((first : ℕ) × (body : List ℕ) × IsSpelled first body (view packet.now)) }

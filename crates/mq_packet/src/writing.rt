@@ -74,14 +74,15 @@ fn spelling_facts(packet: &Packet<'_>)
     packet_facts(packet);
 }
 
-/// Appends the packet's bytes (MQTT 5.0, sections 2.1 and 3.1 to 3.15). The packet must be valid (see `is_valid`). If it has
-/// several spellings, the shortest is written: a PUBACK, PUBREC, PUBREL, PUBCOMP, DISCONNECT or AUTH of Reason Code 0x00 without
-/// properties ends before its code, and without properties each of these except an AUTH ends after its code.
+/// Appends the packet's bytes (MQTT 5.0, sections 2.1 and 3.1 to 3.15). The packet must be valid
+/// (see `is_valid`). If it has several spellings, the shortest is written: a PUBACK, PUBREC,
+/// PUBREL, PUBCOMP, DISCONNECT or AUTH of Reason Code 0x00 without properties ends before its code,
+/// and without properties each of these except an AUTH ends after its code.
 ///
 /// # Errors
 ///
-/// `TooLong` exactly if the Remaining Length would be over 268,435,455; else `Memory` only if the vector has no room for the
-/// packet and couldn't grow. The vector is then unchanged.
+/// `TooLong` exactly if the Remaining Length would be over 268,435,455; else `Memory` only if the
+/// vector has no room for the packet and couldn't grow. The vector is then unchanged.
 ///
 /// # Examples
 ///

@@ -72,7 +72,8 @@ impl NoteTest for GivesUnsuback {
     }
 }
 
-// Whether an event is a SUBACK whose number of Reason Codes isn't the number of filters of its first unanswered SUBSCRIBE.
+// Whether an event is a SUBACK whose number of Reason Codes isn't the number of filters of its
+// first unanswered SUBSCRIBE.
 #[tactic(auto, unfolding(mq_rules::specs::Subscriptions::breaks_B03))]
 fn miscounts_subscribe(event: &Seen, before: &[Seen]) -> bool
     ensures { result ≡ breaks_B03 (newest event.now (reverse before.now)) }
@@ -85,7 +86,8 @@ fn miscounts_subscribe(event: &Seen, before: &[Seen]) -> bool
     }
 }
 
-// Whether the first unanswered SUBSCRIBE under an identifier has a number of filters other than this.
+// Whether the first unanswered SUBSCRIBE under an identifier has a number of filters other than
+// this.
 fn is_subscribe_other(identifier: u16, codes: usize, before: &[Seen]) -> bool
     ensures { result ≡ is_some_and (λ j. is_some_and (λ s. not (length s.filters == codes)) (received_subscription (note j))) (first_subscribe_after identifier (reverse before.now)) }
 {
@@ -109,7 +111,8 @@ fn has_other_filters(note: &Note, codes: usize) -> bool
     }
 }
 
-// Whether an event is an UNSUBACK whose number of Reason Codes isn't the number of filters of its first unanswered UNSUBSCRIBE.
+// Whether an event is an UNSUBACK whose number of Reason Codes isn't the number of filters of its
+// first unanswered UNSUBSCRIBE.
 #[tactic(auto, unfolding(mq_rules::specs::Subscriptions::breaks_B04))]
 fn miscounts_unsubscribe(event: &Seen, before: &[Seen]) -> bool
     ensures { result ≡ breaks_B04 (newest event.now (reverse before.now)) }
@@ -122,7 +125,8 @@ fn miscounts_unsubscribe(event: &Seen, before: &[Seen]) -> bool
     }
 }
 
-// Whether the first unanswered UNSUBSCRIBE under an identifier has a number of filters other than this.
+// Whether the first unanswered UNSUBSCRIBE under an identifier has a number of filters other than
+// this.
 fn is_unsubscribe_other(identifier: u16, codes: usize, before: &[Seen]) -> bool
     ensures { result ≡ is_some_and (λ j. is_some_and (λ u. not (u.count == codes)) (received_unsubscription (note j))) (first_unsubscribe_after identifier (reverse before.now)) }
 {

@@ -1,5 +1,5 @@
-//! What a server may deliver: topics that were subscribed to, at no more than the QoS that was granted (MQTT 5.0, sections 3.3.1.2,
-//! 3.8.4 and 4.7).
+//! What a server may deliver: topics that were subscribed to, at no more than the QoS that was
+//! granted (MQTT 5.0, sections 3.3.1.2, 3.8.4 and 4.7).
 ghost use Rattle.std.specs.Prelude.{◌≡◌, ◌&&◌, ◌==◌, nat_le, not, Some, length, option_map, reverse, unwrap_or, []};
 ghost use Rattle.std.specs.List.{list_any};
 ghost use Rattle.std.specs.Option.{option_and_then};
@@ -107,15 +107,16 @@ fn asks_for_shared(note: &Note) -> bool
     }
 }
 
-// Whether an event on a connection with this fate is such a SUBSCRIBE, and the connection is accepted.
+// Whether an event on a connection with this fate is such a SUBSCRIBE, and the connection is
+// accepted.
 fn asks_for_shared_at(fate: Option<Fate>, note: &Note) -> bool
     ensures { result ≡ (accepted fate && is_some_and (λ s. list_any begins_shared s.filters) (received_subscription note.now)) }
 {
     is_accepted(fate) && asks_for_shared(note)
 }
 
-// Whether a shared subscription was asked for in the current session after these events, if the latest connection is
-// accepted with this fate.
+// Whether a shared subscription was asked for in the current session after these events, if the
+// latest connection is accepted with this fate.
 fn is_sharing(role: Role, fate: Fate, before: &[Seen]) -> bool
     ensures { result ≡ some asks_to_share (session role (Some fate) (reverse before.now)) }
 {
@@ -136,8 +137,8 @@ fn is_sharing(role: Role, fate: Fate, before: &[Seen]) -> bool
 
 // ---- the standing filters of a SUBSCRIBE
 
-// Whether a filter of a SUBSCRIBE is granted, matches the topic and has at least this ceiling, given its Reason Code if there is one
-// (MQTT 5.0, section 3.9.3).
+// Whether a filter of a SUBSCRIBE is granted, matches the topic and has at least this ceiling,
+// given its Reason Code if there is one (MQTT 5.0, section 3.9.3).
 fn allows_topic(topic: &str, least: u8, filter: &NotedFilter, code: Option<u8>) -> bool
     ensures { result ≡ allows_by topic.now least filter.now code }
 {
@@ -165,7 +166,8 @@ fn next_code(codes: &[u8]) -> (Option<u8>, &[u8])
     }
 }
 
-// Whether one of these filters is granted and allows the topic, given the Reason Codes of the SUBACK.
+// Whether one of these filters is granted and allows the topic, given the Reason Codes of the
+// SUBACK.
 fn any_allows(topic: &str, least: u8, filters: &[NotedFilter], codes: &[u8]) -> bool
     ensures { result ≡ list_any (allows topic.now least) (granted filters.now codes.now) }
 {
@@ -205,8 +207,8 @@ fn codes_in(identifier: u16, fields: &PacketFields) -> Option<&[u8]>
     }
 }
 
-// The Reason Codes of the SUBACK that answers a SUBSCRIBE under this identifier, given the events after it. Empty if it wasn't sent
-// on the connection.
+// The Reason Codes of the SUBACK that answers a SUBSCRIBE under this identifier, given the events
+// after it. Empty if it wasn't sent on the connection.
 fn codes_after(identifier: u16, later: &[Seen]) -> &[u8]
     ensures { result.now ≡ unwrap_or (codes_ahead identifier later.now) [] }
 {
@@ -221,8 +223,8 @@ fn codes_after(identifier: u16, later: &[Seen]) -> &[u8]
     &[]
 }
 
-// Whether an event is a SUBSCRIBE that was received, and one of its standing filters allows the topic, given the events after
-// it.
+// Whether an event is a SUBSCRIBE that was received, and one of its standing filters allows the
+// topic, given the events after it.
 fn subscribes(topic: &str, least: u8, note: &Note, later: &[Seen]) -> bool
     ensures { result ≡ subscribes_to topic.now least later.now note.now }
 {
@@ -232,7 +234,8 @@ fn subscribes(topic: &str, least: u8, note: &Note, later: &[Seen]) -> bool
     }
 }
 
-// Whether a packet that was received is a SUBSCRIBE, and one of its standing filters allows the topic, given the events after it.
+// Whether a packet that was received is a SUBSCRIBE, and one of its standing filters allows the
+// topic, given the events after it.
 fn subscribes_in(topic: &str, least: u8, fields: &PacketFields, later: &[Seen]) -> bool
     ensures { result ≡ is_some_and (λ s. list_any (allows topic.now least) (granted s.filters (unwrap_or (codes_ahead s.identifier later.now) []))) (subscription_in fields.now) }
 {
@@ -252,15 +255,16 @@ fn subscribes_in(topic: &str, least: u8, fields: &PacketFields, later: &[Seen]) 
 
 // ---- the standing filters of the session
 
-// Whether an event on a connection with this fate is such a SUBSCRIBE, and the connection is accepted.
+// Whether an event on a connection with this fate is such a SUBSCRIBE, and the connection is
+// accepted.
 fn subscribes_at(fate: Option<Fate>, topic: &str, least: u8, note: &Note, later: &[Seen]) -> bool
     ensures { result ≡ (accepted fate && subscribes_to topic.now least later.now note.now) }
 {
     is_accepted(fate) && subscribes(topic, least, note, later)
 }
 
-// Whether after these events some standing filter matches the topic and has at least this ceiling, if the latest connection is
-// accepted with this fate.
+// Whether after these events some standing filter matches the topic and has at least this ceiling,
+// if the latest connection is accepted with this fate.
 fn is_allowed(role: Role, fate: Fate, topic: &str, least: u8, before: &[Seen]) -> bool
     ensures { (e : Seen) → result ≡ list_any (allows topic.now least) (standing_at role fate (newest e (reverse before.now))) }
 {
@@ -282,8 +286,9 @@ fn is_allowed(role: Role, fate: Fate, topic: &str, least: u8, before: &[Seen]) -
 
 // ---- the statements
 
-// The topic of a PUBLISH with these events before it, if B01 and B02 look at it: its DUP is 0, and no shared
-// subscription was asked for in its session, which is that of the latest connection, accepted with this fate.
+// The topic of a PUBLISH with these events before it, if B01 and B02 look at it: its DUP is 0, and
+// no shared subscription was asked for in its session, which is that of the latest connection,
+// accepted with this fate.
 fn judged_topic<'a>(
     role: Role,
     fate: Fate,
@@ -321,7 +326,8 @@ fn delivers_unasked(role: Role, fate: Fate, event: &Seen, before: &[Seen]) -> bo
     }
 }
 
-/// B01: a server sends a PUBLISH with DUP 0 only for a topic that a standing filter of the session matches.
+/// B01: a server sends a PUBLISH with DUP 0 only for a topic that a standing filter of the session
+/// matches.
 pub struct AskedTopics;
 
 impl SessionStatement for AskedTopics {
@@ -357,8 +363,8 @@ fn is_above(role: Role, fate: Fate, topic: &str, qos: u8, before: &[Seen]) -> bo
     is_allowed(role, fate, topic, 0, before) && !is_allowed(role, fate, topic, qos, before)
 }
 
-// Whether standing filters match the topic of a PUBLISH that has these events before it, and none of them has a ceiling of at
-// least its QoS.
+// Whether standing filters match the topic of a PUBLISH that has these events before it, and none
+// of them has a ceiling of at least its QoS.
 fn is_above_granted(role: Role, fate: Fate, publish: &PublishNote, before: &[Seen]) -> bool
     ensures { (e : Seen) → result ≡ is_some_and (λ topic. list_any (allows topic 0) (standing_at role fate (newest e (reverse before.now))) && not (list_any (allows topic (number_of publish.now.qos)) (standing_at role fate (newest e (reverse before.now))))) (topic_judged role fate (reverse before.now) publish.now) }
 {
@@ -378,7 +384,8 @@ fn delivers_above(role: Role, fate: Fate, event: &Seen, before: &[Seen]) -> bool
     }
 }
 
-/// B02: a server sends a PUBLISH with DUP 0 at no higher QoS than some matching subscription was granted.
+/// B02: a server sends a PUBLISH with DUP 0 at no higher QoS than some matching subscription was
+/// granted.
 pub struct GrantedQos;
 
 impl SessionStatement for GrantedQos {

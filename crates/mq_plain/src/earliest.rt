@@ -18,8 +18,8 @@ pub struct Found<'a> {
     pub before: &'a [Seen],
 }
 
-/// The earliest event of the current session after these events, if the latest connection has this fate, that passes the first
-/// test, with no later one that passes the second.
+/// The earliest event of the current session after these events, if the latest connection has this
+/// fate, that passes the first test, with no later one that passes the second.
 pub fn earliest_in_session<'a, S: NoteTest, E: NoteTest>(
     role: Role,
     fate: Option<Fate>,
@@ -46,7 +46,8 @@ pub fn earliest_in_session<'a, S: NoteTest, E: NoteTest>(
     found
 }
 
-/// The earliest event of the latest connection that passes the first test, with no later one that passes the second.
+/// The earliest event of the latest connection that passes the first test, with no later one that
+/// passes the second.
 pub fn earliest_on_connection<'a, S: NoteTest, E: NoteTest>(
     starts: &S,
     ends: &E,
@@ -66,8 +67,8 @@ pub fn earliest_on_connection<'a, S: NoteTest, E: NoteTest>(
     found
 }
 
-/// Whether in the current session after these events, if the latest connection has this fate, the event that was found
-/// is in it, and no later one passes the test.
+/// Whether in the current session after these events, if the latest connection has this fate, the
+/// event that was found is in it, and no later one passes the test.
 pub fn still_applies<E: NoteTest>(
     role: Role,
     fate: Option<Fate>,
@@ -140,7 +141,8 @@ fn start_at<'a, S: NoteTest>(
     None
 }
 
-// Whether nothing before an event counts: the scope begins with it, or it is in the scope and passes the test.
+// Whether nothing before an event counts: the scope begins with it, or it is in the scope and
+// passes the test.
 fn stops_at<E: NoteTest>(is_in: bool, begins: bool, ends: &E, note: &Note) -> bool
     ensures { result ≡ ((is_in && E.test ends.now note.now) || begins) }
 {

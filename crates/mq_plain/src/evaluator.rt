@@ -1,7 +1,8 @@
-//! Evaluators: each judges one event of a list by some statements, and two of them make one that runs one after the other.
+//! Evaluators: each judges one event of a list by some statements, and two of them make one that
+//! runs one after the other.
 //!
-//! An evaluator is a value that knows which of its statements bind the tested end, so that this is looked up once and not at each
-//! event.
+//! An evaluator is a value that knows which of its statements bind the tested end, so that this is
+//! looked up once and not at each event.
 
 use crate::judging::{SessionStatement, judge_session};
 use crate::releasing::{ReleaseStatement, judge_release};
@@ -29,11 +30,13 @@ pub trait Evaluator: Drop {
     fn of(tested: Tested) -> Self
         ensures { is_for result tested };
 
-    /// Judges an event that has these events before it, under the fate of its connection. A pair that already has a fault keeps it.
+    /// Judges an event that has these events before it, under the fate of its connection. A pair
+    /// that already has a fault keeps it.
     ///
     /// # Errors
     ///
-    /// `Memory` if there is no memory. Some of the faults that the event shows may then have been added, but no others.
+    /// `Memory` if there is no memory. Some of the faults that the event shows may then have been
+    /// added, but no others.
     fn judge_at(
         &self,
         alloc: Global,

@@ -1,4 +1,5 @@
-//! Exchanges: what is received, the cause, asks for an answer, which is sent (MQTT 5.0, sections 3.8.4, 3.10.4 and 4.3).
+//! Exchanges: what is received, the cause, asks for an answer, which is sent (MQTT 5.0, sections
+//! 3.8.4, 3.10.4 and 4.3).
 
 mod asking;
 mod ordering;
@@ -13,7 +14,8 @@ pub use ordering::Ordered;
 pub use pings::AnsweredPings;
 pub use settling::Settled;
 
-/// An exchange: under which Packet Identifier an event is a cause, and under which one it is an answer.
+/// An exchange: under which Packet Identifier an event is a cause, and under which one it is an
+/// answer.
 pub trait Exchange {
     ghost use Rattle.std.specs.Prelude.{◌≡◌};
     ghost use Rattle.mq_rules.specs.declared.role.Role.{Role};

@@ -49,7 +49,8 @@ impl Handshake {
         }
     }
 
-    /// How many PUBLISHes of QoS above 0 the peer takes before it acknowledges one: its Receive Maximum.
+    /// How many PUBLISHes of QoS above 0 the peer takes before it acknowledges one: its Receive
+    /// Maximum.
     pub fn receive_maximum(&self, role: Role) -> u16
         ensures { result ≡ begun.receive_maximum_in role self.now }
     {
@@ -60,7 +61,8 @@ impl Handshake {
         announced.unwrap_or(RECEIVE_MAXIMUM)
     }
 
-    /// Whether what comes next counts against the peer's Receive Maximum. A client knows that only after the CONNACK.
+    /// Whether what comes next counts against the peer's Receive Maximum. A client knows that only
+    /// after the CONNACK.
     pub fn counts(&self, role: Role) -> bool
         ensures { result ≡ begun.counts_after role self.now }
     {

@@ -114,7 +114,8 @@ pub fn is_open_id(role: Role, fate: Fate, identifier: u16, before: &[Seen]) -> b
     )
 }
 
-// Whether a SUBSCRIBE that was sent under an identifier on the latest connection waits for its SUBACK.
+// Whether a SUBSCRIBE that was sent under an identifier on the latest connection waits for its
+// SUBACK.
 fn is_subscribing(identifier: u16, before: &[Seen]) -> bool
     ensures { result ≡ awaits_suback_after identifier (reverse before.now) }
 {
@@ -125,7 +126,8 @@ fn is_subscribing(identifier: u16, before: &[Seen]) -> bool
     )
 }
 
-// Whether an UNSUBSCRIBE that was sent under an identifier on the latest connection waits for its UNSUBACK.
+// Whether an UNSUBSCRIBE that was sent under an identifier on the latest connection waits for its
+// UNSUBACK.
 fn is_unsubscribing(identifier: u16, before: &[Seen]) -> bool
     ensures { result ≡ awaits_unsuback_after identifier (reverse before.now) }
 {
@@ -136,8 +138,8 @@ fn is_unsubscribing(identifier: u16, before: &[Seen]) -> bool
     )
 }
 
-// Whether an identifier is busy after these events, if the latest connection has this fate: it is open, or a SUBSCRIBE or
-// UNSUBSCRIBE under it waits for its answer.
+// Whether an identifier is busy after these events, if the latest connection has this fate: it is
+// open, or a SUBSCRIBE or UNSUBSCRIBE under it waits for its answer.
 fn is_busy_id(role: Role, fate: Fate, identifier: u16, before: &[Seen]) -> bool
     ensures { result ≡ is_busy_after role fate identifier (reverse before.now) }
 {

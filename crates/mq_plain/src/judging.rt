@@ -31,7 +31,8 @@ pub trait SessionStatement {
     fn rule() -> Rule
         ensures { result ≡ judged };
 
-    /// Whether an event with these events before it breaks the statement; its connection is accepted and has this fate.
+    /// Whether an event with these events before it breaks the statement; its connection is
+    /// accepted and has this fate.
     ///
     /// # Errors
     ///
@@ -49,8 +50,8 @@ pub trait SessionStatement {
     ghost says: { (role : Role) → statement role judged ≡ in_session (breaks role) };
 }
 
-/// Judges an event that has these events before it: it has a fault if the statement binds the tested end and is broken. A pair that
-/// already has a fault keeps it.
+/// Judges an event that has these events before it: it has a fault if the statement binds the
+/// tested end and is broken. A pair that already has a fault keeps it.
 ///
 /// # Errors
 ///
@@ -75,8 +76,9 @@ pub fn judge_session<T: SessionStatement>(
     Ok(())
 }
 
-// Whether an event with these events before it has a fault: the statement binds the tested end, and is broken. Its connection has this
-// fate. A statement that binds only the other end isn't evaluated.
+// Whether an event with these events before it has a fault: the statement binds the tested end, and
+// is broken. Its connection has this fate. A statement that binds only the other end isn't
+// evaluated.
 #[inline(always)]
 fn is_fault_at<T: SessionStatement>(
     alloc: Global,

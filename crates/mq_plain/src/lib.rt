@@ -1,4 +1,5 @@
-//! Plain evaluators of the statements on sessions: they look back over the whole list of events, as the definitions do.
+//! Plain evaluators of the statements on sessions: they look back over the whole list of events, as
+//! the definitions do.
 #![tactic(auto)]
 
 mod adding;

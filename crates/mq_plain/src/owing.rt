@@ -31,9 +31,7 @@ fn mark(marked: &mut Table<bool>, identifier: Option<u16>)
 
 // The identifiers of which a PUBLISH or a PUBREL was sent on the latest connection.
 //
-// # Errors
-//
-// `Memory` if there is no memory for them.
+// Errors: `Memory` if there is no memory for them.
 fn sent_again(alloc: Global, before: &[Seen]) -> Result<Table<bool>, Memory>
     ensures { IfOk result (λ again. (i : ℕ) → at again i ≡ some (λ m. sends_under i (note m)) (connection (reverse before.now))) }
 {
@@ -75,7 +73,8 @@ fn mark_confirmed(confirmed: &mut Table<bool>, is_in: bool, note: &Note)
     mark(confirmed, only_if(is_in, note.received_accepting_pubrec()));
 }
 
-// Whether an opener is owed, if the event is one, given the identifiers that were sent again, and those moved and confirmed after it.
+// Whether an opener is owed, if the event is one, given the identifiers that were sent again, and
+// those moved and confirmed after it.
 fn is_owed(
     is_excused: bool,
     again: &Table<bool>,
@@ -105,12 +104,10 @@ fn push_if(places: &mut Vec<Place3>, place: Place3, is_due: bool) -> Result<(), 
     Ok(())
 }
 
-// The places of what is owed in the current session after these events, if the latest connection resumed it; these identifiers were
-// sent again there.
+// The places of what is owed in the current session after these events, if the latest connection
+// resumed it; these identifiers were sent again there.
 //
-// # Errors
-//
-// `Memory` if there is no memory for them, or to look back.
+// Errors: `Memory` if there is no memory for them, or to look back.
 fn owed_in_session(
     alloc: Global,
     role: Role,
@@ -141,8 +138,8 @@ fn owed_in_session(
     Ok(places)
 }
 
-// Whether what wasn't confirmed needn't all be sent again: the send quota is used up, or the peer announced a Maximum Packet Size or a
-// Maximum QoS.
+// Whether what wasn't confirmed needn't all be sent again: the send quota is used up, or the peer
+// announced a Maximum Packet Size or a Maximum QoS.
 fn is_excused(role: Role, before: &[Seen]) -> bool
     ensures { (rest : TheSeen) → result ≡ (uses_up role (newest rest (reverse before.now)) || has_announced role (newest rest (reverse before.now))) }
 {
@@ -161,9 +158,7 @@ fn is_resumed(fate: Option<Fate>) -> bool
 
 // The places of what is owed, as a REST after these events shows.
 //
-// # Errors
-//
-// `Memory` if there is no memory for them, or to look back.
+// Errors: `Memory` if there is no memory for them, or to look back.
 fn owed_at_rest(alloc: Global, role: Role, before: &[Seen]) -> Result<Vec<Place3>, Memory>
     ensures { (rest : TheSeen) → IsPlaced (reverse before.now) → IfOk result (λ places. IsShown (shows_S06 role (newest rest (reverse before.now))) (reverse before.now) places.items) }
 {
@@ -174,7 +169,8 @@ fn owed_at_rest(alloc: Global, role: Role, before: &[Seen]) -> Result<Vec<Place3
     owed_in_session(alloc, role, is_excused(role, before), &again, before)
 }
 
-/// S06: when a session is resumed, each PUBLISH or PUBREL of it that is unacknowledged is sent again.
+/// S06: when a session is resumed, each PUBLISH or PUBREL of it that is unacknowledged is sent
+/// again.
 pub struct Resends;
 
 impl RestStatement for Resends {

@@ -1,8 +1,9 @@
 //! One pass over the events of a list, in which an evaluator judges each.
 //!
-//! An event is judged as soon as the fate of its connection is decided: at once, or, if it comes before the CONNACK, with the event that
-//! decides the connection. Few events are spoken of: a quiet one costs a test, and each event is judged once, whatever the number of
-//! statements. A REST looks back only if something before it asked for an answer.
+//! An event is judged as soon as the fate of its connection is decided: at once, or, if it comes
+//! before the CONNACK, with the event that decides the connection. Few events are spoken of: a
+//! quiet one costs a test, and each event is judged once, whatever the number of statements. A REST
+//! looks back only if something before it asked for an answer.
 ghost use Rattle.std.specs.Prelude.{◌≡◌, ◌∷◌, ◌&&◌, ◌||◌, false, not, cond, None, is_some, length, reverse, OnOk, OnErr};
 ghost use Rattle.std.specs.Option.{option_or};
 ghost use Rattle.mq_rules.specs.Notes.{is_open, is_rest, decides};
@@ -20,11 +21,13 @@ use mq_packet::Qos;
 use mq_rules::{Fate, Faults, ItemNote, Memory, Note, PacketFields, Role, Seen, Tested};
 use std::alloc::Global;
 
-/// Judges each event by what comes before it in the list, the oldest first. A pair that already has a fault keeps it.
+/// Judges each event by what comes before it in the list, the oldest first. A pair that already has
+/// a fault keeps it.
 ///
 /// # Errors
 ///
-/// `Memory` if there is no memory. Some of the faults of the evaluator's statements may then have been added, but no others.
+/// `Memory` if there is no memory. Some of the faults of the evaluator's statements may then have
+/// been added, but no others.
 pub fn judge_each<E: Evaluator>(
     alloc: Global,
     tested: Tested,
@@ -110,8 +113,8 @@ fn is_unacknowledged(fields: &PacketFields) -> bool
     }
 }
 
-// Judges an event that has these events before it, of which this is kept. If it leaves its connection undecided, it waits; and if it
-// decides it, the events that waited are judged too.
+// Judges an event that has these events before it, of which this is kept. If it leaves its
+// connection undecided, it waits; and if it decides it, the events that waited are judged too.
 #[inline(always)]
 fn judge_event<E: Evaluator>(
     evaluator: &E,
@@ -172,8 +175,8 @@ fn judge_waiting<E: Evaluator>(
     Ok(())
 }
 
-// Judges an event of a decided connection that has these events before it. Nothing is looked up for a quiet one, nor for a REST before
-// which nothing asks.
+// Judges an event of a decided connection that has these events before it. Nothing is looked up for
+// a quiet one, nor for a REST before which nothing asks.
 #[inline(always)]
 fn judge_next<E: Evaluator>(
     evaluator: &E,
@@ -196,8 +199,8 @@ fn judge_next<E: Evaluator>(
     judge_spoken(evaluator, alloc, decision, event, before, faults)
 }
 
-// Judges an event of a decided connection that has these events before it. It stays apart, so that what few events need takes no room
-// where the others are passed over.
+// Judges an event of a decided connection that has these events before it. It stays apart, so that
+// what few events need takes no room where the others are passed over.
 #[inline(never)]
 fn judge_spoken<E: Evaluator>(
     evaluator: &E,
@@ -219,8 +222,8 @@ fn judge_spoken<E: Evaluator>(
     evaluator.judge_at(alloc, turn, event, before, faults)
 }
 
-// Whether no statement on sessions is judged at the event: it is neither a REST nor a RELEASE, nor a packet that the tested end sends
-// in a session, except a client's PUBLISH of QoS 0.
+// Whether no statement on sessions is judged at the event: it is neither a REST nor a RELEASE, nor
+// a packet that the tested end sends in a session, except a client's PUBLISH of QoS 0.
 #[inline(always)]
 fn is_quiet(role: Role, note: &Note) -> bool
     ensures { result ≡ quiet role note.now }
@@ -267,7 +270,8 @@ fn kept_after(kept: Kept, role: Role, note: &Note, before: &[Seen]) -> Kept
     }
 }
 
-// How many events come before the OPEN of the latest connection after an event, given how many did before it.
+// How many events come before the OPEN of the latest connection after an event, given how many did
+// before it.
 #[inline(always)]
 fn opened_after(opened: usize, note: &Note, before: &[Seen]) -> usize
     ensures { result ≡ cond (is_open note.now) (length before.now) opened }
@@ -278,7 +282,8 @@ fn opened_after(opened: usize, note: &Note, before: &[Seen]) -> usize
     opened
 }
 
-// Whether the event asks for an answer, or may have to be sent again, so that a later REST can find that it wasn't.
+// Whether the event asks for an answer, or may have to be sent again, so that a later REST can find
+// that it wasn't.
 #[inline(always)]
 fn asks(note: &Note) -> bool
     ensures { result ≡ asks_for note.now }

@@ -1,7 +1,8 @@
 //! The plain evaluators of the statements on sessions.
 //!
-//! A log is judged in one pass by all of them: events are many, and so each is read from memory once. Events before the CONNACK are
-//! judged when it comes, since only then it is known which session they are of.
+//! A log is judged in one pass by all of them: events are many, and so each is read from memory
+//! once. Events before the CONNACK are judged when it comes, since only then it is known which
+//! session they are of.
 ghost use Rattle.std.specs.Prelude.{reverse, OnOk, OnErr};
 ghost use Rattle.mq_rules.specs.Moments.{IsPlaced};
 ghost use Rattle.mq_rules.specs.Faults.{Grows, GrowsWithin};
@@ -23,7 +24,8 @@ use crate::resends::{ResendsBeforePubrel, ResendsInOrder, ResendsOnce, ResendsOp
 use mq_rules::{Faults, Memory, Seen, Tested};
 use std::alloc::Global;
 
-// An exchange with ordered answers: each answer was asked for, each cause is answered at a REST, and answers are in order.
+// An exchange with ordered answers: each answer was asked for, each cause is answered at a REST,
+// and answers are in order.
 type OrderedAnswers<X, Others> = Then<
     OnSessions<Asked<X>>,
     Then<OnRests<Settled<X>>, Then<OnSessions<Ordered<X>>, Others>>,
@@ -77,12 +79,13 @@ type Subscriptions = Then<
     Then<OnSessions<GrantedQos>, Then<OnSessions<CountedSubacks>, OnSessions<CountedUnsubacks>>>,
 >;
 
-/// Judges each event of a list, the oldest first, by the statements on identifiers, resends and the send quota (S01 to S07) and on
-/// exchanges (E1A to E7R). A pair that already has a fault keeps it.
+/// Judges each event of a list, the oldest first, by the statements on identifiers, resends and the
+/// send quota (S01 to S07) and on exchanges (E1A to E7R). A pair that already has a fault keeps it.
 ///
 /// # Errors
 ///
-/// `Memory` if there is no memory. Some of the faults of these statements may then have been added, but no others.
+/// `Memory` if there is no memory. Some of the faults of these statements may then have been added,
+/// but no others.
 pub fn plain_se(
     alloc: Global,
     tested: Tested,
@@ -95,12 +98,13 @@ pub fn plain_se(
     judge_each::<Messages<Exchanges>>(alloc, tested, seen, faults)
 }
 
-/// Judges each event of a list, the oldest first, by the statements on releases (L1 to L3) and on subscriptions (B01 to B04). A pair
-/// that already has a fault keeps it.
+/// Judges each event of a list, the oldest first, by the statements on releases (L1 to L3) and on
+/// subscriptions (B01 to B04). A pair that already has a fault keeps it.
 ///
 /// # Errors
 ///
-/// `Memory` if there is no memory. Some of the faults of these statements may then have been added, but no others.
+/// `Memory` if there is no memory. Some of the faults of these statements may then have been added,
+/// but no others.
 pub fn plain_lb(
     alloc: Global,
     tested: Tested,
@@ -113,12 +117,13 @@ pub fn plain_lb(
     judge_each::<Releases<Subscriptions>>(alloc, tested, seen, faults)
 }
 
-/// Judges each event of a list, the oldest first, by all these statements in one pass: those of `plain_se` and those of `plain_lb`. A
-/// pair that already has a fault keeps it.
+/// Judges each event of a list, the oldest first, by all these statements in one pass: those of
+/// `plain_se` and those of `plain_lb`. A pair that already has a fault keeps it.
 ///
 /// # Errors
 ///
-/// `Memory` if there is no memory. Some of the faults of these statements may then have been added, but no others.
+/// `Memory` if there is no memory. Some of the faults of these statements may then have been added,
+/// but no others.
 pub fn plain_sessions(
     alloc: Global,
     tested: Tested,

@@ -39,7 +39,8 @@ fn room_before(room: usize, note: &Note) -> usize
     room
 }
 
-// Whether some of the newest of these events, on the latest connection, have more PUBLISHes than closers, by more than this room.
+// Whether some of the newest of these events, on the latest connection, have more PUBLISHes than
+// closers, by more than this room.
 fn is_overdrawn(role: Role, room: usize, before: &[Seen]) -> bool
     requires { room < 65536 }
     ensures { result ≡ overdraws room (counted role (reverse before.now)) }
@@ -59,8 +60,9 @@ fn is_overdrawn(role: Role, room: usize, before: &[Seen]) -> bool
     false
 }
 
-/// Whether the send quota of the latest connection is used up after these events: as many PUBLISHes as the peer's Receive Maximum are
-/// unacknowledged. Acknowledgements that came before those PUBLISHes don't raise the quota.
+/// Whether the send quota of the latest connection is used up after these events: as many PUBLISHes
+/// as the peer's Receive Maximum are unacknowledged. Acknowledgements that came before those
+/// PUBLISHes don't raise the quota.
 pub fn is_used_up(role: Role, before: &[Seen]) -> bool
     ensures { (event : TheSeen) → result ≡ uses_up role (newest event (reverse before.now)) }
 {

@@ -45,7 +45,8 @@ impl NoteTest for Releases {
     }
 }
 
-/// What ends the exchange of the PUBLISH that was received under an identifier: a PUBCOMP, or a PUBREC that refuses it.
+/// What ends the exchange of the PUBLISH that was received under an identifier: a PUBCOMP, or a
+/// PUBREC that refuses it.
 #[derive(Drop)]
 struct EndsExchange(u16);
 
@@ -60,7 +61,8 @@ impl NoteTest for EndsExchange {
     }
 }
 
-/// A PUBREC of 0x10, No matching subscribers, that is sent under an identifier (MQTT 5.0, section 3.5.2.1).
+/// A PUBREC of 0x10, No matching subscribers, that is sent under an identifier (MQTT 5.0, section
+/// 3.5.2.1).
 #[derive(Drop)]
 struct FindsNoSubscriber(u16);
 
@@ -75,7 +77,8 @@ impl NoteTest for FindsNoSubscriber {
     }
 }
 
-// Whether a QoS 2 PUBLISH under an identifier was received in the session, and nothing has ended its exchange since.
+// Whether a QoS 2 PUBLISH under an identifier was received in the session, and nothing has ended
+// its exchange since.
 fn is_brought(role: Role, fate: Fate, identifier: u16, before: &[Seen]) -> bool
     ensures { result ≡ is_brought_after role fate identifier (reverse before.now) }
 {
@@ -88,7 +91,8 @@ fn is_brought(role: Role, fate: Fate, identifier: u16, before: &[Seen]) -> bool
     )
 }
 
-// Whether the message under an identifier was released in the session, and nothing has ended its exchange since.
+// Whether the message under an identifier was released in the session, and nothing has ended its
+// exchange since.
 fn is_released(role: Role, fate: Fate, identifier: u16, before: &[Seen]) -> bool
     ensures { result ≡ is_released_after role fate identifier (reverse before.now) }
 {
@@ -134,8 +138,8 @@ fn completes_unreleased(role: Role, fate: Fate, event: &Seen, before: &[Seen]) -
     }
 }
 
-// Whether the release of the message under an identifier is due: its PUBLISH was received, it needs a release, and it wasn't
-// released.
+// Whether the release of the message under an identifier is due: its PUBLISH was received, it needs
+// a release, and it wasn't released.
 fn is_release_due(role: Role, fate: Fate, identifier: u16, before: &[Seen]) -> bool
     ensures { result ≡ is_some_and (λ first. not (is_released_after role fate identifier (reverse before.now)) && not (lapses_after role fate identifier (reverse before.now) first)) (first_brought_after role fate identifier (reverse before.now)) }
 {
@@ -154,7 +158,8 @@ fn is_release_due(role: Role, fate: Fate, identifier: u16, before: &[Seen]) -> b
     }
 }
 
-// Whether the message of this PUBLISH needs no release: it may expire, or a PUBREC of 0x10 was sent since.
+// Whether the message of this PUBLISH needs no release: it may expire, or a PUBREC of 0x10 was sent
+// since.
 fn may_lapse(role: Role, fate: Fate, identifier: u16, first: Found<'_>, before: &[Seen]) -> bool
     ensures { result ≡ lapses_after role fate identifier (reverse before.now) (moment_of first.entry) }
 {

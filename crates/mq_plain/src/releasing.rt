@@ -28,7 +28,8 @@ pub trait ReleaseStatement {
     fn rule() -> Rule
         ensures { result ≡ judged };
 
-    /// Whether an event with these events before it breaks the statement; its connection has this fate.
+    /// Whether an event with these events before it breaks the statement; its connection has this
+    /// fate.
     fn is_broken(role: Role, fate: Fate, event: &Seen, before: &[Seen]) -> bool
         ensures { result ≡ breaks role fate (newest event.now (reverse before.now)) };
 
@@ -36,8 +37,8 @@ pub trait ReleaseStatement {
     ghost says: { (role : Role) → statement role judged ≡ at_release (breaks role) };
 }
 
-/// Judges an event that has these events before it: it has a fault if the statement binds the tested end and is broken. A pair that
-/// already has a fault keeps it.
+/// Judges an event that has these events before it: it has a fault if the statement binds the
+/// tested end and is broken. A pair that already has a fault keeps it.
 ///
 /// # Errors
 ///
@@ -61,8 +62,9 @@ pub fn judge_release<T: ReleaseStatement>(
     Ok(())
 }
 
-// Whether an event with these events before it has a fault: the statement binds the tested end, and is broken. Its connection has this
-// fate. A statement that binds only the other end isn't evaluated.
+// Whether an event with these events before it has a fault: the statement binds the tested end, and
+// is broken. Its connection has this fate. A statement that binds only the other end isn't
+// evaluated.
 #[inline(always)]
 fn is_fault_at<T: ReleaseStatement>(
     binds: bool,

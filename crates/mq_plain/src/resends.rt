@@ -92,14 +92,16 @@ fn is_sent_on_void(role: Role, identifier: u16, before: &[Seen]) -> bool
     false
 }
 
-// Whether an event sends a PUBLISH under an identifier on a void connection; its connection has this fate.
+// Whether an event sends a PUBLISH under an identifier on a void connection; its connection has
+// this fate.
 fn is_void_at(identifier: u16, fate: Option<Fate>, note: &Note) -> bool
     ensures { result ≡ (is_id identifier (delivery_of note.now) && voided fate) }
 {
     Delivers(identifier).passes(note) && is_voided(fate)
 }
 
-// Whether the PUBLISH of an identifier may be sent again: it is open, or was sent on a void connection.
+// Whether the PUBLISH of an identifier may be sent again: it is open, or was sent on a void
+// connection.
 fn may_be_resent(role: Role, fate: Fate, identifier: u16, before: &[Seen]) -> bool
     ensures { result ≡ (is_open_after role fate identifier (reverse before.now) || is_void_delivery role identifier (reverse before.now)) }
 {
@@ -120,14 +122,16 @@ fn resends_unopened(role: Role, fate: Fate, event: &Seen, before: &[Seen]) -> bo
     }
 }
 
-// Whether a PUBLISH under an identifier was sent on the latest connection, and nothing has closed it since.
+// Whether a PUBLISH under an identifier was sent on the latest connection, and nothing has closed
+// it since.
 fn is_sent_already(identifier: u16, before: &[Seen]) -> bool
     ensures { result ≡ is_delivering identifier (reverse before.now) }
 {
     since_on_connection(&Delivers(identifier), &Closes(identifier), before)
 }
 
-// Whether a packet sends a PUBLISH again that was sent on its connection before, and wasn't closed since.
+// Whether a packet sends a PUBLISH again that was sent on its connection before, and wasn't closed
+// since.
 #[tactic(auto, unfolding(mq_rules::specs::Identifiers::breaks_S03))]
 fn resends_twice(event: &Seen, before: &[Seen]) -> bool
     ensures { result ≡ breaks_S03 (newest event.now (reverse before.now)) }
@@ -213,7 +217,8 @@ impl SessionStatement for ResendsOpen {
     ghost says = { λ role. refl };
 }
 
-/// S03: a PUBLISH is sent again at most once on a connection, and not on the one where it was first sent.
+/// S03: a PUBLISH is sent again at most once on a connection, and not on the one where it was first
+/// sent.
 pub struct ResendsOnce;
 
 impl SessionStatement for ResendsOnce {

@@ -30,7 +30,8 @@ pub trait RestStatement {
     fn rule() -> Rule
         ensures { result ≡ judged };
 
-    /// The places of the events that break the statement, as a REST with these events before it shows.
+    /// The places of the events that break the statement, as a REST with these events before it
+    /// shows.
     ///
     /// # Errors
     ///
@@ -42,12 +43,14 @@ pub trait RestStatement {
     ghost says: { (role : Role) → statement role judged ≡ at_rest (shows role) };
 }
 
-/// Adds a fault at each event that a REST shows to break the statement, if the statement binds the tested end. An event other than a
-/// binding REST shows nothing. A pair that already has a fault keeps it; so the first REST that shows a pair decides it.
+/// Adds a fault at each event that a REST shows to break the statement, if the statement binds the
+/// tested end. An event other than a binding REST shows nothing. A pair that already has a fault
+/// keeps it; so the first REST that shows a pair decides it.
 ///
 /// # Errors
 ///
-/// `Memory` if there is no memory for a fault, or to look back. Some of the faults may then have been added, but no others.
+/// `Memory` if there is no memory for a fault, or to look back. Some of the faults may then have
+/// been added, but no others.
 #[inline(always)]
 pub fn judge_rest<T: RestStatement>(
     binds: bool,
@@ -71,11 +74,11 @@ pub fn judge_rest<T: RestStatement>(
     Ok(())
 }
 
-// Adds a fault of a statement at each of these places, decided at this position. A pair that already has a fault keeps it.
+// Adds a fault of a statement at each of these places, decided at this position. A pair that
+// already has a fault keeps it.
 //
-// # Errors
-//
-// `Memory` if there is no memory for a fault. Some of the faults may then have been added, but no others.
+// Errors: `Memory` if there is no memory for a fault. Some of the faults may then have been added,
+// but no others.
 fn blame(rule: Rule, decided: u32, places: &[Place3], faults: &mut Faults) -> Result<(), Memory>
     ensures ok { OnOk result (Blames rule decided places.now faults.old faults.new) }
     ensures memory { OnErr result (BlamesWithin rule decided places.now faults.old faults.new) }

@@ -9,8 +9,8 @@ use crate::connection::latest_fate_of;
 use crate::lookback::NoteTest;
 use mq_rules::{Fate, Note, Role, Seen};
 
-/// Whether in the current session after these events, if the latest connection has this fate, some event passes the first
-/// test, and no later one the second.
+/// Whether in the current session after these events, if the latest connection has this fate, some
+/// event passes the first test, and no later one the second.
 pub fn since_in_session<S: NoteTest, E: NoteTest>(
     role: Role,
     fate: Option<Fate>,
@@ -35,7 +35,8 @@ pub fn since_in_session<S: NoteTest, E: NoteTest>(
     false
 }
 
-// What an event decides by itself, if it is in the session. The tests come first, since few events pass them.
+// What an event decides by itself, if it is in the session. The tests come first, since few events
+// pass them.
 fn answer_at<S: NoteTest, E: NoteTest>(
     role: Role,
     fate: Option<Fate>,
@@ -81,8 +82,8 @@ fn is_in_session(role: Role, fate: Option<Fate>, event: &Seen, before: &[Seen]) 
         || (event.note.is_release() && is_voided(fate) && is_any_accepted(role, fate, before))
 }
 
-/// Whether an event on or after the latest connection, which has this fate, is in a session; `any` says whether some connection
-/// up to the event is accepted.
+/// Whether an event on or after the latest connection, which has this fate, is in a session; `any`
+/// says whether some connection up to the event is accepted.
 #[tactic(auto, using(crate::proofs::LookbackLaws::in_known))]
 pub fn is_in_known_session(
     role: Role,
@@ -96,8 +97,8 @@ pub fn is_in_known_session(
     is_accepted(fate) || (event.note.is_release() && is_voided(fate) && any)
 }
 
-/// Whether some connection before an event is accepted, if the latest one has this fate; `any` says the same of those up to the
-/// event.
+/// Whether some connection before an event is accepted, if the latest one has this fate; `any` says
+/// the same of those up to the event.
 pub fn any_before(role: Role, fate: Option<Fate>, any: bool, note: &Note, before: &[Seen]) -> bool
     ensures { result ≡ cond (is_open note.now && accepted fate) (any_accepted role (latest_fate role (reverse before.now)) (reverse before.now)) any }
 {

@@ -2,7 +2,8 @@
 
 use mq_rules::{Fate, Tested};
 
-/// What the statements on sessions need to know of an event, besides the events before it. It is found once for all of them.
+/// What the statements on sessions need to know of an event, besides the events before it. It is
+/// found once for all of them.
 #[derive(Clone, Copy)]
 pub struct Turn {
     /// The end that is judged.

@@ -24,7 +24,8 @@ use std::marker::Model;
 
 /// A property list that is built for its place, and is valid there at any moment (MQTT 5.0, 2.2.2).
 ///
-/// A contract sees its place and its properties, in order, and how many more bytes fit without another allocation.
+/// A contract sees its place and its properties, in order, and how many more bytes fit without
+/// another allocation.
 #[derive(Debug, Drop)]
 pub struct PropsBuf {
     place: Place,
@@ -148,7 +149,8 @@ fn is_too_long(bytes: &[u8], id: u8, value: &Value) -> bool
     is_long_value(value) || is_over_list(bytes, id, value)
 }
 
-// Why a property with the value can't be appended to the list of these bytes, if so. `seen` has the list's identifiers.
+// Why a property with the value can't be appended to the list of these bytes, if so. `seen` has the
+// list's identifiers.
 fn fault_with(place: Place, seen: &Seen, bytes: &[u8], row: Row, value: &Value) -> Option<PushFault>
     requires sees { Sees seen.now (items_of bytes.now) }
     requires spelled { bytes.now ≡ body (items_of bytes.now) }
@@ -312,8 +314,8 @@ impl PropsBuf {
     ///
     /// # Errors
     ///
-    /// The [`PushFault`] with the lowest number of those that apply: `Memory` only if the property has more bytes than fit
-    /// without another allocation. The list is then unchanged.
+    /// The [`PushFault`] with the lowest number of those that apply: `Memory` only if the property
+    /// has more bytes than fit without another allocation. The list is then unchanged.
     ///
     /// # Examples
     ///

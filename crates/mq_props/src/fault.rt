@@ -9,7 +9,8 @@ use thiserror::Error;
 /// What is wrong with a property list, in the order in which a property is checked.
 #[derive(Debug, Clone, Copy, PartialEq, Eq, Error)]
 pub enum PropReason {
-    /// A length, an identifier or a value is misspelled, or goes past the list's end (MQTT 5.0, 1.5).
+    /// A length, an identifier or a value is misspelled, or goes past the list's end (MQTT 5.0,
+    /// 1.5).
     #[error(transparent)]
     Wire(Reason),
     /// No property has the identifier (MQTT 5.0, 2.2.2.2).
@@ -69,8 +70,8 @@ impl From<WireFault> for PropFault {
     }
 }
 
-/// Why a property can't be appended to a list. If several reasons apply, it is the one with the lowest
-/// number.
+/// Why a property can't be appended to a list. If several reasons apply, it is the one with the
+/// lowest number.
 #[derive(Debug, Clone, Copy, PartialEq, Eq, Error)]
 pub enum PushFault {
     /// The property isn't allowed in this list (MQTT 5.0, 2.2.2.2).
@@ -79,11 +80,12 @@ pub enum PushFault {
     /// The property is in the list already, and may be there only once.
     #[error("the property may appear only once in the list")]
     Repeated,
-    /// The property may not have this value: it is out of range, a Response Topic of a PUBLISH with a
-    /// wildcard, a text with U+0000, or a number above 268,435,455.
+    /// The property may not have this value: it is out of range, a Response Topic of a PUBLISH with
+    /// a wildcard, a text with U+0000, or a number above 268,435,455.
     #[error("the property may not have this value")]
     Value,
-    /// A text or binary data has more than 65,535 bytes, or the list would have more than 268,435,455.
+    /// A text or binary data has more than 65,535 bytes, or the list would have more than
+    /// 268,435,455.
     #[error("the value or the list is too long")]
     TooLong,
     /// The memory for it couldn't be allocated.

@@ -1,7 +1,7 @@
 //! The first property of each kind in a list.
 //!
-//! The getters that are called for each PUBLISH are inlined down to a function of the list's bytes: a list that no call borrows
-//! is kept in registers.
+//! The getters that are called for each PUBLISH are inlined down to a function of the list's bytes:
+//! a list that no call borrows is kept in registers.
 
 ghost use Rattle.std.specs.Prelude.{◌≡◌};
 ghost use Rattle.std.specs.Option.{option_map};
@@ -87,7 +87,8 @@ impl<'a> Value<'a> {
     }
 }
 
-// The value of the first property with the identifier among those that the bytes spell, by its type.
+// The value of the first property with the identifier among those that the bytes spell, by its
+// type.
 
 #[inline(never)]
 fn two_bytes_in<'a>(bytes: &'a [u8], id: u8) -> Option<u16>

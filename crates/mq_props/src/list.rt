@@ -13,7 +13,8 @@ use crate::table::{Place, Row, find_row, lists_place, may_repeat_in};
 use crate::value::{Item, Value, is_in_range, is_wild_in, read_value};
 use mq_wire::Cursor;
 
-// The line of the identifier at an offset, if a property with it is allowed in the list after those seen.
+// The line of the identifier at an offset, if a property with it is allowed in the list after those
+// seen.
 fn admit(place: Place, seen: &Seen, at: usize, id: u32) -> Result<Row, PropFault>
     ensures { (before : List Property) → Sees seen.now before → Gives row_view result (judged_at at (admitted place before (row_of id))) }
 {
@@ -77,7 +78,8 @@ fn read_item<'a>(place: Place, seen: &Seen, cursor: &mut Cursor<'a>) -> Result<I
     Ok(item)
 }
 
-/// Checks that all that the cursor has left is a valid list of properties for the place (MQTT 5.0, 2.2.2).
+/// Checks that all that the cursor has left is a valid list of properties for the place (MQTT 5.0,
+/// 2.2.2).
 ///
 /// # Errors
 ///

@@ -22,8 +22,8 @@ use mq_wire::{Cursor, Reason};
 use std::marker::Model;
 use std::mem;
 
-/// A property list that is valid in its place (MQTT 5.0, 2.2.2): each property is known, allowed there
-/// and in range, and none is repeated that may be there only once.
+/// A property list that is valid in its place (MQTT 5.0, 2.2.2): each property is known, allowed
+/// there and in range, and none is repeated that may be there only once.
 ///
 /// It borrows the bytes that spell it. A contract sees its place and its properties, in order.
 #[derive(Debug, Drop)]
@@ -69,7 +69,8 @@ fn all_of<'a>(place: Place, at: usize, bytes: &'a [u8]) -> Result<Props<'a>, Pro
     Ok(Props { place, bytes })
 }
 
-/// The bytes after an empty property list, which is the byte 0, if they begin with one (MQTT 5.0, 2.2.2.1).
+/// The bytes after an empty property list, which is the byte 0, if they begin with one (MQTT 5.0,
+/// 2.2.2.1).
 #[inline(always)]
 pub fn after_empty_list(bytes: &[u8]) -> Option<&[u8]>
     ensures rest { IfSome result (λ rest. bytes.now ≡ 0 ∷ rest.now) }
@@ -99,7 +100,8 @@ fn list_at<'a>(cursor: &mut Cursor<'a>, place: Place) -> Result<Props<'a>, PropF
     }
 }
 
-// The same for any list. It is a function of its own, so that the call for an empty list, the usual case, is inlined.
+// The same for any list. It is a function of its own, so that the call for an empty list, the usual
+// case, is inlined.
 #[inline(never)]
 #[tactic(auto, unfolding(crate::specs::Reading::list_on))]
 fn any_list_at<'a>(cursor: &mut Cursor<'a>, place: Place) -> Result<Props<'a>, PropFault>
@@ -161,16 +163,17 @@ pub fn first_in<'a>(bytes: &'a [u8], id: u8) -> Option<Value<'a>>
 impl<'a> Props<'a> {
     ghost use Rattle.mq_props.specs.Listed.{IsList};
 
-    /// Reads the property list of a place at the front of what the cursor has left (MQTT 5.0, 2.2.2): its
-    /// length, and the properties that make up that many bytes. It allocates and copies nothing.
+    /// Reads the property list of a place at the front of what the cursor has left (MQTT 5.0,
+    /// 2.2.2): its length, and the properties that make up that many bytes. It allocates and copies
+    /// nothing.
     ///
     /// # Errors
     ///
-    /// The first invalid field from the left, with its offset. For the list's length: `Wire` if it is
-    /// misspelled, or if fewer bytes are left. For each property, within the list's bytes: `Wire` if the
-    /// identifier is misspelled, `Unknown`, `NotAllowed`, `Repeated`, these at the identifier; then
-    /// `Wire` if the value is misspelled, `Value`, `Wildcard`, these at the value. The cursor has then
-    /// not moved.
+    /// The first invalid field from the left, with its offset. For the list's length: `Wire` if it
+    /// is misspelled, or if fewer bytes are left. For each property, within the list's bytes:
+    /// `Wire` if the identifier is misspelled, `Unknown`, `NotAllowed`, `Repeated`, these at the
+    /// identifier; then `Wire` if the value is misspelled, `Value`, `Wildcard`, these at the value.
+    /// The cursor has then not moved.
     ///
     /// # Examples
     ///
@@ -182,7 +185,8 @@ impl<'a> Props<'a> {
     /// ```
     #[inline(always)]
     pub fn read(cursor: &mut Cursor<'a>, place: Place) -> Result<Props<'a>, PropFault>
-        // What is read is spelled by the bytes that the cursor moved past, and is valid in the place.
+        // What is read is spelled by the bytes that the cursor moved past, and is valid in the
+        // place.
         ensures found { IfOk result (λ props. (bytes : List ℕ) × Lists place props.items bytes × (cursor.old.rest ≡ bytes ++ cursor.new.rest) × (cursor.new ≡ past cursor.old (length bytes))) }
         // What is valid there is read, whatever follows it.
         ensures only { (ps : List Property) (bytes rest : List ℕ) → Lists place ps bytes → cursor.old.rest ≡ bytes ++ rest
@@ -221,8 +225,8 @@ impl<'a> Props<'a> {
         self.place
     }
 
-    /// The bytes that spell the properties, at most 268,435,455, without the list's length before them.
-    /// A list has exactly one spelling.
+    /// The bytes that spell the properties, at most 268,435,455, without the list's length before
+    /// them. A list has exactly one spelling.
     pub fn as_bytes(&self) -> &'a [u8]
         ensures spelled { result.now ≡ body self.now.items }
         ensures allowed { AreAllowed self.now.place self.now.items }

@@ -1,4 +1,5 @@
-//! The properties, the type of their values, and the lists that they are allowed in (MQTT 5.0, 2.2.2.2).
+//! The properties, the type of their values, and the lists that they are allowed in (MQTT 5.0,
+//! 2.2.2.2).
 
 ghost use Rattle.std.specs.Prelude.{◌≡◌, ◌==◌, ◌<◌, IfSome};
 ghost use Rattle.std.specs.Option.{option_map};
@@ -127,7 +128,8 @@ use self::Place::*;
 use self::Range::{Any, NotZero, ZeroOrOne};
 use self::ValueType::{Binary, Byte, FourBytes, Pair, Text, TwoBytes, Varint};
 
-/// The table of properties (MQTT 5.0, 2.2.2.2). It is proved equal to the one that the contracts cite.
+/// The table of properties (MQTT 5.0, 2.2.2.2). It is proved equal to the one that the contracts
+/// cite.
 #[rattlefmt::skip]
 pub const TABLE: [Row; 27] = [
     (id::PAYLOAD_FORMAT_INDICATOR, Byte, Any, &[Publish, Will]),

@@ -58,7 +58,8 @@ impl Note {
         }
     }
 
-    /// The note of a PUBLISH in this direction that has these fields, a short Topic Name, and no properties.
+    /// The note of a PUBLISH in this direction that has these fields, a short Topic Name, and no
+    /// properties.
     #[inline(always)]
     pub fn of_bare_publish(
         direction: Direction,

@@ -1,4 +1,5 @@
-//! The statements C01 to C23, in one pass: what is kept of the latest connection decides each of them at the next event.
+//! The statements C01 to C23, in one pass: what is kept of the latest connection decides each of
+//! them at the next event.
 ghost use Rattle.std.specs.Prelude.{◌≡◌, ◌==◌, ◌∷◌, [], ◌+◌, ◌&&◌, ◌||◌, ℕ, cond, not, length, List, Some, OnOk, OnErr};
 ghost use Rattle.std.specs.BTreeSet.{contains, btree_set_len};
 ghost use Rattle.std.specs.Ordering.{nat_cmp};
@@ -34,8 +35,8 @@ use std::alloc::Global;
 use std::collections::BTreeSet;
 use verdicts::{Verdict, breaks_c19};
 
-/// Watches C01 to C23, the statements on the past of a connection. It takes in each event of a log in which nothing is sent or
-/// received between two connections.
+/// Watches C01 to C23, the statements on the past of a connection. It takes in each event of a log
+/// in which nothing is sent or received between two connections.
 #[derive(Drop)]
 pub struct Conn {
     role: Role,
@@ -57,13 +58,13 @@ impl Conn {
         }
     }
 
-    /// Judges an event of any list by what is kept, and then takes it in. The Topic Aliases stay until the next OPEN, also where
-    /// something is sent after a CLOSE.
+    /// Judges an event of any list by what is kept, and then takes it in. The Topic Aliases stay
+    /// until the next OPEN, also where something is sent after a CLOSE.
     ///
     /// # Errors
     ///
-    /// `Memory` if there is no memory for a fault or a Topic Alias. Some of the event's faults may then have been added, but no
-    /// others, and what is kept must not be used any more.
+    /// `Memory` if there is no memory for a fault or a Topic Alias. Some of the event's faults may
+    /// then have been added, but no others, and what is kept must not be used any more.
     pub(crate) fn take_in(
         &mut self,
         place: Place3,
@@ -87,7 +88,7 @@ impl Conn {
         self.state.send_bounds(self.role)
     }
 
-    /// Takes an event.
+    // Takes an event.
     fn consume(&mut self, note: &Note) -> Result<(), Memory>
         ensures role { OnOk result (self.new.role ≡ self.old.role) }
         ensures state { OnOk result (self.new.state ≡ keeping.connection_after self.old.role self.old.state note.now) }
@@ -100,7 +101,7 @@ impl Conn {
         Ok(())
     }
 
-    /// Forgets all Topic Aliases at a CLOSE: they end with their connection.
+    // Forgets all Topic Aliases at a CLOSE: they end with their connection.
     fn end_aliases(&mut self, note: &Note)
         ensures role { self.new.role ≡ self.old.role }
         ensures state { self.new.state ≡ self.old.state }
@@ -110,7 +111,7 @@ impl Conn {
         self.clear_aliases_if(note.is_close());
     }
 
-    /// Forgets all Topic Aliases.
+    // Forgets all Topic Aliases.
     fn clear_aliases_if(&mut self, ends: bool)
         ensures role { self.new.role ≡ self.old.role }
         ensures state { self.new.state ≡ self.old.state }
@@ -122,7 +123,7 @@ impl Conn {
         }
     }
 
-    /// Adds a Topic Alias, if there is one.
+    // Adds a Topic Alias, if there is one.
     fn set_alias(&mut self, set: Option<u16>) -> Result<(), Memory>
         ensures role { OnOk result (self.new.role ≡ self.old.role) }
         ensures state { OnOk result (self.new.state ≡ self.old.state) }
@@ -167,7 +168,7 @@ impl Skipping for Conn {
     }
 }
 
-/// The Topic Alias that the event sets: a PUBLISH is sent with it and a Topic Name.
+// The Topic Alias that the event sets: a PUBLISH is sent with it and a Topic Name.
 #[inline]
 fn alias_set_by(note: &Note) -> Option<u16>
     ensures { result ≡ sets note.now }
@@ -191,7 +192,7 @@ fn named_alias(publish: &PublishNote) -> Option<u16>
 
 /// Judging an event by what is kept.
 impl Conn {
-    /// Judges each statement that binds the end.
+    // Judges each statement that binds the end.
     fn judge(&self, place: Place3, note: &Note, faults: &mut Faults) -> Result<(), Memory>
         ensures ok { OnOk result (Judges (keeping.is_found self.now.role self.now.state (contains nat_cmp self.now.aliases) note.now) place faults.old faults.new) }
         ensures memory { OnErr result (JudgesWithin (keeping.is_found self.now.role self.now.state (contains nat_cmp self.now.aliases) note.now) place faults.old faults.new) }
@@ -205,7 +206,7 @@ impl Conn {
         Ok(())
     }
 
-    /// Judges a packet that is sent, or bytes that break a rule.
+    // Judges a packet that is sent, or bytes that break a rule.
     #[inline]
     fn judge_item(
         &self,
@@ -225,7 +226,7 @@ impl Conn {
         }
     }
 
-    /// Judges a packet that is sent.
+    // Judges a packet that is sent.
     #[inline]
     fn judge_packet(
         &self,
@@ -245,7 +246,7 @@ impl Conn {
         }
     }
 
-    /// Judges a PUBLISH that is sent.
+    // Judges a PUBLISH that is sent.
     #[inline]
     fn judge_publish(
         &self,
@@ -297,7 +298,7 @@ impl Conn {
         }
     }
 
-    /// Judges a CONNACK that is sent.
+    // Judges a CONNACK that is sent.
     #[inline]
     fn judge_connack(
         &self,
@@ -317,7 +318,7 @@ impl Conn {
         }
     }
 
-    /// Judges a DISCONNECT that is sent.
+    // Judges a DISCONNECT that is sent.
     #[inline]
     fn judge_disconnect(
         &self,
@@ -340,7 +341,7 @@ impl Conn {
         }
     }
 
-    /// Judges C23; the flag says whether the event is a REST.
+    // Judges C23; the flag says whether the event is a REST.
     #[inline]
     fn judge_rest(&self, place: Place3, is_rest: bool, faults: &mut Faults) -> Result<(), Memory>
         ensures ok { OnOk result (Judges (is_among (keeping.rest_verdicts self.now.role self.now.state is_rest)) place faults.old faults.new) }
@@ -354,7 +355,7 @@ impl Conn {
     }
 }
 
-/// The Topic Alias that a PUBLISH without a Topic Name uses.
+// The Topic Alias that a PUBLISH without a Topic Name uses.
 #[inline]
 fn used_alias(publish: &PublishNote) -> Option<u16>
     ensures { result ≡ only (length publish.now.topic == 0) publish.now.topic_alias }
@@ -366,7 +367,7 @@ fn used_alias(publish: &PublishNote) -> Option<u16>
     }
 }
 
-/// Adds a fault for each of these statements that is false. At most events none is.
+// Adds a fault for each of these statements that is false. At most events none is.
 #[inline(always)]
 fn judge_each(place: Place3, verdicts: &[Verdict], faults: &mut Faults) -> Result<(), Memory>
     ensures ok { OnOk result (Judges (is_among verdicts.now) place faults.old faults.new) }
@@ -379,7 +380,7 @@ fn judge_each(place: Place3, verdicts: &[Verdict], faults: &mut Faults) -> Resul
     }
 }
 
-/// Whether any of these statements is false.
+// Whether any of these statements is false.
 #[inline(always)]
 fn is_any_broken(verdicts: &[Verdict]) -> bool
     ensures { result ≡ keeping.is_any_broken verdicts.now }
@@ -387,7 +388,7 @@ fn is_any_broken(verdicts: &[Verdict]) -> bool
     verdicts.iter().any(|(_, broken)| *broken)
 }
 
-/// Judges these statements one after another.
+// Judges these statements one after another.
 #[inline(always)]
 fn judge_broken(place: Place3, verdicts: &[Verdict], faults: &mut Faults) -> Result<(), Memory>
     ensures ok { OnOk result (Judges (is_among verdicts.now) place faults.old faults.new) }

@@ -1,7 +1,9 @@
-//! What the statements look at in the packets and events of a log, copied out of the bytes that they were read from.
+//! What the statements look at in the packets and events of a log, copied out of the bytes that
+//! they were read from.
 //!
-//! Memory is taken only for a text that some statement looks at: the Topic Name of a PUBLISH that was sent, the Topic Filters of a
-//! SUBSCRIBE that was received, and the Reason Codes of a SUBACK that was sent.
+//! Memory is taken only for a text that some statement looks at: the Topic Name of a PUBLISH that
+//! was sent, the Topic Filters of a SUBSCRIBE that was received, and the Reason Codes of a SUBACK
+//! that was sent.
 ghost use Rattle.std.specs.Prelude.{◌≡◌, ◌<◌, ◌≤◌, ℕ, List, [], true, is_some, length, slice_index, option_map, unwrap_or, IfOk, OnErr};
 ghost use Rattle.mq_props.specs.First.{first_two_bytes, first_four_bytes, first_varint, first_text, first_pair};
 ghost use Rattle.mq_packet.specs.declared.packet.RequestKind.TheVariants as requests;
@@ -25,7 +27,7 @@ use mq_props::Props;
 use mq_trace::{Direction, Event, Item};
 use std::alloc::Global;
 
-/// Whether there is a text.
+// Whether there is a text.
 #[inline]
 fn is_text(text: Option<&str>) -> bool
     ensures { result ≡ is_some (option_map (λ text. text.now) text.entry) }
@@ -33,7 +35,7 @@ fn is_text(text: Option<&str>) -> bool
     text.is_some()
 }
 
-/// Whether there is a pair of texts.
+// Whether there is a pair of texts.
 #[inline]
 fn is_pair(pair: Option<(&str, &str)>) -> bool
     ensures { result ≡ is_some {T = List ℕ × List ℕ} (option_map (λ texts. (texts.0.now, texts.1.now)) pair.entry) }
@@ -41,7 +43,8 @@ fn is_pair(pair: Option<(&str, &str)>) -> bool
     pair.is_some()
 }
 
-/// The list, if it has properties. In most packets it is empty, and then nothing needs to be looked for in it.
+/// The list, if it has properties. In most packets it is empty, and then nothing needs to be looked
+/// for in it.
 #[inline(always)]
 pub(crate) fn nonempty<'p, 'a>(list: &'p Props<'a>) -> Option<&'p Props<'a>>
     ensures { unwrap_or (option_map (λ list. list.now.items) result) [] ≡ list.now.items }
@@ -53,7 +56,7 @@ pub(crate) fn nonempty<'p, 'a>(list: &'p Props<'a>) -> Option<&'p Props<'a>>
     }
 }
 
-/// Whether there is a list, and it has a Reason String (MQTT 5.0, section 3.2.2.3.9).
+// Whether there is a list, and it has a Reason String (MQTT 5.0, section 3.2.2.3.9).
 #[inline(always)]
 fn has_reason_string(list: Option<&Props<'_>>) -> bool
     ensures { result ≡ is_some (first_text 31 (unwrap_or (option_map (λ list. list.now.items) list.entry) [])) }
@@ -64,7 +67,7 @@ fn has_reason_string(list: Option<&Props<'_>>) -> bool
     }
 }
 
-/// Whether there is a list, and it has a User Property (MQTT 5.0, section 3.2.2.3.10).
+// Whether there is a list, and it has a User Property (MQTT 5.0, section 3.2.2.3.10).
 #[inline(always)]
 fn has_user_property(list: Option<&Props<'_>>) -> bool
     ensures { result ≡ is_some (first_pair 38 (unwrap_or (option_map (λ list. list.now.items) list.entry) [])) }
@@ -75,7 +78,7 @@ fn has_user_property(list: Option<&Props<'_>>) -> bool
     }
 }
 
-/// The Topic Alias, if there is a list, and it has one (MQTT 5.0, section 3.3.2.3.4).
+// The Topic Alias, if there is a list, and it has one (MQTT 5.0, section 3.3.2.3.4).
 #[inline(always)]
 fn topic_alias(list: Option<&Props<'_>>) -> Option<u16>
     ensures { result ≡ first_two_bytes 35 (unwrap_or (option_map (λ list. list.now.items) list.entry) []) }
@@ -86,7 +89,7 @@ fn topic_alias(list: Option<&Props<'_>>) -> Option<u16>
     }
 }
 
-/// Whether there is a list, and it has a Message Expiry Interval (MQTT 5.0, section 3.3.2.3.3).
+// Whether there is a list, and it has a Message Expiry Interval (MQTT 5.0, section 3.3.2.3.3).
 #[inline(always)]
 fn has_message_expiry(list: Option<&Props<'_>>) -> bool
     ensures { result ≡ is_some (first_four_bytes 2 (unwrap_or (option_map (λ list. list.now.items) list.entry) [])) }
@@ -97,7 +100,7 @@ fn has_message_expiry(list: Option<&Props<'_>>) -> bool
     }
 }
 
-/// Whether there is a list, and it has a Subscription Identifier (MQTT 5.0, section 3.3.2.3.8).
+// Whether there is a list, and it has a Subscription Identifier (MQTT 5.0, section 3.3.2.3.8).
 #[inline(always)]
 fn has_subscription_identifier(list: Option<&Props<'_>>) -> bool
     ensures { result ≡ is_some (first_varint 11 (unwrap_or (option_map (λ list. list.now.items) list.entry) [])) }
@@ -158,7 +161,7 @@ impl DisconnectNote {
     }
 }
 
-/// The Topic Name, if its PUBLISH was sent; else it is empty.
+// The Topic Name, if its PUBLISH was sent; else it is empty.
 #[inline(always)]
 fn kept_topic(alloc: Global, direction: Direction, topic: &str) -> Result<Text, Memory>
     ensures exact { IfOk result (λ text. text ≡ only_list (is_sent_direction direction) topic.now) }
@@ -189,7 +192,7 @@ impl PublishNote {
         Ok(PublishNote::with_topic(topic, publish))
     }
 
-    /// What the statements look at in this PUBLISH, with this copy of its Topic Name.
+    // What the statements look at in this PUBLISH, with this copy of its Topic Name.
     #[inline(always)]
     fn with_topic(topic: Text, publish: &Publish<'_>) -> PublishNote
         ensures { (direction : Direction) → topic ≡ only_list (is_sent_direction direction) publish.now.topic.now → result ≡ publish_note direction (publish_view publish.now) }
@@ -207,7 +210,7 @@ impl PublishNote {
     }
 }
 
-/// What the statements look at in a SUBSCRIBE with these filters, which went this way.
+// What the statements look at in a SUBSCRIBE with these filters, which went this way.
 fn subscribe_fields(
     alloc: Global,
     direction: Direction,
@@ -227,7 +230,7 @@ fn subscribe_fields(
     })
 }
 
-/// What the statements look at in a SUBACK with these Reason Codes, which went this way.
+// What the statements look at in a SUBACK with these Reason Codes, which went this way.
 fn suback_fields(
     alloc: Global,
     direction: Direction,
@@ -244,7 +247,8 @@ fn suback_fields(
     Ok(PacketFields::Suback { identifier, codes })
 }
 
-/// What the statements look at of this UNSUBSCRIBE, whichever way it went: its Packet Identifier, and how many filters it has.
+// What the statements look at of this UNSUBSCRIBE, whichever way it went: its Packet Identifier,
+// and how many filters it has.
 fn unsubscribe_fields(request: &Request<'_>) -> PacketFields
     ensures { result ≡ fields.Unsubscribe request.now.identifier (length request.now.filters) }
 {
@@ -254,7 +258,8 @@ fn unsubscribe_fields(request: &Request<'_>) -> PacketFields
     }
 }
 
-/// What the statements look at of this UNSUBACK, whichever way it went: its Packet Identifier, and how many Reason Codes it has.
+// What the statements look at of this UNSUBACK, whichever way it went: its Packet Identifier, and
+// how many Reason Codes it has.
 fn unsuback_fields(answer: &Answer<'_>) -> PacketFields
     ensures { result ≡ fields.Unsuback answer.now.identifier (length answer.now.codes) }
 {
@@ -326,7 +331,7 @@ impl PacketFields {
     }
 }
 
-/// The packet's own property list, if it has one with properties in it (MQTT 5.0, section 2.2.2).
+// The packet's own property list, if it has one with properties in it (MQTT 5.0, section 2.2.2).
 #[inline(always)]
 fn properties_in<'p, 'a>(packet: &'p Packet<'a>) -> Option<&'p Props<'a>>
     ensures { unwrap_or (option_map (λ list. list.now.items) result) [] ≡ properties_of (view packet.now) }
@@ -373,7 +378,7 @@ impl PacketNote {
     }
 }
 
-/// The first byte of a packet's bytes. Without any it is 0, but each packet has two at least.
+// The first byte of a packet's bytes. Without any it is 0, but each packet has two at least.
 fn first_of(bytes: &[u8]) -> u8
     ensures { result ≡ slice_index bytes.now 0 }
 {
@@ -384,7 +389,8 @@ fn first_of(bytes: &[u8]) -> u8
 }
 
 impl ItemNote {
-    /// What the statements look at in this item, which went this way. A packet that was read has a size.
+    /// What the statements look at in this item, which went this way. A packet that was read has a
+    /// size.
     ///
     /// # Errors
     ///
@@ -454,8 +460,8 @@ impl Note {
         }
     }
 
-    /// The note of a PUBLISH in this direction, of which this is kept of the Topic Name. It is made in one piece, since each move of a note costs more than what is
-    /// noted.
+    // The note of a PUBLISH in this direction, of which this is kept of the Topic Name. It is made
+    // in one piece, since each move of a note costs more than what is noted.
     #[inline(always)]
     fn with_topic(direction: Direction, size: u32, topic: Text, publish: &Publish<'_>) -> Note
         ensures { topic ≡ only_list (is_sent_direction direction) publish.now.topic.now → result ≡ note_of (item_event direction (packet size (publish_entry (publish_view publish.now)))) }
@@ -477,8 +483,9 @@ impl Note {
     ///
     /// # Errors
     ///
-    /// `Memory` if there is no memory for a text that is kept: the Topic Name of a PUBLISH that was sent, the Topic Filters of a
-    /// SUBSCRIBE that was received, or the Reason Codes of a SUBACK that was sent. Any other event takes no memory.
+    /// `Memory` if there is no memory for a text that is kept: the Topic Name of a PUBLISH that was
+    /// sent, the Topic Filters of a SUBSCRIBE that was received, or the Reason Codes of a SUBACK
+    /// that was sent. Any other event takes no memory.
     #[inline(always)]
     pub fn of(alloc: Global, event: &Event<'_>) -> Result<Note, Memory>
         ensures exact { IfOk result (λ note. note ≡ note_of (event_of event.now)) }

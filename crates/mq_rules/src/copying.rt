@@ -30,7 +30,7 @@ pub fn copy_text(alloc: Global, text: &str) -> Result<String, Memory>
     Ok(copy)
 }
 
-/// What is noted of the filter: a copy, with its Subscription Options.
+// What is noted of the filter: a copy, with its Subscription Options.
 fn note_filter_of(alloc: Global, filter: Filter<'_>) -> Result<NotedFilter, Memory>
     ensures { IfOk result (λ note. note ≡ filter_note (filter_view filter.entry)) }
 {
@@ -51,7 +51,7 @@ pub fn note_filters(alloc: Global, filters: &Filters<'_>) -> Result<Vec<NotedFil
     Ok(notes)
 }
 
-/// A copy of the filter, with its Subscription Options.
+// A copy of the filter, with its Subscription Options.
 fn copy_filter(alloc: Global, filter: &NotedFilter) -> Result<NotedFilter, Memory>
     ensures { IfOk result (λ copy. copy ≡ filter.now) }
 {

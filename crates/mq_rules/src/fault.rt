@@ -6,7 +6,8 @@ use mq_trace::Place3;
 /// What is reported of a position and a statement that is false there.
 #[derive(Clone, Copy, Debug, PartialEq, Eq)]
 pub struct Fault {
-    /// The last position of the shortest beginning of the log in which the statement is false there.
+    /// The last position of the shortest beginning of the log in which the statement is false
+    /// there.
     pub decided: u32,
     /// The number of the record of the fault's position.
     pub record_no: u32,

@@ -28,7 +28,8 @@ impl From<AllocError> for Memory {
     }
 }
 
-/// A pair of a position and a statement. Keys are ordered by position, and then by statement, as reports are.
+/// A pair of a position and a statement. Keys are ordered by position, and then by statement, as
+/// reports are.
 #[derive(Clone, Copy, Debug, PartialEq, Eq, PartialOrd, Ord)]
 pub struct FaultKey {
     /// The event's number among the events, counted from 1.
@@ -84,7 +85,8 @@ impl Faults {
         Ok(())
     }
 
-    /// Adds the fault of a statement that is judged at its own position, if it is broken and the key has no fault yet.
+    /// Adds the fault of a statement that is judged at its own position, if it is broken and the
+    /// key has no fault yet.
     ///
     /// # Errors
     ///
@@ -134,7 +136,8 @@ impl Faults {
         self.len() == 0
     }
 
-    /// The faults with their keys, in ascending order: by position, and then in the order of the statements.
+    /// The faults with their keys, in ascending order: by position, and then in the order of the
+    /// statements.
     pub fn iter(&self) -> Iter<'_, FaultKey, Fault>
         ensures rest { result ≡ map.entries self.now }
         ensures runs { ShowsInOrder (deref_pair {K = FaultKey} {X = Fault}) }

@@ -1,8 +1,10 @@
-//! The chosen statements of MQTT 5.0: what they look at in a log's events, where each is false, and the faults that follow.
+//! The chosen statements of MQTT 5.0: what they look at in a log's events, where each is false, and
+//! the faults that follow.
 //!
-//! To learn what the statements say, read the definitions in `specs/` alone: `Notes` (one event), `Moments` (words on what comes
-//! before an event), `Connections`, and then a file for each family: `Pasts`, `Identifiers`, `Exchanges`, `Releases` and
-//! `Subscriptions`; `Statements` has a line for each statement, and `Faults` says what is reported.
+//! To learn what the statements say, read the definitions in `specs/` alone: `Notes` (one event),
+//! `Moments` (words on what comes before an event), `Connections`, and then a file for each family:
+//! `Pasts`, `Identifiers`, `Exchanges`, `Releases` and `Subscriptions`; `Statements` has a line for
+//! each statement, and `Faults` says what is reported.
 #![tactic(auto)]
 
 mod bare;

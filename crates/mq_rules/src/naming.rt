@@ -217,21 +217,21 @@ pub const SENTENCES: [Saying; 74] = [
     (Rule::B04, "An UNSUBACK has a Reason Code for each filter."),
 ];
 
-/// The row of a statement among these, if it has one.
+// The row of a statement among these, if it has one.
 fn found_saying(sayings: &[Saying], rule: Rule) -> Option<Saying>
     ensures { result ≡ find (λ row. same_rule row.0 rule) sayings.now }
 {
     sayings.iter().copied().find(|(said, _)| *said == rule)
 }
 
-/// The row of a statement among these, as contracts see it: its sentence is a list of bytes.
+// The row of a statement among these, as contracts see it: its sentence is a list of bytes.
 fn found_saying_in(sayings: &[Saying], rule: Rule) -> Option<Saying>
     ensures { option_map saying_view result ≡ find (λ said. same_rule said.rule rule) (sayings_of sayings.now) }
 {
     found_saying(sayings, rule)
 }
 
-/// The row of a statement, if it has one.
+// The row of a statement, if it has one.
 #[tactic(auto, unfolding(crate::specs::Naming::found_sentence, crate::specs::Naming::sentences))]
 fn find_saying(rule: Rule) -> Option<Saying>
     ensures { option_map saying_view result ≡ found_sentence rule }
@@ -239,14 +239,14 @@ fn find_saying(rule: Rule) -> Option<Saying>
     found_saying_in(&SENTENCES, rule)
 }
 
-/// The first row with this code, in capitals or not.
+// The first row with this code, in capitals or not.
 fn row_with_code(table: &[Row], code: &str) -> Option<Row>
     ensures { result ≡ find (λ row. str_eq_ignore_ascii_case row.1.now code.now) table.now }
 {
     table.iter().copied().find(|(_, written, _, _, _, _)| written.eq_ignore_ascii_case(code))
 }
 
-/// The first row with this code, as contracts see it: its texts are lists of bytes.
+// The first row with this code, as contracts see it: its texts are lists of bytes.
 fn row_with_code_in(table: &[Row], code: &str) -> Option<Row>
     ensures { option_map line_view result
         ≡ find (λ line. str_eq_ignore_ascii_case line.code code.now) (lines_of table.now) }
@@ -254,7 +254,7 @@ fn row_with_code_in(table: &[Row], code: &str) -> Option<Row>
     row_with_code(table, code)
 }
 
-/// The row with this code, if there is one.
+// The row with this code, if there is one.
 #[tactic(auto, unfolding(crate::specs::Naming::coded_line, crate::specs::Rules::lines))]
 fn find_coded(code: &str) -> Option<Row>
     ensures { option_map line_view result ≡ coded_line code.now }
@@ -274,7 +274,8 @@ impl Rule {
         }
     }
 
-    /// The statement that has this code, in capital or small letters. `None` if no statement has it.
+    /// The statement that has this code, in capital or small letters. `None` if no statement has
+    /// it.
     #[tactic(auto, unfolding(crate::specs::Naming::coded_rule))]
     pub fn of_code(code: &str) -> Option<Rule>
         ensures { result ≡ coded_rule code.now }
@@ -283,7 +284,8 @@ impl Rule {
     }
 }
 
-/// Each statement has its sentence, in the order of reports, and no two have the same; and its code, in capitals or not, names it.
+/// Each statement has its sentence, in the order of reports, and no two have the same; and its
+/// code, in capitals or not, names it.
 pub fn each_statement_is_named()
     ensures said { map (λ said. said.rule) sentences ≡ all_rules }
     ensures differ { IsDistinct bytes_eq (map (λ said. said.sentence) sentences) }

@@ -58,7 +58,7 @@ pub struct Seen {
     pub note: Note,
 }
 
-/// The number of a packet's type (MQTT 5.0, section 2.1.2).
+// The number of a packet's type (MQTT 5.0, section 2.1.2).
 #[inline]
 fn type_number(packet_type: PacketType) -> u8
     ensures { result ≡ type_number packet_type }
@@ -82,7 +82,8 @@ fn type_number(packet_type: PacketType) -> u8
     }
 }
 
-// As a derived one, but inlined: few notes have memory of their own, and one that is handed to a call is moved first.
+// As a derived one, but inlined: few notes have memory of their own, and one that is handed to a
+// call is moved first.
 impl Drop for ItemNote {
     #[inline(always)]
     fn drop(self) {
@@ -118,7 +119,8 @@ impl ItemNote {
         !matches!(self, ItemNote::Lost)
     }
 
-    /// Whether it is of this type. Bytes that break a rule have the type that their first byte names (MQTT 5.0, section 2.1.2).
+    /// Whether it is of this type. Bytes that break a rule have the type that their first byte
+    /// names (MQTT 5.0, section 2.1.2).
     #[inline]
     pub fn is_of_type(&self, packet_type: PacketType) -> bool
         ensures { result ≡ notes.is_of_type packet_type self.now }
@@ -131,8 +133,8 @@ impl ItemNote {
         }
     }
 
-    /// The rule that these bytes break, and where in the packet. If the direction is lost, its Remaining Length breaks W03, at the
-    /// packet's second byte.
+    /// The rule that these bytes break, and where in the packet. If the direction is lost, its
+    /// Remaining Length breaks W03, at the packet's second byte.
     #[inline]
     pub fn body_fault(&self) -> Option<BodyFault>
         ensures { result ≡ notes.broken_in self.now }
@@ -176,7 +178,8 @@ impl Note {
         matches!(self, Note::Rest)
     }
 
-    /// Whether the tested end released a QoS 2 message for onward delivery (MQTT 5.0, section 4.3.3).
+    /// Whether the tested end released a QoS 2 message for onward delivery (MQTT 5.0, section
+    /// 4.3.3).
     #[inline]
     pub fn is_release(&self) -> bool
         ensures { result ≡ notes.is_release self.now }
@@ -184,7 +187,8 @@ impl Note {
         matches!(self, Note::Release(_))
     }
 
-    /// The Packet Identifier of the QoS 2 message that the tested end released (MQTT 5.0, section 4.3.3).
+    /// The Packet Identifier of the QoS 2 message that the tested end released (MQTT 5.0, section
+    /// 4.3.3).
     #[inline]
     pub fn released_identifier(&self) -> Option<u16>
         ensures { result ≡ notes.released_id self.now }
@@ -372,8 +376,8 @@ impl Note {
         self.from_client(role)?.disconnect()
     }
 
-    /// What becomes of the connection by this event, if that wasn't decided before: a CONNACK from the server decides it, and so
-    /// does the connection's end (MQTT 5.0, section 3.2.2).
+    /// What becomes of the connection by this event, if that wasn't decided before: a CONNACK from
+    /// the server decides it, and so does the connection's end (MQTT 5.0, section 3.2.2).
     #[inline]
     pub fn decides(&self, role: Role) -> Option<Fate>
         ensures { result ≡ notes.decides role self.now }
@@ -387,7 +391,8 @@ impl Note {
         }
     }
 
-    /// The Packet Identifier of the PUBLISH of QoS above 0 that the tested end sent (MQTT 5.0, section 2.2.1).
+    /// The Packet Identifier of the PUBLISH of QoS above 0 that the tested end sent (MQTT 5.0,
+    /// section 2.2.1).
     #[inline]
     pub fn delivery(&self) -> Option<u16>
         ensures { result ≡ notes.delivery_of self.now }
@@ -395,7 +400,8 @@ impl Note {
         self.sent_publish()?.delivery()
     }
 
-    /// The Packet Identifier that the event opens: a new PUBLISH of QoS above 0 is sent (MQTT 5.0, section 2.2.1).
+    /// The Packet Identifier that the event opens: a new PUBLISH of QoS above 0 is sent (MQTT 5.0,
+    /// section 2.2.1).
     #[inline]
     pub fn opener(&self) -> Option<u16>
         ensures { result ≡ notes.opener_of self.now }
@@ -403,7 +409,8 @@ impl Note {
         self.sent_publish()?.opener()
     }
 
-    /// The Packet Identifier of a PUBLISH of QoS above 0 that the tested end sent with DUP 1 (MQTT 5.0, section 4.4).
+    /// The Packet Identifier of a PUBLISH of QoS above 0 that the tested end sent with DUP 1 (MQTT
+    /// 5.0, section 4.4).
     #[inline]
     pub fn resend(&self) -> Option<u16>
         ensures { result ≡ notes.resend_of self.now }
@@ -411,7 +418,8 @@ impl Note {
         self.sent_publish()?.resend()
     }
 
-    /// The Packet Identifier that the event closes: a PUBACK, a PUBCOMP or a refusing PUBREC is received (MQTT 5.0, section 2.2.1).
+    /// The Packet Identifier that the event closes: a PUBACK, a PUBCOMP or a refusing PUBREC is
+    /// received (MQTT 5.0, section 2.2.1).
     #[inline]
     pub fn closer(&self) -> Option<u16>
         ensures { result ≡ notes.closer_of self.now }
@@ -419,8 +427,8 @@ impl Note {
         self.received_fields()?.settled_identifier()
     }
 
-    /// The Packet Identifier that the event takes: it opens it, or a client sends a SUBSCRIBE or UNSUBSCRIBE under it (MQTT 5.0,
-    /// section 2.2.1).
+    /// The Packet Identifier that the event takes: it opens it, or a client sends a SUBSCRIBE or
+    /// UNSUBSCRIBE under it (MQTT 5.0, section 2.2.1).
     #[inline]
     pub fn taken_identifier(&self, role: Role) -> Option<u16>
         ensures { result ≡ taken_by role self.now }
@@ -439,7 +447,8 @@ impl Note {
         self.sent_fields()?.client_takes()
     }
 
-    /// The Packet Identifier of the PUBLISH of QoS 1 that the tested end received: it is answered by a PUBACK (MQTT 5.0, section 4.3.2).
+    /// The Packet Identifier of the PUBLISH of QoS 1 that the tested end received: it is answered
+    /// by a PUBACK (MQTT 5.0, section 4.3.2).
     #[inline]
     pub fn received_at_least_once(&self) -> Option<u16>
         ensures { result ≡ notes.received_once_acknowledged self.now }
@@ -447,7 +456,8 @@ impl Note {
         self.received_publish()?.at_least_once()
     }
 
-    /// The Packet Identifier of the PUBLISH of QoS 2 that the tested end received: it is answered by a PUBREC (MQTT 5.0, section 4.3.3).
+    /// The Packet Identifier of the PUBLISH of QoS 2 that the tested end received: it is answered
+    /// by a PUBREC (MQTT 5.0, section 4.3.3).
     #[inline]
     pub fn received_exactly_once(&self) -> Option<u16>
         ensures { result ≡ notes.received_exactly_once self.now }
@@ -559,7 +569,8 @@ impl Note {
         self.received_fields()?.unsuback()
     }
 
-    /// The Packet Identifier of the PUBREC below 0x80 that the tested end received: it is answered by a PUBREL (MQTT 5.0, section 4.3.3).
+    /// The Packet Identifier of the PUBREC below 0x80 that the tested end received: it is answered
+    /// by a PUBREL (MQTT 5.0, section 4.3.3).
     #[inline]
     pub fn received_accepting_pubrec(&self) -> Option<u16>
         ensures { result ≡ notes.received_as notes.accepting_pubrec_in self.now }
@@ -567,8 +578,8 @@ impl Note {
         self.received_fields()?.accepting_pubrec()
     }
 
-    /// The Packet Identifier of the received QoS 2 PUBLISH whose exchange the tested end ended: it sent a PUBCOMP or a refusing PUBREC
-    /// (MQTT 5.0, section 4.3.3).
+    /// The Packet Identifier of the received QoS 2 PUBLISH whose exchange the tested end ended: it
+    /// sent a PUBCOMP or a refusing PUBREC (MQTT 5.0, section 4.3.3).
     #[inline]
     pub fn ender(&self) -> Option<u16>
         ensures { result ≡ notes.sent_as notes.ended_in self.now }
@@ -576,7 +587,8 @@ impl Note {
         self.sent_fields()?.ended_identifier()
     }
 
-    /// The Packet Identifier of the PUBREC of 0x10, No matching subscribers, that the tested end sent (MQTT 5.0, section 3.5.2.1).
+    /// The Packet Identifier of the PUBREC of 0x10, No matching subscribers, that the tested end
+    /// sent (MQTT 5.0, section 3.5.2.1).
     #[inline]
     pub fn sent_unmatched_pubrec(&self) -> Option<u16>
         ensures { result ≡ notes.sent_as notes.unmatched_pubrec_in self.now }
@@ -584,7 +596,8 @@ impl Note {
         self.sent_fields()?.unmatched_pubrec()
     }
 
-    /// The Packet Identifier of the PUBCOMP of 0x00 that the tested end sent (MQTT 5.0, section 3.7.2.1).
+    /// The Packet Identifier of the PUBCOMP of 0x00 that the tested end sent (MQTT 5.0, section
+    /// 3.7.2.1).
     #[inline]
     pub fn sent_success_pubcomp(&self) -> Option<u16>
         ensures { result ≡ notes.sent_as notes.success_pubcomp_in self.now }

@@ -7,7 +7,7 @@ use crate::note::{ItemNote, Note};
 use crate::packet_note::{PacketFields, PacketNote, PublishNote};
 use std::alloc::Global;
 
-/// A copy of what is noted of a PUBLISH.
+// A copy of what is noted of a PUBLISH.
 fn copy_publish(alloc: Global, publish: &PublishNote) -> Result<PublishNote, Memory>
     ensures exact { IfOk result (λ copy. copy ≡ publish.now) }
     ensures needed { OnErr result (30 < length publish.now.topic) }
@@ -24,7 +24,7 @@ fn copy_publish(alloc: Global, publish: &PublishNote) -> Result<PublishNote, Mem
     })
 }
 
-/// A copy of what is noted of a packet's fields.
+// A copy of what is noted of a packet's fields.
 fn copy_fields(alloc: Global, fields: &PacketFields) -> Result<PacketFields, Memory>
     ensures exact { IfOk result (λ copy. copy ≡ fields.now) }
     ensures needed { OnErr result (fields_own fields.now) }
@@ -78,7 +78,7 @@ fn copy_fields(alloc: Global, fields: &PacketFields) -> Result<PacketFields, Mem
     })
 }
 
-/// A copy of what is noted of an item.
+// A copy of what is noted of an item.
 fn copy_item(alloc: Global, item: &ItemNote) -> Result<ItemNote, Memory>
     ensures exact { IfOk result (λ copy. copy ≡ item.now) }
     ensures needed { OnErr result (item_owns item.now) }
@@ -107,7 +107,8 @@ impl Note {
     ///
     /// # Errors
     ///
-    /// `Memory` if there is no memory for them. A note that has no filters or Reason Codes, and no Topic Name of more than 30 bytes, needs none.
+    /// `Memory` if there is no memory for them. A note that has no filters or Reason Codes, and no
+    /// Topic Name of more than 30 bytes, needs none.
     pub fn copy(&self, alloc: Global) -> Result<Note, Memory>
         ensures exact { IfOk result (λ copy. copy ≡ self.now) }
         ensures needed { OnErr result (note_owns self.now) }

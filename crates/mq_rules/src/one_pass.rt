@@ -1,4 +1,5 @@
-//! The statements on bytes and on the past of a connection, in one pass: events are many, and so each is read from memory once.
+//! The statements on bytes and on the past of a connection, in one pass: events are many, and so
+//! each is read from memory once.
 ghost use Rattle.std.specs.Prelude.{◌||◌, reverse, OnOk, OnErr};
 ghost use Rattle.mq_rules.specs.Moments.{IsPlaced};
 ghost use Rattle.mq_rules.specs.Statements.{is_on_bytes, is_on_past};
@@ -11,13 +12,14 @@ use crate::plain::judge_bytes;
 use crate::role::Tested;
 use std::alloc::Global;
 
-/// Judges W01 to W21 and C01 to C23 at each event of the list: what `plain_w` and `plain_c` judge. A key that has a fault already
-/// keeps it. The faults are right if the position of each event is its index in the list, counted from 1.
+/// Judges W01 to W21 and C01 to C23 at each event of the list: what `plain_w` and `plain_c` judge.
+/// A key that has a fault already keeps it. The faults are right if the position of each event is
+/// its index in the list, counted from 1.
 ///
 /// # Errors
 ///
-/// `Memory` if there is no memory for a fault or a Topic Alias. Some of the list's faults may then have been added, but no
-/// others.
+/// `Memory` if there is no memory for a fault or a Topic Alias. Some of the list's faults may then
+/// have been added, but no others.
 pub fn plain_connections(
     alloc: Global,
     tested: Tested,

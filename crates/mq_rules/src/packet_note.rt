@@ -70,8 +70,8 @@ pub struct PublishNote {
     pub qos: Qos,
     /// The DUP flag.
     pub duplicate: bool,
-    /// The Topic Name of a PUBLISH that the tested end sent, empty if a Topic Alias stands for it. It is also empty for a PUBLISH
-    /// that the tested end received, since no statement looks at it.
+    /// The Topic Name of a PUBLISH that the tested end sent, empty if a Topic Alias stands for it.
+    /// It is also empty for a PUBLISH that the tested end received, since no statement looks at it.
     pub topic: Text,
     /// The Topic Alias, 1 to 65,535.
     pub topic_alias: Option<u16>,
@@ -129,16 +129,16 @@ pub enum PacketFields {
     Subscribe {
         /// The Packet Identifier.
         identifier: u16,
-        /// The Topic Filters of a SUBSCRIBE that the tested end received. It is empty for one that the tested end sent, since no
-        /// statement looks at them.
+        /// The Topic Filters of a SUBSCRIBE that the tested end received. It is empty for one that
+        /// the tested end sent, since no statement looks at them.
         filters: FilterList,
     },
     /// SUBACK.
     Suback {
         /// The Packet Identifier of the SUBSCRIBE that it answers.
         identifier: u16,
-        /// The Reason Codes of a SUBACK that the tested end sent. It is empty for one that the tested end received, since no
-        /// statement looks at them.
+        /// The Reason Codes of a SUBACK that the tested end sent. It is empty for one that the
+        /// tested end received, since no statement looks at them.
         codes: CodeList,
     },
     /// UNSUBSCRIBE.
@@ -179,7 +179,8 @@ pub struct PacketNote {
 }
 
 impl ConnackNote {
-    /// What becomes of the connection by this CONNACK of the server (MQTT 5.0, section 3.2.2): a code other than 0x00 refuses it.
+    /// What becomes of the connection by this CONNACK of the server (MQTT 5.0, section 3.2.2): a
+    /// code other than 0x00 refuses it.
     #[inline]
     pub fn fate(&self) -> Fate
         ensures { result ≡ fate_by self.now }
@@ -202,7 +203,8 @@ impl ConnackNote {
         self.code == SUCCESS && self.session_present
     }
 
-    /// Whether its Reason Code is 0x80 or more: the server then closes the connection (MQTT 5.0, section 3.2.2.2).
+    /// Whether its Reason Code is 0x80 or more: the server then closes the connection (MQTT 5.0,
+    /// section 3.2.2.2).
     #[inline]
     pub fn refuses(&self) -> bool
         ensures { result ≡ is_refusing self.now.code }
@@ -223,7 +225,8 @@ impl PublishNote {
         }
     }
 
-    /// The Packet Identifier that it opens: its QoS is above 0, and DUP is 0 (MQTT 5.0, section 2.2.1).
+    /// The Packet Identifier that it opens: its QoS is above 0, and DUP is 0 (MQTT 5.0, section
+    /// 2.2.1).
     #[inline]
     pub fn opener(&self) -> Option<u16>
         ensures { result ≡ opener_in self.now }
@@ -235,7 +238,8 @@ impl PublishNote {
         }
     }
 
-    /// The Packet Identifier under which it is sent again: its QoS is above 0, and DUP is 1 (MQTT 5.0, section 4.4).
+    /// The Packet Identifier under which it is sent again: its QoS is above 0, and DUP is 1 (MQTT
+    /// 5.0, section 4.4).
     #[inline]
     pub fn resend(&self) -> Option<u16>
         ensures { result ≡ resend_in self.now }
@@ -427,7 +431,8 @@ impl PacketFields {
         }
     }
 
-    /// The Packet Identifier of a PUBREC below 0x80, which accepts the PUBLISH (MQTT 5.0, section 4.3.3).
+    /// The Packet Identifier of a PUBREC below 0x80, which accepts the PUBLISH (MQTT 5.0, section
+    /// 4.3.3).
     #[inline]
     pub fn accepting_pubrec(&self) -> Option<u16>
         ensures { result ≡ accepting_pubrec_in self.now }
@@ -438,7 +443,8 @@ impl PacketFields {
         }
     }
 
-    /// The Packet Identifier of a PUBREC of 0x10, No matching subscribers (MQTT 5.0, section 3.5.2.1).
+    /// The Packet Identifier of a PUBREC of 0x10, No matching subscribers (MQTT 5.0, section
+    /// 3.5.2.1).
     #[inline]
     pub fn unmatched_pubrec(&self) -> Option<u16>
         ensures { result ≡ unmatched_pubrec_in self.now }
@@ -460,7 +466,8 @@ impl PacketFields {
         }
     }
 
-    /// The Packet Identifier that a PUBACK, a PUBCOMP or a refusing PUBREC sets free (MQTT 5.0, sections 4.3.2 and 4.3.3).
+    /// The Packet Identifier that a PUBACK, a PUBCOMP or a refusing PUBREC sets free (MQTT 5.0,
+    /// sections 4.3.2 and 4.3.3).
     #[inline]
     pub fn settled_identifier(&self) -> Option<u16>
         ensures { result ≡ settled_in self.now }
@@ -473,7 +480,8 @@ impl PacketFields {
         }
     }
 
-    /// The Packet Identifier of the received QoS 2 PUBLISH whose exchange a PUBCOMP or a refusing PUBREC ends (MQTT 5.0, section 4.3.3).
+    /// The Packet Identifier of the received QoS 2 PUBLISH whose exchange a PUBCOMP or a refusing
+    /// PUBREC ends (MQTT 5.0, section 4.3.3).
     #[inline]
     pub fn ended_identifier(&self) -> Option<u16>
         ensures { result ≡ ended_in self.now }
@@ -485,8 +493,8 @@ impl PacketFields {
         }
     }
 
-    /// The Packet Identifier that a client takes with the packet: that of a new PUBLISH of QoS above 0, of a SUBSCRIBE or of an UNSUBSCRIBE
-    /// (MQTT 5.0, section 2.2.1).
+    /// The Packet Identifier that a client takes with the packet: that of a new PUBLISH of QoS
+    /// above 0, of a SUBSCRIBE or of an UNSUBSCRIBE (MQTT 5.0, section 2.2.1).
     #[inline]
     pub(crate) fn client_takes(&self) -> Option<u16>
         ensures { result ≡ option_or (option_and_then opener_in (publish_in self.now)) (option_or (subscribe_in self.now) (unsubscribe_in self.now)) }
@@ -515,7 +523,8 @@ impl PacketFields {
         matches!(self, PacketFields::Pingresp)
     }
 
-    /// Whether it is a PUBLISH, SUBSCRIBE or UNSUBSCRIBE, or acknowledges one: such a packet needs a session (MQTT 5.0, section 4.1).
+    /// Whether it is a PUBLISH, SUBSCRIBE or UNSUBSCRIBE, or acknowledges one: such a packet needs
+    /// a session (MQTT 5.0, section 4.1).
     #[inline]
     pub fn is_session_packet(&self) -> bool
         ensures { result ≡ needs_a_session self.now }
@@ -531,8 +540,8 @@ impl PacketFields {
         )
     }
 
-    /// Whether it may have a Reason String or User Properties whatever the client asked for: a PUBLISH, a CONNACK or a DISCONNECT
-    /// (MQTT 5.0, section 3.1.2.11.7).
+    /// Whether it may have a Reason String or User Properties whatever the client asked for: a
+    /// PUBLISH, a CONNACK or a DISCONNECT (MQTT 5.0, section 3.1.2.11.7).
     #[inline]
     pub fn may_explain(&self) -> bool
         ensures { result ≡ explains self.now }

@@ -15,12 +15,14 @@ use crate::role::Tested;
 use crate::rule::Rule;
 use std::alloc::Global;
 
-/// Judges W01 to W21, the statements on the bytes of one packet, at each event of the list. A key that has a fault already keeps
-/// it. The faults are right if the position of each event is its index in the list, counted from 1.
+/// Judges W01 to W21, the statements on the bytes of one packet, at each event of the list. A key
+/// that has a fault already keeps it. The faults are right if the position of each event is its
+/// index in the list, counted from 1.
 ///
 /// # Errors
 ///
-/// `Memory` if there is no memory for a fault. Some of the list's faults may then have been added, but no others.
+/// `Memory` if there is no memory for a fault. Some of the list's faults may then have been added,
+/// but no others.
 pub fn plain_w(
     _alloc: Global,
     tested: Tested,
@@ -36,13 +38,14 @@ pub fn plain_w(
     Ok(())
 }
 
-/// Judges C01 to C23, the statements on the past of a connection, at each event of the list, in one pass. A key that has a fault
-/// already keeps it. The faults are right if the position of each event is its index in the list, counted from 1.
+/// Judges C01 to C23, the statements on the past of a connection, at each event of the list, in one
+/// pass. A key that has a fault already keeps it. The faults are right if the position of each
+/// event is its index in the list, counted from 1.
 ///
 /// # Errors
 ///
-/// `Memory` if there is no memory for a fault or a Topic Alias. Some of the list's faults may then have been added, but no
-/// others.
+/// `Memory` if there is no memory for a fault or a Topic Alias. Some of the list's faults may then
+/// have been added, but no others.
 pub fn plain_c(
     alloc: Global,
     tested: Tested,

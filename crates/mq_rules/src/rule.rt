@@ -75,7 +75,8 @@ pub enum Rule {
     C09,
     /// A client whose Client Identifier was empty is assigned one (MQTT 5.0, section 3.2.2.3.7).
     C10,
-    /// After a DISCONNECT no packet is sent, and no bytes that break a rule (MQTT 5.0, section 3.14.4).
+    /// After a DISCONNECT no packet is sent, and no bytes that break a rule (MQTT 5.0, section
+    /// 3.14.4).
     C11,
     /// After a CONNACK that refuses a server sends no packet, and no bytes that break a rule (MQTT
     /// 5.0, section 3.2.2.2).

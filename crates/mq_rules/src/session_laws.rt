@@ -1,4 +1,5 @@
-//! Laws of connections, fates, sessions and order, each proved as the contract of a function that does nothing.
+//! Laws of connections, fates, sessions and order, each proved as the contract of a function that
+//! does nothing.
 ghost use Rattle.std.specs.Prelude.{◌≡◌, ◌<◌, ◌≤◌, ◌==◌, ◌∷◌, ◌++◌, ◌↔◌, [], ℕ, List, length, Option, Some, None, cond, is_some, Bool, true, false, ◌&&◌, not};
 ghost use Rattle.std.specs.Option.{option_or};
 ghost use Rattle.mq_trace.specs.Refusals.{refused};
@@ -16,13 +17,15 @@ pub fn connection_goes_on()
     ensures { (e : Seen) (past : List Seen) → connection (e ∷ past) ≡ cond (is_open e.note) (newest e past ∷ []) (newest e past ∷ connection past) }
 {}
 
-/// A connection's fate, once decided, is the same in every longer log. So is the fate of a connection that isn't the latest one.
+/// A connection's fate, once decided, is the same in every longer log. So is the fate of a
+/// connection that isn't the latest one.
 pub fn fate_stays()
     ensures decided { (role : Role) (c : ℕ) (f : Fate) (later past : List Seen) → fate role c past ≡ Some f → fate role c (later ++ past) ≡ Some f }
     ensures followed { (role : Role) (c : ℕ) (later past : List Seen) → c < begun past → fate role c (later ++ past) ≡ fate role c past }
 {}
 
-/// One more event can decide only its own connection, if that is undecided. An OPEN begins an undecided one.
+/// One more event can decide only its own connection, if that is undecided. An OPEN begins an
+/// undecided one.
 pub fn event_decides_its_connection()
     ensures any { (role : Role) (c : ℕ) (e : Seen) (past : List Seen) → fate role c (e ∷ past) ≡ option_or (fate role c past) (cond (begun (e ∷ past) == c) (decides role e.note) None) }
     ensures latest { (role : Role) (e : Seen) (past : List Seen) → latest_fate role (e ∷ past) ≡ cond (is_open e.note) None (option_or (latest_fate role past) (decides role e.note)) }
@@ -35,8 +38,8 @@ pub fn words_are_folds()
     ensures latest { (test : Moment → Bool) (ms : List Moment) → latest test ms ≡ folded (latest_by test) None ms }
 {}
 
-/// What a reader keeps of the session after one more event. In a log in order, if only session packets change it, it follows from the fate of the latest
-/// connection before the event.
+/// What a reader keeps of the session after one more event. In a log in order, if only session
+/// packets change it, it follows from the fate of the latest connection before the event.
 pub fn fold_goes_on<A>()
     ensures under { (g : Moment → A → A) (z : A) (role : Role) (f : Option Fate) (e : Seen) (past : List Seen) → folded g z (session role f (e ∷ past))
         ≡ where_in (has_session role f e past) (g (newest e past)) (cond (is_open e.note) (cond (begins f) z (folded g z (session role (latest_fate role past) past))) (folded g z (session role f past))) }
@@ -50,14 +53,16 @@ pub fn since_goes_on()
         ≡ gained (has_session role f e past) (starts (newest e past)) (ends (newest e past)) (cond (is_open e.note) (not (begins f) && session_since role starts ends (latest_fate role past) past) (session_since role starts ends f past)) }
 {}
 
-/// The session is alive after connection c exactly if some connection up to c is accepted with a Session Expiry Interval other than 0, or isn't accepted and
-/// may have been, and none after it up to c is accepted (MQTT 5.0, section 4.1).
+/// The session is alive after connection c exactly if some connection up to c is accepted with a
+/// Session Expiry Interval other than 0, or isn't accepted and may have been, and none after it up
+/// to c is accepted (MQTT 5.0, section 4.1).
 pub fn alive_by_connections()
     ensures { (role : Role) (c : ℕ) (log : List Seen) → (is_alive_after role c log ≡ true) ↔ IsAlive role c log }
 {}
 
-/// In a log that isn't refused the place of each event has its position, a connection that isn't decided has at most 4,096 events, each connection is decided
-/// before the next one begins, and nothing is sent or received, no REST and no CLOSE comes, but on an open connection.
+/// In a log that isn't refused the place of each event has its position, a connection that isn't
+/// decided has at most 4,096 events, each connection is decided before the next one begins, and
+/// nothing is sent or received, no REST and no CLOSE comes, but on an open connection.
 pub fn unrefused_logs_are_orderly()
     ensures placed { (limit : ℕ) (bytes : List ℕ) → refused limit bytes ≡ None → IsPlaced (seen_in bytes) }
     ensures few { (limit : ℕ) (bytes : List ℕ) → refused limit bytes ≡ None → latest_fate (tested_by bytes).role (seen_in bytes) ≡ None → length (connection (seen_in bytes)) ≤ 4096 }
@@ -65,8 +70,8 @@ pub fn unrefused_logs_are_orderly()
     ensures on_connections { (limit : ℕ) (bytes : List ℕ) → refused limit bytes ≡ None → AreOnConnections (seen_in bytes) }
 {}
 
-/// Which moments are in a session: those that are on an accepted connection, or are a RELEASE that belongs to an earlier accepted one, and after whose
-/// connection each accepted one is resumed.
+/// Which moments are in a session: those that are on an accepted connection, or are a RELEASE that
+/// belongs to an earlier accepted one, and after whose connection each accepted one is resumed.
 pub fn session_by_positions()
     ensures { (role : Role) (f : Option Fate) (log : List Seen) (m : Moment) → Among m (session role f log) ↔ (Among m (moments log) × IsInSession (fate_under role f log) (begun log) m) }
 {}

@@ -24,7 +24,7 @@ impl Model for ShortText {
     ghost invariant = { λ t. (t.len ≤ 30) × (length t.bytes ≡ 30) × ∥ IsUtf8 (take t.len t.bytes) ∥₁ };
 }
 
-/// The text that the bytes encode.
+// The text that the bytes encode.
 fn text_in(bytes: &[u8]) -> &str
     requires { IsUtf8 bytes.now }
     ensures { result.now ≡ bytes.now }

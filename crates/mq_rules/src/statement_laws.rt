@@ -1,4 +1,5 @@
-//! Laws of statements, which say the same in other words. Each is proved as the contract of a function that does nothing.
+//! Laws of statements, which say the same in other words. Each is proved as the contract of a
+//! function that does nothing.
 ghost use Rattle.std.specs.Prelude.{◌≡◌, ◌+◌, ◌==◌, ◌∷◌, ◌&&◌, ◌↔◌, nat_lt, nat_le, ℕ, true, false, List, Option, Some};
 ghost use Rattle.mq_rules.specs.declared.role.Role.{Role};
 ghost use Rattle.mq_rules.specs.declared.fate.Fate.{Fate};
@@ -13,10 +14,12 @@ ghost use Rattle.mq_rules.specs.Statements.{at_rest, is_false};
 ghost use Rattle.mq_rules.specs.Counter.{in_flight, in_flight_before, quota, keeps_quota};
 ghost use Rattle.mq_rules.specs.FirstRests.{binds_after, first_rest, IsFirstRest};
 
-/// The send quota by a counter (MQTT 5.0, section 4.9). Over the stretches that end with the newest of some moments, the greatest surplus of PUBLISHes
-/// over closers is the value of a counter of those in flight. So S07 is false at a PUBLISH that is sent while as many as the Receive Maximum are in flight,
-/// and the quota is used up while as many are. Up to the first PUBLISH that is sent while the quota is 0, the quota and the number in flight add up to the
-/// Receive Maximum; so that PUBLISH is the first one with too many in flight.
+/// The send quota by a counter (MQTT 5.0, section 4.9). Over the stretches that end with the newest
+/// of some moments, the greatest surplus of PUBLISHes over closers is the value of a counter of
+/// those in flight. So S07 is false at a PUBLISH that is sent while as many as the Receive Maximum
+/// are in flight, and the quota is used up while as many are. Up to the first PUBLISH that is sent
+/// while the quota is 0, the quota and the number in flight add up to the Receive Maximum; so that
+/// PUBLISH is the first one with too many in flight.
 pub fn in_flight_by_a_counter()
     ensures apart { (m : Moment) → is_delivery m ≡ true → is_closer m ≡ false }
     ensures more { (most : ℕ) (ms : List Moment) → passes most ms ≡ nat_lt most (in_flight ms) }
@@ -28,8 +31,9 @@ pub fn in_flight_by_a_counter()
     ensures used_up { (role : Role) (t : Moment) → is_used_up role t ≡ nat_le (peer_receive_maximum role t) (in_flight_before role t) }
 {}
 
-/// E1R to E6R, by the first REST that binds after a cause on the cause's connection (MQTT 5.0, sections 4.3, 3.8.4 and 3.10.4). What a later REST shows, each
-/// earlier one after the cause shows too. So the statement is false at a cause exactly if there is a first such REST and it shows so.
+/// E1R to E6R, by the first REST that binds after a cause on the cause's connection (MQTT 5.0,
+/// sections 4.3, 3.8.4 and 3.10.4). What a later REST shows, each earlier one after the cause shows
+/// too. So the statement is false at a cause exactly if there is a first such REST and it shows so.
 pub fn first_rest_decides()
     ensures earlier { (role : Role) (x : Exchange) (log : List Seen) (k t u : Moment) → Among k (moments log) → Among t (moments log) → Among u (moments log)
         → binds_after role k u ≡ true → is_after t u ≡ true → shows_R x t k ≡ true → shows_R x u k ≡ true }

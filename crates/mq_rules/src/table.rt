@@ -19,8 +19,9 @@ pub enum Ends {
     Both,
 }
 
-/// A statement, its code, the ends that it binds, its citation of MQTT 5.0 for a client and for a server (empty for an end that it
-/// doesn't bind), and whether it is judged only if the log records releases.
+/// A statement, its code, the ends that it binds, its citation of MQTT 5.0 for a client and for a
+/// server (empty for an end that it doesn't bind), and whether it is judged only if the log records
+/// releases.
 pub type Row = (Rule, &'static str, Ends, &'static str, &'static str, bool);
 
 /// Each statement's row, in the order of reports.
@@ -200,7 +201,7 @@ const RULES: [Rule; 74] = [
     Rule::B04,
 ];
 
-/// The row of a statement among these, if it has one.
+// The row of a statement among these, if it has one.
 fn found(table: &[Row], rule: Rule) -> Option<Row>
     ensures { result ≡ find (λ row. same_rule row.0 rule) table.now }
 {
@@ -210,14 +211,14 @@ fn found(table: &[Row], rule: Rule) -> Option<Row>
         .find(|(chosen, _, _, _, _, _)| *chosen == rule)
 }
 
-/// The row of a statement in a table, as contracts see it: its texts are lists of bytes.
+// The row of a statement in a table, as contracts see it: its texts are lists of bytes.
 fn found_in(table: &[Row], rule: Rule) -> Option<Row>
     ensures { option_map line_view result ≡ find (λ line. same_rule line.rule rule) (lines_of table.now) }
 {
     found(table, rule)
 }
 
-/// The row of a statement, if it has one.
+// The row of a statement, if it has one.
 #[tactic(auto, unfolding(crate::specs::Rules::found_line, crate::specs::Rules::lines))]
 fn find_row(rule: Rule) -> Option<Row>
     ensures { option_map line_view result ≡ found_line rule }
@@ -226,7 +227,7 @@ fn find_row(rule: Rule) -> Option<Row>
 }
 
 impl Ends {
-    /// Whether this end is among them.
+    // Whether this end is among them.
     fn include(self, role: Role) -> bool
         ensures { result ≡ includes self role }
     {
@@ -258,8 +259,9 @@ impl Rule {
         }
     }
 
-    /// The statement's citation of MQTT 5.0 for this end: the numbers of conformance statements, separated by commas, or the section, for
-    /// example `sec-2.4`. It is empty if the statement doesn't bind this end.
+    /// The statement's citation of MQTT 5.0 for this end: the numbers of conformance statements,
+    /// separated by commas, or the section, for example `sec-2.4`. It is empty if the statement
+    /// doesn't bind this end.
     #[tactic(auto, unfolding(crate::specs::Rules::line_of))]
     pub fn citation(self, role: Role) -> &'static str
         ensures { result.now ≡ citation_of self role }
@@ -273,7 +275,8 @@ impl Rule {
         }
     }
 
-    /// Whether the statement binds this end. Some statements are judged only if the log records releases: see `is_judged`.
+    /// Whether the statement binds this end. Some statements are judged only if the log records
+    /// releases: see `is_judged`.
     #[tactic(auto, unfolding(crate::specs::Rules::line_of))]
     pub fn binds(self, role: Role) -> bool
         ensures { result ≡ binds_end self role }
@@ -295,7 +298,8 @@ impl Rule {
         }
     }
 
-    /// Whether the statement is judged for this end: it binds the end, and if it needs releases the log records them.
+    /// Whether the statement is judged for this end: it binds the end, and if it needs releases the
+    /// log records them.
     pub fn is_judged(self, tested: Tested) -> bool
         ensures { result ≡ binds self tested }
     {

@@ -13,12 +13,14 @@ pub fn each_statement_has_its_row()
     ensures listed { (rule : Rule) → Contains all_rules rule }
 {}
 
-/// The rows ascend in the order of the statements. So no statement has two rows, and the order of the rows is that of reports.
+/// The rows ascend in the order of the statements. So no statement has two rows, and the order of
+/// the rows is that of reports.
 pub fn rows_ascend()
     ensures { IsStrictlySortedBy rule_cmp all_rules }
 {}
 
-/// Each statement binds the ends that the definitions list, and has a citation for exactly these. L1 to L3 alone need releases.
+/// Each statement binds the ends that the definitions list, and has a citation for exactly these.
+/// L1 to L3 alone need releases.
 pub fn each_statement_binds_its_ends()
     ensures client { (rule : Rule) → binds_end rule Client ≡ not (is_among rule only_server) }
     ensures server { (rule : Rule) → binds_end rule Server ≡ not (is_among rule only_client) }

@@ -1,6 +1,7 @@
 //! Texts and lists that notes own. A contract sees each as a plain list.
 //!
-//! A short text is stored in the value itself, and an empty list takes no memory, so making either can't fail.
+//! A short text is stored in the value itself, and an empty list takes no memory, so making either
+//! can't fail.
 
 use crate::copying::{copy_bytes, copy_filters, copy_text, note_filters};
 use crate::faults::Memory;
@@ -18,7 +19,8 @@ enum Form {
 
 /// A text, of at most 65,535 bytes. A contract sees the bytes of its UTF-8 encoding.
 ///
-/// Most Topic Names are short: they are stored in the value itself, so that a note of one takes no memory of its own.
+/// Most Topic Names are short: they are stored in the value itself, so that a note of one takes no
+/// memory of its own.
 #[derive(Debug, Drop)]
 pub struct Text {
     form: Form,
@@ -94,7 +96,7 @@ impl Text {
         }
     }
 
-    /// A copy of the text, in memory of its own.
+    // A copy of the text, in memory of its own.
     #[inline(never)]
     fn long(alloc: Global, text: &str) -> Result<Text, Memory>
         ensures { IfOk result (λ copy. copy ≡ text.now) }
@@ -174,7 +176,8 @@ impl FilterList {
         }
     }
 
-    /// Copies of the filters, with their Subscription Options, or 0 if a filter has none, as in an UNSUBSCRIBE.
+    /// Copies of the filters, with their Subscription Options, or 0 if a filter has none, as in an
+    /// UNSUBSCRIBE.
     ///
     /// # Errors
     ///

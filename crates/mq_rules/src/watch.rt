@@ -1,4 +1,5 @@
-//! Watchers: each takes in the events of a log one by one, and adds the faults of its statements as they show.
+//! Watchers: each takes in the events of a log one by one, and adds the faults of its statements as
+//! they show.
 ghost use Rattle.std.specs.Prelude.{◌≡◌, ◌∷◌, ◌||◌, ◌+◌, ◌≤◌, ℕ, Bool, List, Option, length, OnOk, OnErr, IsTrue};
 ghost use Rattle.mq_rules.specs.declared.role.Tested.{Tested};
 ghost use Rattle.mq_rules.specs.declared.fate.Fate.{Fate};
@@ -16,12 +17,15 @@ use mq_trace::Place3;
 
 /// A watcher of some statements.
 ///
-/// Its law: a state that agrees with some events agrees, after a step, with these and the next one, and the faults grow by exactly the pairs of its statements
-/// that turn out to fail with that event, each decided there.
+/// Its law: a state that agrees with some events agrees, after a step, with these and the next one,
+/// and the faults grow by exactly the pairs of its statements that turn out to fail with that
+/// event, each decided there.
 pub trait Watch {
-    /// The state is one that these events, the newest first, lead to, where their latest connection is taken to have this fate.
+    /// The state is one that these events, the newest first, lead to, where their latest connection
+    /// is taken to have this fate.
     ghost agrees: { Self → Tested → Option Fate → List Seen → Type 0 };
-    /// It takes in this event after these, where their latest connection is taken to have this fate.
+    /// It takes in this event after these, where their latest connection is taken to have this
+    /// fate.
     ghost takes: { Tested → Option Fate → Seen → List Seen → Type 0 };
     /// The pairs of a position and a statement that it adds with an event.
     ghost adds: { Tested → Seen → List Seen → ℕ → Rule → Bool };
@@ -32,7 +36,8 @@ pub trait Watch {
     ///
     /// # Errors
     ///
-    /// `Memory` if there is no memory for what it keeps, or for a fault. Then it may have added some of the faults that the event shows, and its state is of no use.
+    /// `Memory` if there is no memory for what it keeps, or for a fault. Then it may have added
+    /// some of the faults that the event shows, and its state is of no use.
     fn step(&mut self, at: Place3, note: &Note, faults: &mut Faults) -> Result<(), Memory>
         ensures agrees { OnOk result ((tested : Tested) (taken : Option Fate) (past : List Seen) → Follows tested (seen at note.now) past → takes tested taken (seen at note.now) past → agrees self.old tested taken past → agrees self.new tested (latest_fate tested.role (seen at note.now ∷ past)) (seen at note.now ∷ past)) }
         ensures grows { OnOk result ((tested : Tested) (taken : Option Fate) (past : List Seen) → Follows tested (seen at note.now) past → takes tested taken (seen at note.now) past → agrees self.old tested taken past → Gains (adds tested (seen at note.now) past) tested (seen at note.now ∷ past) (length past + 1) faults.old faults.new) }
@@ -43,7 +48,8 @@ pub trait Watch {
         ensures { (tested : Tested) (taken : Option Fate) (past : List Seen) → agrees self.now tested taken past → result ≤ bound tested taken past };
 }
 
-/// A watcher that sees at once that it need not take in some events: they leave what it keeps right, and show none of its statements to be false.
+/// A watcher that sees at once that it need not take in some events: they leave what it keeps
+/// right, and show none of its statements to be false.
 pub trait Skipping: Watch {
     /// Whether it need not take in the event, at whatever place that is. It may take in any event.
     fn may_skip(&self, note: &Note) -> bool

@@ -1,5 +1,6 @@
-//! Short logs judged by the definitions alone: for each statement, and each end that it binds, a log that breaks it, with all positions
-//! where it does, and the nearest one that keeps it. Last, for each family an end that a statement doesn't bind.
+//! Short logs judged by the definitions alone: for each statement, and each end that it binds, a
+//! log that breaks it, with all positions where it does, and the nearest one that keeps it. Last,
+//! for each family an end that a statement doesn't bind.
 ghost use Rattle.std.specs.Prelude.{◌≡◌, ◌∷◌, [], true, false, Some, None};
 ghost use Rattle.mq_packet.specs.declared.rule.PacketRule.TheVariants as packets;
 ghost use Rattle.mq_rules.specs.declared.rule.Rule.TheVariants.{W01, W02, W03, W04, W05, W06, W07, W08, W09, W10, W11, W12, W13, W14, W15, W16, W17, W18, W19, W20, W21, C01, C02, C03, C04, C05, C06, C07, C08, C09, C10, C11, C12, C13, C14, C15, C16, C17, C18, C19, C20, C21, C22, C23, S01, S02, S03, S04, S05, S06, S07, E1A, E1R, E1O, E2A, E2R, E2O, E3A, E3R, E3O, E4A, E4R, E5A, E5R, E6A, E6R, E7R, L1, L2, L3, B01, B02, B03, B04};
@@ -333,7 +334,8 @@ pub fn subscriptions()
     ensures unsuback_keeps { failing server B04 (Open ∷ gets lasting ∷ sends accepting ∷ gets (Unsubscribe 1 1) ∷ sends (Unsuback 1 1) ∷ []) ≡ [] }
 {}
 
-/// Ends that a statement doesn't bind, and an end whose releases aren't recorded, in logs at which it would be false (a family each).
+/// Ends that a statement doesn't bind, and an end whose releases aren't recorded, in logs at which
+/// it would be false (a family each).
 pub fn unbound_ends()
     ensures server_begins { failing server C02 (Open ∷ gets lasting ∷ sends accepting ∷ []) ≡ [] }
     ensures client_begins { failing client C05 (Open ∷ sends lasting ∷ gets accepting ∷ []) ≡ [] }

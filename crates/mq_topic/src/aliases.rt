@@ -37,7 +37,7 @@ impl Model for Topic {
 }
 
 impl Topic {
-    /// A copy of the name.
+    // A copy of the name.
     fn of(alloc: Global, name: &str) -> Result<Topic, Memory>
         ensures { IfOk result (λ copy. copy ≡ name.now) }
     {
@@ -46,7 +46,7 @@ impl Topic {
         Ok(Topic { name: copy })
     }
 
-    /// The name.
+    // The name.
     fn as_str(&self) -> &str
         ensures { result.now ≡ self.now }
     {
@@ -54,7 +54,8 @@ impl Topic {
     }
 }
 
-/// The Topic Name that was last set for each Topic Alias of one direction of a Network Connection (MQTT 5.0, 3.3.2.3.4).
+/// The Topic Name that was last set for each Topic Alias of one direction of a Network Connection
+/// (MQTT 5.0, 3.3.2.3.4).
 ///
 /// A contract sees the finite map from aliases to the bytes of names.
 ///

@@ -21,7 +21,7 @@ fn has_byte(level: &str, wildcard: u8) -> bool
     level.bytes().any(|byte| byte == wildcard)
 }
 
-/// Checks one level of a filter.
+// Checks one level of a filter.
 fn check_level(level: &str, is_last: bool) -> Result<(), FilterFault>
     ensures { MatchResult result (λ _. level_fault level.now is_last ≡ None) (λ fault. level_fault level.now is_last ≡ Some fault) }
 {
@@ -42,9 +42,9 @@ fn check_level(level: &str, is_last: bool) -> Result<(), FilterFault>
 
 /// Checks a Topic Filter (MQTT 5.0, 4.7.1 and 4.7.3).
 ///
-/// Levels are separated by `/`, and empty levels count. The first invalid level from the left decides;
-/// within a level a `#` that isn't alone comes first, then one that isn't last, then a `+` that isn't
-/// alone.
+/// Levels are separated by `/`, and empty levels count. The first invalid level from the left
+/// decides; within a level a `#` that isn't alone comes first, then one that isn't last, then a `+`
+/// that isn't alone.
 ///
 /// # Errors
 ///

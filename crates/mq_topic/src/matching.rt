@@ -9,8 +9,9 @@ use crate::name::check_name;
 
 /// Whether a Topic Filter matches a Topic Name (MQTT 5.0, 4.7).
 ///
-/// `+` matches one level, and `#` matches all remaining levels, also none. A filter that begins with one of them matches no name
-/// that begins with `$`. An invalid filter or name, or an empty name, has no match.
+/// `+` matches one level, and `#` matches all remaining levels, also none. A filter that begins
+/// with one of them matches no name that begins with `$`. An invalid filter or name, or an empty
+/// name, has no match.
 ///
 /// # Examples
 ///
@@ -48,7 +49,7 @@ fn begins_with_dollar(name: &str) -> bool
     matches!(name.as_bytes().first(), Some(b'$'))
 }
 
-/// Whether the levels of a filter match those of a name.
+// Whether the levels of a filter match those of a name.
 fn all_levels_match(filter: &str, name: &str) -> bool
     ensures { result ≡ levels_match (levels_of filter.now) (levels_of name.now) }
 {
@@ -67,7 +68,7 @@ fn all_levels_match(filter: &str, name: &str) -> bool
     last_level_matches(filters, names)
 }
 
-/// Whether the last level of a filter matches all levels of a name.
+// Whether the last level of a filter matches all levels of a name.
 fn last_level_matches(level: &str, name: &str) -> bool
     ensures { result ≡ levels_match (level.now ∷ []) (levels_of name.now) }
 {
@@ -77,7 +78,7 @@ fn last_level_matches(level: &str, name: &str) -> bool
     }
 }
 
-/// Whether a level of a filter matches one level of a name: it is `+`, or the same text.
+// Whether a level of a filter matches one level of a name: it is `+`, or the same text.
 fn level_matches(level: &str, name_level: &str) -> bool
     ensures { result ≡ (is_plus level.now || bytes_eq level.now name_level.now) }
 {

@@ -1,4 +1,5 @@
-//! Examples of filters and names that match or don't, computed from the definition of a match alone.
+//! Examples of filters and names that match or don't, computed from the definition of a match
+//! alone.
 #![tactic(auto, unfolding(crate::specs::Matching::matches))]
 
 ghost use Rattle.std.specs.Prelude.{◌≡◌, ◌∷◌, [], true, codes};

@@ -1,7 +1,7 @@
 //! What is kept of the events of a log, and emitting the next one to a sink.
 //!
-//! There are three ways to a sink: for a PUBLISH, for any packet, and for any other event. Each checks the same refusals, and counts
-//! the event by what it does to its connection.
+//! There are three ways to a sink: for a PUBLISH, for any packet, and for any other event. Each
+//! checks the same refusals, and counts the event by what it does to its connection.
 
 ghost use Rattle.std.specs.Prelude.{◌≡◌, ◌+◌, ◌-◌, Bool, [], ◌∷◌, ◌<◌, nat_le, ◌&&◌, not, List, None, OnOk, IfErr, unwrap_or};
 ghost use Rattle.mq_packet.specs.Reading.{view};
@@ -39,7 +39,7 @@ pub enum Effect {
 }
 
 impl Effect {
-    /// Whether the event may come however many came before it without a CONNACK.
+    // Whether the event may come however many came before it without a CONNACK.
     #[inline(always)]
     fn decides(self) -> bool
         ensures { result ≡ decides self }
@@ -65,7 +65,8 @@ pub struct Connections {
 }
 
 impl Connections {
-    /// The refusal that applies to an event with this effect, if the byte at this offset completes it.
+    // The refusal that applies to an event with this effect, if the byte at this offset completes
+    // it.
     #[inline(always)]
     fn refusal(self, at: u64, effect: Effect) -> Option<Refusal>
         ensures met { (server : Bool) (event : Completed) → effect_of server event ≡ effect → result ≡ event_refusal at server self event }
@@ -80,7 +81,8 @@ impl Connections {
         }
     }
 
-    /// Whether a connection is open that has as many events as it may have without its CONNACK, and the CONNACK hasn't come.
+    // Whether a connection is open that has as many events as it may have without its CONNACK, and
+    // the CONNACK hasn't come.
     #[inline(always)]
     fn must_be_answered(self) -> bool
         ensures { result ≡ (self.connected && (not self.connack_seen && nat_le most_early_events (self.events - self.before_open))) }
@@ -89,7 +91,7 @@ impl Connections {
         waits && self.events.saturating_sub(self.before_open) >= MOST_EARLY_EVENTS
     }
 
-    /// The place of the next event, which is in this record.
+    // The place of the next event, which is in this record.
     #[inline(always)]
     fn next_place(self, in_record: InRecord) -> Place3
         requires { self.events < 4294967295 }
@@ -102,7 +104,7 @@ impl Connections {
         }
     }
 
-    /// Counts one more event, which has this effect.
+    // Counts one more event, which has this effect.
     #[inline(always)]
     fn count(&mut self, effect: Effect)
         requires { self.old.events < 4294967295 }
@@ -123,12 +125,14 @@ impl Connections {
     }
 }
 
-/// Emits the next event, which has this effect and isn't a packet. The byte at this offset of the log completes it, in this record.
+/// Emits the next event, which has this effect and isn't a packet. The byte at this offset of the
+/// log completes it, in this record.
 ///
 /// # Errors
 ///
-/// `TooManyEarly` if the open connection has 4,096 events and no CONNACK, and the event is neither its CONNACK nor its CLOSE;
-/// `TooLong` if there are 4,294,967,295 events already; the sink's own refusal. Each names this byte.
+/// `TooManyEarly` if the open connection has 4,096 events and no CONNACK, and the event is neither
+/// its CONNACK nor its CLOSE; `TooLong` if there are 4,294,967,295 events already; the sink's own
+/// refusal. Each names this byte.
 #[inline(always)]
 pub fn emit<S: Sink>(
     connections: &mut Connections,
@@ -230,7 +234,7 @@ pub fn emit_publish<S: Sink>(
     }
 }
 
-/// What a packet in this direction does to its connection.
+// What a packet in this direction does to its connection.
 #[inline(always)]
 fn packet_effect(server: bool, direction: Direction, packet: &Packet<'_>) -> Effect
     ensures { effect_of server (item_event direction (item_of (items.Packet packet.now))) ≡ result }
@@ -242,8 +246,8 @@ fn packet_effect(server: bool, direction: Direction, packet: &Packet<'_>) -> Eff
     }
 }
 
-/// Whether a packet in this direction is a CONNACK from the server, which a tested server sends and a tested client receives
-/// (MQTT 5.0, section 3.2).
+// Whether a packet in this direction is a CONNACK from the server, which a tested server sends and
+// a tested client receives (MQTT 5.0, section 3.2).
 #[inline(always)]
 fn is_answer(server: bool, direction: Direction, packet: &Packet<'_>) -> bool
     ensures { result ≡ is_answer server (item_event direction (item_of (items.Packet packet.now))) }

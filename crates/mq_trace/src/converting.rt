@@ -22,8 +22,8 @@ use std::marker::{Brand, Model, PhantomData};
 /// Why a log wasn't converted to its end.
 #[derive(Clone, Copy, Debug, PartialEq, Eq)]
 pub enum ConvertFault {
-    /// The log is refused: its header isn't one of version 1, a record is invalid by itself, the log is cut short, or the reader
-    /// failed. What packets it carries doesn't matter.
+    /// The log is refused: its header isn't one of version 1, a record is invalid by itself, the
+    /// log is cut short, or the reader failed. What packets it carries doesn't matter.
     Refused(Refusal),
     /// A write failed.
     Write,
@@ -34,7 +34,8 @@ pub enum ConvertFault {
 enum Part {
     /// Between two records.
     Between,
-    /// Inside a record's kind and length: its kind came, and 0 to 3 of the four bytes of its body's length.
+    /// Inside a record's kind and length: its kind came, and 0 to 3 of the four bytes of its body's
+    /// length.
     Head {
         /// The kind that the record's first byte names.
         kind: RecordKind,
@@ -48,7 +49,7 @@ enum Part {
 }
 
 impl Part {
-    /// Whether it is between two records.
+    // Whether it is between two records.
     fn is_between(self) -> bool
         ensures { result ≡ is_between self }
     {
@@ -60,7 +61,8 @@ impl Part {
 }
 
 impl Halt<ConvertFault> {
-    /// The fault that stopped the converter; or `Read`, at the number of bytes that were read, if the reader failed or the turns ran out.
+    // The fault that stopped the converter; or `Read`, at the number of bytes that were read, if
+    // the reader failed or the turns ran out.
     fn fault(self) -> ConvertFault
         ensures { result ≡ fault_of self }
     {
@@ -112,7 +114,7 @@ struct Copying {
 }
 
 impl Copying {
-    /// What is kept before the first byte.
+    // What is kept before the first byte.
     fn new() -> Self
         ensures copy { IsCopyOf result [] }
         ensures sound { IsSound result }
@@ -130,11 +132,9 @@ impl Copying {
         }
     }
 
-    /// Copies all of a piece.
-    ///
-    /// # Errors
-    ///
-    /// `Refused` if a byte of it is refused, and `Write` if a write failed.
+    // Copies all of a piece.
+    //
+    // Errors: `Refused` if a byte of it is refused, and `Write` if a write failed.
     fn copy<W: Write>(&mut self, piece: &[u8], writer: &mut W) -> Result<(), ConvertFault>
         requires sound { IsSound self.old }
         ensures sound { IsSound self.new }
@@ -151,11 +151,9 @@ impl Copying {
         Ok(())
     }
 
-    /// Copies some of the next bytes, of which there must be one, and returns how many.
-    ///
-    /// # Errors
-    ///
-    /// As `copy`.
+    // Copies some of the next bytes, of which there must be one, and returns how many.
+    //
+    // Errors: As `copy`.
     fn copy_some<W: Write>(&mut self, bytes: &[u8], writer: &mut W) -> Result<usize, ConvertFault>
         requires some { 1 ≤ length bytes.now }
         requires sound { IsSound self.old }
@@ -176,11 +174,9 @@ impl Copying {
         }
     }
 
-    /// Copies bytes of a body, of which `left` are still to come, and returns how many.
-    ///
-    /// # Errors
-    ///
-    /// `Write` if a write failed.
+    // Copies bytes of a body, of which `left` are still to come, and returns how many.
+    //
+    // Errors: `Write` if a write failed.
     fn copy_body<W: Write>(
         &mut self,
         left: u32,
@@ -203,7 +199,7 @@ impl Copying {
         }
     }
 
-    /// Takes in `count` bytes of a body, of which `left` are still to come.
+    // Takes in `count` bytes of a body, of which `left` are still to come.
     fn skip_body(&mut self, left: u32, count: u32)
         requires some { 1 ≤ count }
         requires few { count ≤ left }
@@ -221,11 +217,9 @@ impl Copying {
         }
     }
 
-    /// Takes in a byte that isn't of a body, and returns what it adds to what is written.
-    ///
-    /// # Errors
-    ///
-    /// The refusal that applies at the byte.
+    // Takes in a byte that isn't of a body, and returns what it adds to what is written.
+    //
+    // Errors: The refusal that applies at the byte.
     fn take_byte(&mut self, byte: u8) -> Result<Addition, Refusal>
         requires sound { IsSound self.old }
         requires bodiless { is_body self.old.part ≡ false }
@@ -247,11 +241,9 @@ impl Copying {
         }
     }
 
-    /// Takes in a byte of the header.
-    ///
-    /// # Errors
-    ///
-    /// The refusal that applies at the byte.
+    // Takes in a byte of the header.
+    //
+    // Errors: The refusal that applies at the byte.
     fn take_header_byte(&mut self, byte: u8) -> Result<Addition, Refusal>
         requires begun { self.old.at < 8 }
         ensures refused { IfErr result (λ refusal. (first_version_refusal self.old.at byte ≡ Some refusal) × (self.new ≡ self.old)) }
@@ -265,7 +257,8 @@ impl Copying {
         Ok(self.header_addition())
     }
 
-    /// What the last byte of the header that came adds: the whole header, in version 2, if it is its last.
+    // What the last byte of the header that came adds: the whole header, in version 2, if it is its
+    // last.
     fn header_addition(&self) -> Addition
         ensures { result ≡ header_addition self.now }
     {
@@ -279,11 +272,9 @@ impl Copying {
         })
     }
 
-    /// Takes in a record's first byte.
-    ///
-    /// # Errors
-    ///
-    /// The refusal that applies at the byte.
+    // Takes in a record's first byte.
+    //
+    // Errors: The refusal that applies at the byte.
     fn begin_record(&mut self, byte: u8) -> Result<Addition, Refusal>
         requires room { self.old.at + 1 < 2 ^ 64 }
         ensures refused { IfErr result (λ refusal. (refused_begin self.old (kind_named byte) ≡ Some refusal) × (self.new ≡ self.old)) }
@@ -309,11 +300,10 @@ impl Copying {
         Ok(Addition::Byte(byte))
     }
 
-    /// Takes in the next byte of the length of a record of this kind, after `count` bytes of it, which spell this number.
-    ///
-    /// # Errors
-    ///
-    /// The refusal that applies at the byte.
+    // Takes in the next byte of the length of a record of this kind, after `count` bytes of it,
+    // which spell this number.
+    //
+    // Errors: The refusal that applies at the byte.
     fn extend_length(
         &mut self,
         kind: RecordKind,
@@ -341,11 +331,9 @@ impl Copying {
         Ok(Addition::Byte(byte))
     }
 
-    /// Takes in the last byte of the length of a record of this kind, which is this number.
-    ///
-    /// # Errors
-    ///
-    /// `Length` if its kind doesn't allow it.
+    // Takes in the last byte of the length of a record of this kind, which is this number.
+    //
+    // Errors: `Length` if its kind doesn't allow it.
     fn end_length(&mut self, kind: RecordKind, length: u32, byte: u8) -> Result<Addition, Refusal>
         requires room { self.old.at + 1 < 2 ^ 64 }
         requires numbered { self.old.records < 4294967295 }
@@ -366,7 +354,7 @@ impl Copying {
         Ok(Addition::Moment(byte))
     }
 
-    /// Whether the log is cut short: it ends inside its header or a record.
+    // Whether the log is cut short: it ends inside its header or a record.
     fn is_cut_short(&self) -> bool
         ensures { (log : List ℕ) → IsCopyOf self.now log → result ≡ is_cut_short log }
     {
@@ -374,7 +362,7 @@ impl Copying {
     }
 }
 
-/// Whether a connection is open after the head of a record of this kind, if it was before it or not.
+// Whether a connection is open after the head of a record of this kind, if it was before it or not.
 fn connected_after(kind: RecordKind, connected: bool) -> bool
     ensures { result ≡ connected_after kind connected }
 {
@@ -385,7 +373,8 @@ fn connected_after(kind: RecordKind, connected: bool) -> bool
     }
 }
 
-/// The refusal of a byte of the header of a log of version 1, at this offset, if the byte is invalid there.
+// The refusal of a byte of the header of a log of version 1, at this offset, if the byte is invalid
+// there.
 fn first_version_refusal(at: u64, byte: u8) -> Option<Refusal>
     requires { at < 8 }
     ensures { result ≡ first_version_refusal at byte }
@@ -400,11 +389,9 @@ fn first_version_refusal(at: u64, byte: u8) -> Option<Refusal>
     }
 }
 
-/// Writes what a byte of a log adds.
-///
-/// # Errors
-///
-/// `Write` if a write failed.
+// Writes what a byte of a log adds.
+//
+// Errors: `Write` if a write failed.
 fn write_addition<W: Write>(addition: Addition, writer: &mut W) -> Result<(), ConvertFault>
     ensures ok { OnOk result (Appends (W.contents writer.old) (W.contents writer.new) (added_bytes addition)) }
     ensures write { IfErr result (λ fault. (fault ≡ faults.Write) × AppendsBeginning (W.contents writer.old) (W.contents writer.new) (added_bytes addition)) }
@@ -440,11 +427,9 @@ impl<K> Model for Converter<K> {
 }
 
 impl<K> Converter<K> {
-    /// Ends the log.
-    ///
-    /// # Errors
-    ///
-    /// `Cut`, at the log's length, if the log is cut short.
+    // Ends the log.
+    //
+    // Errors: `Cut`, at the log's length, if the log is cut short.
     fn finish(&self) -> Result<(), ConvertFault>
         ensures ok { (log : List ℕ) → IsCopyOf self.now log → OnOk result (is_cut_short log ≡ false) }
         ensures cut { (log : List ℕ) → IsCopyOf self.now log → IfErr result (λ fault. (fault ≡ faults.Refused (refusals.Cut (length log))) × (is_cut_short log ≡ true)) }
@@ -470,19 +455,23 @@ impl<W: Write, K: Holding> Feed<W, ConvertFault> for Converter<K> {
     }
 }
 
-/// Converts the log of version 1 that a reader gives into one of version 2: each record the same, with the moment 0. Only its header and
-/// its records are looked at; what packets they carry doesn't matter. It takes no memory. It reads at most 4,294,967,295 times, and at
-/// most 8,192 bytes each time; an interrupted read is retried.
+/// Converts the log of version 1 that a reader gives into one of version 2: each record the same,
+/// with the moment 0. Only its header and its records are looked at; what packets they carry
+/// doesn't matter. It takes no memory. It reads at most 4,294,967,295 times, and at most 8,192
+/// bytes each time; an interrupted read is retried.
 ///
-/// What is written of a log that isn't refused is the whole log in version 2. Of one that is refused at a byte, or cut short, or whose
-/// reader failed, it is that as far as it goes: all before that byte, without an unfinished header.
+/// What is written of a log that isn't refused is the whole log in version 2. Of one that is
+/// refused at a byte, or cut short, or whose reader failed, it is that as far as it goes: all
+/// before that byte, without an unfinished header.
 ///
 /// # Errors
 ///
-/// `Refused` with the refusal that applies first: `Header`, `Version`, where the version isn't 1, `Role`, `Flags`, `Kind`, `Length`,
-/// `Nested`, `NotOpen`, `ReleaseUnrecorded`, `TooLong`, where there are more than 4,294,967,295 records; `Cut` at the log's length, if it
-/// ends inside its header or a record; `Read`, at the number of bytes that were read, if the reader fails or hasn't ended after the last
-/// read. `Write` if a write failed: a beginning, but not all, of what is written of the bytes that were read was then written.
+/// `Refused` with the refusal that applies first: `Header`, `Version`, where the version isn't 1,
+/// `Role`, `Flags`, `Kind`, `Length`, `Nested`, `NotOpen`, `ReleaseUnrecorded`, `TooLong`, where
+/// there are more than 4,294,967,295 records; `Cut` at the log's length, if it ends inside its
+/// header or a record; `Read`, at the number of bytes that were read, if the reader fails or hasn't
+/// ended after the last read. `Write` if a write failed: a beginning, but not all, of what is
+/// written of the bytes that were read was then written.
 ///
 /// # Examples
 ///
@@ -499,7 +488,7 @@ pub fn convert<R: Read, W: Write>(reader: &mut R, writer: &mut W) -> Result<(), 
     convert_all::<R, W, Brand>(reader, writer)
 }
 
-/// Converts as `convert` does, to a writer of which it is known what it holds, if that was picked.
+// Converts as `convert` does, to a writer of which it is known what it holds, if that was picked.
 fn convert_all<R: Read, W: Write, K: Holding>(
     reader: &mut R,
     writer: &mut W,

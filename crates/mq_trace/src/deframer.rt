@@ -1,6 +1,8 @@
-//! One direction of a connection: its stream of packets, which the bodies of records carry in any cutting.
+//! One direction of a connection: its stream of packets, which the bodies of records carry in any
+//! cutting.
 //!
-//! The path of a whole packet to the sink is inlined, so that the packet isn't moved; rare cases are functions of their own.
+//! The path of a whole packet to the sink is inlined, so that the packet isn't moved; rare cases
+//! are functions of their own.
 
 ghost use Rattle.std.specs.Prelude.{◌≡◌, ◌==◌, ◌+◌, ◌<◌, ◌≤◌, ◌^◌, ◌++◌, ℕ, ◌∷◌, [], List, Some, None, OnOk, OnErr, IfOk, IfErr, IsTrue, Ok, Err, length, take, slice_index, true, false};
 ghost use Rattle.mq_packet.specs.Stream.{fixed_header_of, HasBounds};
@@ -56,7 +58,8 @@ pub struct BodyContext {
 pub enum Step {
     /// The beginning of a packet, of which more is to come, while none is unfinished.
     Beginning,
-    /// Anything else: more of an unfinished packet, a packet larger than the limit, or bytes that can't be parsed.
+    /// Anything else: more of an unfinished packet, a packet larger than the limit, or bytes that
+    /// can't be parsed.
     Other,
 }
 
@@ -100,8 +103,9 @@ impl Deframer {
         !self.lost && self.unfinished.is_empty()
     }
 
-    /// Takes in the next bytes of the direction, which are this and don't begin with a whole packet, up to the end of the packet that
-    /// the first one belongs to. Returns how many. The first one has this offset in the log.
+    /// Takes in the next bytes of the direction, which are this and don't begin with a whole
+    /// packet, up to the end of the packet that the first one belongs to. Returns how many. The
+    /// first one has this offset in the log.
     ///
     /// # Errors
     ///
@@ -149,11 +153,10 @@ impl Deframer {
         }
     }
 
-    /// Takes in more of an unfinished packet of this size, whose fixed header is whole. Returns how many bytes it took.
-    ///
-    /// # Errors
-    ///
-    /// The refusal that applies at the packet's last byte; the sink's own refusal; `Memory`.
+    // Takes in more of an unfinished packet of this size, whose fixed header is whole. Returns how
+    // many bytes it took.
+    //
+    // Errors: The refusal that applies at the packet's last byte; the sink's own refusal; `Memory`.
     #[inline(never)]
     fn go_on<S: Sink>(
         &mut self,
@@ -193,11 +196,10 @@ impl Deframer {
         }
     }
 
-    /// Keeps bytes of an unfinished packet, of which more is to come.
-    ///
-    /// # Errors
-    ///
-    /// `Memory`, at the first of them, if there is no memory for them and one byte more. Nothing is kept then.
+    // Keeps bytes of an unfinished packet, of which more is to come.
+    //
+    // Errors: `Memory`, at the first of them, if there is no memory for them and one byte more.
+    // Nothing is kept then.
     #[inline(never)]
     fn buffer(&mut self, at: u64, bytes: &[u8]) -> Result<(), Refusal>
         ensures ok { OnOk result (state_in self.new ≡ record { unfinished = self.old.unfinished.items ++ bytes.now; lost = self.old.lost }) }
@@ -211,12 +213,10 @@ impl Deframer {
         }
     }
 
-    /// Takes in one byte, which may belong to a fixed header. What it does is decided before memory is taken, by the fixed header
-    /// with this byte.
-    ///
-    /// # Errors
-    ///
-    /// The refusal that applies at it; the sink's own refusal; `Memory`.
+    // Takes in one byte, which may belong to a fixed header. What it does is decided before memory
+    // is taken, by the fixed header with this byte.
+    //
+    // Errors: The refusal that applies at it; the sink's own refusal; `Memory`.
     #[inline(never)]
     fn consume_byte<S: Sink>(
         &mut self,
@@ -246,7 +246,7 @@ impl Deframer {
         }
     }
 
-    /// What the next byte is to the unfinished packet, of which at most four bytes came.
+    // What the next byte is to the unfinished packet, of which at most four bytes came.
     fn byte_step(&self, limit: u32, byte: u8) -> ByteStep
         requires unfinished { IsUnfinished limit (state_in self.now) }
         requires few { length self.now.unfinished.items ≤ 4 }
@@ -268,7 +268,8 @@ impl Deframer {
         }
     }
 
-    /// The fixed header of the unfinished packet, of which at most four bytes came, with one more byte.
+    // The fixed header of the unfinished packet, of which at most four bytes came, with one more
+    // byte.
     fn header_with(&self, byte: u8) -> FixedHeader
         requires { length self.now.unfinished.items ≤ 4 }
         ensures exact { result ≡ fixed_header_of (self.now.unfinished.items ++ byte ∷ []) }
@@ -284,12 +285,11 @@ impl Deframer {
         }
     }
 
-    /// Marks the direction as lost: the byte at this offset of the log makes the Remaining Length invalid (MQTT 5.0, section
-    /// 1.5.5).
-    ///
-    /// # Errors
-    ///
-    /// The refusal that applies to the event, `TooManyEarly` or `TooLong`; the sink's own refusal.
+    // Marks the direction as lost: the byte at this offset of the log makes the Remaining Length
+    // invalid (MQTT 5.0, section 1.5.5).
+    //
+    // Errors: The refusal that applies to the event, `TooManyEarly` or `TooLong`; the sink's own
+    // refusal.
     #[inline(never)]
     fn mark_lost<S: Sink>(
         &mut self,
@@ -318,8 +318,8 @@ impl Deframer {
     }
 }
 
-/// The lengths of the fixed header and of the packet, if the bytes of an idle direction begin with a whole one within the limit; else
-/// what they are.
+/// The lengths of the fixed header and of the packet, if the bytes of an idle direction begin with
+/// a whole one within the limit; else what they are.
 #[inline(always)]
 pub fn whole_packet(limit: u32, bytes: &[u8]) -> Result<(usize, usize), Step>
     ensures whole { IfOk result (λ lengths. IsWhole limit bytes.now lengths.0 lengths.1) }
@@ -362,7 +362,8 @@ pub fn consume_whole<S: Sink>(
 
 /// Emits a whole packet, whose last byte has this offset in the log.
 ///
-/// The first byte chooses the function before any byte of the body is read. So reading a PUBLISH takes no stack for others.
+/// The first byte chooses the function before any byte of the body is read. So reading a PUBLISH
+/// takes no stack for others.
 #[inline(always)]
 pub fn emit_frame<S: Sink>(
     context: &BodyContext,
@@ -389,7 +390,7 @@ pub fn emit_frame<S: Sink>(
     }
 }
 
-/// Emits a PUBLISH of QoS 0 with no properties. Most have a plain Topic Name.
+// Emits a PUBLISH of QoS 0 with no properties. Most have a plain Topic Name.
 #[inline(never)]
 fn emit_brief_publish_frame<S: Sink>(
     context: &BodyContext,
@@ -412,7 +413,7 @@ fn emit_brief_publish_frame<S: Sink>(
     }
 }
 
-/// Emits any PUBLISH.
+// Emits any PUBLISH.
 #[inline(never)]
 fn emit_publish_frame<S: Sink>(
     context: &BodyContext,
@@ -435,8 +436,8 @@ fn emit_publish_frame<S: Sink>(
     }
 }
 
-/// Emits a PUBACK. Most are no more than a Packet Identifier. The first byte is a constant here, so that no other packet is
-/// possible.
+// Emits a PUBACK. Most are no more than a Packet Identifier. The first byte is a constant here, so
+// that no other packet is possible.
 #[inline(never)]
 fn emit_puback_frame<S: Sink>(
     context: &BodyContext,
@@ -459,7 +460,7 @@ fn emit_puback_frame<S: Sink>(
     }
 }
 
-/// Emits a PINGREQ or PINGRESP.
+// Emits a PINGREQ or PINGRESP.
 #[inline(never)]
 fn emit_ping_frame<S: Sink>(
     context: &BodyContext,
@@ -481,7 +482,7 @@ fn emit_ping_frame<S: Sink>(
     }
 }
 
-/// Emits any packet.
+// Emits any packet.
 #[inline(never)]
 fn emit_other_frame<S: Sink>(
     context: &BodyContext,
@@ -503,7 +504,7 @@ fn emit_other_frame<S: Sink>(
     }
 }
 
-/// Emits a whole packet that was decoded as this one.
+// Emits a whole packet that was decoded as this one.
 #[inline(always)]
 fn emit_decoded<S: Sink>(
     context: &BodyContext,
@@ -525,7 +526,7 @@ fn emit_decoded<S: Sink>(
     emit_packet(context, connections, at, frame.size(), packet, sink)
 }
 
-/// Emits a whole packet that was decoded as this PUBLISH.
+// Emits a whole packet that was decoded as this PUBLISH.
 #[inline(always)]
 fn emit_decoded_publish<S: Sink>(
     context: &BodyContext,
@@ -547,7 +548,7 @@ fn emit_decoded_publish<S: Sink>(
     emit_publish(context, connections, at, frame.size(), publish, sink)
 }
 
-/// Emits a whole packet that has this fault.
+// Emits a whole packet that has this fault.
 #[inline(always)]
 fn emit_fault<S: Sink>(
     context: &BodyContext,
@@ -578,7 +579,7 @@ fn emit_fault<S: Sink>(
     }
 }
 
-/// Emits a packet with these bytes, which breaks a rule at this offset in it.
+// Emits a packet with these bytes, which breaks a rule at this offset in it.
 #[inline(never)]
 fn emit_bad<S: Sink>(
     context: &BodyContext,

@@ -14,15 +14,16 @@ pub enum Item<'a> {
     Packet(Packet<'a>),
     /// A packet whose bytes break a rule.
     Bad {
-        /// The packet's bytes, from the first one, which names its type (MQTT 5.0, section 2.1.2), to the last one.
+        /// The packet's bytes, from the first one, which names its type (MQTT 5.0, section 2.1.2),
+        /// to the last one.
         bytes: &'a [u8],
         /// The first rule that it breaks.
         rule: PacketRule,
         /// The offset in the packet of the field that breaks it.
         at: u32,
     },
-    /// The Remaining Length is invalid (MQTT 5.0, section 1.5.5): the rest of this direction can't be
-    /// parsed.
+    /// The Remaining Length is invalid (MQTT 5.0, section 1.5.5): the rest of this direction can't
+    /// be parsed.
     Lost,
 }
 
@@ -35,8 +36,8 @@ pub enum Event<'a> {
     Close,
     /// The tested end is at rest: what it owes on this connection is done.
     Rest,
-    /// The tested end took the QoS 2 message received under this Packet Identifier out of its delivery handshake, for onward
-    /// delivery (MQTT 5.0, section 4.3.3).
+    /// The tested end took the QoS 2 message received under this Packet Identifier out of its
+    /// delivery handshake, for onward delivery (MQTT 5.0, section 4.3.3).
     Release(u16),
     /// The tested end sent this.
     Sent(Item<'a>),

@@ -6,13 +6,16 @@ use super::refusal::Refusal;
 use super::turns::Turns;
 use std::io::{ErrorKind, Read};
 
-/// Takes in a log, piece by piece, and passes what it finds to a sink. It may stop, for a reason of type `E`.
+/// Takes in a log, piece by piece, and passes what it finds to a sink. It may stop, for a reason of
+/// type `E`.
 pub trait Feed<S, E> {
     // The largest packet that it reads.
     ghost limit: { Self → ℕ };
-    // It has taken in this log, and refused none of it; and the sink has received all that is in it.
+    // It has taken in this log, and refused none of it; and the sink has received all that is in
+    // it.
     ghost follows: { Self → S → List ℕ → Type 0 };
-    // With this limit on packets, it has stopped at a byte of this piece after this log, for this reason; and this is the sink's state.
+    // With this limit on packets, it has stopped at a byte of this piece after this log, for this
+    // reason; and this is the sink's state.
     ghost stops: { ℕ → Self → S → List ℕ → List ℕ → E → Type 0 };
 
     /// Takes in the next piece of the log.
@@ -37,7 +40,8 @@ pub enum Halt<E> {
 }
 
 impl Halt<Refusal> {
-    /// The refusal of the log: the feeder's own; or `Read`, at the number of bytes that were fed, if the reader failed or the turns ran out.
+    /// The refusal of the log: the feeder's own; or `Read`, at the number of bytes that were fed,
+    /// if the reader failed or the turns ran out.
     pub fn refusal(self) -> Refusal
         ensures { result ≡ refusal_of self }
     {
@@ -48,12 +52,14 @@ impl Halt<Refusal> {
     }
 }
 
-/// Feeds all that a reader gives, at most as many bytes a turn as the buffer holds, for at most `turns` turns. The buffer holds 1 to
-/// 65,536 bytes; what was in it doesn't matter. An interrupted read is retried, in a turn of its own.
+/// Feeds all that a reader gives, at most as many bytes a turn as the buffer holds, for at most
+/// `turns` turns. The buffer holds 1 to 65,536 bytes; what was in it doesn't matter. An interrupted
+/// read is retried, in a turn of its own.
 ///
 /// # Errors
 ///
-/// `Stopped` if the feeder stops; `Failed` if the reader fails; `RanOut` if it hasn't ended after `turns` turns.
+/// `Stopped` if the feeder stops; `Failed` if the reader fails; `RanOut` if it hasn't ended after
+/// `turns` turns.
 pub fn feed_all<R: Read, S, E, F: Feed<S, E>>(
     feeder: &mut F,
     sink: &mut S,
@@ -71,11 +77,9 @@ pub fn feed_all<R: Read, S, E, F: Feed<S, E>>(
     take_turns(feeder, sink, reader, buffer, &mut turns)
 }
 
-/// Feeds until the reader ends, turn by turn.
-///
-/// # Errors
-///
-/// As `feed_all`.
+// Feeds until the reader ends, turn by turn.
+//
+// Errors: As `feed_all`.
 fn take_turns<R: Read, S, E, F: Feed<S, E>>(
     feeder: &mut F,
     sink: &mut S,

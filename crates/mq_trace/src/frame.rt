@@ -14,7 +14,8 @@ use mq_packet::{FixedHeader, fixed_header};
 /// A whole packet.
 #[derive(Drop)]
 pub struct Frame<'a> {
-    /// Its bytes, from the first one, which names its type (MQTT 5.0, section 2.1.2), to the last one.
+    /// Its bytes, from the first one, which names its type (MQTT 5.0, section 2.1.2), to the last
+    /// one.
     pub bytes: &'a [u8],
     /// How many of them are its fixed header.
     header: usize,

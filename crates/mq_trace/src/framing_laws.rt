@@ -1,4 +1,5 @@
-//! Laws of the definitions on whole logs, each proved as the contract of a function that does nothing.
+//! Laws of the definitions on whole logs, each proved as the contract of a function that does
+//! nothing.
 ghost use Rattle.std.specs.Prelude.{◌≡◌, ℕ, Bool, true, false, take, drop, List, [], ◌∷◌, ◌++◌, Option, None, Some};
 ghost use Rattle.mq_packet.specs.Stream.{frame_size};
 ghost use Rattle.mq_trace.specs.declared.refusal.Refusal.{Refusal};
@@ -12,20 +13,23 @@ ghost use Rattle.mq_trace.specs.Refusals.{refused, is_cut_short};
 ghost use Rattle.mq_trace.specs.Rows.{client_header, silent_header, open_bytes, close_bytes, release_bytes, timed_header, timed_open};
 ghost use Rattle.mq_trace.specs.Context.{context, after, put, placed_for};
 
-/// After its header a log is its records, each a whole one, and a rest that doesn't begin with a record; there is only one such list of records.
+/// After its header a log is its records, each a whole one, and a rest that doesn't begin with a
+/// record; there is only one such list of records.
 pub fn log_is_its_records()
     ensures cut { (log : List ℕ) → AreCut (record_size (ahead_in log)) (drop 8 log) (records log) }
     ensures only { (log : List ℕ) (cut : Pieces) → AreCut (record_size (ahead_in log)) (drop 8 log) cut → cut ≡ records log }
 {}
 
-/// What a direction carried is its frames, and a rest that doesn't begin with a frame; there is only one such list of frames (MQTT 5.0, section 2.1).
+/// What a direction carried is its frames, and a rest that doesn't begin with a frame; there is
+/// only one such list of frames (MQTT 5.0, section 2.1).
 pub fn stream_is_its_frames()
     ensures cut { (bytes : List ℕ) → AreCut frame_size bytes (stream bytes) }
     ensures only { (bytes : List ℕ) (cut : Pieces) → AreCut frame_size bytes cut → cut ≡ stream bytes }
 {}
 
-/// What a direction carried on a connection doesn't depend on what came before its OPEN: a packet that was unfinished is dropped, and a
-/// direction that was lost is read again. Records are given the newest first.
+/// What a direction carried on a connection doesn't depend on what came before its OPEN: a packet
+/// that was unfinished is dropped, and a direction that was lost is read again. Records are given
+/// the newest first.
 pub fn connections_carry_their_own()
     ensures { (ahead : ℕ) (direction : Direction) (later before : List (List ℕ)) (first : List ℕ) → opens (kind_of first) ≡ true → carried ahead direction (later ++ first ∷ before) ≡ carried ahead direction (later ++ first ∷ []) }
 {}
@@ -35,7 +39,8 @@ pub fn refusals_stay()
     ensures { (limit : ℕ) (log more : List ℕ) (refusal : Refusal) → refused limit log ≡ Some refusal → refused limit (log ++ more) ≡ Some refusal }
 {}
 
-/// How one more byte changes what is kept of a log, and whether it adds an event, depends only on what is kept.
+/// How one more byte changes what is kept of a log, and whether it adds an event, depends only on
+/// what is kept.
 pub fn one_byte_more()
     ensures kept { (log : List ℕ) (byte : ℕ) → context (log ++ byte ∷ []) ≡ after (context log) byte }
     ensures events { (log : List ℕ) (byte : ℕ) → events (log ++ byte ∷ []) ≡ put (placed_for (context log) byte) (events log) }
@@ -58,7 +63,8 @@ pub fn worked_logs()
     ensures moments { events (timed_header ++ timed_open) ≡ record { place = record { position = 1; record_no = 1; moment = 258 }; event = opened } ∷ [] }
 {}
 
-/// On a connection without its CONNACK 4,096 events may come, and after them only its CLOSE and its CONNACK.
+/// On a connection without its CONNACK 4,096 events may come, and after them only its CLOSE and its
+/// CONNACK.
 pub fn early_events_are_counted()
     ensures room { (server connected : Bool) (event : Option Event) → is_too_early server connected false 4095 event ≡ false }
     ensures full { (server : Bool) (identifier : ℕ) → is_too_early server true false 4096 (Some (released identifier)) ≡ true }

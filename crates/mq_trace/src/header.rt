@@ -56,7 +56,7 @@ pub fn header_refusal(at: u64, byte: u8) -> Option<Refusal>
     }
 }
 
-/// Whether there is such a version of the layout.
+// Whether there is such a version of the layout.
 fn is_version(byte: u8) -> bool
     ensures { result ≡ is_version byte }
 {
@@ -106,8 +106,8 @@ fn refused_unless(fits: bool, refusal: Refusal) -> Option<Refusal>
     if fits { None } else { Some(refusal) }
 }
 
-/// The header, as known after a byte of it at this offset: byte 4 is the version, byte 5 names the tested end's role, and bit 0 of byte 6 says whether
-/// releases are recorded.
+/// The header, as known after a byte of it at this offset: byte 4 is the version, byte 5 names the
+/// tested end's role, and bit 0 of byte 6 says whether releases are recorded.
 pub fn header_after(header: Header, at: u64, byte: u8) -> Header
     ensures version { result.version ≡ (if at == 4 then byte else header.version) }
     ensures server { result.server ≡ (if at == 5 then byte == 1 else header.server) }

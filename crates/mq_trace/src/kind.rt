@@ -84,8 +84,9 @@ impl RecordKind {
         }
     }
 
-    /// The refusal that applies at the byte at this offset, the first one of a record of this kind: by whether the log has releases,
-    /// whether a connection is open, and how many records came before it.
+    /// The refusal that applies at the byte at this offset, the first one of a record of this kind:
+    /// by whether the log has releases, whether a connection is open, and how many records came
+    /// before it.
     #[inline(always)]
     pub fn refusal(self, at: u64, releases: bool, connected: bool, records: u32) -> Option<Refusal>
         ensures met { result ≡ first_byte_refusal at releases connected records self }

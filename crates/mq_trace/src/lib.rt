@@ -1,4 +1,5 @@
-//! The recorded log of an MQTT 5.0 session, in version 1 or 2: its header, its records, and the events that they give.
+//! The recorded log of an MQTT 5.0 session, in version 1 or 2: its header, its records, and the
+//! events that they give.
 #![tactic(auto)]
 
 mod connections;

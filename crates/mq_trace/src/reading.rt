@@ -30,7 +30,8 @@ use super::sink::Sink;
 use super::stage::Stage;
 use std::alloc::Global;
 
-/// The direction of the packets that a record carries, where this byte begins it and it is a SENT or RECV.
+// The direction of the packets that a record carries, where this byte begins it and it is a SENT or
+// RECV.
 #[inline(always)]
 fn direction_named(byte: u8) -> Option<Direction>
     ensures { IfSome result (λ direction. kind_named byte ≡ Some (kind_for direction)) }
@@ -42,7 +43,7 @@ fn direction_named(byte: u8) -> Option<Direction>
     }
 }
 
-/// The moment of the record whose head is at the front of these bytes, in a log of this version.
+// The moment of the record whose head is at the front of these bytes, in a log of this version.
 #[inline(always)]
 fn moment_of(version: u8, bytes: &[u8]) -> u64
     requires { head_length version ≤ length bytes.now }
@@ -101,7 +102,8 @@ impl Reading {
         }
     }
 
-    /// Takes in as many of the next bytes of the log as belong together, and returns how many. There must be at least one byte.
+    /// Takes in as many of the next bytes of the log as belong together, and returns how many.
+    /// There must be at least one byte.
     ///
     /// # Errors
     ///
@@ -124,12 +126,11 @@ impl Reading {
         }
     }
 
-    /// Takes in the head of a SENT or RECV of this moment that carries `left` bytes in this direction, and those of the first packet of its
-    /// body: most records are taken in so, in one step. Returns how many bytes it took.
-    ///
-    /// # Errors
-    ///
-    /// As `consume`.
+    // Takes in the head of a SENT or RECV of this moment that carries `left` bytes in this
+    // direction, and those of the first packet of its body: most records are taken in so, in one
+    // step. Returns how many bytes it took.
+    //
+    // Errors: As `consume`.
     #[inline(always)]
     fn consume_record<S: Sink>(
         &mut self,
@@ -158,7 +159,8 @@ impl Reading {
         }
     }
 
-    /// Takes in the head of a SENT or RECV of this moment that carries `left` bytes in this direction.
+    // Takes in the head of a SENT or RECV of this moment that carries `left` bytes in this
+    // direction.
     #[inline(always)]
     fn skip_head(&mut self, direction: Direction, left: u32, moment: u64)
         requires room { self.old.at + head_length self.old.header.version < 2 ^ 64 }
@@ -170,8 +172,8 @@ impl Reading {
         self.leave(direction, left);
     }
 
-    /// The direction and the length of the body, and the record's moment, where the next bytes are the head of a SENT or RECV that meets
-    /// no refusal.
+    // The direction and the length of the body, and the record's moment, where the next bytes are
+    // the head of a SENT or RECV that meets no refusal.
     #[inline(always)]
     fn body_head(&self, bytes: &[u8]) -> Option<(Direction, u32, u64)>
         ensures { IfSome result (λ body. IsBodyHead self.now bytes.now body.0 body.1 body.2) }
@@ -193,7 +195,7 @@ impl Reading {
         Some((direction, length, moment_of(self.header.version, bytes)))
     }
 
-    /// Whether the next byte can begin a record that carries packets.
+    // Whether the next byte can begin a record that carries packets.
     #[inline(always)]
     fn takes_bodies(&self) -> bool
         ensures { IsTrue result → (self.now.stage ≡ stages.Between) × (self.now.connections.connected ≡ true) × (self.now.records < 4294967295) }
@@ -201,11 +203,10 @@ impl Reading {
         self.stage.is_between() && self.connections.connected && self.records != u32::MAX
     }
 
-    /// Takes in the next bytes, if they aren't the head of a SENT or RECV: of large packets most are in the middle of a body.
-    ///
-    /// # Errors
-    ///
-    /// As `consume`.
+    // Takes in the next bytes, if they aren't the head of a SENT or RECV: of large packets most are
+    // in the middle of a body.
+    //
+    // Errors: As `consume`.
     #[inline(always)]
     fn resume<S: Sink>(&mut self, bytes: &[u8], sink: &mut S) -> Result<usize, Refusal>
         requires some { 1 ≤ length bytes.now }
@@ -223,11 +224,10 @@ impl Reading {
         }
     }
 
-    /// Takes in the next bytes outside of the body of a SENT or RECV: of the header, of a record's head or of a RELEASE.
-    ///
-    /// # Errors
-    ///
-    /// As `consume`.
+    // Takes in the next bytes outside of the body of a SENT or RECV: of the header, of a record's
+    // head or of a RELEASE.
+    //
+    // Errors: As `consume`.
     #[inline(never)]
     fn go_on<S: Sink>(&mut self, bytes: &[u8], sink: &mut S) -> Result<usize, Refusal>
         requires some { 1 ≤ length bytes.now }
@@ -277,11 +277,9 @@ impl Reading {
         }
     }
 
-    /// Takes in a byte of the header.
-    ///
-    /// # Errors
-    ///
-    /// The refusal that the byte gives.
+    // Takes in a byte of the header.
+    //
+    // Errors: The refusal that the byte gives.
     fn consume_header(&mut self, byte: u8) -> Result<(), Refusal>
         requires begun { self.old.at < 8 }
         ensures refused { header_refusal self.old.at byte ≡ err_of result }
@@ -297,7 +295,7 @@ impl Reading {
         Ok(())
     }
 
-    /// Takes in a record's kind and length at once, if all of both is there, else its first byte.
+    // Takes in a record's kind and length at once, if all of both is there, else its first byte.
     #[inline(always)]
     fn consume_head<S: Sink>(&mut self, bytes: &[u8], sink: &mut S) -> Result<usize, Refusal>
         requires some { 1 ≤ length bytes.now }
@@ -324,7 +322,7 @@ impl Reading {
         }
     }
 
-    /// Takes in all four bytes of a record's length, after its first byte.
+    // Takes in all four bytes of a record's length, after its first byte.
     #[inline(always)]
     fn consume_length<S: Sink>(
         &mut self,
@@ -346,11 +344,9 @@ impl Reading {
         self.end_length(kind, length, d, sink)
     }
 
-    /// Takes in a record's first byte.
-    ///
-    /// # Errors
-    ///
-    /// The refusal that the byte gives.
+    // Takes in a record's first byte.
+    //
+    // Errors: The refusal that the byte gives.
     #[inline(always)]
     fn begin_record(&mut self, byte: u8) -> Result<RecordKind, Refusal>
         requires sound { IsSound self.old }
@@ -378,7 +374,7 @@ impl Reading {
         Ok(kind)
     }
 
-    /// Sets the state after the first byte of a record of this kind.
+    // Sets the state after the first byte of a record of this kind.
     #[inline(always)]
     fn begin(&mut self, kind: RecordKind)
         requires { self.old.at + 1 < 2 ^ 64 }
@@ -398,7 +394,7 @@ impl Reading {
         };
     }
 
-    /// Takes in the first three bytes of a record's length, and returns the number that they spell.
+    // Takes in the first three bytes of a record's length, and returns the number that they spell.
     #[inline(always)]
     fn skip_length(&mut self, kind: RecordKind, a: u8, b: u8, c: u8) -> u32
         requires { self.old.at + 3 < 2 ^ 64 }
@@ -415,7 +411,7 @@ impl Reading {
         length
     }
 
-    /// Takes in the next byte of a record's length, after `count` bytes of it.
+    // Takes in the next byte of a record's length, after `count` bytes of it.
     fn go_on_head<S: Sink>(
         &mut self,
         kind: RecordKind,
@@ -443,7 +439,8 @@ impl Reading {
         Ok(())
     }
 
-    /// Takes in the last byte of a record's length, after three bytes of it, which spell this number.
+    // Takes in the last byte of a record's length, after three bytes of it, which spell this
+    // number.
     #[inline(always)]
     fn end_length<S: Sink>(
         &mut self,
@@ -470,7 +467,7 @@ impl Reading {
         self.end_head(kind, whole, 0, byte, sink)
     }
 
-    /// Sets the state after the length of a record that has a moment.
+    // Sets the state after the length of a record that has a moment.
     #[inline(always)]
     fn begin_moment(&mut self, kind: RecordKind, length: u32)
         requires { self.old.at + 1 < 2 ^ 64 }
@@ -485,7 +482,7 @@ impl Reading {
         };
     }
 
-    /// Takes in the next byte of a record's moment, after `count` bytes of it.
+    // Takes in the next byte of a record's moment, after `count` bytes of it.
     fn go_on_moment<S: Sink>(
         &mut self,
         kind: RecordKind,
@@ -515,7 +512,8 @@ impl Reading {
         Ok(())
     }
 
-    /// Takes in the last byte of the head of a record of this kind and moment, whose body has this length.
+    // Takes in the last byte of the head of a record of this kind and moment, whose body has this
+    // length.
     #[inline(always)]
     fn end_head<S: Sink>(
         &mut self,
@@ -545,8 +543,8 @@ impl Reading {
         }
     }
 
-    /// Takes in the last byte of the head of a record that carries no packets. It is a function of its own, so that its events take
-    /// no stack while packets are read.
+    // Takes in the last byte of the head of a record that carries no packets. It is a function of
+    // its own, so that its events take no stack while packets are read.
     #[inline(never)]
     fn end_other<S: Sink>(
         &mut self,
@@ -576,7 +574,7 @@ impl Reading {
         }
     }
 
-    /// Takes in the last byte of the head of a RELEASE of this moment.
+    // Takes in the last byte of the head of a RELEASE of this moment.
     fn begin_release(&mut self, moment: u64)
         requires { self.old.at + 1 < 2 ^ 64 }
         ensures { self.new ≡ record self.old { at = self.old.at + 1; stage = stages.Release None; moment = moment } }
@@ -586,11 +584,10 @@ impl Reading {
         self.stage = Stage::Release(None);
     }
 
-    /// Ends a record of this moment with an event that isn't a packet and has this effect.
-    ///
-    /// # Errors
-    ///
-    /// The refusal that applies to the event, or the sink's own refusal, at the byte that is being taken in.
+    // Ends a record of this moment with an event that isn't a packet and has this effect.
+    //
+    // Errors: The refusal that applies to the event, or the sink's own refusal, at the byte that is
+    // being taken in.
     fn end_mark<S: Sink>(
         &mut self,
         effect: Effect,
@@ -627,7 +624,7 @@ impl Reading {
         }
     }
 
-    /// Ends a RELEASE of this Packet Identifier.
+    // Ends a RELEASE of this Packet Identifier.
     fn end_release<S: Sink>(&mut self, high: u8, low: u8, sink: &mut S) -> Result<(), Refusal>
         requires sound { IsSound self.old }
         requires within { self.old.stage ≡ stages.Release (Some high) }
@@ -641,7 +638,7 @@ impl Reading {
         self.end_mark(Effect::Nothing, event, self.moment, sink)
     }
 
-    /// Takes in the last byte of a record.
+    // Takes in the last byte of a record.
     fn end_record(&mut self)
         requires room { self.old.at + 1 < 2 ^ 64 }
         requires numbered { self.old.records < 4294967295 }
@@ -652,7 +649,8 @@ impl Reading {
         self.stage = Stage::Between;
     }
 
-    /// Takes in the last byte of the head of a record of this moment that carries `length` bytes in this direction.
+    // Takes in the last byte of the head of a record of this moment that carries `length` bytes in
+    // this direction.
     #[inline(always)]
     fn begin_body(&mut self, direction: Direction, length: u32, moment: u64)
         requires room { self.old.at + 1 < 2 ^ 64 }
@@ -664,7 +662,7 @@ impl Reading {
         self.leave(direction, length);
     }
 
-    /// Sets the state with `left` bytes of a record's body still to come.
+    // Sets the state with `left` bytes of a record's body still to come.
     #[inline(always)]
     fn leave(&mut self, direction: Direction, left: u32)
         requires numbered { self.old.records < 4294967295 }

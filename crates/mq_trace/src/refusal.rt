@@ -4,8 +4,9 @@ ghost use Rattle.mq_trace.specs.Refusing.{number_of, name_of, refusal_offset, re
 
 use std::fmt;
 
-/// Why a log is refused, each with the offset in the log of the byte at which its condition first applies.
-/// The earliest byte decides, and at one byte the lowest number. The numbers are 1 to 16, in this order.
+/// Why a log is refused, each with the offset in the log of the byte at which its condition first
+/// applies. The earliest byte decides, and at one byte the lowest number. The numbers are 1 to 16,
+/// in this order.
 #[derive(Clone, Copy, Debug, PartialEq, Eq)]
 pub enum Refusal {
     /// 1: one of the first four bytes isn't that of `MQTR`.
@@ -32,14 +33,16 @@ pub enum Refusal {
     TooLarge(u64),
     /// 12: a CONNECT of another protocol version.
     OtherVersion(u64),
-    /// 13: the 4,097th event of a connection, its OPEN counted, which isn't its CLOSE, where none of the 4,097 is its CONNACK.
+    /// 13: the 4,097th event of a connection, its OPEN counted, which isn't its CLOSE, where none
+    /// of the 4,097 is its CONNACK.
     TooManyEarly(u64),
     /// 14: more than 4,294,967,295 records or events.
     TooLong(u64),
     /// 15: the reader failed, or the bound on the number of reads was reached.
     Read(u64),
-    /// 16: there was no memory, and no condition applies at the byte. A sink that can't go on, for whatever reason, returns it too,
-    /// at offset 0: the tracer moves it to the byte that completed the event.
+    /// 16: there was no memory, and no condition applies at the byte. A sink that can't go on, for
+    /// whatever reason, returns it too, at offset 0: the tracer moves it to the byte that completed
+    /// the event.
     Memory(u64),
 }
 

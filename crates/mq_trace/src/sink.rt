@@ -14,9 +14,10 @@ use mq_packet::{Packet, Publish};
 
 /// Receives the events of a log, one after another.
 ///
-/// A sink that can't go on returns a refusal, and the log is refused with it. No condition on logs is the sink's to check, so
-/// what it lacks is memory, or another means: `Refusal::Memory(0)` says so. It is at offset 0 because a sink doesn't know the
-/// bytes of the log; the tracer moves it to the byte that completed the event.
+/// A sink that can't go on returns a refusal, and the log is refused with it. No condition on logs
+/// is the sink's to check, so what it lacks is memory, or another means: `Refusal::Memory(0)` says
+/// so. It is at offset 0 because a sink doesn't know the bytes of the log; the tracer moves it to
+/// the byte that completed the event.
 ///
 /// # Examples
 ///
@@ -44,23 +45,25 @@ pub trait Sink {
 
     // The sink has received these events, the newest first.
     ghost agrees: { Self → List Placed → Type 0 };
-    // The sink had received these events, the newest first, and has refused the next one with this refusal.
+    // The sink had received these events, the newest first, and has refused the next one with this
+    // refusal.
     ghost refuses: { Self → List Placed → Refusal → Type 0 };
 
     /// Receives the next event, which has this place in the log.
     ///
     /// # Errors
     ///
-    /// The sink's own refusal. Its byte doesn't matter: the tracer replaces it by that of the byte that completed the event. The
-    /// sink receives no further events.
+    /// The sink's own refusal. Its byte doesn't matter: the tracer replaces it by that of the byte
+    /// that completed the event. The sink receives no further events.
     fn event(&mut self, place: Place3, event: Event<'_>) -> Result<(), Refusal>
         ensures receives { (earlier : List Placed) → agrees self.old earlier → AreEvents (placed_at place event.entry ∷ earlier)
             → OnOk result (agrees self.new (placed_at place event.entry ∷ earlier)) }
         ensures refused { (earlier : List Placed) → agrees self.old earlier → AreEvents (placed_at place event.entry ∷ earlier)
             → IfErr result (λ refusal. refuses self.new earlier refusal) };
 
-    /// Receives the next event, a packet of `size` bytes in this direction. By default it calls `event`; a sink may have a quicker
-    /// way, since an event that it looks into lies in memory, and its packet's size has to be found again.
+    /// Receives the next event, a packet of `size` bytes in this direction. By default it calls
+    /// `event`; a sink may have a quicker way, since an event that it looks into lies in memory,
+    /// and its packet's size has to be found again.
     ///
     /// # Errors
     ///
@@ -83,8 +86,9 @@ pub trait Sink {
         self.event(place, item_event(direction, Item::Packet(packet)))
     }
 
-    /// Receives the next event, a PUBLISH of `size` bytes in this direction. By default it calls `packet`; a sink may have a
-    /// quicker way, since most packets of a log are PUBLISHes, and a packet is several times as large as a PUBLISH.
+    /// Receives the next event, a PUBLISH of `size` bytes in this direction. By default it calls
+    /// `packet`; a sink may have a quicker way, since most packets of a log are PUBLISHes, and a
+    /// packet is several times as large as a PUBLISH.
     ///
     /// # Errors
     ///

@@ -1,4 +1,5 @@
-//! Logs, and what a tracer emits for them: lines and refusals that were worked out by hand from the log's format.
+//! Logs, and what a tracer emits for them: lines and refusals that were worked out by hand from the
+//! log's format.
 
 mod early;
 mod emission;

@@ -13,7 +13,8 @@ use super::sink::Sink;
 use std::alloc::Global;
 use std::marker::Model;
 
-/// Reads a log that is fed in pieces, however it is cut, and emits each event to a sink when its last byte comes.
+/// Reads a log that is fed in pieces, however it is cut, and emits each event to a sink when its
+/// last byte comes.
 ///
 /// # Examples
 ///
@@ -54,7 +55,8 @@ impl Model for Tracer {
 }
 
 impl Tracer {
-    /// A tracer that has been fed nothing, and reads packets of at most `limit` bytes: 5 to 268,435,460.
+    /// A tracer that has been fed nothing, and reads packets of at most `limit` bytes: 5 to
+    /// 268,435,460.
     pub fn new(alloc: Global, limit: u32) -> Self
         ensures follows { IsTracedTo result [] }
         ensures limit { result.reading.limit ≡ limit }
@@ -65,7 +67,8 @@ impl Tracer {
         }
     }
 
-    /// What the log's header says, once it is whole. After a refusal it is what the bytes before the refused one say.
+    /// What the log's header says, once it is whole. After a refusal it is what the bytes before
+    /// the refused one say.
     pub fn header(&self) -> Option<Header>
         ensures follows { (log : List ℕ) → IsTracedTo self.now log → result ≡ (if nat_lt (length log) 8 then None else Some (header_by log)) }
         ensures stopped { (taken : List ℕ) → KeepsHeader self.now.reading taken → result ≡ (if nat_lt (length taken) 8 then None else Some (header_by taken)) }
@@ -76,7 +79,8 @@ impl Tracer {
         Some(self.reading.header)
     }
 
-    /// How many bytes of the log were taken in. After a refusal it is the offset of the refused byte.
+    /// How many bytes of the log were taken in. After a refusal it is the offset of the refused
+    /// byte.
     pub fn byte_count(&self) -> u64
         ensures follows { (log : List ℕ) → IsTracedTo self.now log → result ≡ length log }
         ensures stopped { IfSome self.now.refusal (λ refusal. result ≡ refusal_offset refusal) }
@@ -87,7 +91,8 @@ impl Tracer {
         }
     }
 
-    /// Takes in what of the next piece belongs to the log's header, and returns the rest of the piece. A header completes no event.
+    /// Takes in what of the next piece belongs to the log's header, and returns the rest of the
+    /// piece. A header completes no event.
     ///
     /// # Errors
     ///
@@ -106,7 +111,7 @@ impl Tracer {
         }
     }
 
-    /// How many of the next `count` bytes of the log belong to its header.
+    // How many of the next `count` bytes of the log belong to its header.
     fn header_count(&self, count: usize) -> usize
         ensures within { result ≤ count }
         ensures count { (log : List ℕ) → IsTracedTo self.now log → result ≡ min (8 - length log) count }
@@ -115,15 +120,17 @@ impl Tracer {
         (left as usize).min(count)
     }
 
-    /// Takes in the next piece of the log, and emits the events whose last bytes are in it. It doesn't matter how the log is cut
-    /// into pieces.
+    /// Takes in the next piece of the log, and emits the events whose last bytes are in it. It
+    /// doesn't matter how the log is cut into pieces.
     ///
     /// # Errors
     ///
-    /// The refusal whose condition applies at the earliest byte, and at one byte the one with the lowest number; the sink's own
-    /// refusal, at the byte that completed the event, if no condition applies at it; or `Memory`, at a byte that couldn't be kept, if
-    /// no condition applies at it: it belongs to a packet of which more is to come. No condition applies before the byte that is
-    /// named, and the sink has received all events that are complete before it. From then on each call fails with the same refusal.
+    /// The refusal whose condition applies at the earliest byte, and at one byte the one with the
+    /// lowest number; the sink's own refusal, at the byte that completed the event, if no condition
+    /// applies at it; or `Memory`, at a byte that couldn't be kept, if no condition applies at it:
+    /// it belongs to a packet of which more is to come. No condition applies before the byte that
+    /// is named, and the sink has received all events that are complete before it. From then on
+    /// each call fails with the same refusal.
     pub fn feed<S: Sink>(&mut self, piece: &[u8], sink: &mut S) -> Result<(), Refusal>
         ensures answers { (log : List ℕ) → IsTracedTo self.old log → TracesPiece S.agrees S.refuses self.old.reading.limit log piece.now sink.old sink.new result }
         ensures follows { (log : List ℕ) → IsTracedTo self.old log → OnOk result (IsTracedTo self.new (log ++ piece.now)) }
@@ -146,7 +153,8 @@ impl Tracer {
     ///
     /// # Errors
     ///
-    /// The refusal that an earlier call returned; `Cut`, at the log's length, if the log ends inside its header or a record.
+    /// The refusal that an earlier call returned; `Cut`, at the log's length, if the log ends
+    /// inside its header or a record.
     pub fn finish(&mut self) -> Result<(), Refusal>
         ensures ends { (log : List ℕ) → IsTracedTo self.old log → Ends log result }
         ensures same { OnOk result (self.new ≡ self.old) }
@@ -174,14 +182,14 @@ impl Tracer {
     }
 }
 
-/// Whether the log, if it ended here, would end inside its header or a record.
+// Whether the log, if it ended here, would end inside its header or a record.
 fn is_cut_short(reading: &Reading) -> bool
     ensures { result ≡ (nat_lt reading.now.at 8 || not (is_between reading.now.stage)) }
 {
     reading.at < HEADER_LENGTH || !reading.stage.is_between()
 }
 
-/// Takes in a piece of a log.
+// Takes in a piece of a log.
 fn consume<S: Sink>(reading: &mut Reading, piece: &[u8], sink: &mut S) -> Result<(), Refusal>
     requires { IsSound reading.old }
     ensures sound { OnOk result (IsSound reading.new) }

@@ -14,8 +14,9 @@ use bytes::BytesMut;
 use std::alloc::{AllocError, Global};
 use std::marker::Model;
 
-/// The bytes of an unfinished packet. If there are any, there is room for one byte more. So no packet needs memory for its last
-/// byte alone, and the refusal that applies at that byte is always found.
+/// The bytes of an unfinished packet. If there are any, there is room for one byte more. So no
+/// packet needs memory for its last byte alone, and the refusal that applies at that byte is always
+/// found.
 #[derive(Drop)]
 pub struct Unfinished {
     bytes: BytesMut,
@@ -88,11 +89,13 @@ impl Unfinished {
         Ok(())
     }
 
-    /// Appends the packet's last bytes, the first of which has this offset in the log, emits the packet, and drops its bytes.
+    /// Appends the packet's last bytes, the first of which has this offset in the log, emits the
+    /// packet, and drops its bytes.
     ///
     /// # Errors
     ///
-    /// The refusal that applies at the last of them; the sink's own refusal; `Memory`, at the first of them, if there are several.
+    /// The refusal that applies at the last of them; the sink's own refusal; `Memory`, at the first
+    /// of them, if there are several.
     #[inline(never)]
     pub fn complete<S: Sink>(
         &mut self,

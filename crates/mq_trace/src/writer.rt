@@ -30,13 +30,14 @@ impl fmt::Display for WriteFault {
 
 impl Error for WriteFault {}
 
-/// Writes a log, its header and its records, in the order of the calls. It takes no memory. The header says the version; in version
-/// 2 each record has a moment.
+/// Writes a log, its header and its records, in the order of the calls. It takes no memory. The
+/// header says the version; in version 2 each record has a moment.
 ///
-/// The caller must write the header first and once, and each record only where the format allows it.
+/// The caller must write the header first and once, and each record only where the format allows
+/// it.
 ///
-/// A call in which a write fails has written a beginning of its header or record, but not all of it. Each later call fails with
-/// `Write` too, and writes nothing.
+/// A call in which a write fails has written a beginning of its header or record, but not all of
+/// it. Each later call fails with `Write` too, and writes nothing.
 ///
 /// # Examples
 ///
@@ -86,7 +87,8 @@ impl<W: Write> TraceWriter<W> {
         }
     }
 
-    /// Sets the moment of the records that are written after this, 0 at first. Only a log of version 2 has it.
+    /// Sets the moment of the records that are written after this, 0 at first. Only a log of
+    /// version 2 has it.
     pub fn moment(&mut self, moment: u64)
         ensures { self.new ≡ record self.old { moment = moment } }
     {
@@ -121,7 +123,8 @@ impl<W: Write> TraceWriter<W> {
         self.record(RecordKind::Open, &[])
     }
 
-    /// Writes a SENT: bytes that the tested end sent, at most 1,048,576 of them, or 16,777,216 in version 2.
+    /// Writes a SENT: bytes that the tested end sent, at most 1,048,576 of them, or 16,777,216 in
+    /// version 2.
     ///
     /// # Errors
     ///
@@ -135,7 +138,8 @@ impl<W: Write> TraceWriter<W> {
         self.record(RecordKind::Sent, body)
     }
 
-    /// Writes a RECV: bytes that the tested end received, at most 1,048,576 of them, or 16,777,216 in version 2.
+    /// Writes a RECV: bytes that the tested end received, at most 1,048,576 of them, or 16,777,216
+    /// in version 2.
     ///
     /// # Errors
     ///
@@ -175,7 +179,8 @@ impl<W: Write> TraceWriter<W> {
         self.record(RecordKind::Rest, &[])
     }
 
-    /// Writes a RELEASE: the tested end released the QoS 2 message that it received under this Packet Identifier.
+    /// Writes a RELEASE: the tested end released the QoS 2 message that it received under this
+    /// Packet Identifier.
     ///
     /// # Errors
     ///
@@ -195,7 +200,7 @@ impl<W: Write> TraceWriter<W> {
         self.writer
     }
 
-    /// Writes a record of this kind, with this body.
+    // Writes a record of this kind, with this body.
     fn record(&mut self, kind: RecordKind, body: &[u8]) -> Result<(), WriteFault>
         requires { length body.now ≤ 16777216 }
         ensures ok { OnOk result (WritesAll W.contents self.old self.new (framed self.old.version self.old.moment (kind_byte kind) body.now)) }
@@ -208,7 +213,7 @@ impl<W: Write> TraceWriter<W> {
         self.plain_record(kind, body)
     }
 
-    /// Writes a record in version 2.
+    // Writes a record in version 2.
     #[tactic(auto, unfolding(crate::specs::Writing::moment_bytes))]
     fn timed_record(&mut self, kind: RecordKind, body: &[u8]) -> Result<(), WriteFault>
         requires fits { length body.now ≤ 16777216 }
@@ -221,7 +226,7 @@ impl<W: Write> TraceWriter<W> {
         self.write(&head, body)
     }
 
-    /// Writes a record in version 1.
+    // Writes a record in version 1.
     #[tactic(auto, unfolding(crate::specs::Writing::moment_bytes))]
     fn plain_record(&mut self, kind: RecordKind, body: &[u8]) -> Result<(), WriteFault>
         requires fits { length body.now ≤ 16777216 }
@@ -234,7 +239,7 @@ impl<W: Write> TraceWriter<W> {
         self.write(&head, body)
     }
 
-    /// Writes some bytes, and others after them, if no write has failed yet.
+    // Writes some bytes, and others after them, if no write has failed yet.
     fn write(&mut self, front: &[u8], back: &[u8]) -> Result<(), WriteFault>
         ensures ok { OnOk result (WritesAll W.contents self.old self.new (front.now ++ back.now)) }
         ensures write { OnErr result (FailsToWrite W.contents self.old self.new (front.now ++ back.now)) }
@@ -259,7 +264,7 @@ pub fn bytes_of(header: Header) -> [u8; 8]
     [m, q, t, r, header.version, server, releases, 0]
 }
 
-/// The byte that names a kind of record.
+// The byte that names a kind of record.
 fn byte_of(kind: RecordKind) -> u8
     ensures { result ≡ kind_byte kind }
 {
@@ -273,7 +278,8 @@ fn byte_of(kind: RecordKind) -> u8
     }
 }
 
-/// A record's head in version 2: the byte of its kind, the length of its body in bytes, and its moment.
+// A record's head in version 2: the byte of its kind, the length of its body in bytes, and its
+// moment.
 fn timed_head(kind: RecordKind, length: u32, moment: u64) -> [u8; MOMENT_END]
     ensures { result ≡ kind_byte kind ∷ to_be_bytes w32 length ++ to_be_bytes w64 moment }
 {
@@ -296,7 +302,7 @@ fn timed_head(kind: RecordKind, length: u32, moment: u64) -> [u8; MOMENT_END]
     ]
 }
 
-/// A record's head in version 1: the byte of its kind, and the length of its body in bytes.
+// A record's head in version 1: the byte of its kind, and the length of its body in bytes.
 fn record_head(kind: RecordKind, length: u32) -> [u8; LENGTH_END]
     ensures { result ≡ kind_byte kind ∷ to_be_bytes w32 length }
 {
@@ -304,11 +310,9 @@ fn record_head(kind: RecordKind, length: u32) -> [u8; LENGTH_END]
     [byte_of(kind), highest, high, low, lowest]
 }
 
-/// Writes some bytes, and others after them.
-///
-/// # Errors
-///
-/// `Write` if a write failed.
+// Writes some bytes, and others after them.
+//
+// Errors: `Write` if a write failed.
 fn write_both<W: Write>(front: &[u8], back: &[u8], writer: &mut W) -> Result<(), WriteFault>
     ensures ok { OnOk result (Appends (W.contents writer.old) (W.contents writer.new) (front.now ++ back.now)) }
     ensures write { OnErr result (AppendsBeginning (W.contents writer.old) (W.contents writer.new) (front.now ++ back.now)) }
@@ -321,7 +325,8 @@ fn write_both<W: Write>(front: &[u8], back: &[u8], writer: &mut W) -> Result<(),
 ///
 /// # Errors
 ///
-/// `Write` if a write failed: the writer returned an error, also one for an interruption, or took no byte.
+/// `Write` if a write failed: the writer returned an error, also one for an interruption, or took
+/// no byte.
 pub fn write_bytes<W: Write>(bytes: &[u8], writer: &mut W) -> Result<(), WriteFault>
     ensures ok { OnOk result (Appends (W.contents writer.old) (W.contents writer.new) bytes.now) }
     ensures write { OnErr result (AppendsBeginning (W.contents writer.old) (W.contents writer.new) bytes.now) }

@@ -153,7 +153,8 @@ impl<'a> Cursor<'a> {
         }
     }
 
-    // The same for any length. It is a function of its own, so that the call for one byte, the usual case, is inlined.
+    // The same for any length. It is a function of its own, so that the call for one byte, the
+    // usual case, is inlined.
     #[inline(never)]
     #[tactic(auto, unfolding(crate::specs::Fields::varint_at))]
     fn any_varint(&mut self) -> Result<u32, WireFault>
@@ -233,11 +234,12 @@ impl<'a> Cursor<'a> {
         }
     }
 
-    /// A UTF-8 Encoded String of plain bytes: ASCII characters other than U+0000, `#` and `+` (MQTT 5.0,
-    /// 1.5.4 and 4.7.1). It is the text that [`Cursor::text`] reads there, and it has no wildcard.
+    /// A UTF-8 Encoded String of plain bytes: ASCII characters other than U+0000, `#` and `+` (MQTT
+    /// 5.0, 1.5.4 and 4.7.1). It is the text that [`Cursor::text`] reads there, and it has no
+    /// wildcard.
     ///
-    /// `None` if the bytes end before the field does, or if another byte is among them. The cursor has
-    /// then not moved.
+    /// `None` if the bytes end before the field does, or if another byte is among them. The cursor
+    /// has then not moved.
     #[inline(always)]
     pub fn plain_text(&mut self) -> Option<&'a str>
         ensures exact { MatchOption result
@@ -271,8 +273,8 @@ impl<'a> Cursor<'a> {
 
     /// A UTF-8 String Pair: a name and a value (MQTT 5.0, 1.5.7).
     ///
-    /// Fails as [`Cursor::text`] does for the name, else as it does for the value; the fault's offset is
-    /// that of the pair.
+    /// Fails as [`Cursor::text`] does for the name, else as it does for the value; the fault's
+    /// offset is that of the pair.
     #[tactic(auto, unfolding(crate::specs::Fields::pair_at))]
     pub fn pair(&mut self) -> Result<(&'a str, &'a str), WireFault>
         ensures exact { Took (λ pair. (pair.0.now, pair.1.now)) result self.old (placed self.old (pair_at self.old.rest)) self.new }

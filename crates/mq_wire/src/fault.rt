@@ -48,7 +48,8 @@ pub struct WireFault {
     pub reason: Reason,
 }
 
-/// Why a field could not be written. If several reasons apply, it is the one with the lowest number.
+/// Why a field could not be written. If several reasons apply, it is the one with the lowest
+/// number.
 #[derive(Debug, Clone, Copy, PartialEq, Eq, Error)]
 pub enum PutFault {
     /// A text or binary data has more than 65,535 bytes, or a number is over 268,435,455.

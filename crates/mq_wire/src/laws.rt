@@ -62,8 +62,8 @@ pub fn two_bytes_is_refused()
     ensures { RefusesMisspelled two_bytes_at two_byte_integer }
 {}
 
-/// A Four Byte Integer: it is refused exactly if the bytes end before it does, as `Short` (MQTT 5.0,
-/// 1.5.3).
+/// A Four Byte Integer: it is refused exactly if the bytes end before it does, as `Short` (MQTT
+/// 5.0, 1.5.3).
 #[tactic(auto, using(crate::proofs::MisspelledLaws::four_bytes_misspelled))]
 pub fn four_bytes_is_refused()
     ensures { RefusesMisspelled four_bytes_at four_byte_integer }
@@ -76,7 +76,8 @@ pub fn varint_is_refused()
     ensures { RefusesMisspelled varint_at variable_byte_integer }
 {}
 
-/// Binary Data: it is refused exactly if the bytes end before it does, as `Short` (MQTT 5.0, 1.5.6).
+/// Binary Data: it is refused exactly if the bytes end before it does, as `Short` (MQTT 5.0,
+/// 1.5.6).
 #[tactic(auto, using(crate::proofs::MisspelledLaws::binary_misspelled))]
 pub fn binary_is_refused()
     ensures { RefusesMisspelled binary_at binary_data }

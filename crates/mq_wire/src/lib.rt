@@ -1,5 +1,5 @@
-//! The fields that MQTT 5.0 packets are made of (MQTT 5.0, 1.5): read from bytes without a copy, and
-//! written to a vector.
+//! The fields that MQTT 5.0 packets are made of (MQTT 5.0, 1.5): read from bytes without a copy,
+//! and written to a vector.
 //!
 //! # Examples
 //!

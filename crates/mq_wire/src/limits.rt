@@ -9,7 +9,8 @@ pub const MAX_LEN: usize = 65_535;
 /// The largest Variable Byte Integer (MQTT 5.0, 1.5.5).
 pub const MAX_VARINT: u32 = 268_435_455;
 
-/// Whether the text has the character U+0000, which no UTF-8 Encoded String may have (MQTT 5.0, 1.5.4).
+/// Whether the text has the character U+0000, which no UTF-8 Encoded String may have (MQTT 5.0,
+/// 1.5.4).
 #[inline(always)]
 pub fn contains_nul(text: &str) -> bool
     ensures { result ≡ has_nul text.now }

@@ -19,8 +19,8 @@ pub fn plain_str(bytes: &[u8]) -> Option<&str>
     Some(unsafe { str::from_utf8_unchecked(bytes) })
 }
 
-// Whether each byte is plain. Most Topic Names have at most 32 bytes, and are checked in two runs of a fixed length, which may
-// overlap: such a loop compares many bytes at once.
+// Whether each byte is plain. Most Topic Names have at most 32 bytes, and are checked in two runs
+// of a fixed length, which may overlap: such a loop compares many bytes at once.
 #[inline(never)]
 fn is_plain(bytes: &[u8]) -> bool
     ensures { result ≡ is_plain bytes.now }

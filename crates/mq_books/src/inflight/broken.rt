@@ -29,7 +29,7 @@ pub struct Broken {
     pub out_of_order: bool,
 }
 
-/// Whether an identifier is in use.
+// Whether an identifier is in use.
 fn is_busy(
     entries: &IndexMap<u16, Entry>,
     subscribing: &IndexSet<u16>,
@@ -75,7 +75,8 @@ pub fn is_unopened(
         }
 }
 
-/// Whether an event sends a PUBLISH again that was sent on its connection, and wasn't acknowledged since.
+/// Whether an event sends a PUBLISH again that was sent on its connection, and wasn't acknowledged
+/// since.
 pub fn is_twice(fate: Fate, note: &Note, delivering: &IndexSet<u16>) -> bool
     ensures { result ≡ (accepts fate && is_some_and (contains nat_eq delivering.now) (resend_of note.now)) }
 {
@@ -121,7 +122,7 @@ pub fn is_out_of_order(
             })
 }
 
-/// The position of the opener of an identifier that is sent again, or 0.
+// The position of the opener of an identifier that is sent again, or 0.
 fn resent_now(note: &Note, entries: &IndexMap<u16, Entry>) -> u32
     ensures { result ≡ resent_by (resend_of note.now) (get nat_eq entries.now) }
 {

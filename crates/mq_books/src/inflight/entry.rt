@@ -26,7 +26,7 @@ pub struct Entry {
     pub sent: u32,
 }
 
-/// Whether a PUBLISH of QoS 2 is sent.
+// Whether a PUBLISH of QoS 2 is sent.
 fn is_sent_exactly_once(note: &Note) -> bool
     ensures { result ≡ is_some_and (λ p. is_exactly_once p.qos) (sent_publish note.now) }
 {
@@ -36,7 +36,7 @@ fn is_sent_exactly_once(note: &Note) -> bool
     }
 }
 
-/// Takes in that a PUBLISH is sent under an identifier.
+// Takes in that a PUBLISH is sent under an identifier.
 fn send(entries: &mut IndexMap<u16, Entry>, identifier: Option<u16>, position: u32)
     ensures entries { (i : ℕ) → get nat_eq entries.new i ≡ sent_if (is_id i identifier) position (get nat_eq entries.old i) }
     ensures unique { IsUnique nat_eq entries.old → IsUnique nat_eq entries.new }
@@ -48,7 +48,7 @@ fn send(entries: &mut IndexMap<u16, Entry>, identifier: Option<u16>, position: u
     }
 }
 
-/// Takes in that a PUBREL is sent under an identifier.
+// Takes in that a PUBREL is sent under an identifier.
 fn release(entries: &mut IndexMap<u16, Entry>, identifier: Option<u16>, position: u32)
     ensures entries { (i : ℕ) → get nat_eq entries.new i ≡ released_if (is_id i identifier) position (get nat_eq entries.old i) }
     ensures unique { IsUnique nat_eq entries.old → IsUnique nat_eq entries.new }
@@ -61,7 +61,7 @@ fn release(entries: &mut IndexMap<u16, Entry>, identifier: Option<u16>, position
     }
 }
 
-/// Takes in that a PUBREC below 0x80 is received under an identifier.
+// Takes in that a PUBREC below 0x80 is received under an identifier.
 fn confirm(entries: &mut IndexMap<u16, Entry>, identifier: Option<u16>)
     ensures entries { (i : ℕ) → get nat_eq entries.new i ≡ confirmed_if (is_id i identifier) (get nat_eq entries.old i) }
     ensures unique { IsUnique nat_eq entries.old → IsUnique nat_eq entries.new }
@@ -73,7 +73,7 @@ fn confirm(entries: &mut IndexMap<u16, Entry>, identifier: Option<u16>)
     }
 }
 
-/// Takes in that an identifier is set free.
+// Takes in that an identifier is set free.
 fn close(entries: &mut IndexMap<u16, Entry>, identifier: Option<u16>)
     ensures entries { (i : ℕ) → get nat_eq entries.new i ≡ closed_if (is_id i identifier) (get nat_eq entries.old i) }
     ensures unique { IsUnique nat_eq entries.old → IsUnique nat_eq entries.new }
@@ -83,7 +83,7 @@ fn close(entries: &mut IndexMap<u16, Entry>, identifier: Option<u16>)
     }
 }
 
-/// Takes in that an identifier is opened.
+// Takes in that an identifier is opened.
 fn open_new(
     entries: &mut IndexMap<u16, Entry>,
     identifier: Option<u16>,
@@ -106,7 +106,7 @@ fn open_new(
     Ok(())
 }
 
-/// Takes in an event of the session.
+// Takes in an event of the session.
 fn take_in(entries: &mut IndexMap<u16, Entry>, at: Place3, note: &Note) -> Result<(), Memory>
     ensures entries { OnOk result ((i : ℕ) → get nat_eq entries.new i ≡ entry_after i note.now at (get nat_eq entries.old i)) }
     ensures unique { IsUnique nat_eq entries.old → OnOk result (IsUnique nat_eq entries.new) }

@@ -15,7 +15,7 @@ use indexmap::{IndexMap, IndexSet};
 use mq_rules::{Fate, Fault, FaultKey, Faults, Memory, Note, Role, Rule};
 use std::alloc::Global;
 
-/// Whether the peer announces a Maximum Packet Size or a Maximum QoS by this event.
+// Whether the peer announces a Maximum Packet Size or a Maximum QoS by this event.
 fn announces_bounds(role: Role, note: &Note) -> Option<bool>
     ensures { result ≡ resending.bounds_by role note.now }
 {
@@ -48,14 +48,14 @@ pub fn is_excused(peer: Option<u16>, in_flight: u64, bounds: Option<bool>) -> bo
     u64::from(peer.unwrap_or(RECEIVE_MAXIMUM)) <= in_flight || bounds.unwrap_or(false)
 }
 
-/// Whether an identifier that is open is due.
+// Whether an identifier that is open is due.
 fn is_due(opened: u32, excused: bool, entry: &Entry) -> bool
     ensures { result ≡ resending.is_due opened excused entry.now }
 {
     entry.sent < opened && (entry.confirmed || !excused)
 }
 
-/// Adds the fault of an identifier, if it is due.
+// Adds the fault of an identifier, if it is due.
 fn blame_one(
     entry: &Entry,
     opened: u32,
@@ -91,7 +91,8 @@ pub struct Resent {
     pub confirmed: bool,
 }
 
-/// What is known after an event, before it is taken in. An OPEN ends all, and a PUBREC may confirm what wasn't sent again.
+/// What is known after an event, before it is taken in. An OPEN ends all, and a PUBREC may confirm
+/// what wasn't sent again.
 pub fn resent_still(
     resent: Resent,
     entries: &IndexMap<u16, Entry>,
@@ -106,7 +107,8 @@ pub fn resent_still(
     }
 }
 
-/// Whether a PUBREC below 0x80 is received for an identifier that wasn't sent again on the connection.
+// Whether a PUBREC below 0x80 is received for an identifier that wasn't sent again on the
+// connection.
 fn confirms(entries: &IndexMap<u16, Entry>, opened: u32, note: &Note) -> bool
     ensures { result ≡ confirms_untouched note.now opened (get nat_eq entries.now) }
 {
@@ -119,7 +121,8 @@ fn confirms(entries: &IndexMap<u16, Entry>, opened: u32, note: &Note) -> bool
     }
 }
 
-/// Keeps the identifiers that are open and for which a PUBREC below 0x80 came. The event isn't taken in yet.
+/// Keeps the identifiers that are open and for which a PUBREC below 0x80 came. The event isn't
+/// taken in yet.
 pub fn take_confirmed(
     confirmed: &mut IndexSet<u16>,
     alloc: Global,
@@ -166,7 +169,7 @@ fn keep_confirmed(
     Ok(())
 }
 
-/// Whether some identifier that is open wasn't sent again on the connection.
+// Whether some identifier that is open wasn't sent again on the connection.
 fn any_untouched(entries: &IndexMap<u16, Entry>, opened: u32) -> bool
     ensures { result ≡ list_any (λ o. nat_lt o.sent opened) (values entries.now) }
 {
@@ -179,7 +182,7 @@ fn is_untouched(entry: &Entry, opened: u32) -> bool
     entry.sent < opened
 }
 
-/// Whether an identifier is open and due, excused or not.
+// Whether an identifier is open and due, excused or not.
 fn is_due_under(entries: &IndexMap<u16, Entry>, opened: u32, i: u16) -> bool
     ensures { result ≡ is_some_and (resending.is_due opened true) (get nat_eq entries.now i) }
 {
@@ -189,14 +192,14 @@ fn is_due_under(entries: &IndexMap<u16, Entry>, opened: u32, i: u16) -> bool
     }
 }
 
-/// Whether some of these identifiers is.
+// Whether some of these identifiers is.
 fn any_due_under(confirmed: &IndexSet<u16>, entries: &IndexMap<u16, Entry>, opened: u32) -> bool
     ensures { result ≡ list_any (λ i. is_some_and (resending.is_due opened true) (get nat_eq entries.now i)) confirmed.now.keys }
 {
     confirmed.iter().any(|i| is_due_under(entries, opened, *i))
 }
 
-/// Adds the faults of what is due.
+// Adds the faults of what is due.
 #[tactic(auto, using(crate::proofs::PlacesLaws::keeps_next, crate::proofs::PlacesLaws::keeps_due))]
 fn blame_due(
     entries: &IndexMap<u16, Entry>,
@@ -215,7 +218,7 @@ fn blame_due(
     Ok(())
 }
 
-/// Adds the fault of an identifier, if it is due, excused or not.
+// Adds the fault of an identifier, if it is due, excused or not.
 fn blame_under(
     entries: &IndexMap<u16, Entry>,
     opened: u32,
@@ -232,7 +235,7 @@ fn blame_under(
     }
 }
 
-/// Adds the faults of those of these identifiers that are due, excused or not.
+// Adds the faults of those of these identifiers that are due, excused or not.
 #[tactic(auto, using(crate::proofs::PlacesLaws::keeps_under_next, crate::proofs::PlacesLaws::keeps_under))]
 fn blame_confirmed(
     confirmed: &IndexSet<u16>,
@@ -251,8 +254,8 @@ fn blame_confirmed(
     Ok(())
 }
 
-/// Adds the faults of what is due at a REST that binds. What is known to have been sent again isn't looked for: so an identifier that isn't due is
-/// looked at once, after it was sent again.
+// Adds the faults of what is due at a REST that binds. What is known to have been sent again isn't
+// looked for: so an identifier that isn't due is looked at once, after it was sent again.
 #[tactic(auto, using(crate::proofs::BlameLaws::keeps_same))]
 fn settle_all(
     resent: Resent,
@@ -276,7 +279,8 @@ fn settle_all(
     })
 }
 
-/// Adds the faults of what was confirmed and is due at a REST that binds, where what wasn't confirmed is excused.
+// Adds the faults of what was confirmed and is due at a REST that binds, where what wasn't
+// confirmed is excused.
 #[tactic(auto, using(crate::proofs::BlameLaws::keeps_same))]
 fn settle_confirmed(
     resent: Resent,

@@ -1,4 +1,5 @@
-//! The texts of `explain` for the statements on Packet Identifiers, resends and the send quota (S01 to S07).
+//! The texts of `explain` for the statements on Packet Identifiers, resends and the send quota (S01
+//! to S07).
 
 /// The text of `explain S01`.
 pub const S01: &str = "S01 both MQTT-2.2.1-3;MQTT-2.2.1-4\n\

@@ -204,7 +204,8 @@ fn reports_a_failed_write(rt: HostRuntime) -> Result<(), Fail> {
     Ok(())
 }
 
-// With each allocation failing in turn, the result is the log's, or that memory ran out, and nothing else.
+// With each allocation failing in turn, the result is the log's, or that memory ran out, and
+// nothing else.
 #[test]
 fn reports_want_of_memory(rt: HostRuntime) {
     let mut output = Cursor::new([0; 128]);

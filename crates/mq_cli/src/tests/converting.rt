@@ -22,7 +22,8 @@ const UNREAD: &str = "mqjudge: read failed\nmqjudge: a.log: the system can't rea
 
 const UNWRITTEN: &str = "mqjudge: write failed\n";
 
-// Words, the bytes of their log, the status, what is written to the output, and to the error stream.
+// Words, the bytes of their log, the status, what is written to the output, and to the error
+// stream.
 static ROWS: [(&[&str], &[u8], u8, &str, &str); 7] = [
     (ASKED, GOOD, 0, "", ""),
     (&["mqjudge", "convert", "-", "b.log"], GOOD, 0, "", ""),

@@ -43,8 +43,8 @@ impl NewFile for Narrow {
     }
 }
 
-/// A host with these words, one file, at `a.log`, and a standard input. Its readers give one byte a call. A file can be made at
-/// `b.log`.
+/// A host with these words, one file, at `a.log`, and a standard input. Its readers give one byte a
+/// call. A file can be made at `b.log`.
 #[derive(Drop)]
 pub struct Desk {
     pub alloc: Global,
@@ -63,7 +63,8 @@ pub struct Desk {
 }
 
 impl Desk {
-    /// A host with these words, this file and this standard input, and without a file at any other path.
+    /// A host with these words, this file and this standard input, and without a file at any other
+    /// path.
     pub fn of(
         alloc: Global,
         words: &'static [&'static str],

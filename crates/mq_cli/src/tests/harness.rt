@@ -1,4 +1,5 @@
-//! What the tests share: the bytes of logs, a reader and a writer that fail, and what the words of a task do.
+//! What the tests share: the bytes of logs, a reader and a writer that fail, and what the words of
+//! a task do.
 use crate::command_line::{EarlyExit, Task, Work, parse};
 use crate::error_stream::ErrorStream;
 use crate::failure::{FAILED, Obstacle};
@@ -38,7 +39,8 @@ pub fn add_record(log: &mut Vec<u8>, kind: u8, body: &[u8]) -> Result<(), AllocE
     log.extend_from_slice(body)
 }
 
-/// A reader that gives one byte a call, and fails after `fails_after` bytes, if that is some, with an error of this kind.
+/// A reader that gives one byte a call, and fails after `fails_after` bytes, if that is some, with
+/// an error of this kind.
 #[derive(Drop)]
 pub struct Trickle<'a> {
     bytes: &'a [u8],
@@ -52,7 +54,8 @@ impl Trickle<'_> {
         Trickle::failing(bytes, fails_after, ErrorKind::Other)
     }
 
-    /// A reader that gives these bytes, and fails with an error of this kind before the byte of this index, if that is some.
+    /// A reader that gives these bytes, and fails with an error of this kind before the byte of
+    /// this index, if that is some.
     pub fn failing(bytes: &[u8], fails_after: Option<usize>, kind: ErrorKind) -> Trickle<'_> {
         Trickle {
             bytes,
@@ -77,8 +80,8 @@ impl Read for Trickle<'_> {
     }
 }
 
-/// A writer that takes `room` bytes and then fails, as does its flush if `stays` says so. Its writes fail as on a full disk, its
-/// flush as if nobody read it any more.
+/// A writer that takes `room` bytes and then fails, as does its flush if `stays` says so. Its
+/// writes fail as on a full disk, its flush as if nobody read it any more.
 #[derive(Drop)]
 pub struct Narrow {
     pub room: usize,
@@ -160,7 +163,8 @@ pub fn printed_by<R: Read>(
     })
 }
 
-/// Whether what these words ask for fails if the output has this little room, and reports that a write failed.
+/// Whether what these words ask for fails if the output has this little room, and reports that a
+/// write failed.
 pub fn is_failed_write(
     alloc: Global,
     words: &[&str],

@@ -56,7 +56,8 @@ fn lines_of_pings(alloc: Global, last: &str) -> Result<String, Fail> {
     Ok(lines)
 }
 
-// Whether this command, with this log, has this status, writes this, and reports nothing on the error stream.
+// Whether this command, with this log, has this status, writes this, and reports nothing on the
+// error stream.
 fn does(
     alloc: Global,
     command: &str,

@@ -157,7 +157,8 @@ static ROWS: [Row; 48] = [
         line: "BAD W09 offset 2\n",
         status: FAULTY,
     },
-    // Bytes after a frame are reported, whatever the frame holds; a frame may have any size; and each of the fifteen packets.
+    // Bytes after a frame are reported, whatever the frame holds; a frame may have any size; and
+    // each of the fifteen packets.
     Row {
         hex: "41020001FFFF",
         line: "left over 2 bytes\n",
@@ -314,7 +315,8 @@ fn reports_a_packet_line_that_fails(rt: HostRuntime) -> Result<(), Fail> {
     Ok(())
 }
 
-// With each allocation failing in turn, the result is the packet's, or that memory ran out, and nothing else.
+// With each allocation failing in turn, the result is the packet's, or that memory ran out, and
+// nothing else.
 #[test]
 fn reports_a_packet_without_memory(rt: HostRuntime) {
     let mut output = Cursor::new([0; 64]);

@@ -8,8 +8,8 @@ use std::alloc::Global;
 use std::io;
 use std::test::Fail;
 
-// Whether a statement's text begins with its code and citations, has its sentence next, says why and where it is judged, and has
-// no line of more than 80 bytes.
+// Whether a statement's text begins with its code and citations, has its sentence next, says why
+// and where it is judged, and has no line of more than 80 bytes.
 fn is_explained(rule: Rule) -> bool {
     let text = explanation(rule);
     let mut words = text.split_whitespace();
@@ -92,7 +92,8 @@ fn lists_the_statements(rt: HostRuntime) -> Result<(), Fail> {
     Ok(())
 }
 
-// The codes of the statements that a word explains, in this order, with an empty line between two texts.
+// The codes of the statements that a word explains, in this order, with an empty line between two
+// texts.
 fn is_explained_by(alloc: Global, word: &str, codes: &[&str]) -> Result<bool, EarlyExit> {
     let printed = printed_by(alloc, &["mqjudge", "explain", word], &mut io::empty())?;
     let mut rest = printed.output.as_slice();

@@ -8,7 +8,8 @@ use std::fmt::Write as _;
 use std::io::Cursor;
 use std::test::Fail;
 
-// A client doesn't answer a PUBLISH before its end rests, and then sends a SUBACK, which it may not send, under identifier 0.
+// A client doesn't answer a PUBLISH before its end rests, and then sends a SUBACK, which it may not
+// send, under identifier 0.
 const THREE_FAULTS: &[u8] = b"MQTR\x01\x00\x01\x00\
     \x01\x00\x00\x00\x00\
     \x02\x00\x00\x00\x0f\x10\x0d\x00\x04MQTT\x05\x02\x00\x3c\x00\x00\x00\
@@ -84,7 +85,8 @@ fn plan(around: Option<u32>, long: bool) -> Plan<'static> {
     }
 }
 
-// Whether judging the one log and showing the other one, byte by byte, has this status and writes this.
+// Whether judging the one log and showing the other one, byte by byte, has this status and writes
+// this.
 fn is_shown(alloc: Global, plan: Plan<'_>, logs: [&[u8]; 2], status: u8, text: &str) -> bool {
     let [judged, shown] = logs;
     let mut output = Vec::new(alloc);
@@ -183,7 +185,8 @@ fn reports_a_failed_write(rt: HostRuntime) {
     }
 }
 
-// With each allocation failing in turn, all is shown, or memory ran out, after what was shown up to there.
+// With each allocation failing in turn, all is shown, or memory ran out, after what was shown up to
+// there.
 #[test]
 fn reports_a_review_without_memory(rt: HostRuntime) {
     let mut output = Cursor::new([0; 1024]);

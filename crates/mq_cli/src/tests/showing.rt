@@ -19,8 +19,8 @@ const WHOLE_LINES: &str = "1 record 1 OPEN\n\
     6 record 6 REST\n\
     7 record 7 CLOSE\n";
 
-// A server's log with each of the fifteen packets, some of them cut, a release, a packet that breaks a rule, and directions
-// that are lost.
+// A server's log with each of the fifteen packets, some of them cut, a release, a packet that
+// breaks a rule, and directions that are lost.
 const LOG_OF_ALL: &[u8] = b"MQTR\x01\x01\x01\x00\
     \x01\x00\x00\x00\x00\
     \x03\x00\x00\x00\x11\x10\x0d\x00\x04MQTT\x05\x02\x00\x3c\x00\x00\x00\xf0\x00\
@@ -158,7 +158,8 @@ fn reports_a_failed_write(rt: HostRuntime) -> Result<(), Fail> {
     Ok(())
 }
 
-// With each allocation failing in turn, the result is the log's, or that memory ran out, after the lines up to there.
+// With each allocation failing in turn, the result is the log's, or that memory ran out, after the
+// lines up to there.
 #[test]
 fn reports_a_show_without_memory(rt: HostRuntime) {
     let mut output = Cursor::new([0; 1024]);

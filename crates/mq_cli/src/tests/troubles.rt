@@ -124,7 +124,8 @@ fn says_what_to_do_with_other_files(rt: HostRuntime) {
     }
 }
 
-// Whether the program says this, with this status, where the host has these words, a good log, and this trouble.
+// Whether the program says this, with this status, where the host has these words, a good log, and
+// this trouble.
 fn says(
     alloc: Global,
     words: &'static [&'static str],
@@ -188,8 +189,8 @@ fn lists_the_codes_for_a_word_that_is_none(rt: HostRuntime) -> Result<(), Fail> 
     Ok(())
 }
 
-// Words whose reading fails at its beginning, in the first bytes, or later; after how many bytes; what is read; and what is written
-// before.
+// Words whose reading fails at its beginning, in the first bytes, or later; after how many bytes;
+// what is read; and what is written before.
 static UNREAD: [(&[&str], usize, &str, &str); 7] = [
     (&["mqjudge", "check", "a.log"], 0, "a.log", ""),
     (&["mqjudge", "check", "a.log"], 3, "a.log", ""),

@@ -16,7 +16,8 @@ use mq_rules::{Fault, FaultKey, Faults, Role, Rule};
 use mq_trace::{Event, Place3};
 use std::io::Write;
 
-/// The line of each event near to a fault, with a line for each fault at it, and a line `..` for each run of events that are left out.
+/// The line of each event near to a fault, with a line for each fault at it, and a line `..` for
+/// each run of events that are left out.
 #[derive(Clone, Copy)]
 pub struct Annotated<'a> {
     /// The faults.
@@ -27,12 +28,14 @@ pub struct Annotated<'a> {
     pub around: Option<u32>,
     /// Whether the lines of events are long.
     pub long: bool,
-    /// Whether an event that is left out begins a run of them: it is the first one, or the one before it is shown.
+    /// Whether an event that is left out begins a run of them: it is the first one, or the one
+    /// before it is shown.
     pub begins_gap: bool,
 }
 
 impl Annotated<'_> {
-    /// Appends what is shown of the next event, which has this place, in a log whose records have moments if `timed` is true.
+    /// Appends what is shown of the next event, which has this place, in a log whose records have
+    /// moments if `timed` is true.
     #[inline(never)]
     pub fn put<W: Write>(
         &mut self,
@@ -98,7 +101,8 @@ fn is_near(faults: &Faults, around: Option<u32>, position: u32) -> bool
     }
 }
 
-// Appends the line of an event at its place: the long one, or the short one with the bytes of a packet that breaks a rule.
+// Appends the line of an event at its place: the long one, or the short one with the bytes of a
+// packet that breaks a rule.
 fn put_shown_line<W: Write>(
     out: &mut Outgoing<'_, W>,
     timed: bool,
@@ -124,7 +128,8 @@ fn put_gap<W: Write>(out: &mut Outgoing<'_, W>, begins: bool)
     }
 }
 
-// Appends the lines of the faults at an event with this place, in a log whose records have moments if `timed` is true.
+// Appends the lines of the faults at an event with this place, in a log whose records have moments
+// if `timed` is true.
 fn put_notes<W: Write>(
     out: &mut Outgoing<'_, W>,
     faults: &Faults,
@@ -140,8 +145,8 @@ fn put_notes<W: Write>(
     }
 }
 
-// Appends the line of a fault: its statement and what that says, where the fault was decided if that is at a later event, where in its packet it is,
-// and this moment as a time.
+// Appends the line of a fault: its statement and what that says, where the fault was decided if
+// that is at a later event, where in its packet it is, and this moment as a time.
 fn put_note<W: Write>(
     out: &mut Outgoing<'_, W>,
     role: Role,

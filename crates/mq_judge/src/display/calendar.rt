@@ -18,7 +18,8 @@ struct Date {
     day: u64,
 }
 
-/// Appends the words on a moment as a time, if the log's records have moments and it is plausible as a time.
+/// Appends the words on a moment as a time, if the log's records have moments and it is plausible
+/// as a time.
 pub fn put_time<W: Write>(out: &mut Outgoing<'_, W>, timed: bool, moment: u64)
     ensures { Puts W.contents out.old (time_words timed moment) out.new }
 {
@@ -136,7 +137,8 @@ fn year_of(day: u64) -> (u64, u64)
     (year, days)
 }
 
-// The month of a year in which so many days of it are over, and how many days of that month are over.
+// The month of a year in which so many days of it are over, and how many days of that month are
+// over.
 fn month_of(year: u64, days_of_year_before: u64) -> (u64, u64)
     requires { days_of_year_before < days_of_year year }
     ensures month { result.0 ≡ last_begun (days_before_month year) 12 days_of_year_before }

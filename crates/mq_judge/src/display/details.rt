@@ -1,5 +1,5 @@
-//! What `show --long` prints of an event after its line's usual words: the fields and properties of its packet, by name, or the
-//! bytes of one that breaks a rule.
+//! What `show --long` prints of an event after its line's usual words: the fields and properties of
+//! its packet, by name, or the bytes of one that breaks a rule.
 #![tactic(auto, using(crate::proofs::OutgoingLaws::putting, crate::proofs::DetailLaws::detailing))]
 
 ghost use Rattle.std.specs.Prelude.{ℕ, List, ◌++◌};
@@ -29,8 +29,9 @@ use mq_trace::{Event, Item};
 use property::put_properties;
 use std::io::Write;
 
-/// Appends what `--long` prints of an event after its line's usual words, each word with a space before it: the fields and the
-/// properties of a packet, the type and the bytes of one that breaks a rule, and nothing for any other event.
+/// Appends what `--long` prints of an event after its line's usual words, each word with a space
+/// before it: the fields and the properties of a packet, the type and the bytes of one that breaks
+/// a rule, and nothing for any other event.
 pub fn put_details<W: Write>(out: &mut Outgoing<'_, W>, event: &Event<'_>)
     ensures { Puts W.contents out.old (detail_text (event_of event.now)) out.new }
 {
@@ -51,7 +52,8 @@ fn put_item_details<W: Write>(out: &mut Outgoing<'_, W>, item: &Item<'_>)
     }
 }
 
-/// Appends only the type and the bytes of a packet that breaks a rule, in the same way, and nothing for any other event.
+/// Appends only the type and the bytes of a packet that breaks a rule, in the same way, and nothing
+/// for any other event.
 pub fn put_broken_details<W: Write>(out: &mut Outgoing<'_, W>, event: &Event<'_>)
     ensures { Puts W.contents out.old (broken_detail_text (event_of event.now)) out.new }
 {

@@ -12,11 +12,13 @@ use std::fmt;
 use std::fmt::Write as _;
 use std::io::Write;
 
-/// How many bytes `make_room` makes room for. The longest line of an event without its details has 106.
+/// How many bytes `make_room` makes room for. The longest line of an event without its details has
+/// 106.
 const LINE_ROOM: usize = 160;
 
-/// Text on its way to a writer, through a buffer of 8,192 bytes that is written when it has no room for more. As
-/// `fmt::DebugStruct` does, it keeps the first failure: nothing is written after it, and `result` returns it.
+/// Text on its way to a writer, through a buffer of 8,192 bytes that is written when it has no room
+/// for more. As `fmt::DebugStruct` does, it keeps the first failure: nothing is written after it,
+/// and `result` returns it.
 pub struct Outgoing<'a, W> {
     pub(super) lines: Lines,
     pub(super) writer: &'a mut W,
@@ -136,7 +138,8 @@ impl<W: Write> Outgoing<'_, W> {
     }
 }
 
-// Appends a number to what waits. Returns true if a write has failed before, or if there is no room: 160 bytes have room for any number.
+// Appends a number to what waits. Returns true if a write has failed before, or if there is no
+// room: 160 bytes have room for any number.
 fn put_unless_failed(failed: bool, lines: &mut Lines, number: u64) -> bool
     ensures { result ≡ false → (failed ≡ false) × (lines.new ≡ lines.old ++ decimal number) }
 {

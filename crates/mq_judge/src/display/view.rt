@@ -31,7 +31,8 @@ pub enum View<'a> {
 }
 
 impl View<'_> {
-    /// Appends what is shown of the next event, which has this place, in a log whose records have moments if `timed` is true.
+    /// Appends what is shown of the next event, which has this place, in a log whose records have
+    /// moments if `timed` is true.
     #[inline(always)]
     pub fn put<W: Write>(
         &mut self,
@@ -53,8 +54,9 @@ impl View<'_> {
         }
     }
 
-    /// Appends what is shown of the next event, which is a packet of `size` bytes in this direction and has this place. Its line is
-    /// made from what it says of the packet, so that the packet needn't lie in memory.
+    /// Appends what is shown of the next event, which is a packet of `size` bytes in this direction
+    /// and has this place. Its line is made from what it says of the packet, so that the packet
+    /// needn't lie in memory.
     #[inline(always)]
     pub fn put_packet<W: Write>(
         &mut self,
@@ -81,7 +83,8 @@ impl View<'_> {
         }
     }
 
-    // Takes in a packet by any view. It stays apart, and takes the packet by value: one that another function looks at lies in memory.
+    // Takes in a packet by any view. It stays apart, and takes the packet by value: one that
+    // another function looks at lies in memory.
     #[inline(never)]
     fn put_whole_packet<W: Write>(
         &mut self,
@@ -199,7 +202,8 @@ pub fn put_long_line<W: Write>(
     out.put("\n");
 }
 
-/// Appends the line of an event at its place, with the type and the bytes of its packet if that breaks a rule.
+/// Appends the line of an event at its place, with the type and the bytes of its packet if that
+/// breaks a rule.
 pub fn put_line_with_bytes<W: Write>(
     out: &mut Outgoing<'_, W>,
     timed: bool,
@@ -277,7 +281,8 @@ fn put_place(lines: &mut Lines, timed: bool, place: Place3) -> fmt::Result
     put_moment(lines, timed, place.moment)
 }
 
-// Appends the words on a record's moment to what waits, each after a space, if the log's records have moments.
+// Appends the words on a record's moment to what waits, each after a space, if the log's records
+// have moments.
 #[inline(always)]
 fn put_moment(lines: &mut Lines, timed: bool, moment: u64) -> fmt::Result
     ensures puts { OnOk result (lines.new ≡ lines.old ++ with_spaces (moment_words timed moment)) }

@@ -13,7 +13,8 @@ use std::fmt;
 /// The text of a direction that is lost.
 pub const LOST: &str = "LOST";
 
-/// Appends the text of an item that was sent or received to the waiting lines. A packet that was read has a size.
+/// Appends the text of an item that was sent or received to the waiting lines. A packet that was
+/// read has a size.
 ///
 /// # Errors
 ///
@@ -51,7 +52,8 @@ pub fn put_packet(lines: &mut Lines, packet: PacketSummary, size: u32) -> fmt::R
     put_identifier(lines, identifier_of(packet))
 }
 
-/// Appends the text of bytes that break a rule to the waiting lines: the rule, and the offset of the field that breaks it.
+/// Appends the text of bytes that break a rule to the waiting lines: the rule, and the offset of
+/// the field that breaks it.
 ///
 /// # Errors
 ///

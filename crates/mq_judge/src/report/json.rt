@@ -16,14 +16,15 @@ use serde_json::{Value, json, push};
 use std::alloc::{AllocError, Global};
 use std::io::Write;
 
-/// Writes the report on a verdict for an end in this role as one line of JSON: how many events there are, the faults, ascending by position and then by
-/// statement, and whether there are any. The whole value is built in memory before anything is written.
+/// Writes the report on a verdict for an end in this role as one line of JSON: how many events
+/// there are, the faults, ascending by position and then by statement, and whether there are any.
+/// The whole value is built in memory before anything is written.
 ///
 /// # Errors
 ///
-/// `Write` if a write failed: the writer returned an error, also one for an interruption, or took no byte. A beginning of the report, but not all
-/// of it, was then written.
-/// `Memory` if there is no memory for the value or its text. Nothing was then written.
+/// `Write` if a write failed: the writer returned an error, also one for an interruption, or took
+/// no byte. A beginning of the report, but not all of it, was then written. `Memory` if there is no
+/// memory for the value or its text. Nothing was then written.
 #[tactic(auto, unfolding(crate::specs::Report::json_report))]
 pub fn write_json<W: Write>(
     alloc: Global,
@@ -119,9 +120,7 @@ fn fault_value(alloc: Global, role: Role, key: FaultKey, fault: Fault) -> Result
 
 // Writes a value as one line of JSON.
 //
-// # Errors
-//
-// As `write_json`.
+// Errors: As `write_json`.
 fn write_value<W: Write>(alloc: Global, value: &Value, writer: &mut W) -> Result<(), RunFault>
     requires { has_float (view value.now) ≡ false }
     ensures ok { OnOk result (Appends (W.contents writer.old) (W.contents writer.new) (line (compact_text (view value.now)))) }

@@ -14,7 +14,8 @@ use std::io::Write;
 ///
 /// # Errors
 ///
-/// `Write` if a write failed: the writer returned an error, also one for an interruption, or took no byte.
+/// `Write` if a write failed: the writer returned an error, also one for an interruption, or took
+/// no byte.
 pub fn write_bytes<W: Write>(bytes: &[u8], writer: &mut W) -> Result<(), RunFault>
     ensures ok { OnOk result (Appends (W.contents writer.old) (W.contents writer.new) bytes.now) }
     ensures write { IfErr result (λ fault. (fault ≡ RunFault.Write)
@@ -53,9 +54,7 @@ pub fn write_line<D: Display + Drop, W: Write>(
 
 // Appends a value as a line to those that wait.
 //
-// # Errors
-//
-// If there is no room for it. A beginning of it may then have been appended.
+// Errors: If there is no room for it. A beginning of it may then have been appended.
 fn put_line<D: Display + Drop>(lines: &mut Lines, value: D) -> fmt::Result
     ensures { OnOk result (IfSome (D.output value) (λ text. lines.new ≡ lines.old ++ line text)) }
 {

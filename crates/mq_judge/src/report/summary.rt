@@ -47,13 +47,14 @@ impl fmt::Display for Broken {
     }
 }
 
-/// Writes the report in short on a verdict for an end in this role: a line for each statement that has faults, in the order of the statements, and a last line
-/// as in the form `Text`. It takes no memory.
+/// Writes the report in short on a verdict for an end in this role: a line for each statement that
+/// has faults, in the order of the statements, and a last line as in the form `Text`. It takes no
+/// memory.
 ///
 /// # Errors
 ///
-/// `Write` if a write failed: the writer returned an error, also one for an interruption, or took no byte. A beginning of the report, but not all
-/// of it, was then written.
+/// `Write` if a write failed: the writer returned an error, also one for an interruption, or took
+/// no byte. A beginning of the report, but not all of it, was then written.
 pub fn write_summary<W: Write>(
     verdict: &Verdict,
     role: Role,
@@ -74,9 +75,7 @@ pub fn write_summary<W: Write>(
 
 // Writes a line for each of these statements that has faults.
 //
-// # Errors
-//
-// `Write` if a write failed.
+// Errors: `Write` if a write failed.
 fn write_rules<W: Write>(
     rules: &[Rule],
     faults: &Faults,
@@ -95,9 +94,7 @@ fn write_rules<W: Write>(
 
 // Writes the line of a statement, if it has faults.
 //
-// # Errors
-//
-// `Write` if a write failed.
+// Errors: `Write` if a write failed.
 fn write_rule<W: Write>(
     rule: Rule,
     faults: &Faults,

@@ -56,13 +56,13 @@ impl fmt::Display for Found {
     }
 }
 
-/// Writes the report on a verdict for an end in this role: a line for each fault, ascending by position and then by statement, and a last line.
-/// It takes no memory.
+/// Writes the report on a verdict for an end in this role: a line for each fault, ascending by
+/// position and then by statement, and a last line. It takes no memory.
 ///
 /// # Errors
 ///
-/// `Write` if a write failed: the writer returned an error, also one for an interruption, or took no byte. A beginning of the report, but not all
-/// of it, was then written.
+/// `Write` if a write failed: the writer returned an error, also one for an interruption, or took
+/// no byte. A beginning of the report, but not all of it, was then written.
 pub fn write_text<W: Write>(verdict: &Verdict, role: Role, writer: &mut W) -> Result<(), RunFault>
     ensures ok { OnOk result (Appends (W.contents writer.old) (W.contents writer.new)
         (report_on Form.Text role (map.entries verdict.now.faults) verdict.now.events)) }

@@ -41,7 +41,8 @@ const IN_USE_AROUND_1: &str = "..\n\
     \x20 fault S01 MQTT-2.2.1-3 A new PUBLISH, SUBSCRIBE or UNSUBSCRIBE takes no Packet Identifier that is in use.\n\
     6 record 6 RECV PUBACK size 4 id 1\n";
 
-// A client that doesn't answer a PUBLISH of QoS 1 before the session rests, and then sends one whose Packet Identifier is 0.
+// A client that doesn't answer a PUBLISH of QoS 1 before the session rests, and then sends one
+// whose Packet Identifier is 0.
 const TWO_FAULTS: &[Part] = &[
     Open,
     Sent(CONNECT),

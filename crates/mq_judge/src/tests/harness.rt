@@ -82,7 +82,8 @@ pub const DISCONNECT: &[u8] = b"\xe0\x00";
 
 pub const AUTH: &[u8] = b"\xf0\x00";
 
-/// Appends a record to the log, with these bytes of a moment: eight in version 2, none in version 1.
+/// Appends a record to the log, with these bytes of a moment: eight in version 2, none in version
+/// 1.
 pub fn add_timed_record(
     log: &mut Vec<u8>,
     kind: u8,
@@ -118,8 +119,8 @@ pub fn log_of(alloc: Global, role: u8, parts: &[Part]) -> Result<Vec<u8>, AllocE
     Ok(log)
 }
 
-/// A reader that gives at most `size` bytes a read, and at the end fails or ends. If `interrupts` is true, every other read is
-/// interrupted, the first one too.
+/// A reader that gives at most `size` bytes a read, and at the end fails or ends. If `interrupts`
+/// is true, every other read is interrupted, the first one too.
 #[derive(Drop)]
 pub struct Pieces<'a> {
     left: &'a [u8],
@@ -169,8 +170,8 @@ impl Read for Pieces<'_> {
     }
 }
 
-/// A writer that takes this many bytes, at most three at a time, and then fails once: with an error of this kind, or by taking none.
-/// After that it takes all.
+/// A writer that takes this many bytes, at most three at a time, and then fails once: with an error
+/// of this kind, or by taking none. After that it takes all.
 #[derive(Drop)]
 pub struct Failing {
     pub taken: Vec<u8>,
@@ -179,7 +180,8 @@ pub struct Failing {
 }
 
 impl Failing {
-    /// A writer that fails once it has taken `room` bytes, with an error of this kind; with `None`, by taking no byte.
+    /// A writer that fails once it has taken `room` bytes, with an error of this kind; with `None`,
+    /// by taking no byte.
     pub fn after(alloc: Global, room: usize, error: Option<ErrorKind>) -> Failing {
         Failing {
             taken: Vec::new(alloc),
@@ -220,7 +222,8 @@ pub const FAULTY: Option<Outcome> = Some(Outcome::Fail);
 /// In place of an outcome, for a log that is refused.
 pub const REFUSED: Option<Outcome> = None;
 
-/// Whether judging what the reader gives has this outcome, and writes this report in this form; for a refused log that is its line.
+/// Whether judging what the reader gives has this outcome, and writes this report in this form; for
+/// a refused log that is its line.
 ///
 /// # Errors
 ///
@@ -246,8 +249,8 @@ pub fn reports<R: Read>(
     Ok(answer == outcome && written.as_slice() == report.as_bytes())
 }
 
-/// Whether judging the log has this outcome, and writes this report, if it is read at once and if it is read byte by byte. For
-/// a log that is refused, the report is its line.
+/// Whether judging the log has this outcome, and writes this report, if it is read at once and if
+/// it is read byte by byte. For a log that is refused, the report is its line.
 ///
 /// # Errors
 ///

@@ -1,4 +1,5 @@
-//! Logs that end anywhere, bytes that are no packets, a reader without an end, and as many messages in flight as can be.
+//! Logs that end anywhere, bytes that are no packets, a reader without an end, and as many messages
+//! in flight as can be.
 use super::harness::Part::{Close, Open, Recv, Rest, Sent};
 use super::harness::{
     CLIENT, CONNACK, CONNECT, FAULTY, PASSED, PUBACK, PUBLISH_ONCE, Part, REFUSED, add_record,
@@ -27,7 +28,8 @@ const ANSWERED: [Part; 7] = [
 // How many bytes its header and the events up to each have, but for the last one.
 const ENDS: [usize; 7] = [8, 13, 33, 43, 57, 66, 71];
 
-// Whether the first `count` bytes of the log are judged as they should be: they pass if no record is cut short.
+// Whether the first `count` bytes of the log are judged as they should be: they pass if no record
+// is cut short.
 fn is_beginning_judged(alloc: Global, log: &[u8], count: usize) -> Result<bool, Fail> {
     let (outcome, report) = match ENDS.iter().position(|end| *end == count) {
         Some(events) => (PASSED, format!(in alloc; "pass {events} events\n")?),

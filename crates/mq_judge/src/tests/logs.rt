@@ -19,8 +19,9 @@ struct Row {
 }
 
 static ROWS: [Row; 27] = [
-    // On a connection that resumes the session an identifier is still in use; on one that begins a session it isn't; a
-    // connection that the server refuses is in no session, so what comes before and after it is in one session.
+    // On a connection that resumes the session an identifier is still in use; on one that begins a
+    // session it isn't; a connection that the server refuses is in no session, so what comes before
+    // and after it is in one session.
     Row {
         role: CLIENT,
         parts: &[
@@ -104,7 +105,8 @@ static ROWS: [Row; 27] = [
         outcome: PASSED,
         report: "pass 19 events\n",
     },
-    // A PUBREC that refuses sets its identifier free, as a PUBCOMP does; another PUBREC doesn't, nor does a PUBREL.
+    // A PUBREC that refuses sets its identifier free, as a PUBCOMP does; another PUBREC doesn't,
+    // nor does a PUBREL.
     Row {
         role: CLIENT,
         parts: &[
@@ -272,7 +274,8 @@ static ROWS: [Row; 27] = [
         outcome: FAULTY,
         report: "fault 5 W09 sec-2.2.1 decided 5 record 13 offset 5\nfail 1 faults 5 events\n",
     },
-    // One record may end a packet and begin another; what the log's end leaves unfinished is no event.
+    // One record may end a packet and begin another; what the log's end leaves unfinished is no
+    // event.
     Row {
         role: CLIENT,
         parts: &[
@@ -285,7 +288,8 @@ static ROWS: [Row; 27] = [
         outcome: PASSED,
         report: "pass 5 events\n",
     },
-    // A CLOSE drops the unfinished packet of each direction; the next connection begins with whole ones.
+    // A CLOSE drops the unfinished packet of each direction; the next connection begins with whole
+    // ones.
     Row {
         role: CLIENT,
         parts: &[
@@ -417,8 +421,8 @@ static ROWS: [Row; 27] = [
     },
 ];
 
-// The bytes of one packet that a client sends after its CONNACK, the rule that they break and where, and the
-// statement that its type breaks there, if any.
+// The bytes of one packet that a client sends after its CONNACK, the rule that they break and
+// where, and the statement that its type breaks there, if any.
 struct Broken {
     packet: &'static [u8],
     statement: &'static str,

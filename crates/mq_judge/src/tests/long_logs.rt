@@ -17,7 +17,8 @@ use std::test::Fail;
 /// A connection that a server accepted. Without its CONNACK it may have no more than 4,096 events.
 const ACCEPTED: [Part; 3] = [Part::Open, Part::Recv(CONNECT_OF_C), Part::Sent(CONNACK)];
 
-// A log of a connection that begins with these parts, on which a server then receives `count` PINGREQs in one record.
+// A log of a connection that begins with these parts, on which a server then receives `count`
+// PINGREQs in one record.
 fn pings(alloc: Global, parts: &[Part], count: u32) -> Result<Vec<u8>, Fail> {
     let mut body = Vec::new(alloc);
     for _ in 0..count {
@@ -74,7 +75,8 @@ fn reads_for_more_than_65536_turns(rt: HostRuntime) -> Result<(), Fail> {
     Ok(())
 }
 
-// What a run of `turns` turns returns on a log of a header alone, of which a byte comes every other turn.
+// What a run of `turns` turns returns on a log of a header alone, of which a byte comes every other
+// turn.
 fn run_for(alloc: Global, turns: u32) -> Result<Outcome, RunFault> {
     let mut reader = Pieces::interrupted(HEADER, 1, false);
     let mut written = Vec::new(alloc);

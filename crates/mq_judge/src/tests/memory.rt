@@ -1,5 +1,5 @@
-//! What the judge answers and keeps for want of memory. `bench/refusing.py` runs these tests with each allocation refused in turn;
-//! without it none is.
+//! What the judge answers and keeps for want of memory. `bench/refusing.py` runs these tests with
+//! each allocation refused in turn; without it none is.
 use super::harness::Pieces;
 use super::plain::{are_same, plain_faults_in};
 use super::statements::{log_of, outcome_of};
@@ -83,8 +83,8 @@ fn feed(judge: &mut Judge, log: &[u8], is_cut: bool) -> Result<(), Refusal> {
     fed
 }
 
-// Whether a judge that is fed the log knows its faults; or for want of memory those of the bytes before the one that it refused, and
-// refuses for ever.
+// Whether a judge that is fed the log knows its faults; or for want of memory those of the bytes
+// before the one that it refused, and refuses for ever.
 fn is_fed(alloc: Global, log: &[u8], is_cut: bool) -> bool {
     let mut judge = Judge::new(alloc, Options::default());
     let fed = feed(&mut judge, log, is_cut);
@@ -98,7 +98,8 @@ fn is_fed(alloc: Global, log: &[u8], is_cut: bool) -> bool {
     }
 }
 
-// Whether a run writes the report; or for want of memory a part of it, and nothing if the judge lacked it.
+// Whether a run writes the report; or for want of memory a part of it, and nothing if the judge
+// lacked it.
 fn is_run(alloc: Global, log: &[u8], form: Form, text: &str, report: &str) -> bool {
     let mut writer = Cursor::new([0; 512]);
     let ran = run(alloc, &mut Pieces::of(log, 7), &mut writer, form);

@@ -9,8 +9,8 @@ use std::fmt::Write as _;
 use std::io::Read;
 use std::test::Fail;
 
-// A client takes a Packet Identifier that is in use, and the connection breaks. The moments of the records are 0, 2^64 - 1, 9, 2^32,
-// 10^19 and 10^9.
+// A client takes a Packet Identifier that is in use, and the connection breaks. The moments of the
+// records are 0, 2^64 - 1, 9, 2^32, 10^19 and 10^9.
 const LOG: &[u8] = b"MQTR\x02\x00\x01\x00\
     \x01\x00\x00\x00\x00\x00\x00\x00\x00\x00\x00\x00\x00\
     \x02\x00\x00\x00\x0f\xff\xff\xff\xff\xff\xff\xff\xff\x10\x0d\x00\x04MQTT\x05\x02\x00\x3c\x00\x00\x00\

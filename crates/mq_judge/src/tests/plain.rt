@@ -48,8 +48,8 @@ fn plain_faults_at_once(alloc: Global, tested: Tested, seen: &[Seen]) -> Result<
     Ok(faults)
 }
 
-/// The faults that the plain evaluators find in a log; `None` if it is refused, if its header isn't whole, or if those that go
-/// through it once find others.
+/// The faults that the plain evaluators find in a log; `None` if it is refused, if its header isn't
+/// whole, or if those that go through it once find others.
 ///
 /// # Errors
 ///

@@ -1,4 +1,5 @@
-//! What no clause can say: what the statements say in words, and that there is memory for the largest texts.
+//! What no clause can say: what the statements say in words, and that there is memory for the
+//! largest texts.
 
 use mq_packet::decode;
 use mq_rules::{ItemNote, Note, PacketFields, Rule};

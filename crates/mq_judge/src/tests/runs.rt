@@ -1,4 +1,5 @@
-//! Logs that are judged from a reader, in turns of several sizes, and readers and writers that fail.
+//! Logs that are judged from a reader, in turns of several sizes, and readers and writers that
+//! fail.
 use super::harness::Part::{Close, Open, Recv, Rest, Sent};
 use super::harness::{
     CLIENT, CONNACK, CONNECT, Failing, HEADER, PUBACK, PUBLISH_ONCE, PUBLISH_UNIDENTIFIED, Pieces,
@@ -90,7 +91,8 @@ fn refuses_where_the_reader_fails(rt: HostRuntime) -> Result<(), AllocError> {
     Ok(())
 }
 
-// A CONNACK that allows packets of 10 bytes and no Topic Alias, and a PUBLISH of 11 bytes that has one.
+// A CONNACK that allows packets of 10 bytes and no Topic Alias, and a PUBLISH of 11 bytes that has
+// one.
 const NARROW_CONNACK: &[u8] = b"\x20\x08\x00\x00\x05\x27\x00\x00\x00\x0a";
 
 const WIDE_PUBLISH: &[u8] = b"\x30\x09\x00\x01a\x03\x23\x00\x01xy";

@@ -1,11 +1,14 @@
-//! Worked logs: for each statement, and each end that it binds, a log that breaks it and the nearest one that doesn't, with
-//! the whole report on it. Each is written from the statement's words, and not from what the program does.
+//! Worked logs: for each statement, and each end that it binds, a log that breaks it and the
+//! nearest one that doesn't, with the whole report on it. Each is written from the statement's
+//! words, and not from what the program does.
 //!
-//! A log is a row of words. The first names the tested end: `client` or `server`, or `silent-client` if no releases are
-//! recorded. Each other word is a record: `OPEN`, `CLOSE`, `REST`, `RELEASE:1`, and `>CONNECT` or `<CONNACK` for bytes that
-//! the tested end sent or received, by a name of `packets` or in hexadecimal.
+//! A log is a row of words. The first names the tested end: `client` or `server`, or
+//! `silent-client` if no releases are recorded. Each other word is a record: `OPEN`, `CLOSE`,
+//! `REST`, `RELEASE:1`, and `>CONNECT` or `<CONNACK` for bytes that the tested end sent or
+//! received, by a name of `packets` or in hexadecimal.
 //!
-//! A table of logs is a text with one row a line: what the row shows, the log, and the report, with a semicolon between its lines.
+//! A table of logs is a text with one row a line: what the row shows, the log, and the report, with
+//! a semicolon between its lines.
 
 mod choices;
 mod corners;
@@ -178,7 +181,8 @@ fn weight_after(alloc: Global, words: &'static str) -> Result<Option<usize>, Fai
     Ok(Some(judge.weight()))
 }
 
-// An identifier that is in use is in two collections until it is set free; an undecided connection's events are held.
+// An identifier that is in use is in two collections until it is set free; an undecided
+// connection's events are held.
 #[test]
 fn weighs_what_is_open(rt: HostRuntime) -> Result<(), Fail> {
     assert_eq!(rt;

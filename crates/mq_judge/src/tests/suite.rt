@@ -1,5 +1,5 @@
-//! The conformance suite: each of its logs whole and in pieces, in both versions, with its report as text and as JSON, and the faults
-//! that the plain evaluators find.
+//! The conformance suite: each of its logs whole and in pieces, in both versions, with its report
+//! as text and as JSON, and the faults that the plain evaluators find.
 use super::harness::{Pieces, reports};
 use super::plain::are_faults_alike;
 use super::statements::{add_word, log_of, outcome_of, parts_of, report_of, suite};
@@ -80,7 +80,8 @@ fn add_fault(json: &mut String, words: &[&str]) -> Result<(), Fail> {
     Ok(())
 }
 
-// The JSON report that says what these lines say: one on a fault, if there is one, a semicolon, and the last line.
+// The JSON report that says what these lines say: one on a fault, if there is one, a semicolon, and
+// the last line.
 fn json_of(alloc: Global, lines: &'static str) -> Result<String, Fail> {
     let mut fault = String::new(alloc);
     let mut last = lines;
@@ -124,8 +125,8 @@ fn is_judged_so(alloc: Global, log: &[u8], text: &str, json: &str) -> Result<boo
     )
 }
 
-// Whether the log of a row is judged as the row says, in both versions, and also if its CONNACKs come later as the plain evaluators
-// judge it.
+// Whether the log of a row is judged as the row says, in both versions, and also if its CONNACKs
+// come later as the plain evaluators judge it.
 fn is_row_right(alloc: Global, row: &'static str) -> Result<bool, Fail> {
     let Some((words, lines)) = parts_of(row) else {
         return Ok(false);

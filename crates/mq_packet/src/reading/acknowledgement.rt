@@ -13,8 +13,9 @@ use crate::read_fault::ReadFault;
 use mq_props::Props;
 use mq_wire::Cursor;
 
-/// Reads a PUBACK, PUBREC, PUBREL or PUBCOMP (MQTT 5.0, sections 3.4 to 3.7) from all that is left of a body of this size, which it
-/// keeps. If it ends after its identifier, its Reason Code is 0x00; if it ends after its code, it has no properties.
+/// Reads a PUBACK, PUBREC, PUBREL or PUBCOMP (MQTT 5.0, sections 3.4 to 3.7) from all that is left
+/// of a body of this size, which it keeps. If it ends after its identifier, its Reason Code is
+/// 0x00; if it ends after its code, it has no properties.
 ///
 /// # Errors
 ///

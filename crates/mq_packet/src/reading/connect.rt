@@ -96,7 +96,8 @@ fn read_password<'a>(cursor: &mut Cursor<'a>, flags: u8) -> Result<Option<&'a [u
 ///
 /// # Errors
 ///
-/// The first rule that a field breaks: W06, W18, W19, one of a text or of a property list; or the version, if it isn't 5.
+/// The first rule that a field breaks: W06, W18, W19, one of a text or of a property list; or the
+/// version, if it isn't 5.
 #[inline(never)]
 pub fn read_connect<'a>(mut cursor: Cursor<'a>) -> Result<Connect<'a>, ReadFault>
     ensures { Reads (λ p. connect (connect_view p)) result (read connect_format cursor.entry) }

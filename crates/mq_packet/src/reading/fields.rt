@@ -123,7 +123,8 @@ pub fn property_list<'a>(cursor: &mut Cursor<'a>, place: Place) -> Result<Props<
     Ok(list)
 }
 
-/// Reads the property list of a place, if anything is left, and nothing after it (MQTT 5.0, sections 3.4.2 and 3.14.2).
+/// Reads the property list of a place, if anything is left, and nothing after it (MQTT 5.0,
+/// sections 3.4.2 and 3.14.2).
 ///
 /// # Errors
 ///
@@ -160,7 +161,8 @@ pub fn topic_name<'a>(cursor: &mut Cursor<'a>) -> Result<&'a str, ReadFault>
     }
 }
 
-// The same for any bytes. It is a function of its own, so that the call for a plain Topic Name, the usual case, is inlined.
+// The same for any bytes. It is a function of its own, so that the call for a plain Topic Name, the
+// usual case, is inlined.
 #[inline(never)]
 fn any_topic_name<'a>(cursor: &mut Cursor<'a>) -> Result<&'a str, ReadFault>
     ensures { ReadsField (λ topic. topic.now) result (read_field text topic_objection cursor.old) cursor.new }

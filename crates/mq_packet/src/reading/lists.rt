@@ -14,8 +14,8 @@ use crate::reason_codes::Codes;
 use crate::rule::PacketRule;
 use mq_wire::Cursor;
 
-// Whether these are Subscription Options (MQTT 5.0, section 3.8.3.1): neither the Maximum QoS, bits 1 and 0, nor Retain
-// Handling, bits 5 and 4, is 3, and bits 7 and 6 are 0.
+// Whether these are Subscription Options (MQTT 5.0, section 3.8.3.1): neither the Maximum QoS, bits
+// 1 and 0, nor Retain Handling, bits 5 and 4, is 3, and bits 7 and 6 are 0.
 fn are_subscription_options(options: u8) -> bool
     ensures { result ≡ are_options options }
 {
@@ -48,7 +48,8 @@ fn asked_options(cursor: &mut Cursor<'_>, asks: bool) -> Result<Option<u8>, Read
     Ok(Some(options))
 }
 
-// A filter, with its Subscription Options if they are asked for (MQTT 5.0, sections 3.8.3 and 3.10.3).
+// A filter, with its Subscription Options if they are asked for (MQTT 5.0, sections 3.8.3 and
+// 3.10.3).
 fn asked_filter<'a>(cursor: &mut Cursor<'a>, asks: bool) -> Result<Filter<'a>, ReadFault>
     ensures { ReadsField filter_view result (filter_on asks cursor.old) cursor.new }
 {
@@ -57,8 +58,8 @@ fn asked_filter<'a>(cursor: &mut Cursor<'a>, asks: bool) -> Result<Filter<'a>, R
     Ok(Filter { filter, options })
 }
 
-/// Checks that all that is left are the filters of a body, at least one, each with options if they are asked for (MQTT 5.0,
-/// sections 3.8.3 and 3.10.3).
+/// Checks that all that is left are the filters of a body, at least one, each with options if they
+/// are asked for (MQTT 5.0, sections 3.8.3 and 3.10.3).
 ///
 /// # Errors
 ///
@@ -79,7 +80,8 @@ pub fn check_filters(mut cursor: Cursor<'_>, asks: bool) -> Result<(), ReadFault
     Ok(())
 }
 
-/// Reads the filters that are all that is left, each with options if they are asked for (MQTT 5.0, sections 3.8.3 and 3.10.3).
+/// Reads the filters that are all that is left, each with options if they are asked for (MQTT 5.0,
+/// sections 3.8.3 and 3.10.3).
 ///
 /// # Errors
 ///
@@ -93,7 +95,8 @@ pub fn filter_list<'a>(cursor: Cursor<'a>, asks: bool) -> Result<Filters<'a>, Re
     Ok(Filters::from_checked(bytes, asks))
 }
 
-/// Reads the Reason Codes of a table that are all that is left (MQTT 5.0, sections 3.9.3 and 3.11.3).
+/// Reads the Reason Codes of a table that are all that is left (MQTT 5.0, sections 3.9.3 and
+/// 3.11.3).
 ///
 /// # Errors
 ///

@@ -21,8 +21,8 @@ use mq_wire::Cursor;
 ///
 /// # Errors
 ///
-/// W07 or W08 if the flags break it; else the first rule that a field breaks: a rule of texts, W06, W09, W14, W21, or one of
-/// its property list.
+/// W07 or W08 if the flags break it; else the first rule that a field breaks: a rule of texts, W06,
+/// W09, W14, W21, or one of its property list.
 #[inline(always)]
 pub fn read_publish<'a>(flags: u8, cursor: Cursor<'a>) -> Result<Publish<'a>, ReadFault>
     ensures { Reads (λ p. publish (publish_view p)) result (read (publish_format flags) cursor.entry) }
@@ -40,8 +40,8 @@ pub fn read_publish<'a>(flags: u8, cursor: Cursor<'a>) -> Result<Publish<'a>, Re
     }
 }
 
-/// Reads a PUBLISH with these flags from all that is left, if it has QoS 0, a plain Topic Name that isn't empty, and no properties,
-/// as most have. `None` for any other: [`read_publish`] reads it.
+/// Reads a PUBLISH with these flags from all that is left, if it has QoS 0, a plain Topic Name that
+/// isn't empty, and no properties, as most have. `None` for any other: [`read_publish`] reads it.
 #[inline(always)]
 pub fn read_brief_publish<'a>(flags: u8, cursor: Cursor<'a>) -> Option<Publish<'a>>
     ensures brief { is_some result ≡ is_brief flags cursor.entry.rest }
@@ -134,7 +134,8 @@ fn read_acknowledged<'a>(
     })
 }
 
-/// Whether a PUBLISH has a Topic Name, or a Topic Alias that stands for it (MQTT 5.0, section 3.3.2.3.4).
+/// Whether a PUBLISH has a Topic Name, or a Topic Alias that stands for it (MQTT 5.0, section
+/// 3.3.2.3.4).
 #[inline(always)]
 pub fn names_topic(topic: &str, properties: &Props<'_>) -> bool
     ensures { result ≡ names_topic topic.now properties.now.items }

@@ -13,8 +13,9 @@ use crate::read_fault::ReadFault;
 use mq_props::Props;
 use mq_wire::Cursor;
 
-/// Reads a DISCONNECT or AUTH (MQTT 5.0, sections 3.14 and 3.15) from all that is left of a body of this size, which it keeps. An
-/// empty one has the Reason Code 0x00; if it ends after its code, it has no properties.
+/// Reads a DISCONNECT or AUTH (MQTT 5.0, sections 3.14 and 3.15) from all that is left of a body of
+/// this size, which it keeps. An empty one has the Reason Code 0x00; if it ends after its code, it
+/// has no properties.
 ///
 /// # Errors
 ///

@@ -1,4 +1,5 @@
-//! Reading SUBSCRIBE, UNSUBSCRIBE, and their answers SUBACK and UNSUBACK (MQTT 5.0, sections 3.8 to 3.11).
+//! Reading SUBSCRIBE, UNSUBSCRIBE, and their answers SUBACK and UNSUBACK (MQTT 5.0, sections 3.8 to
+//! 3.11).
 
 ghost use Rattle.std.specs.Prelude.{◌≡◌};
 ghost use Rattle.mq_packet.specs.Entries.{request, answer};
@@ -27,8 +28,8 @@ fn read_identified<'a>(cursor: &mut Cursor<'a>, place: Place) -> Result<(u16, Pr
 ///
 /// # Errors
 ///
-/// The first rule that a field breaks: a rule of texts, W06, W09, W15, W17, one of its property list; and W16 if it has no
-/// filter.
+/// The first rule that a field breaks: a rule of texts, W06, W09, W15, W17, one of its property
+/// list; and W16 if it has no filter.
 #[inline(never)]
 pub fn read_request<'a>(mut cursor: Cursor<'a>, kind: RequestKind) -> Result<Request<'a>, ReadFault>
     ensures { Reads (λ p. request kind p.identifier p.properties p.filters) result (read (request_format kind) cursor.entry) }

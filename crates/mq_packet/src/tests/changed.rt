@@ -1,5 +1,5 @@
-//! Each packet, cut short at each of its bytes and with each of them changed: `decode` returns a packet that is written and read
-//! as itself, or a fault whose offset is in the packet.
+//! Each packet, cut short at each of its bytes and with each of them changed: `decode` returns a
+//! packet that is written and read as itself, or a fault whose offset is in the packet.
 
 use super::harness::{MAX_BODY, whole, written};
 use super::packets::PACKETS;
@@ -48,7 +48,8 @@ fn is_written_again(
     }
 }
 
-// Whether the packet is written as bytes that are a packet of its type, which is written as the same bytes.
+// Whether the packet is written as bytes that are a packet of its type, which is written as the
+// same bytes.
 fn comes_back(alloc: Global, packet: &Packet<'_>) -> Result<bool, Fail> {
     let bytes = written(alloc, packet)?;
     match frame_in(&bytes) {

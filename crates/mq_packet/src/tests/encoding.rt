@@ -89,7 +89,8 @@ fn is_read_as(alloc: Global, first: u8, body: &[u8], bytes: &[u8]) -> Result<boo
     }
 }
 
-// What was read in a longer spelling, or in one without the properties' length, is written in the usual one.
+// What was read in a longer spelling, or in one without the properties' length, is written in the
+// usual one.
 #[test]
 fn spellings_that_were_read(rt: HostRuntime) -> Result<(), Fail> {
     let rows: [(u8, &[u8], &[u8]); 3] = [

@@ -5,7 +5,8 @@ use crate::*;
 use mq_wire::Cursor;
 use std::test::Fail;
 
-// The payload that the standard shows in its section 3.8.3: the filter `a/b` with Maximum QoS 1, and `c/d` with 2.
+// The payload that the standard shows in its section 3.8.3: the filter `a/b` with Maximum QoS 1,
+// and `c/d` with 2.
 const EXAMPLE: [u8; 12] = [0, 3, b'a', b'/', b'b', 1, 0, 3, b'c', b'/', b'd', 2];
 
 #[test]

@@ -1,5 +1,5 @@
-//! What needs memory is done whole, or not at all for want of it. `bench/refusing.py` runs these tests with each allocation refused
-//! in turn; without it none is.
+//! What needs memory is done whole, or not at all for want of it. `bench/refusing.py` runs these
+//! tests with each allocation refused in turn; without it none is.
 
 use super::harness::MAX_BODY;
 use super::packets::{CONNACK, CONNECT, PUBACK, PUBLISH, SUBACK, SUBSCRIBE, UNSUBSCRIBE};
@@ -91,7 +91,8 @@ fn sets_aliases_whole(rt: HostRuntime) {
     }
 }
 
-// Whether the packet with this first byte and body is appended whole, or not at all for want of memory.
+// Whether the packet with this first byte and body is appended whole, or not at all for want of
+// memory.
 fn is_encoded(out: &mut Vec<u8>, first: u8, body: &[u8]) -> bool {
     let before = out.len();
     if body.len() > MAX_BODY {

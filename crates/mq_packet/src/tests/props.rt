@@ -22,7 +22,8 @@ const PLACES: [Place; 14] = [
     Auth,
 ];
 
-// Each property with a value, and the lists that it is allowed in, as the standard's table has them.
+// Each property with a value, and the lists that it is allowed in, as the standard's table has
+// them.
 #[rattlefmt::skip]
 const PROPERTIES: [(&[u8], &[Place]); 27] = [
     (&[0x01, 1], &[Publish, Will]),
@@ -76,7 +77,8 @@ fn read(bytes: &[u8], place: Place) -> (Option<(usize, PropReason)>, usize) {
     (fault, cursor.rest().len())
 }
 
-// Whether a list of this property alone, and one that has it twice, are read as the standard's table says.
+// Whether a list of this property alone, and one that has it twice, are read as the standard's
+// table says.
 fn is_read_as_stated(
     alloc: Global,
     property: &[u8],
@@ -199,7 +201,8 @@ fn first_bad_field(rt: HostRuntime) {
     assert_eq!(rt; read(&[0, 9], Pubrel), (None, 1));
 }
 
-// Pushes each of these to the list, and returns the first one at which the result isn't the stated one.
+// Pushes each of these to the list, and returns the first one at which the result isn't the stated
+// one.
 fn first_other(list: &mut PropsBuf, rows: &[(Prop<'_>, Result<(), PushFault>)]) -> Option<usize> {
     for (at, (prop, answer)) in rows.iter().enumerate() {
         if list.push(prop) != *answer {

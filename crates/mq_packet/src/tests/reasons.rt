@@ -1,5 +1,5 @@
-//! Which packets may carry each Reason Code, against the standard's list of all of them (MQTT 5.0, section 2.4), which is by code
-//! and not by packet.
+//! Which packets may carry each Reason Code, against the standard's list of all of them (MQTT 5.0,
+//! section 2.4), which is by code and not by packet.
 
 ghost use Rattle.std.specs.Prelude.{◌≤◌, length};
 ghost use Rattle.mq_wire.specs.Spellings.{max_varint};
@@ -104,7 +104,8 @@ fn is_listed(code: u8, kind: PacketType) -> bool {
         .any(|(listed, kinds)| *listed == code && kinds.contains(&kind))
 }
 
-// Whether the packet is read; or None if it is refused for anything other than its Reason Code at this offset.
+// Whether the packet is read; or None if it is refused for anything other than its Reason Code at
+// this offset.
 fn is_taken(first: u8, body: &[u8], at: u32) -> Option<bool>
     requires { length body.now ≤ max_varint }
 {

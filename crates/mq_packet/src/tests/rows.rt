@@ -1,4 +1,5 @@
-//! The rule that a body breaks, and where: one row for each rule, and others on the order in which they are checked.
+//! The rule that a body breaks, and where: one row for each rule, and others on the order in which
+//! they are checked.
 
 ghost use Rattle.std.specs.Prelude.{◌≤◌, length};
 ghost use Rattle.mq_wire.specs.Spellings.{max_varint};
@@ -207,7 +208,8 @@ fn names_another_version(rt: HostRuntime) {
 #[test]
 fn takes_the_shortest(rt: HostRuntime) {
     let packets: [(u8, &[u8]); 11] = [
-        // A PINGREQ; a CONNECT with only what it must have; a PUBLISH on an empty topic with an alias.
+        // A PINGREQ; a CONNECT with only what it must have; a PUBLISH on an empty topic with an
+        // alias.
         (0xc0, &[]),
         (0x10, &[0, 4, 0x4d, 0x51, 0x54, 0x54, 5, 0, 0, 0, 0, 0, 0]),
         (0x30, &[0, 0, 3, 0x23, 0, 1]),

@@ -1,4 +1,5 @@
-//! A packet of each type with every field and property that it may have, whole and cut at each of its bytes.
+//! A packet of each type with every field and property that it may have, whole and cut at each of
+//! its bytes.
 
 use super::harness::MAX_BODY;
 use super::packets::{

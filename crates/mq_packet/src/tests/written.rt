@@ -23,7 +23,8 @@ fn reasons(alloc: Global, place: Place) -> Result<PropsBuf, Fail> {
     )
 }
 
-// Whether the packet is of this type, is written as these bytes, first byte and body, and its size is their number.
+// Whether the packet is of this type, is written as these bytes, first byte and body, and its size
+// is their number.
 fn is_example(
     alloc: Global,
     packet: &Packet<'_>,

@@ -5,7 +5,8 @@ ghost use Rattle.mq_packet.specs.Encoding.{fault_number};
 
 use thiserror::Error;
 
-/// Why a packet could not be written. If several reasons apply, it is the one with the lowest number.
+/// Why a packet could not be written. If several reasons apply, it is the one with the lowest
+/// number.
 #[derive(Clone, Copy, Debug, PartialEq, Eq, Error)]
 pub enum EncodeFault {
     /// 1: its Remaining Length would be over 268,435,455 (MQTT 5.0, section 2.1.4).

@@ -49,7 +49,8 @@ pub fn put_code_and_list(out: &mut Vec<u8>, code: u8, list: &Props<'_>) -> Resul
     put_list(out, list)
 }
 
-/// Appends a Reason Code and a property list, each only if it is needed (MQTT 5.0, sections 3.4.2 and 3.14.2).
+/// Appends a Reason Code and a property list, each only if it is needed (MQTT 5.0, sections 3.4.2
+/// and 3.14.2).
 #[tactic(auto, using(crate::proofs::ReasonLaws::reason_by))]
 pub fn put_reason(out: &mut Vec<u8>, code: u8, list: &Props<'_>) -> Result<(), PutFault>
     ensures ok { OnOk result (out.new.items ≡ out.old.items ++ reason_spelling code list.now.items) }
@@ -132,7 +133,8 @@ fn is_bare(packet: &ReasonPacket<'_>) -> bool
     packet.code == 0 && packet.properties.as_bytes().is_empty()
 }
 
-/// Whether an AUTH is empty: its Reason Code is 0x00, and it has no properties (MQTT 5.0, section 3.15.2.1).
+/// Whether an AUTH is empty: its Reason Code is 0x00, and it has no properties (MQTT 5.0, section
+/// 3.15.2.1).
 #[tactic(auto, using(crate::proofs::ReasonLaws::auth_parts))]
 pub fn is_empty_auth(packet: &ReasonPacket<'_>) -> bool
     ensures { MatchBool result (auth_body packet.now.code packet.now.properties.items ≡ []) (auth_body packet.now.code packet.now.properties.items ≡ packet.now.code ∷ list_spelling packet.now.properties.items) }

@@ -1,4 +1,5 @@
-//! Laws of the definitions that the contracts of writing use, proved as the contracts of functions that do nothing.
+//! Laws of the definitions that the contracts of writing use, proved as the contracts of functions
+//! that do nothing.
 
 ghost use Rattle.std.specs.Prelude.{◌≡◌, ℕ, ◌+◌, ◌≤◌, true, List, ◌++◌, length, Ok};
 ghost use Rattle.mq_wire.specs.Spellings.{max_varint};
@@ -10,7 +11,8 @@ ghost use Rattle.mq_packet.specs.Frames.{cut_of};
 ghost use Rattle.mq_packet.specs.declared.frame.Cut.TheVariants.{Frame};
 ghost use Rattle.mq_packet.specs.Valid.{valid, IsTyped};
 
-/// A packet is valid exactly if some bytes spell it, and then the bytes that are written are among them.
+/// A packet is valid exactly if some bytes spell it, and then the bytes that are written are among
+/// them.
 #[tactic(auto, using(crate::proofs::CanonicalLaws::canonical_spelled, crate::proofs::ValidLaws::spelled_valid))]
 pub fn what_is_valid_is_spelled()
     ensures written { (entry : Entry) → IsTyped entry → valid entry ≡ true → IsSpelled (first_byte_of entry) (canonical_body entry) entry }

@@ -1,4 +1,5 @@
-//! Writing the kinds of field. Writing a valid field fails only if the vector has no room for it and can't grow.
+//! Writing the kinds of field. Writing a valid field fails only if the vector has no room for it
+//! and can't grow.
 
 ghost use Rattle.std.specs.Prelude.{◌≡◌, ◌≤◌, [], ◌∷◌, ◌++◌, true, OnOk, OnErr, vec_capacity};
 ghost use Rattle.mq_wire.specs.Spellings.{max_varint, two_bytes_spelling, varint_spelling, text_spelling, binary_spelling};

@@ -64,8 +64,9 @@ impl<'a> Packet<'a> {
         }
     }
 
-    /// How many bytes the whole packet has (MQTT 5.0, section 2.1): as it was read, if `read_len` says so, else as `encode` writes
-    /// it. `None` if its Remaining Length would be over 268,435,455.
+    /// How many bytes the whole packet has (MQTT 5.0, section 2.1): as it was read, if `read_len`
+    /// says so, else as `encode` writes it. `None` if its Remaining Length would be over
+    /// 268,435,455.
     #[inline(always)]
     pub fn size(&self) -> Option<u32>
         ensures { result ≡ size_with (remaining_length self.now) }

@@ -14,7 +14,8 @@ use mq_rules::{Fate, Memory, Note, Role, Rule, Seen};
 use std::alloc::Global;
 use std::marker::PhantomData;
 
-/// E1A to E6A: an answer comes after its cause in the session, with no other answer of its connection between them.
+/// E1A to E6A: an answer comes after its cause in the session, with no other answer of its
+/// connection between them.
 pub struct Asked<X: Exchange>(PhantomData<X>);
 
 impl<X: Exchange> SessionStatement for Asked<X> {
@@ -52,8 +53,8 @@ fn lacks_cause<X: Exchange>(role: Role, fate: Fate, event: &Seen, before: &[Seen
     }
 }
 
-// Whether in the current session after these events, if the latest connection has this fate, some event is a cause under an
-// identifier, and no later one on the latest connection is an answer.
+// Whether in the current session after these events, if the latest connection has this fate, some
+// event is a cause under an identifier, and no later one on the latest connection is an answer.
 fn is_asked<X: Exchange>(role: Role, fate: Fate, identifier: u16, before: &[Seen]) -> bool
     ensures { result ≡ since (causes X.exchange identifier) (λ m. answers X.exchange identifier m && (number m == begun (reverse before.now))) (session role (Some fate) (reverse before.now)) }
 {
@@ -75,8 +76,8 @@ fn is_asked<X: Exchange>(role: Role, fate: Fate, identifier: u16, before: &[Seen
     false
 }
 
-// What an event decides by itself, if its connection is accepted: it is a cause under the identifier, or an answer on the latest
-// connection.
+// What an event decides by itself, if its connection is accepted: it is a cause under the
+// identifier, or an answer on the latest connection.
 fn answer_of_event<X: Exchange>(
     is_in: bool,
     is_latest: bool,
@@ -97,7 +98,8 @@ fn answer_of_event<X: Exchange>(
     None
 }
 
-// Whether what comes before an event is on the latest connection; the flag says the same of the event.
+// Whether what comes before an event is on the latest connection; the flag says the same of the
+// event.
 fn stays_latest(is_latest: bool, note: &Note) -> bool
     ensures { result ≡ (is_latest && not (is_open note.now)) }
 {

@@ -14,7 +14,8 @@ use mq_rules::{Fate, Memory, Note, Role, Rule, Seen};
 use std::alloc::Global;
 use std::marker::PhantomData;
 
-/// E1O to E3O: an answer is sent for the first of all unanswered causes on the connection (MQTT 5.0, section 4.6).
+/// E1O to E3O: an answer is sent for the first of all unanswered causes on the connection (MQTT
+/// 5.0, section 4.6).
 pub struct Ordered<X: OrderedExchange>(PhantomData<X>);
 
 impl<X: OrderedExchange> SessionStatement for Ordered<X> {
@@ -41,11 +42,10 @@ impl<X: OrderedExchange> SessionStatement for Ordered<X> {
     ghost says = { X.says_ordered };
 }
 
-// Whether an event is an answer, though an unanswered cause under another identifier comes before its own cause.
+// Whether an event is an answer, though an unanswered cause under another identifier comes before
+// its own cause.
 //
-// # Errors
-//
-// `Memory` if there is no memory to look back.
+// Errors: `Memory` if there is no memory to look back.
 #[tactic(auto, unfolding(mq_rules::specs::Exchanges::breaks_O))]
 fn is_out_of_order<X: Exchange>(
     alloc: Global,
@@ -60,11 +60,10 @@ fn is_out_of_order<X: Exchange>(
     }
 }
 
-// Whether the first unanswered cause under this identifier has an unanswered one under another identifier before it.
+// Whether the first unanswered cause under this identifier has an unanswered one under another
+// identifier before it.
 //
-// # Errors
-//
-// `Memory` if there is no memory to look back.
+// Errors: `Memory` if there is no memory to look back.
 fn is_passing_over<X: Exchange>(
     alloc: Global,
     identifier: u16,
@@ -79,7 +78,8 @@ fn is_passing_over<X: Exchange>(
     }
 }
 
-// Whether on the latest connection some event before this index is the first unanswered cause under its identifier.
+// Whether on the latest connection some event before this index is the first unanswered cause under
+// its identifier.
 fn is_any_before<X: Exchange>(slots: &Table<Slot>, first: usize, before: &[Seen]) -> bool
     ensures { result ≡ some (λ m. nat_lt (length m.past) first && is_first_in X.exchange slots.now (length m.past) (note m)) (connection (reverse before.now)) }
 {
@@ -96,7 +96,8 @@ fn is_any_before<X: Exchange>(slots: &Table<Slot>, first: usize, before: &[Seen]
     false
 }
 
-// Whether the event at the second index, which is below the first, is the first unanswered cause under its identifier.
+// Whether the event at the second index, which is below the first, is the first unanswered cause
+// under its identifier.
 fn is_first_before<X: Exchange>(
     slots: &Table<Slot>,
     first: usize,

@@ -39,7 +39,8 @@ impl NoteTest for SendsPingresp {
     }
 }
 
-/// E7R: before a REST that binds, as many PINGRESPs were sent on its connection as PINGREQs were received.
+/// E7R: before a REST that binds, as many PINGRESPs were sent on its connection as PINGREQs were
+/// received.
 pub struct AnsweredPings;
 
 impl SessionStatement for AnsweredPings {
@@ -68,7 +69,8 @@ impl SessionStatement for AnsweredPings {
     ghost says = { λ role. refl };
 }
 
-// Whether an event is a REST that binds, and fewer PINGRESPs were sent before it on its connection than PINGREQs received.
+// Whether an event is a REST that binds, and fewer PINGRESPs were sent before it on its connection
+// than PINGREQs received.
 #[tactic(auto, unfolding(mq_rules::specs::Exchanges::breaks_E7R))]
 fn lacks_pingresp(role: Role, event: &Seen, before: &[Seen]) -> bool
     ensures { result ≡ breaks_E7R role (newest event.now (reverse before.now)) }

@@ -14,8 +14,8 @@ use mq_trace::Place3;
 use std::alloc::Global;
 use std::marker::PhantomData;
 
-/// E1R to E6R: a cause has an answer on its connection before a REST that binds. The fault is at the first unanswered cause under an
-/// identifier.
+/// E1R to E6R: a cause has an answer on its connection before a REST that binds. The fault is at
+/// the first unanswered cause under an identifier.
 pub struct Settled<X: Exchange>(PhantomData<X>);
 
 impl<X: Exchange> RestStatement for Settled<X> {
@@ -44,9 +44,7 @@ impl<X: Exchange> RestStatement for Settled<X> {
 
 // The places of the events that are the first unanswered causes under their identifiers.
 //
-// # Errors
-//
-// `Memory` if there is no memory for them.
+// Errors: `Memory` if there is no memory for them.
 fn first_places<X: Exchange>(
     alloc: Global,
     slots: &Table<Slot>,

@@ -12,7 +12,8 @@ use crate::table::Table;
 use mq_rules::{Memory, Note, Seen};
 use std::alloc::Global;
 
-/// For each Packet Identifier, the index of the first unanswered cause under it on the latest connection of these events.
+/// For each Packet Identifier, the index of the first unanswered cause under it on the latest
+/// connection of these events.
 ///
 /// # Errors
 ///

@@ -57,16 +57,18 @@ fn keep_resent(resent: &mut Table<bool>, is_on: bool, note: &Note)
     }
 }
 
-// Whether what comes before an event is on the latest connection; the flag says the same of the event.
+// Whether what comes before an event is on the latest connection; the flag says the same of the
+// event.
 fn is_on_before(is_on: bool, note: &Note) -> bool
     ensures { result ≡ (is_on && not (is_open note.now)) }
 {
     is_on && !note.is_open()
 }
 
-// Whether something was sent again on the latest connection, which has this fate, that was open then and was opened after this
-// identifier, which is open. Looking back, the table, empty at first, has what was sent again on the connection and not closed
-// since: if an opener of it is found before this identifier's opener, that opener is the later one.
+// Whether something was sent again on the latest connection, which has this fate, that was open
+// then and was opened after this identifier, which is open. Looking back, the table, empty at
+// first, has what was sent again on the connection and not closed since: if an opener of it is
+// found before this identifier's opener, that opener is the later one.
 fn is_passed(
     resent: &mut Table<bool>,
     role: Role,
@@ -99,11 +101,10 @@ fn is_passed(
     false
 }
 
-// Whether an identifier is open, and on the latest connection something that was opened later was sent again while it was open.
+// Whether an identifier is open, and on the latest connection something that was opened later was
+// sent again while it was open.
 //
-// # Errors
-//
-// `Memory` if there is no memory to look back.
+// Errors: `Memory` if there is no memory to look back.
 fn is_late(
     alloc: Global,
     role: Role,
@@ -122,9 +123,7 @@ fn is_late(
 
 // Whether a packet sends again what is open, after something that was opened later.
 //
-// # Errors
-//
-// `Memory` if there is no memory to look back.
+// Errors: `Memory` if there is no memory to look back.
 #[tactic(auto, unfolding(mq_rules::specs::Identifiers::breaks_S05))]
 fn resends_late(
     alloc: Global,

@@ -1,4 +1,5 @@
-//! Events that are seen at once to break no statement, and to leave what is kept as it is: most of them.
+//! Events that are seen at once to break no statement, and to leave what is kept as it is: most of
+//! them.
 //!
 //! What is kept then gives some bounds, and an event is compared with those.
 ghost use Rattle.std.specs.Prelude.{◌≡◌, ◌&&◌, ◌||◌, not, is_none, nat_le};
@@ -44,7 +45,8 @@ impl ConnectionState {
         }
     }
 
-    /// A packet of fewer bytes can be sent, where its type and fields break nothing. It is 0 where the end may not go on.
+    // A packet of fewer bytes can be sent, where its type and fields break nothing. It is 0 where
+    // the end may not go on.
     #[inline]
     fn size_bound(&self, role: Role) -> u64
         ensures { result ≡ size_bound role self.now }
@@ -58,7 +60,7 @@ impl ConnectionState {
         }
     }
 
-    /// The greatest QoS that the end may send.
+    // The greatest QoS that the end may send.
     #[inline]
     fn qos_bound(&self, role: Role) -> u8
         ensures { result ≡ qos_bound role self.now }
@@ -69,8 +71,9 @@ impl ConnectionState {
         }
     }
 
-    /// Whether the end has begun to send and may go on: it has sent neither a DISCONNECT nor a CONNACK that refuses, a server has
-    /// sent its CONNACK, and for a client no session was resumed that should not have been.
+    // Whether the end has begun to send and may go on: it has sent neither a DISCONNECT nor a
+    // CONNACK that refuses, a server has sent its CONNACK, and for a client no session was resumed
+    // that should not have been.
     fn may_go_on(&self, role: Role) -> bool
         ensures { result ≡ may_go_on role self.now }
     {
@@ -95,7 +98,7 @@ impl ConnectionState {
             && !self.has_sent_refusal
     }
 
-    /// Whether a session was resumed that should not have been.
+    // Whether a session was resumed that should not have been.
     fn is_resumed_wrongly(&self) -> bool
         ensures { result ≡ (is_some_and resumed_by self.now.connack && (is_some_and (λ c. c.clean_start) self.now.connect || not self.now.was_alive)) }
     {
@@ -103,7 +106,8 @@ impl ConnectionState {
     }
 }
 
-/// Whether an event is seen at once to break nothing and to change nothing, where these are the bounds.
+/// Whether an event is seen at once to break nothing and to change nothing, where these are the
+/// bounds.
 #[inline(always)]
 pub fn is_harmless(bounds: SendBounds, note: &Note) -> bool
     ensures { result ≡ harmless bounds note.now }
@@ -119,8 +123,8 @@ pub fn is_harmless(bounds: SendBounds, note: &Note) -> bool
     }
 }
 
-/// Whether it is a PUBLISH up to this QoS with neither a Topic Alias nor a Subscription Identifier, acknowledges a PUBLISH, or is a ping that this
-/// end may send.
+// Whether it is a PUBLISH up to this QoS with neither a Topic Alias nor a Subscription Identifier,
+// acknowledges a PUBLISH, or is a ping that this end may send.
 #[inline(always)]
 fn is_harmless_in(role: Role, most: u8, fields: &PacketFields) -> bool
     ensures { result ≡ harmless_in role most fields.now }
@@ -137,7 +141,7 @@ fn is_harmless_in(role: Role, most: u8, fields: &PacketFields) -> bool
     }
 }
 
-/// Whether a PUBLISH has at most this QoS, and neither a Topic Alias nor a Subscription Identifier.
+// Whether a PUBLISH has at most this QoS, and neither a Topic Alias nor a Subscription Identifier.
 #[inline(always)]
 fn is_plain(most: u8, publish: &PublishNote) -> bool
     ensures { result ≡ (is_none publish.now.topic_alias && (not publish.now.has_subscription_identifier && nat_le (number_of publish.now.qos) most)) }

@@ -50,7 +50,7 @@ impl ConnectionState {
         Self::at_open(false, false)
     }
 
-    /// What is kept when nothing has come on the connection yet.
+    // What is kept when nothing has come on the connection yet.
     fn at_open(has_begun: bool, was_alive: bool) -> Self
         ensures { result ≡ record { has_begun = has_begun; was_alive = was_alive; fate = None; connect = None; connack = None; disconnect = None; has_sent = false; has_sent_connect = false; has_sent_connack = false; has_received_connect = false; has_sent_disconnect = false; has_sent_refusal = false } }
     {
@@ -82,7 +82,8 @@ impl ConnectionState {
         self.follow(role, note);
     }
 
-    /// A quick test that the event changes nothing: most are ordinary packets, after the first one that is sent.
+    // A quick test that the event changes nothing: most are ordinary packets, after the first one
+    // that is sent.
     #[inline]
     fn is_unchanged_by(&self, note: &Note) -> bool
         ensures { result ≡ (self.now.has_sent && ordinary note.now) }
@@ -90,7 +91,7 @@ impl ConnectionState {
         self.has_sent && (sends_ordinary(note) || receives_ordinary(note))
     }
 
-    /// At an OPEN a new connection begins.
+    // At an OPEN a new connection begins.
     #[inline]
     fn begin_if(&mut self, opens: bool)
         ensures { self.new ≡ begun_if opens self.old }
@@ -100,7 +101,7 @@ impl ConnectionState {
         }
     }
 
-    /// Adds what an event says. Only the first CONNECT, CONNACK and DISCONNECT count.
+    // Adds what an event says. Only the first CONNECT, CONNACK and DISCONNECT count.
     #[inline]
     fn follow(&mut self, role: Role, note: &Note)
         ensures { self.new ≡ followed role self.old note.now }
@@ -117,8 +118,9 @@ impl ConnectionState {
         self.has_sent_refusal |= sends_refusal(note);
     }
 
-    /// The Session Expiry Interval, in seconds: of the client's first DISCONNECT, else of the CONNACK, else of the CONNECT, else 0
-    /// (MQTT 5.0, sections 3.1.2.11.2, 3.2.2.3.2 and 3.14.2.2.2).
+    // The Session Expiry Interval, in seconds: of the client's first DISCONNECT, else of the
+    // CONNACK, else of the CONNECT, else 0 (MQTT 5.0, sections 3.1.2.11.2, 3.2.2.3.2 and
+    // 3.14.2.2.2).
     fn expiry(&self) -> u32
         ensures { result ≡ expiry self.now }
     {
@@ -130,9 +132,10 @@ impl ConnectionState {
         of_disconnect.or(of_connack).or(of_connect).unwrap_or(0)
     }
 
-    /// Whether the session is alive after the connection (MQTT 5.0, section 4.1): the connection was accepted with a Session
-    /// Expiry Interval other than 0; or it wasn't accepted, and the session was alive before; or it had a CONNECT and no
-    /// CONNACK, so that the server may have accepted it.
+    // Whether the session is alive after the connection (MQTT 5.0, section 4.1): the connection was
+    // accepted with a Session Expiry Interval other than 0; or it wasn't accepted, and the session
+    // was alive before; or it had a CONNECT and no CONNACK, so that the server may have accepted
+    // it.
     fn stays_alive(&self) -> bool
         ensures { result ≡ lives_on self.now }
     {
@@ -145,7 +148,7 @@ impl ConnectionState {
         }
     }
 
-    /// Whether a CONNECT came and no CONNACK.
+    // Whether a CONNECT came and no CONNACK.
     fn may_be_accepted(&self) -> bool
         ensures { result ≡ (is_some self.now.connect && is_none self.now.connack) }
     {
@@ -153,7 +156,7 @@ impl ConnectionState {
     }
 }
 
-/// Whether the tested end sent a packet other than CONNECT, CONNACK and DISCONNECT.
+// Whether the tested end sent a packet other than CONNECT, CONNACK and DISCONNECT.
 #[inline]
 fn sends_ordinary(note: &Note) -> bool
     ensures { result ≡ is_some_and is_ordinary_in (sent_fields note.now) }
@@ -164,7 +167,7 @@ fn sends_ordinary(note: &Note) -> bool
     }
 }
 
-/// Whether the tested end received a packet other than CONNECT, CONNACK and DISCONNECT.
+// Whether the tested end received a packet other than CONNECT, CONNACK and DISCONNECT.
 #[inline]
 fn receives_ordinary(note: &Note) -> bool
     ensures { result ≡ is_some_and is_ordinary_in (received_fields note.now) }
@@ -186,7 +189,7 @@ pub(super) fn is_ordinary(fields: &PacketFields) -> bool
     )
 }
 
-/// Whether the tested end sent a CONNACK that refuses.
+// Whether the tested end sent a CONNACK that refuses.
 #[inline]
 fn sends_refusal(note: &Note) -> bool
     ensures { result ≡ is_sent_refusal note.now }

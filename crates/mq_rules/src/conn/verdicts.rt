@@ -1,4 +1,5 @@
-//! Whether a statement is false at the next event of a connection, by what is kept of the connection.
+//! Whether a statement is false at the next event of a connection, by what is kept of the
+//! connection.
 ghost use Rattle.std.specs.Prelude.{◌≡◌, ◌==◌, ◌&&◌, ◌||◌, Some, not, unwrap_or};
 ghost use Rattle.mq_packet.specs.declared.packet.PacketType.TheVariants as types;
 ghost use Rattle.mq_rules.specs.Words.{is_id, is_some_and};
@@ -90,7 +91,7 @@ impl ConnectionState {
     }
 }
 
-/// Whether the item has a type that only a server sends.
+// Whether the item has a type that only a server sends.
 fn is_foreign_to_client(item: &ItemNote) -> bool
     ensures { result ≡ keeping.finds_C01 roles.Client (Some item.now) }
 {
@@ -100,7 +101,7 @@ fn is_foreign_to_client(item: &ItemNote) -> bool
         || item.is_of_type(PacketType::Pingresp)
 }
 
-/// Whether the item has a type that only a client sends.
+// Whether the item has a type that only a client sends.
 fn is_foreign_to_server(item: &ItemNote) -> bool
     ensures { result ≡ keeping.finds_C01 roles.Server (Some item.now) }
 {
@@ -110,7 +111,7 @@ fn is_foreign_to_server(item: &ItemNote) -> bool
         || item.is_of_type(PacketType::Pingreq)
 }
 
-/// Whether a server may send the item before its CONNACK.
+// Whether a server may send the item before its CONNACK.
 fn may_be_first(item: &ItemNote) -> bool
     ensures { result ≡ (keeping.is_type types.Connack (Some item.now) || keeping.is_type types.Auth (Some item.now)) }
 {
@@ -157,14 +158,15 @@ impl ConnectionState {
         }
     }
 
-    /// Whether there was no session to be resumed: the CONNECT had Clean Start 1, or the session wasn't alive.
+    /// Whether there was no session to be resumed: the CONNECT had Clean Start 1, or the session
+    /// wasn't alive.
     pub(super) fn is_not_to_be_resumed(&self) -> bool
         ensures { result ≡ (is_some_and (λ c. c.clean_start) self.now.connect || not self.now.was_alive) }
     {
         self.has_clean_start() || !self.was_alive
     }
 
-    /// Whether the CONNECT had Clean Start 1.
+    // Whether the CONNECT had Clean Start 1.
     fn has_clean_start(&self) -> bool
         ensures { result ≡ is_some_and (λ c. c.clean_start) self.now.connect }
     {
@@ -199,7 +201,7 @@ impl ConnectionState {
         explains(packet) && self.wants_no_problem_information()
     }
 
-    /// Whether the CONNECT had a Request Problem Information of 0.
+    // Whether the CONNECT had a Request Problem Information of 0.
     fn wants_no_problem_information(&self) -> bool
         ensures { result ≡ is_some_and (λ c. is_id 0 c.request_problem_information) self.now.connect }
     {
@@ -210,7 +212,7 @@ impl ConnectionState {
     }
 }
 
-/// Whether a packet has a Reason String or a User Property that a client can ask not to get.
+// Whether a packet has a Reason String or a User Property that a client can ask not to get.
 fn explains(packet: &PacketNote) -> bool
     ensures { result ≡ ((packet.now.has_reason_string || packet.now.has_user_property) && not (may_explain packet.now.fields)) }
 {
@@ -237,7 +239,8 @@ impl ConnectionState {
         }
     }
 
-    /// Whether the end may look at what the peer announced: a client after its CONNACK, a server at once.
+    // Whether the end may look at what the peer announced: a client after its CONNACK, a server at
+    // once.
     fn may_look(&self, role: Role) -> bool
         ensures { result ≡ keeping.may_look role self.now }
     {
@@ -247,7 +250,7 @@ impl ConnectionState {
         }
     }
 
-    /// The peer's Topic Alias Maximum.
+    // The peer's Topic Alias Maximum.
     fn alias_limit(&self, role: Role) -> u16
         ensures { result ≡ keeping.alias_limit role self.now }
     {
@@ -307,7 +310,7 @@ impl ConnectionState {
         connack.code == 0 && !connack.has_assigned_identifier && self.is_unnamed()
     }
 
-    /// Whether the CONNECT had an empty Client Identifier.
+    // Whether the CONNECT had an empty Client Identifier.
     fn is_unnamed(&self) -> bool
         ensures { result ≡ is_some_and (λ c. c.is_unnamed) self.now.connect }
     {
@@ -323,7 +326,7 @@ impl ConnectionState {
         connack.has_response_information && self.wants_no_response_information()
     }
 
-    /// Whether the CONNECT had no Request Response Information of 1.
+    // Whether the CONNECT had no Request Response Information of 1.
     fn wants_no_response_information(&self) -> bool
         ensures { result ≡ is_some_and (λ c. not (is_id 1 c.request_response_information)) self.now.connect }
     {
@@ -356,7 +359,7 @@ impl ConnectionState {
         disconnect.session_expiry.unwrap_or(0) != 0 && self.expires_at_once()
     }
 
-    /// Whether the CONNECT had a Session Expiry Interval of 0, or none.
+    // Whether the CONNECT had a Session Expiry Interval of 0, or none.
     fn expires_at_once(&self) -> bool
         ensures { result ≡ is_some_and (λ c. unwrap_or c.session_expiry 0 == 0) self.now.connect }
     {
@@ -373,7 +376,8 @@ impl ConnectionState {
         is_rest && self.has_left(role)
     }
 
-    /// Whether the end sent something after which it must close the connection: a DISCONNECT, or as a server a CONNACK that refuses.
+    // Whether the end sent something after which it must close the connection: a DISCONNECT, or as
+    // a server a CONNACK that refuses.
     fn has_left(&self, role: Role) -> bool
         ensures { result ≡ keeping.has_left role self.now }
     {

@@ -48,7 +48,7 @@ impl Reading {
         }
     }
 
-    /// Passes bytes of a body on to their direction: those of one packet. Returns how many.
+    // Passes bytes of a body on to their direction: those of one packet. Returns how many.
     #[inline(always)]
     fn pass_on<S: Sink>(
         &mut self,
@@ -79,7 +79,7 @@ impl Reading {
         }
     }
 
-    /// Whether the direction is neither lost nor inside a packet.
+    // Whether the direction is neither lost nor inside a packet.
     #[inline(always)]
     fn is_idle(&self, direction: Direction) -> bool
         ensures { IsTrue result → state_in (deframer_for self.now direction) ≡ record { unfinished = []; lost = false } }
@@ -90,7 +90,8 @@ impl Reading {
         }
     }
 
-    /// Passes on the whole packet that the bytes begin with, in a direction that is neither lost nor inside a packet.
+    // Passes on the whole packet that the bytes begin with, in a direction that is neither lost nor
+    // inside a packet.
     #[inline(always)]
     fn pass_whole<S: Sink>(
         &mut self,
@@ -123,7 +124,7 @@ impl Reading {
         }
     }
 
-    /// Passes on bytes that are this, and don't begin with a whole packet.
+    // Passes on bytes that are this, and don't begin with a whole packet.
     #[inline(never)]
     fn pass_part<S: Sink>(
         &mut self,
@@ -159,7 +160,7 @@ impl Reading {
         }
     }
 
-    /// What stays the same while the record's body is read.
+    // What stays the same while the record's body is read.
     #[inline(always)]
     fn body_context(&self, direction: Direction) -> BodyContext
         requires { self.now.records < 4294967295 }

@@ -60,8 +60,8 @@ static FULL: [(&[Part], &[Part], u32, Result<(), Refusal>); 14] = [
     (ASKED_SERVER, &[Sent(CONNACK)], 4097, Ok(())),
 ];
 
-/// Logs in which the tested end sent a packet many times without a CONNACK from the server: the parts before it, the packet, how many
-/// times, how many events are emitted, and the result.
+/// Logs in which the tested end sent a packet many times without a CONNACK from the server: the
+/// parts before it, the packet, how many times, how many events are emitted, and the result.
 type Many = (
     &'static [Part],
     &'static [u8],
@@ -111,7 +111,7 @@ const PACKETS: [&[u8]; 10] = [
     b"\xb0\x04\x00\x01\x00\x00",
 ];
 
-/// Asserts that a log, in each cutting, gives so many events and this result.
+// Asserts that a log, in each cutting, gives so many events and this result.
 fn assert_counts(
     rt: &(impl Abort + AllocGlobal),
     log: &[u8],

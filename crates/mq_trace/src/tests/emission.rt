@@ -11,7 +11,8 @@ use std::test::Fail;
 /// The limit of `mqjudge`.
 pub const LIMIT: u32 = 16_777_216;
 
-/// A sink that writes a line for each event, with or without the number of its record, and refuses an event after a given number.
+/// A sink that writes a line for each event, with or without the number of its record, and refuses
+/// an event after a given number.
 #[derive(Drop)]
 pub struct Lines {
     pub text: String,
@@ -84,7 +85,8 @@ impl Sink for Lines {
     }
 }
 
-/// Feeds a log in pieces of this size, and ends it. No more is kept of a direction than a packet may have.
+/// Feeds a log in pieces of this size, and ends it. No more is kept of a direction than a packet
+/// may have.
 pub fn trace(
     rt: &impl Abort,
     tracer: &mut Tracer,
@@ -123,7 +125,8 @@ pub fn assert_emits(
     }
 }
 
-/// Asserts that the log of these parts, after those of `ANSWERED` or alone, gives in each cutting these lines on the parts, and this result.
+/// Asserts that the log of these parts, after those of `ANSWERED` or alone, gives in each cutting
+/// these lines on the parts, and this result.
 pub fn assert_log(
     rt: &(impl Abort + AllocGlobal),
     connack_seen: bool,

@@ -1,4 +1,5 @@
-//! What a tracer keeps: only unfinished packets, none over its limit, and a sink's refusal for ever.
+//! What a tracer keeps: only unfinished packets, none over its limit, and a sink's refusal for
+//! ever.
 
 use super::emission::{LIMIT, Lines, assert_emits, trace};
 use super::logs::Part::{Open, Raw, Recv, Sent};
@@ -7,7 +8,8 @@ use super::sessions::SESSIONS;
 use crate::{Refusal, Tracer};
 use std::test::Fail;
 
-/// A packet may have as many bytes as the limit, and one more is refused at the last byte of its fixed header.
+// A packet may have as many bytes as the limit, and one more is refused at the last byte of its
+// fixed header.
 #[test]
 fn keeps_to_its_limit(rt: HostRuntime) -> Result<(), Fail> {
     let largest = log_of(rt.alloc(), true, &[Sent(LARGEST)], false)?;
@@ -50,7 +52,8 @@ fn keeps_to_its_limit(rt: HostRuntime) -> Result<(), Fail> {
     Ok(())
 }
 
-/// What a sink refuses is refused for ever, at the byte that completed the event, and the sink isn't called again.
+// What a sink refuses is refused for ever, at the byte that completed the event, and the sink isn't
+// called again.
 #[test]
 fn stops_where_its_sink_refuses(rt: HostRuntime) -> Result<(), Fail> {
     let log = log_of(rt.alloc(), true, SESSIONS[1].parts, false)?;
@@ -105,7 +108,8 @@ fn keeps_unfinished_packets_alone(rt: HostRuntime) -> Result<(), Fail> {
     Ok(())
 }
 
-/// A packet that is cut over several records is kept until its last byte, and then emitted, up to the limit's size.
+// A packet that is cut over several records is kept until its last byte, and then emitted, up to
+// the limit's size.
 #[test]
 fn keeps_large_packets(rt: HostRuntime) -> Result<(), Fail> {
     let rows: [(&[u8], usize, &str); 2] = [
@@ -133,7 +137,7 @@ fn keeps_large_packets(rt: HostRuntime) -> Result<(), Fail> {
     Ok(())
 }
 
-/// A log with more than 65,536 events isn't refused.
+// A log with more than 65,536 events isn't refused.
 #[test]
 fn counts_many_events(rt: HostRuntime) -> Result<(), Fail> {
     let mut log = log_of(rt.alloc(), true, &[], false)?;

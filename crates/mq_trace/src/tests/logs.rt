@@ -55,7 +55,8 @@ pub const ANSWERED: [Part; 4] = [CLIENT, Open, Sent(CONNECT), Recv(CONNACK)];
 pub const ANSWERED_LINES: &str =
     "1 record 1 OPEN\n2 record 2 SENT Connect 15\n3 record 3 RECV Connack 5\n";
 
-/// The parts of a log, after those of `ANSWERED` or alone; the lines on the events of these parts; and its result.
+/// The parts of a log, after those of `ANSWERED` or alone; the lines on the events of these parts;
+/// and its result.
 pub struct Row {
     pub connack_seen: bool,
     pub parts: &'static [Part],
@@ -63,14 +64,15 @@ pub struct Row {
     pub answer: Result<(), Refusal>,
 }
 
-/// Appends a record with this body to a log.
+// Appends a record with this body to a log.
 fn put_record(log: &mut Vec<u8>, kind: u8, body: &[u8]) -> Result<(), AllocError> {
     let [_, _, _, _, a, b, c, d] = body.len().to_be_bytes();
     log.extend_from_slice(&[kind, a, b, c, d])?;
     log.extend_from_slice(body)
 }
 
-/// Appends a part to a log: in one record, or with each byte of SENT and RECV in a record of its own.
+// Appends a part to a log: in one record, or with each byte of SENT and RECV in a record of its
+// own.
 fn put(log: &mut Vec<u8>, part: Part, split: bool) -> Result<(), AllocError> {
     let (kind, body) = match part {
         Raw(bytes) => return log.extend_from_slice(bytes),
@@ -109,7 +111,8 @@ pub fn log_of(
     Ok(log)
 }
 
-/// The log of these parts, then one record in which the tested end sent this packet so many times, and then those parts.
+/// The log of these parts, then one record in which the tested end sent this packet so many times,
+/// and then those parts.
 pub fn log_with_many(
     alloc: Global,
     before: &[Part],
@@ -129,7 +132,8 @@ pub fn log_with_many(
     Ok(log)
 }
 
-/// A connection that the server answered, and a packet of this size that the client sent: these bytes and then `x`, in records that are as long as may be.
+/// A connection that the server answered, and a packet of this size that the client sent: these
+/// bytes and then `x`, in records that are as long as may be.
 pub fn large_log(alloc: Global, begin: &[u8], size: usize) -> Result<Vec<u8>, AllocError> {
     let mut packet = Vec::new(alloc);
     packet.extend_from_slice(begin)?;

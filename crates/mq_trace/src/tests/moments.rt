@@ -15,7 +15,8 @@ static ROWS: [Row; 9] = [
         Ok(()),
     ),
     (b"MQTR\x03\x00\x01\x00", "", Err(Version(4))),
-    // The moment is judged in no way, and each record has its own: a packet has that of its last byte.
+    // The moment is judged in no way, and each record has its own: a packet has that of its last
+    // byte.
     (
         b"MQTR\x02\x00\x01\x00\x01\x00\x00\x00\x00\xff\xff\xff\xff\xff\xff\xff\xff\
             \x02\x00\x00\x00\x01\x00\x00\x00\x00\x00\x00\x00\x02\xc0\

@@ -79,7 +79,8 @@ static REFUSALS: [Refused; 16] = [
     ),
 ];
 
-/// Logs that are refused after the parts of `ANSWERED`: what follows these, the lines, and the refusal.
+/// Logs that are refused after the parts of `ANSWERED`: what follows these, the lines, and the
+/// refusal.
 static LATER_REFUSALS: [Refused; 2] = [
     // A log that ends in a RELEASE, between its two bytes.
     (&[Raw(b"\x06\x00\x00\x00\x02\x00")], "", Cut(49)),

@@ -24,7 +24,8 @@ pub static SESSIONS: [Row; 15] = [
         lines: "4 record 4 SENT Publish 9\n5 record 5 RECV Puback 4\n6 record 6 REST\n7 record 7 CLOSE\n",
         answer: Ok(()),
     },
-    // A packet belongs to the record that has its last byte, and the other direction may come between.
+    // A packet belongs to the record that has its last byte, and the other direction may come
+    // between.
     Row {
         connack_seen: true,
         parts: &[
@@ -205,7 +206,7 @@ fn reports_sessions(rt: HostRuntime) -> Result<(), Fail> {
     Ok(())
 }
 
-/// How bytes are cut into records changes only the records' numbers.
+// How bytes are cut into records changes only the records' numbers.
 #[test]
 fn reports_the_same_for_any_records(rt: HostRuntime) -> Result<(), Fail> {
     for row in &SESSIONS {
@@ -229,7 +230,7 @@ fn reports_the_same_for_any_records(rt: HostRuntime) -> Result<(), Fail> {
     Ok(())
 }
 
-/// How many events a log has, its header, and its result.
+// How many events a log has, its header, and its result.
 fn emitted_of(
     rt: &(impl Abort + AllocGlobal),
     log: &[u8],
@@ -240,7 +241,7 @@ fn emitted_of(
     (emitted.count as usize, tracer.header(), ended)
 }
 
-/// Each beginning of a log of 76 bytes is cut short, unless it ends after a record.
+// Each beginning of a log of 76 bytes is cut short, unless it ends after a record.
 #[test]
 fn reports_beginnings(rt: HostRuntime) -> Result<(), Fail> {
     let log = log_of(rt.alloc(), true, SESSIONS[1].parts, false)?;

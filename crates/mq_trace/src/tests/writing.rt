@@ -7,7 +7,8 @@ use std::io;
 use std::io::{ErrorKind, Write};
 use std::process::Abort;
 
-/// A client connects, publishes a message at QoS 1 and gets the PUBACK, rests, and the connection ends.
+/// A client connects, publishes a message at QoS 1 and gets the PUBACK, rests, and the connection
+/// ends.
 const WORKED: &[u8] = b"MQTR\x01\x00\x01\x00\
     \x01\x00\x00\x00\x00\
     \x02\x00\x00\x00\x0F\x10\x0D\x00\x04MQTT\x05\x02\x00\x3C\x00\x00\x00\
@@ -20,7 +21,7 @@ const WORKED: &[u8] = b"MQTR\x01\x00\x01\x00\
 /// How long the worked log is after each call.
 const ENDS: [usize; 8] = [8, 13, 33, 43, 57, 66, 71, 76];
 
-/// Makes one of the worked log's calls, which are numbered from 0.
+// Makes one of the worked log's calls, which are numbered from 0.
 fn call<W: Write>(trace: &mut TraceWriter<W>, number: usize) -> Result<(), WriteFault> {
     match number {
         0 => trace.header(&Header {
@@ -38,7 +39,7 @@ fn call<W: Write>(trace: &mut TraceWriter<W>, number: usize) -> Result<(), Write
     }
 }
 
-/// Makes all the worked log's calls, and asserts that exactly those succeed for which there is room.
+// Makes all the worked log's calls, and asserts that exactly those succeed for which there is room.
 fn assert_calls<W: Write>(rt: &impl Abort, trace: &mut TraceWriter<W>, room: usize) {
     for (number, end) in ENDS.into_iter().enumerate() {
         assert_eq!(rt;
@@ -49,7 +50,8 @@ fn assert_calls<W: Write>(rt: &impl Abort, trace: &mut TraceWriter<W>, room: usi
     }
 }
 
-/// A writer that takes this many bytes, at most three at a time, and then fails once: with an error of this kind, or by taking none. After that it takes all.
+/// A writer that takes this many bytes, at most three at a time, and then fails once: with an error
+/// of this kind, or by taking none. After that it takes all.
 #[derive(Drop)]
 struct Failing {
     taken: Vec<u8>,

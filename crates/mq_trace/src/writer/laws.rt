@@ -1,4 +1,5 @@
-//! What is written is read back: laws of the definitions, each proved as the contract of a function that does nothing.
+//! What is written is read back: laws of the definitions, each proved as the contract of a function
+//! that does nothing.
 ghost use Rattle.std.specs.Prelude.{◌≡◌, ◌==◌, ℕ, ◌<◌, ◌≤◌, ◌^◌, List, ◌++◌, length, drop, slice_index, Some};
 ghost use Rattle.std.specs.Int.{w16, from_be_bytes};
 ghost use Rattle.mq_trace.specs.declared.header.Header.{Header as AnyHeader};
@@ -15,7 +16,8 @@ pub fn records_are_read_back()
     ensures identifier { (identifier : ℕ) → identifier < 2 ^ 16 → from_be_bytes w16 (record_body (release_record identifier)) ≡ identifier }
 {}
 
-/// A header is read back as it was written, whatever follows it: it has eight bytes, of which byte 4 is the version, byte 5 names the end and byte 6 says whether releases are recorded.
+/// A header is read back as it was written, whatever follows it: it has eight bytes, of which byte
+/// 4 is the version, byte 5 names the end and byte 6 says whether releases are recorded.
 pub fn headers_are_read_back()
     ensures version { (header : AnyHeader) (rest : List ℕ) → slice_index (header_bytes header ++ rest) 4 ≡ header.version }
     ensures server { (header : AnyHeader) (rest : List ℕ) → (slice_index (header_bytes header ++ rest) 5 == 1) ≡ header.server }

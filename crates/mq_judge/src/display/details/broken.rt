@@ -17,10 +17,11 @@ const SHOWN: usize = 64;
 /// How many of them come before the one at fault, if that isn't among the packet's first `SHOWN`.
 const BEFORE: usize = 32;
 
-/// Appends what is shown of a packet that has these bytes and breaks a rule at this offset, each word with a space before it: its
-/// type, and at most 64 of its bytes in hexadecimal digits, with the one at fault in brackets. They are the first ones, or those
-/// around the fault if that is farther. If the packet ends before the offset, the brackets have nothing between them. Where bytes
-/// are left out there is `..`.
+/// Appends what is shown of a packet that has these bytes and breaks a rule at this offset, each
+/// word with a space before it: its type, and at most 64 of its bytes in hexadecimal digits, with
+/// the one at fault in brackets. They are the first ones, or those around the fault if that is
+/// farther. If the packet ends before the offset, the brackets have nothing between them. Where
+/// bytes are left out there is `..`.
 pub fn put_broken<W: Write>(out: &mut Outgoing<'_, W>, bytes: &[u8], at: u32)
     ensures { Puts W.contents out.old (with_spaces (broken_words bytes.now at)) out.new }
 {

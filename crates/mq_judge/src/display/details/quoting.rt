@@ -10,8 +10,8 @@ ghost use Rattle.mq_judge.specs.Outgoing.{Puts};
 use super::super::outgoing::Outgoing;
 use std::io::Write;
 
-/// Appends a text in double quotes: a double quote and a backslash after a backslash, and a control character as `\x` and its two
-/// hexadecimal digits.
+/// Appends a text in double quotes: a double quote and a backslash after a backslash, and a control
+/// character as `\x` and its two hexadecimal digits.
 pub fn put_quoted<W: Write>(out: &mut Outgoing<'_, W>, text: &str)
     ensures { Puts W.contents out.old (quoted text.now) out.new }
 {

@@ -1,4 +1,5 @@
-//! Questions that the words of MQTT 5.0 leave open, on packets and connections, and how they are settled.
+//! Questions that the words of MQTT 5.0 leave open, on packets and connections, and how they are
+//! settled.
 
 pub const ROWS: &str = "\
 does a CONNACK that refuses limit packets? yes, whatever its code | client OPEN >CONNECT <2008008705270000000A >3009000161007878787878 | fault 4 C14 MQTT-3.2.2-15 decided 4 record 4 offset -; fail 1 faults 4 events

@@ -1,4 +1,5 @@
-//! Statements on the identifiers of requests, on what is sent again, and on the send quota (S01 to S07).
+//! Statements on the identifiers of requests, on what is sent again, and on the send quota (S01 to
+//! S07).
 
 // Identifiers of requests.
 pub const REQUESTS: &str = "\

@@ -1,5 +1,6 @@
-//! The conformance suite: for each statement, for one end that it binds, a log that breaks it and one that keeps it, which differ
-//! in one record. `bench/suite.py` makes the files of `examples/suite` of these rows.
+//! The conformance suite: for each statement, for one end that it binds, a log that breaks it and
+//! one that keeps it, which differ in one record. `bench/suite.py` makes the files of
+//! `examples/suite` of these rows.
 
 // Statements on a packet's bytes: flags, integers, texts, identifiers and properties.
 pub const SHAPES: &str = "\
