@@ -7,7 +7,6 @@ from __future__ import annotations
 
 import subprocess
 import sys
-import tempfile
 import unittest
 from pathlib import Path
 
@@ -15,19 +14,13 @@ HERE = Path(__file__).resolve().parent
 sys.dont_write_bytecode = True  # the repository stays as it is
 sys.path.insert(0, str(HERE))
 from test_capture import Conversation, Wire
-from testing import PATIENCE, missing
+from testing import PATIENCE, InFolder, missing
 
 MISUSE = 3
 PROXY = ("proxy", "--listen", "127.0.0.1:1", "--broker", "127.0.0.1:2", "--out")
 
 
-class Case(unittest.TestCase):
-    def setUp(self) -> None:
-        place = tempfile.TemporaryDirectory()
-        self.addCleanup(place.cleanup)
-        self.place = Path(place.name)
-        self.logs = self.place / "logs"
-
+class Case(InFolder):
     def called(self, script: str, *words: object) -> tuple[int, str]:
         """The status of a script, and the last line that it writes to standard error."""
         command = [sys.executable, str(HERE / script), *map(str, words)]
@@ -44,7 +37,7 @@ class Misuse(Case):
     def test_no_time_of_silence(self) -> None:
         for value in ("0", "-1", "nan", "soon"):
             calls = [
-                ("preload/run", "-o", self.logs, "--rest", value, "--", "touch", self.place / "began"),
+                ("preload/run", "-o", self.logs, "--rest", value, "--", "touch", self.folder / "began"),
                 ("preload/assemble", self.logs, "--rest", value),
                 ("from-capture", "none.pcap", "--server", ":1883", "--out", self.logs, "--rest", value),
                 (*PROXY, self.logs, "--rest", value),
@@ -53,12 +46,12 @@ class Misuse(Case):
                 status, line = self.called(script, *words)
                 self.assertEqual(status, MISUSE, script)
                 self.assertTrue(line.endswith(f"argument --rest: {value!r} isn't a number of seconds above 0"), line)
-        self.assertEqual([*self.place.iterdir()], [])
+        self.assertEqual([*self.folder.iterdir()], [])
 
     def test_no_version_of_logs(self) -> None:
         for value in ("0", "3", "newest"):
             calls = [
-                ("preload/run", "-o", self.logs, "--log-version", value, "--", "touch", self.place / "began"),
+                ("preload/run", "-o", self.logs, "--log-version", value, "--", "touch", self.folder / "began"),
                 ("preload/assemble", self.logs, "--log-version", value),
                 ("from-capture", "none.pcap", "--server", ":1883", "--out", self.logs, "--log-version", value),
                 (*PROXY, self.logs, "--log-version", value),
@@ -67,24 +60,24 @@ class Misuse(Case):
                 status, line = self.called(script, *words)
                 self.assertEqual(status, MISUSE, script)
                 self.assertIn("argument --log-version: invalid", line)
-        self.assertEqual([*self.place.iterdir()], [])
+        self.assertEqual([*self.folder.iterdir()], [])
 
     def test_the_dashes_before_a_program(self) -> None:
-        status, line = self.called("preload/run", "-o", self.logs, "touch", self.place / "began")
+        status, line = self.called("preload/run", "-o", self.logs, "touch", self.folder / "began")
         self.assertEqual((status, line), (MISUSE, "run: -- is missing: it goes before the program and its arguments"))
-        self.assertEqual([*self.place.iterdir()], [])
+        self.assertEqual([*self.folder.iterdir()], [])
 
 
 class Captures(Case):
     def test_a_missing_file(self) -> None:
         words = ("--server", ":1883", "--out", self.logs)
-        status, line = self.called("from-capture", self.place / "none.pcap", *words)
-        self.assertEqual((status, line), (1, f"from-capture: {self.place}/none.pcap isn't a file"))
+        status, line = self.called("from-capture", self.folder / "none.pcap", *words)
+        self.assertEqual((status, line), (1, f"from-capture: {self.folder}/none.pcap isn't a file"))
         self.assertFalse(self.logs.exists())
 
     @unittest.skipIf(missing("tshark"), missing("tshark"))
     def test_a_port_that_no_connection_has(self) -> None:
-        wire, capture = Wire(), self.place / "session.pcap"
+        wire, capture = Wire(), self.folder / "session.pcap"
         Conversation(wire, "10.0.0.2").accepted().close()
         wire.write(capture)
         status, line = self.called("from-capture", capture, "--server", ":1884", "--out", self.logs)

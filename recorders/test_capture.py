@@ -26,7 +26,7 @@ sys.path.insert(0, str(Path(__file__).resolve().parent))
 import captures
 import log_format
 from captures import ACK, FIN, RST, SYN, Capture, End, Half, Piece, Segment, parse_server
-from testing import PAHO, accepts, find, free_port, joined, make_certificate, missing, mosquitto, verdict, wait_until
+from testing import PAHO, InFolder, accepts, find, free_port, joined, make_certificate, missing, mosquitto, verdict, wait_until
 
 PSH = 0x08
 CONNACK, CONNACK_RESUMED = bytes.fromhex("2003000000"), bytes.fromhex("2003010000")
@@ -142,12 +142,9 @@ class Wire:
         path.write_bytes(head + b"".join(bodies))
 
 
-class Case(unittest.TestCase):
+class Case(InFolder):
     def setUp(self) -> None:
-        folder = tempfile.TemporaryDirectory()
-        self.addCleanup(folder.cleanup)
-        self.folder = Path(folder.name)
-        self.logs = self.folder / "logs"
+        super().setUp()
         self.warnings: list[str] = []
 
     def run_on(self, path: Path, *words: str) -> int:

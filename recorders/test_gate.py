@@ -9,13 +9,12 @@ import os
 import shutil
 import subprocess
 import sys
-import tempfile
 import unittest
 from pathlib import Path
 
 sys.dont_write_bytecode = True  # the repository stays as it is
 sys.path.insert(0, str(Path(__file__).resolve().parent))
-from testing import PATIENCE, TOP
+from testing import PATIENCE, TOP, InFolder
 
 BUILT = "crates/mq_cli/out/mq_cli"
 RUN = "recorders run"
@@ -29,14 +28,12 @@ LIBRARY_FOLDERS = ("crates/mq_ffi/out", "crates/mq_trace/src", "crates/mq_cli/sr
 NO_LIBRARY = "examples/live/test isn't run: it needs the library, which this builds: (cd crates/mq_ffi && rt lib)"
 
 
-class Gate(unittest.TestCase):
+class Gate(InFolder):
     def setUp(self) -> None:
-        folder = tempfile.TemporaryDirectory()
-        self.addCleanup(folder.cleanup)
-        self.top = Path(folder.name)
+        super().setUp()
         for name in (".ci", "recorders", "bin", "bench", "crates/mq_cli/out", "examples/live", *LIBRARY_FOLDERS):
-            (self.top / name).mkdir(parents=True)
-        shutil.copy(TOP / ".ci/run", self.top / ".ci/run")
+            (self.folder / name).mkdir(parents=True)
+        shutil.copy(TOP / ".ci/run", self.folder / ".ci/run")
 
         self.aged("crates.txt", 10)
         self.aged("crates/mq_trace/src/lib.rt", 10)
@@ -44,12 +41,12 @@ class Gate(unittest.TestCase):
 
     def aged(self, name: str, seconds: int) -> None:
         """A file that was last written so many seconds ago."""
-        path = self.top / name
+        path = self.folder / name
         path.touch()
         os.utime(path, (path.stat().st_mtime - seconds,) * 2)
 
     def script(self, name: str, text: str) -> None:
-        path = self.top / name
+        path = self.folder / name
         path.write_text(f"#!/bin/sh\n{text}\n")
         path.chmod(0o755)
 
@@ -80,14 +77,14 @@ class Gate(unittest.TestCase):
         self.script("recorders/test", test)
         test = f'test "$1" = --missing && echo "{live_missing}" && exit 0\nexit {live}'
         self.script("examples/live/test", test)
-        words = [self.top / ".ci/run"]
-        paths = f"{self.top / 'bin'}{os.pathsep}{os.environ.get('PATH', os.defpath)}"
+        words = [self.folder / ".ci/run"]
+        paths = f"{self.folder / 'bin'}{os.pathsep}{os.environ.get('PATH', os.defpath)}"
         answer = subprocess.run(
             words, cwd="/", env=os.environ | {"PATH": paths}, capture_output=True, text=True, timeout=PATIENCE
         )
         lines = answer.stdout.splitlines()
         self.assertRegex(lines[0], r"\A[0-9]+ processors, [0-9]+ MB free\Z")
-        self.assertEqual(lines[1], str(self.top.resolve()))
+        self.assertEqual(lines[1], str(self.folder.resolve()))
         return answer.returncode, lines[2:] + answer.stderr.splitlines()
 
     def test_all_pass(self) -> None:
@@ -112,7 +109,7 @@ class Gate(unittest.TestCase):
 
     def test_the_library_is_not_built(self) -> None:
         said = "14 passed, 0 failed"
-        (self.top / "crates/mq_ffi/out/libmq_ffi.a").unlink()
+        (self.folder / "crates/mq_ffi/out/libmq_ffi.a").unlink()
         self.assertEqual(self.gate(said, 0, live=1), (0, [said, RUN, NO_LIBRARY, *TRIED, said]))
 
     def test_the_library_is_older_than_a_source(self) -> None:
@@ -181,9 +178,9 @@ class Gate(unittest.TestCase):
         self.script("recorders/test", "exit 1")
         self.script("examples/live/test", "exit 0")
         self.script("bin/rt", f"pwd\necho {said}")
-        paths = f"{self.top / 'bin'}{os.pathsep}{os.environ.get('PATH', os.defpath)}"
+        paths = f"{self.folder / 'bin'}{os.pathsep}{os.environ.get('PATH', os.defpath)}"
         environment = os.environ | {"PATH": paths}
-        answer = subprocess.run([self.top / ".ci/run"], env=environment, capture_output=True, text=True)
+        answer = subprocess.run([self.folder / ".ci/run"], env=environment, capture_output=True, text=True)
         self.assertEqual((answer.returncode, answer.stdout.splitlines()[-1]), (1, "14 passed, 1 failed"))
 
 

@@ -11,14 +11,13 @@ import os
 import shutil
 import subprocess
 import sys
-import tempfile
 import unittest
 from pathlib import Path
 
 sys.dont_write_bytecode = True  # the repository stays as it is
 HERE = Path(__file__).resolve().parent
 sys.path.insert(0, str(HERE))
-from testing import HOST, PATIENCE, TOP, accepts, find, free_port, judge_program, missing, process, wait_until
+from testing import HOST, PATIENCE, TOP, InFolder, accepts, find, free_port, judge_program, missing, process, wait_until
 
 NEEDS = missing("parallel", "rsync", "ssh", "ssh-keygen", "sshd")
 SETTINGS = """
@@ -44,11 +43,9 @@ def command_of_the_page() -> str:
 
 
 @unittest.skipIf(NEEDS, NEEDS)
-class Hosts(unittest.TestCase):
+class Hosts(InFolder):
     def setUp(self) -> None:
-        folder = tempfile.TemporaryDirectory()
-        self.addCleanup(folder.cleanup)
-        self.folder = Path(folder.name)
+        super().setUp()
         if os.geteuid() == 0:
             PRIVILEGES.mkdir(exist_ok=True)  # it stays: another run may be using it
         for name in ("host", "user"):

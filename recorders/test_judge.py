@@ -11,7 +11,6 @@ import pty
 import signal
 import subprocess
 import sys
-import tempfile
 import unittest
 from pathlib import Path
 from xml.etree import ElementTree
@@ -19,7 +18,7 @@ from xml.etree import ElementTree
 sys.dont_write_bytecode = True  # the repository stays as it is
 sys.path.insert(0, str(Path(__file__).resolve().parent))
 import log_format
-from testing import PATIENCE, TOP, judge_program, wait_until
+from testing import PATIENCE, TOP, InFolder, judge_program, wait_until
 
 JUDGE = Path(__file__).resolve().parent / "judge"
 STAND_IN = """#!/bin/sh
@@ -41,15 +40,12 @@ REFUSED = "refused 7 Nested at 13\n2\n"
 BROKEN = "mqjudge: read failed\n4\n"
 
 
-class Case(unittest.TestCase):
+class Case(InFolder):
     def setUp(self) -> None:
-        folder = tempfile.TemporaryDirectory()
-        self.addCleanup(folder.cleanup)
-        self.folder = Path(folder.name)
+        super().setUp()
         self.program = self.folder / "program"
         self.program.write_text(STAND_IN)
         self.program.chmod(0o755)
-        self.logs = self.folder / "logs"
         self.logs.mkdir()
 
     def put(self, **texts: str) -> None:

@@ -15,7 +15,7 @@ HERE = Path(__file__).resolve().parent
 sys.dont_write_bytecode = True  # the repository stays as it is
 sys.path.insert(0, str(HERE))
 from test_capture import Conversation, Wire
-from testing import HOST, PAHO, PATIENCE, accepts, find, free_port, missing, mosquitto, process, python_with, wait_until
+from testing import HOST, PAHO, PATIENCE, InFolder, accepts, find, free_port, missing, mosquitto, process, python_with, wait_until
 
 NEEDED = ("mosquitto", "mosquitto_pub", "tshark", "cc")
 PAHO_CLIENT = """
@@ -35,13 +35,7 @@ recording.finish()
 
 @unittest.skipIf(missing(*NEEDED), missing(*NEEDED))
 @unittest.skipIf(python_with(PAHO) is None, f"{PAHO} isn't installed")
-class OneFolder(unittest.TestCase):
-    def setUp(self) -> None:
-        place = tempfile.TemporaryDirectory()
-        self.addCleanup(place.cleanup)
-        self.place = Path(place.name)
-        self.logs = self.place / "logs"
-
+class OneFolder(InFolder):
     def run_to_end(self, *words: object) -> str:
         answer = subprocess.run([*map(str, words)], capture_output=True, text=True, timeout=PATIENCE)
         self.assertEqual(answer.returncode, 0, answer.stderr)
@@ -62,7 +56,7 @@ class OneFolder(unittest.TestCase):
             self.run_to_end(*self.publish(own))
 
     def record_from_capture(self) -> None:
-        wire, capture = Wire(), self.place / "session.pcap"
+        wire, capture = Wire(), self.folder / "session.pcap"
         Conversation(wire, "10.0.0.2").accepted("me").close()
         wire.write(capture)
         words = ("--server", "10.0.0.1:1883", "--out", self.logs)
@@ -74,7 +68,7 @@ class OneFolder(unittest.TestCase):
     def test_nobody_removes_the_logs_of_another(self) -> None:
         names: set[str] = set()
         kept: dict[str, bytes] = {}
-        with mosquitto(self.place) as port:
+        with mosquitto(self.folder) as port:
             ways = [
                 (lambda: self.record_by_proxy(port), {"me.1.client.log", "me.1.server.log"}),
                 (self.record_from_capture, {"me.2.client.log", "me.2.server.log"}),
@@ -92,7 +86,7 @@ class OneFolder(unittest.TestCase):
                 kept = now
 
     def test_its_own_logs_are_made_anew_while_they_are_as_it_left_them(self) -> None:
-        with mosquitto(self.place) as port:
+        with mosquitto(self.folder) as port:
             self.assertIn("1 connection, 1 log\n", self.record_preloaded(port))
             self.assertEqual(set(self.content()), {"me.1.client.log"})
             changed = self.content()["me.1.client.log"] + b"\5\0\0\0\0"

@@ -12,7 +12,6 @@ import json
 import re
 import subprocess
 import sys
-import tempfile
 import time
 import unittest
 from pathlib import Path
@@ -30,7 +29,7 @@ from judging.refusals import REFUSALS
 from judging.story import Fault, Teller
 from judging.verdict import FAULTS, Verdict
 from sarif_schema import problems
-from testing import PATIENCE, TOP, judge_program, missing
+from testing import PATIENCE, TOP, InFolder, judge_program, missing
 
 JUDGE = Path(__file__).resolve().parent / "judge"
 EXAMPLES = TOP / "examples/sessions"
@@ -89,12 +88,9 @@ def run(*words: object, program: object = None) -> tuple[int, str, str]:
     return answer.returncode, answer.stdout.decode(), answer.stderr.decode()
 
 
-class Case(unittest.TestCase):
+class Case(InFolder):
     def setUp(self) -> None:
-        folder = tempfile.TemporaryDirectory()
-        self.addCleanup(folder.cleanup)
-        self.folder = Path(folder.name)
-        self.logs = self.folder / "logs"
+        super().setUp()
         self.logs.mkdir()
 
     def page(self, *words: object, name: str = "page", program: object = None) -> str:

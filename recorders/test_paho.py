@@ -11,7 +11,6 @@ import io
 import socket
 import ssl
 import sys
-import tempfile
 import threading
 import unittest
 import weakref
@@ -21,7 +20,7 @@ from typing import Any
 
 sys.dont_write_bytecode = True  # the repository stays as it is
 sys.path.insert(0, str(Path(__file__).resolve().parent))
-from testing import PAHO, free_port, joined, make_certificate, missing, mosquitto, verdict, wait_until, words
+from testing import PAHO, InFolder, free_port, joined, make_certificate, missing, mosquitto, verdict, wait_until, words
 
 ABSENT = missing(PAHO)
 if not ABSENT:
@@ -83,13 +82,7 @@ class Server:
 
 
 @unittest.skipIf(ABSENT, ABSENT)
-class Case(unittest.TestCase):
-    def setUp(self) -> None:
-        folder = tempfile.TemporaryDirectory()
-        self.addCleanup(folder.cleanup)
-        self.folder = Path(folder.name)
-        self.logs = self.folder / "logs"
-
+class Case(InFolder):
     def client(self, identifier: str = "c", **options: Any) -> paho.Client:
         client = paho.Client(identifier, protocol=paho.MQTTv5, **options)
         self.addCleanup(self.stop, client)

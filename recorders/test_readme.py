@@ -11,7 +11,6 @@ import os
 import re
 import subprocess
 import sys
-import tempfile
 import unittest
 from collections.abc import Callable
 from pathlib import Path
@@ -21,7 +20,7 @@ sys.dont_write_bytecode = True  # the repository stays as it is
 HERE = Path(__file__).resolve().parent
 sys.path.insert(0, str(HERE))
 from arguments import counted
-from testing import PAHO, PATHS, PATIENCE, TOP, broker, free_port, judge_program, missing
+from testing import PAHO, PATHS, PATIENCE, TOP, InFolder, broker, free_port, judge_program, missing
 
 SLOWER = 3
 CLIENT = """
@@ -58,11 +57,9 @@ def needs(*names: str) -> Callable[[Any], Any]:
 
 
 @needs("mosquitto", "mosquitto_pub")
-class Readme(unittest.TestCase):
+class Readme(InFolder):
     def setUp(self) -> None:
-        folder = tempfile.TemporaryDirectory()
-        self.addCleanup(folder.cleanup)
-        self.folder = Path(folder.name)
+        super().setUp()
         self.folder.chmod(0o755)  # mosquitto goes on as another user
         (self.folder / "recorders").symlink_to(HERE)
         (self.folder / "bin").mkdir()

@@ -8,7 +8,6 @@ from __future__ import annotations
 import errno
 import os
 import sys
-import tempfile
 import time
 import unittest
 from pathlib import Path
@@ -19,7 +18,7 @@ sys.path.insert(0, str(Path(__file__).resolve().parent))
 import log_format
 import recording
 from recording import End, Framer, Recorder, file_name
-from testing import words as records
+from testing import InFolder, words as records
 
 BOTH = frozenset(End)
 
@@ -51,11 +50,9 @@ PINGREQ, PINGRESP = bytes.fromhex("C000"), bytes.fromhex("D000")
 CLIENT_DISCONNECT, TAKEN_OVER = bytes.fromhex("E000"), bytes.fromhex("E0028E00")
 
 
-class Case(unittest.TestCase):
+class Case(InFolder):
     def setUp(self) -> None:
-        folder = tempfile.TemporaryDirectory()
-        self.addCleanup(folder.cleanup)
-        self.folder = Path(folder.name)
+        super().setUp()
         self.now = 0.0
         self.warnings: list[str] = []
 
@@ -63,7 +60,7 @@ class Case(unittest.TestCase):
         wanted = {"rest_after": None, "clock": lambda: self.now, "warn": self.warnings.append} | options
         return Recorder(self.folder, frozenset(ends) or frozenset({End.CLIENT}), **wanted)
 
-    def logs(self) -> dict[str, list[str]]:
+    def recorded(self) -> dict[str, list[str]]:
         return {path.name: records(path.read_bytes()) for path in sorted(self.folder.iterdir())}
 
     def log(self, name: str) -> list[str]:
@@ -91,7 +88,7 @@ class Sessions(Case):
         recorder.closed(1)
         client = [*opening(b"a"), "SENT c000", "RECV d000", "CLOSE"]
         swapped = [word.replace("SENT", "-").replace("RECV", "SENT").replace("-", "RECV") for word in client]
-        self.assertEqual(self.logs(), {"a.1.client.log": client, "a.1.server.log": swapped})
+        self.assertEqual(self.recorded(), {"a.1.client.log": client, "a.1.server.log": swapped})
         self.assertEqual((self.folder / "a.1.client.log").read_bytes()[:8].hex(), "4d51545202000000")
         self.assertEqual((self.folder / "a.1.server.log").read_bytes()[:8].hex(), "4d51545202010000")
 
@@ -101,7 +98,7 @@ class Sessions(Case):
             self.accept(recorder, key, b"a", clean_start, present)
             recorder.closed(key)
         first = [*opening(b"a"), "CLOSE", *opening(b"a", False, True), "CLOSE", *opening(b"a", False), "CLOSE"]
-        self.assertEqual(self.logs(), {"a.1.client.log": first, "a.2.client.log": [*opening(b"a"), "CLOSE"]})
+        self.assertEqual(self.recorded(), {"a.1.client.log": first, "a.2.client.log": [*opening(b"a"), "CLOSE"]})
 
     def test_a_refused_clean_start_stays_in_the_log(self) -> None:
         recorder = self.recorder()
@@ -114,7 +111,7 @@ class Sessions(Case):
         self.accept(recorder, 3, b"a", False, True)
         refused = ["OPEN", f"SENT {connect(b'a').hex()}", f"RECV {connack(0x87).hex()}", "CLOSE"]
         words = [*opening(b"a"), "CLOSE", *refused, *opening(b"a", False, True)]
-        self.assertEqual(self.logs(), {"a.1.client.log": words})
+        self.assertEqual(self.recorded(), {"a.1.client.log": words})
 
     def test_a_connection_without_a_connack_stays_in_the_log(self) -> None:
         recorder = self.recorder()
@@ -123,7 +120,7 @@ class Sessions(Case):
         recorder.closed(1)
         self.accept(recorder, 2, b"a", False, True)  # the server may have accepted the first one
         unanswered = ["OPEN", f"SENT {connect(b'a', False).hex()}", "CLOSE"]
-        self.assertEqual(self.logs(), {"a.1.client.log": [*unanswered, *opening(b"a", False, True)]})
+        self.assertEqual(self.recorded(), {"a.1.client.log": [*unanswered, *opening(b"a", False, True)]})
         self.assertEqual(self.warnings, [])
 
     def test_a_session_from_before_the_recording_is_left_out(self) -> None:
@@ -132,15 +129,15 @@ class Sessions(Case):
         recorder.closed(1)
         self.accept(recorder, 2, b"a", False, True)
         recorder.closed(2)
-        self.assertEqual(self.logs(), {})
+        self.assertEqual(self.recorded(), {})
         self.assertEqual(self.warnings, ["not recorded: a resumes a session that began before the recording"] * 2)
         self.accept(recorder, 3, b"a", False, False)
         self.accept(recorder, 4, b"a", False, True)
-        self.assertEqual(self.logs(), {"a.1.client.log": [*opening(b"a", False), "CLOSE", *opening(b"a", False, True)]})
+        self.assertEqual(self.recorded(), {"a.1.client.log": [*opening(b"a", False), "CLOSE", *opening(b"a", False, True)]})
 
     def test_it_is_recorded_where_there_was_nothing_before(self) -> None:
         self.accept(self.recorder(from_start=True), 1, b"a", False, True)
-        self.assertEqual(self.logs(), {"a.1.client.log": opening(b"a", False, True)})
+        self.assertEqual(self.recorded(), {"a.1.client.log": opening(b"a", False, True)})
 
     def test_an_empty_client_identifier_takes_the_assigned_one(self) -> None:
         recorder = self.recorder()
@@ -151,7 +148,7 @@ class Sessions(Case):
         recorder.closed(1)
         self.accept(recorder, 2, b"auto/1", False, True)
         first = ["OPEN", f"SENT {connect(b'').hex()}", f"RECV {connack(properties=assigned).hex()}", "CLOSE"]
-        self.assertEqual(self.logs(), {"auto%2F1.1.client.log": [*first, *opening(b"auto/1", False, True)]})
+        self.assertEqual(self.recorded(), {"auto%2F1.1.client.log": [*first, *opening(b"auto/1", False, True)]})
 
     def test_no_client_identifier_gives_a_log_of_its_own(self) -> None:
         recorder = self.recorder(End.SERVER)
@@ -161,8 +158,8 @@ class Sessions(Case):
             recorder.from_client(key, data)
             recorder.closed(key)
         wanted = [["OPEN", f"RECV {data.hex()}", "CLOSE"] for data in sent]
-        self.assertEqual([*self.logs().values()], wanted)
-        self.assertEqual([*self.logs()], [f"@unnamed.{number}.server.log" for number in (1, 2, 3)])
+        self.assertEqual([*self.recorded().values()], wanted)
+        self.assertEqual([*self.recorded()], [f"@unnamed.{number}.server.log" for number in (1, 2, 3)])
 
     def test_other_versions_are_told_and_not_recorded(self) -> None:
         recorder = self.recorder()
@@ -171,7 +168,7 @@ class Sessions(Case):
             recorder.from_client(key, connect(b"o\nld", True, version, protocol))
             recorder.from_server(key, bytes.fromhex("20020000"))
             recorder.closed(key)
-        self.assertEqual(self.logs(), {})
+        self.assertEqual(self.recorded(), {})
         self.assertEqual(self.warnings[0], "not recorded: o%0Ald uses MQTT version 4")
         self.assertEqual(len(self.warnings), 3)
 
@@ -188,7 +185,7 @@ class Sessions(Case):
             recorder.from_client(1, bytes((byte,)))
         recorder.from_server(1, connack() + PINGRESP)
         wanted = ["OPEN", *(f"SENT {byte:02x}" for byte in connect(b"a")), f"RECV {(connack() + PINGRESP).hex()}"]
-        self.assertEqual(self.logs(), {"a.1.client.log": wanted})
+        self.assertEqual(self.recorded(), {"a.1.client.log": wanted})
 
 
 class Takeover(Case):
@@ -213,7 +210,7 @@ class Takeover(Case):
         recorder.from_client(1, PINGREQ)
         recorder.from_client(2, PINGREQ)
         self.assertEqual(
-            self.logs(), {"a.1.client.log": [*opening(b"a"), "CLOSE"], "a.2.client.log": [*opening(b"a"), "SENT c000"]}
+            self.recorded(), {"a.1.client.log": [*opening(b"a"), "CLOSE"], "a.2.client.log": [*opening(b"a"), "SENT c000"]}
         )
 
     def test_a_refused_connection_takes_nothing_over(self) -> None:
@@ -226,7 +223,7 @@ class Takeover(Case):
         recorder.closed(2)
         recorder.closed(1)
         refused = ["OPEN", f"SENT {connect(b'a', False).hex()}", f"RECV {connack(0x97).hex()}", "CLOSE"]
-        self.assertEqual(self.logs(), {"a.1.client.log": [*opening(b"a", False), "SENT c000", "CLOSE", *refused]})
+        self.assertEqual(self.recorded(), {"a.1.client.log": [*opening(b"a", False), "SENT c000", "CLOSE", *refused]})
 
     def test_a_refused_connection_that_stays_open_is_closed_by_a_takeover(self) -> None:
         recorder = self.recorder()
@@ -265,7 +262,7 @@ class Missing(Case):
         self.accept(recorder, 4, b"a", False, False)
         self.accept(recorder, 5, b"b", False, True)
         self.assertEqual(
-            self.logs(),
+            self.recorded(),
             {
                 "a.1.client.log": opening(b"a"),
                 "a.2.client.log": opening(b"a", False),
@@ -288,7 +285,7 @@ class Missing(Case):
         recorder.from_client(2, connect(b"a", False))
         recorder.missing(2)
         self.accept(recorder, 3, b"a", False, True)
-        self.assertEqual(self.logs(), {"a.1.client.log": [*opening(b"a"), "CLOSE"]})
+        self.assertEqual(self.recorded(), {"a.1.client.log": [*opening(b"a"), "CLOSE"]})
 
     def test_before_the_connect_it_may_be_any(self) -> None:
         recorder = self.recorder()
@@ -303,7 +300,7 @@ class Missing(Case):
         self.accept(recorder, 5, b"b", False, True)
         self.accept(recorder, 6, b"c")
         self.assertEqual(
-            self.logs(),
+            self.recorded(),
             {
                 "a.1.client.log": [*opening(b"a"), "CLOSE"],
                 "b.1.client.log": [*opening(b"b"), "SENT c000", "CLOSE"],
@@ -320,7 +317,7 @@ class Missing(Case):
         recorder.missing(1)
         recorder.closed(2)
         recorder.closed(1)
-        self.assertEqual(self.logs(), {"a.1.client.log": opening(b"a", False)})
+        self.assertEqual(self.recorded(), {"a.1.client.log": opening(b"a", False)})
         self.assertEqual(recorder._kept_bytes, 0)
 
 
@@ -486,7 +483,7 @@ class Safety(Case):
                 recorder.from_client(key, connect(b"a"))
             for _ in range(40):
                 recorder.from_client(key, b"\x30\xff\xff\xff\x7f" + bytes(65_536))
-        self.assertEqual([*self.logs()], ["@unnamed.1.client.log", "@unnamed.1.server.log"])
+        self.assertEqual([*self.recorded()], ["@unnamed.1.client.log", "@unnamed.1.server.log"])
         self.assertGreater((self.folder / "@unnamed.1.client.log").stat().st_size, 40 * 65_536)
         self.assertEqual(len(self.warnings), 1)
 
@@ -527,7 +524,7 @@ class Safety(Case):
         recorder.finish()
         self.assertEqual(len(self.warnings), 1, self.warnings)
         self.assertRegex(self.warnings[0], r"^recording stopped: .*No space left on device: .*a\.1\.client\.log")
-        self.assertEqual(self.logs(), {"a.1.client.log": opening(b"a"), "b.1.client.log": opening(b"b")})
+        self.assertEqual(self.recorded(), {"a.1.client.log": opening(b"a"), "b.1.client.log": opening(b"b")})
 
     def test_a_folder_that_is_not_there_stops_recording(self) -> None:
         recorder = self.recorder()
@@ -549,7 +546,7 @@ class Safety(Case):
                 recorder.tick()
                 recorder.closed(at)
         self.assertEqual([line for line in self.warnings if "stopped" in line], [])
-        self.logs()
+        self.recorded()
 
     def test_unknown_keys_are_passed_over(self) -> None:
         recorder = self.recorder()
@@ -559,15 +556,15 @@ class Safety(Case):
         recorder.released(1, 1)
         recorder.finish()
         recorder.finish()
-        self.assertEqual((self.logs(), self.warnings), ({}, []))
+        self.assertEqual((self.recorded(), self.warnings), ({}, []))
 
     def test_finish_writes_what_was_kept(self) -> None:
         recorder = self.recorder()
         recorder.opened(1)
         recorder.from_client(1, connect(b"a"))
-        self.assertEqual(self.logs(), {})
+        self.assertEqual(self.recorded(), {})
         recorder.finish()
-        self.assertEqual(self.logs(), {"a.1.client.log": ["OPEN", f"SENT {connect(b'a').hex()}"]})
+        self.assertEqual(self.recorded(), {"a.1.client.log": ["OPEN", f"SENT {connect(b'a').hex()}"]})
 
     def test_forgotten_client_identifiers(self) -> None:
         with mock.patch.object(recording, "KNOWN_MOST", 2):

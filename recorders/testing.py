@@ -8,7 +8,9 @@ import shutil
 import socket
 import subprocess
 import sys
+import tempfile
 import time
+import unittest
 from collections.abc import Callable, Iterable, Iterator
 from pathlib import Path
 from typing import IO, Any
@@ -26,6 +28,16 @@ PATIENCE = 40.0  # seconds for what has to come
 STOP_SECONDS = 5.0
 PORTS_TRIED = 5
 KINDS = {1: "OPEN", 2: "SENT", 3: "RECV", 4: "CLOSE", 5: "REST", 6: "RELEASE"}
+
+
+class InFolder(unittest.TestCase):
+    """Tests with a folder of their own, and a place in it for logs."""
+
+    def setUp(self) -> None:
+        folder = tempfile.TemporaryDirectory()
+        self.addCleanup(folder.cleanup)
+        self.folder = Path(folder.name)
+        self.logs = self.folder / "logs"
 
 
 def find(name: str) -> str | None:
