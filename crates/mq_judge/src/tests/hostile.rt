@@ -77,7 +77,7 @@ fn add_noise(log: &mut Vec<u8>, kind: u8, mut state: u32) -> Result<u32, AllocEr
     Ok(state)
 }
 
-// Pseudo-random bytes in the records of a connection, sent and received by turns.
+// Pseudo-random bytes in the records of a connection, alternately sent and received.
 #[test]
 fn judges_2000_logs_of_noise_as_the_plain_evaluators_do(rt: HostRuntime) -> Result<(), Fail> {
     let mut state = 1;
