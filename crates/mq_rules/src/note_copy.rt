@@ -33,22 +33,10 @@ fn copy_fields(alloc: Global, fields: &PacketFields) -> Result<PacketFields, Mem
         PacketFields::Connect(connect) => PacketFields::Connect(*connect),
         PacketFields::Connack(connack) => PacketFields::Connack(*connack),
         PacketFields::Publish(publish) => PacketFields::Publish(copy_publish(alloc, publish)?),
-        PacketFields::Puback { identifier, code } => PacketFields::Puback {
-            identifier: *identifier,
-            code: *code,
-        },
-        PacketFields::Pubrec { identifier, code } => PacketFields::Pubrec {
-            identifier: *identifier,
-            code: *code,
-        },
-        PacketFields::Pubrel { identifier, code } => PacketFields::Pubrel {
-            identifier: *identifier,
-            code: *code,
-        },
-        PacketFields::Pubcomp { identifier, code } => PacketFields::Pubcomp {
-            identifier: *identifier,
-            code: *code,
-        },
+        &PacketFields::Puback { identifier, code } => PacketFields::Puback { identifier, code },
+        &PacketFields::Pubrec { identifier, code } => PacketFields::Pubrec { identifier, code },
+        &PacketFields::Pubrel { identifier, code } => PacketFields::Pubrel { identifier, code },
+        &PacketFields::Pubcomp { identifier, code } => PacketFields::Pubcomp { identifier, code },
         PacketFields::Subscribe {
             identifier,
             filters,
