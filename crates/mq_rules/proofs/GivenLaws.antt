@@ -79,43 +79,6 @@ number-within (e ∷ past) k m h = go (is_next past k) h (number-within past k m
     go true h rest = let same : newest e past ≡ m = cc in let at : begun (e ∷ past) ≡ number m = ap number same in omega arith
     go false h rest = let le : number m ≤ begun past = rest h in let grows : begun past ≤ begun (e ∷ past) = begun-grows e past in omega arith
 
--- a connection that has not begun has no moments
-none-of : (c : ℕ) (log : List Seen) → begun log < c → of_connection c log ≡ []
-none-of c [] h = refl
-none-of c (e ∷ past) h =
-    let grows : begun past ≤ begun (e ∷ past) = begun-grows e past in
-    ap (λ b. cond b (newest e past ∷ of_connection c past) (of_connection c past)) (differ (begun (e ∷ past)) c (λ is. omega arith))
-    ∙ none-of c past (omega arith)
-
--- and no fate
-pub fate-unbegun : (role : Role) (c : ℕ) (log : List Seen) → begun log < c → fate role c log ≡ None
-fate-unbegun role c log h =
-    ap (λ b. cond b (Some Void) (first_found (decides role) (of_connection c log))) (differ c 0 (λ is. omega arith))
-    ∙ ap (first_found (decides role)) (none-of c log h)
-
--- ---- the latest connection's fate with one event more
-
-nothing : (b : Bool) (o : Option Fate) → o ≡ None → cond b o None ≡ None
-nothing true o h = h
-nothing false o h = refl
-
-pub latest_fate-next : (role : Role) (e : Seen) (past : List Seen) → latest_fate role (e ∷ past) ≡ cond (is_open e.note) None (option_or (latest_fate role past) (decides role e.note))
-latest_fate-next role e past = go (is_open e.note) refl
-  where
-    c : ℕ
-    c = begun (e ∷ past)
-
-    go : (b : Bool) → is_open e.note ≡ b → fate role c (e ∷ past) ≡ cond b None (option_or (latest_fate role past) (decides role e.note))
-    go true t =
-        let more : begun (e ∷ past) ≡ 1 + begun past = begun-open e past t in
-        fate-step role c e past
-        ∙ ap (λ o. option_or o (cond (c == c) (decides role e.note) None)) (fate-unbegun role c past (omega arith))
-        ∙ nothing (c == c) (decides role e.note) (open-undecided role e.note t)
-    go false t =
-        fate-step role c e past
-        ∙ ap (λ b. option_or (fate role c past) (cond b (decides role e.note) None)) (eq-eqb c c refl)
-        ∙ ap (λ n. option_or (fate role n past) (decides role e.note)) (begun-closed e past t)
-
 -- a connection that was decided at a moment is decided so in the log
 pub fate-from : (role : Role) (c : ℕ) (f : Fate) (log : List Seen) (k : ℕ) (m : Moment) → moment log k ≡ Some m → fate role c m.past ≡ Some f → fate role c log ≡ Some f
 fate-from role c f [] k m at h = absurd (cc)

@@ -17,7 +17,8 @@ use Rattle.mq_rules.specs.Steps.{given, shows_under, shows, turns, JudgedAtOnce,
 use Rattle.mq_rules.specs.Exchanges.{breaks_E7R}
 use Rattle.mq_rules.proofs.BoolLaws.{both_true, not_true, or_false, and-past}
 use Rattle.mq_rules.proofs.StepLaws.{moment-stays, moment-newest}
-use Rattle.mq_rules.proofs.GivenLaws.{open-sessionless, rest-opens-nothing, begun-closed, latest_fate-next, fate-from, given-gives}
+use Rattle.mq_rules.proofs.FateLaws.{latest_fate-next}
+use Rattle.mq_rules.proofs.GivenLaws.{open-sessionless, rest-opens-nothing, begun-closed, fate-from, given-gives}
 
 -- ---- what looks at the past alone
 

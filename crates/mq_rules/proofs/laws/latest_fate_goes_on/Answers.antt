@@ -1,4 +1,4 @@
-use Rattle.mq_rules.proofs.GivenLaws.{latest_fate-next}
+use Rattle.mq_rules.proofs.FateLaws.{latest_fate-next}
 use Rattle.mq_rules.proofs.laws.latest_fate_goes_on.Goals as goal
 
 pub returns : goal.returns
