@@ -1,4 +1,4 @@
-//! A whole packet, split behind its fixed header.
+//! A whole packet, split after its fixed header.
 
 ghost use Rattle.std.specs.Prelude.{◌≡◌, ◌+◌, ◌≤◌, Some, length, slice_index};
 ghost use Rattle.mq_packet.specs.Stream.{frame_size, fixed_header_of};
