@@ -1,5 +1,5 @@
 -- Notes of packets without properties.
-use Rattle.std.proofs.Common.{◌≡◌, ℕ, List, [], is_some, refl, ap, sym}
+use Rattle.std.proofs.Common.{◌≡◌, ℕ, List, [], Bool, false, None, is_some, refl, ap, sym}
 use Rattle.mq_props.specs.Values.{Property}
 use Rattle.mq_props.specs.First.{first_two_bytes, first_four_bytes, first_varint, first_text, first_pair}
 use Rattle.mq_packet.specs.Entries.{PublishFields, publish, pingreq, pingresp}
@@ -11,7 +11,9 @@ use Rattle.mq_rules.specs.declared.note.Note.TheVariants as notes
 use Rattle.mq_rules.specs.declared.note.ItemNote.TheVariants as items
 use Rattle.mq_rules.specs.declared.packet_note.PacketNote.{PacketNote}
 use Rattle.mq_rules.specs.declared.packet_note.PacketFields.TheVariants.{Publish, Pingreq, Pingresp}
-use Rattle.mq_rules.specs.Notes.{only_list, is_sent_direction, bare_publish_note, bare_note, note_of}
+use Rattle.mq_rules.specs.declared.bare.Bare.{Bare}
+use Rattle.mq_rules.specs.declared.packet_note.PacketFields.{PacketFields}
+use Rattle.mq_rules.specs.Notes.{only_list, is_sent_direction, bare_publish_note, bare_fields, bare_note, note_of_bare, note_of, sent_fault, is_open}
 
 -- what is noted of a PUBLISH, if these are its properties
 abbrev noted : Direction → ℕ → PublishFields → List Property → PacketNote
@@ -42,3 +44,21 @@ bare_pingreq Recv size = refl
 pub bare_pingresp : (direction : Direction) (size : ℕ) → bare_note direction size Pingresp ≡ note_of (item_event direction (packet size pingresp))
 bare_pingresp Sent size = refl
 bare_pingresp Recv size = refl
+
+-- ---- a packet without properties is a packet
+
+unbroken-note : (direction : Direction) (size : ℕ) (fields : PacketFields) → sent_fault (bare_note direction size fields) ≡ None
+unbroken-note Sent size fields = refl
+unbroken-note Recv size fields = refl
+
+pub bare-unbroken : (b : Bare) → sent_fault (note_of_bare b) ≡ None
+unfolding note_of_bare
+bare-unbroken b = unbroken-note b.direction b.size (bare_fields b.direction b.fields)
+
+closed-note : (direction : Direction) (size : ℕ) (fields : PacketFields) → is_open (bare_note direction size fields) ≡ false
+closed-note Sent size fields = refl
+closed-note Recv size fields = refl
+
+pub bare-closed : (b : Bare) → is_open (note_of_bare b) ≡ false
+unfolding note_of_bare
+bare-closed b = closed-note b.direction b.size (bare_fields b.direction b.fields)

@@ -1,5 +1,5 @@
 -- The laws on statements, moments and faults that the crates above cite. They cite no other file of these proofs.
-pub use Rattle.mq_rules.proofs.BareLaws.{bare_publish}
+pub use Rattle.mq_rules.proofs.BareLaws.{bare-closed, bare_publish}
 pub use Rattle.mq_rules.proofs.BoolLaws.{and-over, and-past, and_false, and_true, both_true, differ, not_true, option_or-none, or-turn, or_false, or_left, or_parts, or_right, same_test, there}
 pub use Rattle.mq_rules.proofs.ConnLaws.{connection-next as connection-newest, first_found-next, some-next}
 pub use Rattle.mq_rules.proofs.CounterLaws.{S07-before, used_up-counted}

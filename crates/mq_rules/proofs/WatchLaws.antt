@@ -16,7 +16,7 @@ use Rattle.mq_rules.specs.declared.conn.state.ConnectionState.{ConnectionState}
 use Rattle.mq_rules.specs.Words.{is_id}
 use Rattle.mq_rules.specs.Notes.{is_open, is_close}
 use Rattle.mq_rules.specs.Moments.{newest, count}
-use Rattle.mq_rules.specs.Connections.{is_connected, connection, needs_connection, IsOnConnection}
+use Rattle.mq_rules.specs.Connections.{is_connected, connection, latest_fate, needs_connection, IsOnConnection}
 use Rattle.mq_rules.specs.Pasts.{set_alias}
 use Rattle.mq_rules.specs.Statements.{is_on_past}
 use Rattle.mq_rules.specs.Steps.{turns}
@@ -129,6 +129,15 @@ conn-within conn tested taken e past old new follows on here h = record {
   each = (grows-judged_within tested e past old new follows.placed.0
       (within-same (is_found conn.role conn.state (contains nat_cmp conn.aliases) e.note) (is_found tested.role (kept tested.role past) (is_alias_set past) e.note) e.place old new (found conn tested taken e past on here) h)).each;
 }
+
+-- what the watcher promises of what it keeps, and of the faults
+abbrev pub ConnAgrees : Conn → Conn → Seen → Type 0
+ConnAgrees old new e = (tested : Tested) (taken : Option Fate) (past : List Seen) → Follows tested e past → IsOnConnection e past → IsConn old tested taken past
+    → IsConn new tested (latest_fate tested.role (e ∷ past)) (e ∷ past)
+
+abbrev pub ConnGains : Conn → Seen → FaultMap → FaultMap → Type 0
+ConnGains conn e old new = (tested : Tested) (taken : Option Fate) (past : List Seen) → Follows tested e past → IsOnConnection e past → IsConn conn tested taken past
+    → Gains (λ k r. is_on_past tested r && turns tested e past k r) tested (e ∷ past) (length past + 1) old new
 
 -- what the watcher promises of the faults where an event was refused
 abbrev pub ConnWithin : Conn → Seen → FaultMap → FaultMap → Type 0

@@ -39,6 +39,9 @@ use Rattle.mq_rules.specs.declared.packet_note.ConnackNote.{ConnackNote}
 use Rattle.mq_rules.specs.declared.packet_note.PublishNote.{PublishNote}
 use Rattle.mq_rules.specs.declared.packet_note.DisconnectNote.{DisconnectNote}
 use Rattle.mq_rules.specs.declared.text.NotedFilter.{NotedFilter}
+use Rattle.mq_rules.specs.declared.bare.Bare.{Bare}
+use Rattle.mq_rules.specs.declared.bare.BareFields.{BareFields}
+use Rattle.mq_rules.specs.declared.bare.BareFields.TheVariants as bares
 use Rattle.mq_rules.specs.Words.{only, is_some_and, is_id}
 
 -- ---- the end that a log's header names
@@ -188,6 +191,21 @@ bare_publish_note direction identifier qos duplicate topic = record {
 abbrev pub bare_note : Direction → ℕ → PacketFields → Note
 bare_note directions.Sent size fields = notes.Sent (items.Packet (record { size = size; has_reason_string = false; has_user_property = false; fields = fields }))
 bare_note directions.Recv size fields = notes.Recv (items.Packet (record { size = size; has_reason_string = false; has_user_property = false; fields = fields }))
+
+-- a Topic Name of at most 30 bytes; a longer one isn't noted
+abbrev pub kept_topic : List ℕ → List ℕ
+kept_topic topic = cond (nat_le (length topic) 30) topic []
+
+-- what the statements look at of a packet without properties
+abbrev pub bare_fields : Direction → BareFields → PacketFields
+bare_fields direction (bares.Publish identifier qos duplicate topic) = Publish (bare_publish_note direction identifier qos duplicate (kept_topic topic.now))
+bare_fields direction (bares.Puback identifier code) = Puback identifier code
+bare_fields direction (bares.Pubrec identifier code) = Pubrec identifier code
+bare_fields direction (bares.Pubrel identifier code) = Pubrel identifier code
+bare_fields direction (bares.Pubcomp identifier code) = Pubcomp identifier code
+
+unfoldable pub note_of_bare : Bare → Note
+note_of_bare b = bare_note b.direction b.size (bare_fields b.direction b.fields)
 
 abbrev pub seen : Placed → Seen
 seen placed = record { place = placed.place; note = note_of placed.event }

@@ -5,7 +5,7 @@ ghost use Rattle.mq_trace.specs.Events.{packet as packet_item};
 ghost use Rattle.mq_trace.specs.Flows.{item_event};
 ghost use Rattle.mq_trace.specs.declared.kind.Direction.{Direction as TheDirection};
 ghost use Rattle.mq_rules.specs.declared.packet_note.PacketFields.TheVariants as fields_of;
-ghost use Rattle.mq_rules.specs.Notes.{bare_note, bare_publish_note, note_of};
+ghost use Rattle.mq_rules.specs.Notes.{bare_fields, bare_note, bare_publish_note, note_of, kept_topic, note_of_bare};
 
 use crate::conversion::nonempty;
 use crate::note::{ItemNote, Note};
@@ -89,5 +89,181 @@ impl Note {
                 has_subscription_identifier: false,
             }),
         )
+    }
+}
+
+/// The fields of a packet without properties: of a PUBLISH, or of what acknowledges one.
+#[derive(Clone, Copy)]
+pub enum BareFields<'a> {
+    /// PUBLISH.
+    Publish {
+        /// The Packet Identifier, if the QoS is above 0.
+        identifier: Option<u16>,
+        /// The Quality of Service.
+        qos: Qos,
+        /// The DUP flag.
+        duplicate: bool,
+        /// The Topic Name. One of more than 30 bytes isn't noted.
+        topic: &'a str,
+    },
+    /// PUBACK.
+    Puback {
+        /// The Packet Identifier of the PUBLISH that it answers.
+        identifier: u16,
+        /// The Reason Code.
+        code: u8,
+    },
+    /// PUBREC.
+    Pubrec {
+        /// The Packet Identifier of the PUBLISH that it answers.
+        identifier: u16,
+        /// The Reason Code: 0x80 or more refuses the PUBLISH.
+        code: u8,
+    },
+    /// PUBREL.
+    Pubrel {
+        /// The Packet Identifier of the PUBLISH that it is about.
+        identifier: u16,
+        /// The Reason Code.
+        code: u8,
+    },
+    /// PUBCOMP.
+    Pubcomp {
+        /// The Packet Identifier of the PUBLISH that it is about.
+        identifier: u16,
+        /// The Reason Code.
+        code: u8,
+    },
+}
+
+impl BareFields<'_> {
+    /// The fields of a packet, if it acknowledges a PUBLISH and has no properties.
+    #[inline(always)]
+    pub fn of_acknowledgement(packet: &Packet<'_>) -> Option<BareFields<'static>>
+        ensures { IfSome result (λ fields. (direction : TheDirection) (size : ℕ) → bare_note direction size (bare_fields direction fields) ≡ note_of (item_event direction (packet_item size (view packet.now)))) }
+    {
+        match packet {
+            Packet::Puback(packet) => match nonempty(&packet.properties) {
+                Some(_) => None,
+                None => Some(BareFields::Puback {
+                    identifier: packet.identifier,
+                    code: packet.code,
+                }),
+            },
+            Packet::Pubrec(packet) => match nonempty(&packet.properties) {
+                Some(_) => None,
+                None => Some(BareFields::Pubrec {
+                    identifier: packet.identifier,
+                    code: packet.code,
+                }),
+            },
+            Packet::Pubrel(packet) => match nonempty(&packet.properties) {
+                Some(_) => None,
+                None => Some(BareFields::Pubrel {
+                    identifier: packet.identifier,
+                    code: packet.code,
+                }),
+            },
+            Packet::Pubcomp(packet) => match nonempty(&packet.properties) {
+                Some(_) => None,
+                None => Some(BareFields::Pubcomp {
+                    identifier: packet.identifier,
+                    code: packet.code,
+                }),
+            },
+            _ => None,
+        }
+    }
+}
+
+/// A packet without properties, by its numbers. A watcher that takes it in needs no note, unless it
+/// looks at more of it.
+#[derive(Clone, Copy)]
+pub struct Bare<'a> {
+    /// Which way it went.
+    pub direction: Direction,
+    /// How many bytes it has.
+    pub size: u32,
+    /// Its fields.
+    pub fields: BareFields<'a>,
+}
+
+// A Topic Name that is short enough to lie in its note; none of any other.
+#[inline(always)]
+fn kept_topic<'a>(topic: &'a str) -> &'a str
+    ensures short { length result.now ≤ 30 }
+    ensures exact { result.now ≡ kept_topic topic.now }
+{
+    if Text::is_short(topic) { topic } else { "" }
+}
+
+impl<'a> Bare<'a> {
+    /// A PUBLISH that has a short Topic Name.
+    #[inline(always)]
+    pub fn of_publish(
+        direction: Direction,
+        size: u32,
+        identifier: Option<u16>,
+        qos: Qos,
+        duplicate: bool,
+        topic: &'a str,
+    ) -> Bare<'a>
+        requires { length topic.now ≤ 30 }
+        ensures { note_of_bare result ≡ bare_note direction size (fields_of.Publish (bare_publish_note direction identifier qos duplicate topic.now)) }
+    {
+        let fields = BareFields::Publish {
+            identifier,
+            qos,
+            duplicate,
+            topic,
+        };
+        Bare {
+            direction,
+            size,
+            fields,
+        }
+    }
+
+    /// What the statements look at in it.
+    #[inline(always)]
+    #[tactic(auto, unfolding(crate::specs::Notes::note_of_bare))]
+    pub fn note(self) -> Note
+        ensures { result ≡ note_of_bare self.entry }
+    {
+        match self.fields {
+            BareFields::Publish {
+                identifier,
+                qos,
+                duplicate,
+                topic,
+            } => Note::of_bare_publish(
+                self.direction,
+                self.size,
+                identifier,
+                qos,
+                duplicate,
+                kept_topic(topic),
+            ),
+            BareFields::Puback { identifier, code } => Note::of_bare(
+                self.direction,
+                self.size,
+                PacketFields::Puback { identifier, code },
+            ),
+            BareFields::Pubrec { identifier, code } => Note::of_bare(
+                self.direction,
+                self.size,
+                PacketFields::Pubrec { identifier, code },
+            ),
+            BareFields::Pubrel { identifier, code } => Note::of_bare(
+                self.direction,
+                self.size,
+                PacketFields::Pubrel { identifier, code },
+            ),
+            BareFields::Pubcomp { identifier, code } => Note::of_bare(
+                self.direction,
+                self.size,
+                PacketFields::Pubcomp { identifier, code },
+            ),
+        }
     }
 }

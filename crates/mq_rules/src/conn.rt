@@ -22,13 +22,14 @@ mod harmless;
 mod state;
 mod verdicts;
 
+use crate::bare::Bare;
 use crate::faults::{Faults, Memory};
 use crate::note::{ItemNote, Note};
 use crate::packet_note::{ConnackNote, DisconnectNote, PacketNote, PublishNote};
 use crate::role::{Role, Tested};
 use crate::rule::Rule;
-use crate::watch::{Skipping, Watch};
-pub use harmless::{SendBounds, is_harmless};
+use crate::watch::{Brisk, Skipping, Watch, step_apart};
+pub use harmless::{SendBounds, is_bare_harmless, is_harmless};
 use mq_trace::Place3;
 pub use state::ConnectionState;
 use std::alloc::Global;
@@ -165,6 +166,17 @@ impl Skipping for Conn {
     #[inline(always)]
     fn may_skip(&self, note: &Note) -> bool {
         is_harmless(self.send_bounds(), note)
+    }
+}
+
+impl Brisk for Conn {
+    #[inline(always)]
+    fn step_bare(&mut self, at: Place3, bare: Bare<'_>, faults: &mut Faults) -> Result<(), Memory> {
+        if is_bare_harmless(self.send_bounds(), bare) {
+            return Ok(());
+        }
+        step_apart(self, at, bare, faults)?;
+        Ok(())
     }
 }
 

@@ -15,7 +15,7 @@ pub enum Fate {
 
 impl Fate {
     /// Whether the server accepted the connection.
-    #[inline]
+    #[inline(always)]
     pub fn accepts(self) -> bool
         ensures { result ≡ connections.accepts self }
     {
@@ -23,7 +23,7 @@ impl Fate {
     }
 
     /// Whether the server resumed the session that it had.
-    #[inline]
+    #[inline(always)]
     pub fn resumes(self) -> bool
         ensures { result ≡ connections.resumes self }
     {

@@ -3,12 +3,13 @@ ghost use Rattle.std.specs.Prelude.{◌≡◌, ◌&&◌, Some, None, OnOk, OnErr
 ghost use Rattle.mq_rules.specs.Statements.{is_on_bytes};
 ghost use Rattle.mq_rules.specs.Steps.{turns};
 
+use crate::bare::Bare;
 use crate::fault::Fault;
 use crate::faults::{FaultKey, Faults, Memory};
 use crate::note::Note;
 use crate::role::Tested;
 use crate::rule::Rule;
-use crate::watch::{Skipping, Watch};
+use crate::watch::{Brisk, Skipping, Watch};
 use mq_trace::Place3;
 
 /// Watches W01 to W21. Each is false exactly at an event whose bytes break it, so nothing is kept.
@@ -31,6 +32,7 @@ impl Watch for Shapes {
 
     ghost bound = { λ tested taken past. 0 };
 
+    #[inline(always)]
     fn step(&mut self, at: Place3, note: &Note, faults: &mut Faults) -> Result<(), Memory> {
         let Some(broken) = note.body_fault() else {
             return Ok(());
@@ -52,5 +54,12 @@ impl Skipping for Shapes {
     #[inline(always)]
     fn may_skip(&self, note: &Note) -> bool {
         note.body_fault().is_none()
+    }
+}
+
+impl Brisk for Shapes {
+    #[inline(always)]
+    fn step_bare(&mut self, _: Place3, _: Bare<'_>, _: &mut Faults) -> Result<(), Memory> {
+        Ok(())
     }
 }

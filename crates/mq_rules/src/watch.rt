@@ -6,11 +6,13 @@ ghost use Rattle.mq_rules.specs.declared.fate.Fate.{Fate};
 ghost use Rattle.mq_rules.specs.declared.rule.Rule.{Rule};
 ghost use Rattle.mq_rules.specs.declared.note.Seen.{Seen};
 ghost use Rattle.mq_rules.specs.Connections.{latest_fate};
+ghost use Rattle.mq_rules.specs.Notes.{note_of_bare};
 ghost use Rattle.mq_rules.specs.Under.{seen, Follows};
 ghost use Rattle.mq_rules.specs.Growing.{Gains, GainsWithin};
 ghost use Rattle.mq_rules.specs.Skipping.{Skips};
 ghost use Rattle.mq_trace.specs.declared.place.Place3.{Place3 as ThePlace};
 
+use crate::bare::Bare;
 use crate::faults::{Faults, Memory};
 use crate::note::Note;
 use mq_trace::Place3;
@@ -56,6 +58,60 @@ pub trait Skipping: Watch {
         ensures { IsTrue result → (tested : Tested) (taken : Option Fate) (at : ThePlace) (past : List Seen) → Follows tested (seen at note.now) past → Self.takes tested taken (seen at note.now) past → Self.agrees self.now tested taken past → Skips (Self.agrees self.now tested) (Self.adds tested (seen at note.now) past) tested (seen at note.now) past };
 }
 
+/// Takes in a packet without properties by a note that is made of it.
+///
+/// # Errors
+///
+/// As in `step`.
+#[inline(always)]
+pub fn step_noted<W: Watch>(
+    watcher: &mut W,
+    at: Place3,
+    bare: Bare<'_>,
+    faults: &mut Faults,
+) -> Result<(), Memory>
+    ensures agrees { OnOk result ((tested : Tested) (taken : Option Fate) (past : List Seen) → Follows tested (seen at (note_of_bare bare.entry)) past → W.takes tested taken (seen at (note_of_bare bare.entry)) past → W.agrees watcher.old tested taken past → W.agrees watcher.new tested (latest_fate tested.role (seen at (note_of_bare bare.entry) ∷ past)) (seen at (note_of_bare bare.entry) ∷ past)) }
+    ensures grows { OnOk result ((tested : Tested) (taken : Option Fate) (past : List Seen) → Follows tested (seen at (note_of_bare bare.entry)) past → W.takes tested taken (seen at (note_of_bare bare.entry)) past → W.agrees watcher.old tested taken past → Gains (W.adds tested (seen at (note_of_bare bare.entry)) past) tested (seen at (note_of_bare bare.entry) ∷ past) (length past + 1) faults.old faults.new) }
+    ensures memory { OnErr result ((tested : Tested) (taken : Option Fate) (past : List Seen) → Follows tested (seen at (note_of_bare bare.entry)) past → W.takes tested taken (seen at (note_of_bare bare.entry)) past → W.agrees watcher.old tested taken past → GainsWithin (W.adds tested (seen at (note_of_bare bare.entry)) past) tested (seen at (note_of_bare bare.entry) ∷ past) (length past + 1) faults.old faults.new) }
+{
+    let note = bare.note();
+    watcher.step(at, &note, faults)?;
+    Ok(())
+}
+
+/// The same as a call of its own: the note then lies in memory, which costs nothing where it isn't called.
+///
+/// # Errors
+///
+/// As in `step`.
+#[inline(never)]
+pub fn step_apart<W: Watch>(
+    watcher: &mut W,
+    at: Place3,
+    bare: Bare<'_>,
+    faults: &mut Faults,
+) -> Result<(), Memory>
+    ensures agrees { OnOk result ((tested : Tested) (taken : Option Fate) (past : List Seen) → Follows tested (seen at (note_of_bare bare.entry)) past → W.takes tested taken (seen at (note_of_bare bare.entry)) past → W.agrees watcher.old tested taken past → W.agrees watcher.new tested (latest_fate tested.role (seen at (note_of_bare bare.entry) ∷ past)) (seen at (note_of_bare bare.entry) ∷ past)) }
+    ensures grows { OnOk result ((tested : Tested) (taken : Option Fate) (past : List Seen) → Follows tested (seen at (note_of_bare bare.entry)) past → W.takes tested taken (seen at (note_of_bare bare.entry)) past → W.agrees watcher.old tested taken past → Gains (W.adds tested (seen at (note_of_bare bare.entry)) past) tested (seen at (note_of_bare bare.entry) ∷ past) (length past + 1) faults.old faults.new) }
+    ensures memory { OnErr result ((tested : Tested) (taken : Option Fate) (past : List Seen) → Follows tested (seen at (note_of_bare bare.entry)) past → W.takes tested taken (seen at (note_of_bare bare.entry)) past → W.agrees watcher.old tested taken past → GainsWithin (W.adds tested (seen at (note_of_bare bare.entry)) past) tested (seen at (note_of_bare bare.entry) ∷ past) (length past + 1) faults.old faults.new) }
+{
+    step_noted(watcher, at, bare, faults)?;
+    Ok(())
+}
+
+/// A watcher that can take in a packet without properties from its parts, as it does by its note.
+pub trait Brisk: Watch {
+    /// Takes in the next event, a packet without properties.
+    ///
+    /// # Errors
+    ///
+    /// As in `step`.
+    fn step_bare(&mut self, at: Place3, bare: Bare<'_>, faults: &mut Faults) -> Result<(), Memory>
+        ensures agrees { OnOk result ((tested : Tested) (taken : Option Fate) (past : List Seen) → Follows tested (seen at (note_of_bare bare.entry)) past → Self.takes tested taken (seen at (note_of_bare bare.entry)) past → Self.agrees self.old tested taken past → Self.agrees self.new tested (latest_fate tested.role (seen at (note_of_bare bare.entry) ∷ past)) (seen at (note_of_bare bare.entry) ∷ past)) }
+        ensures grows { OnOk result ((tested : Tested) (taken : Option Fate) (past : List Seen) → Follows tested (seen at (note_of_bare bare.entry)) past → Self.takes tested taken (seen at (note_of_bare bare.entry)) past → Self.agrees self.old tested taken past → Gains (Self.adds tested (seen at (note_of_bare bare.entry)) past) tested (seen at (note_of_bare bare.entry) ∷ past) (length past + 1) faults.old faults.new) }
+        ensures memory { OnErr result ((tested : Tested) (taken : Option Fate) (past : List Seen) → Follows tested (seen at (note_of_bare bare.entry)) past → Self.takes tested taken (seen at (note_of_bare bare.entry)) past → Self.agrees self.old tested taken past → GainsWithin (Self.adds tested (seen at (note_of_bare bare.entry)) past) tested (seen at (note_of_bare bare.entry) ∷ past) (length past + 1) faults.old faults.new) };
+}
+
 /// Two watchers of different statements.
 #[derive(Drop)]
 pub struct Both<A, B> {
@@ -83,6 +139,7 @@ impl<A: Watch, B: Watch> Watch for Both<A, B> {
 
     ghost bound = { λ tested taken past. A.bound tested taken past + B.bound tested taken past };
 
+    #[inline(always)]
     #[tactic(auto, using(crate::proofs::GainLaws::gains_then, crate::proofs::GainLaws::within_first, crate::proofs::GainLaws::within_second))]
     fn step(&mut self, at: Place3, note: &Note, faults: &mut Faults) -> Result<(), Memory> {
         self.a.step(at, note, faults)?;
@@ -99,5 +156,15 @@ impl<A: Skipping, B: Skipping> Skipping for Both<A, B> {
     #[inline(always)]
     fn may_skip(&self, note: &Note) -> bool {
         self.a.may_skip(note) && self.b.may_skip(note)
+    }
+}
+
+impl<A: Brisk, B: Brisk> Brisk for Both<A, B> {
+    #[inline(always)]
+    #[tactic(auto, using(crate::proofs::GainLaws::gains_then, crate::proofs::GainLaws::within_first, crate::proofs::GainLaws::within_second))]
+    fn step_bare(&mut self, at: Place3, bare: Bare<'_>, faults: &mut Faults) -> Result<(), Memory> {
+        self.a.step_bare(at, bare, faults)?;
+        self.b.step_bare(at, bare, faults)?;
+        Ok(())
     }
 }

@@ -4,16 +4,20 @@
 //! What is kept then gives some bounds, and an event is compared with those.
 ghost use Rattle.std.specs.Prelude.{◌≡◌, ◌&&◌, ◌||◌, not, is_none, nat_le};
 ghost use Rattle.mq_rules.specs.Words.{is_some_and};
-ghost use Rattle.mq_rules.specs.Notes.{resumed_by, qos_number as number_of};
+ghost use Rattle.mq_rules.specs.Notes.{resumed_by, qos_number as number_of, bare_fields, note_of_bare};
 ghost use Rattle.mq_rules.specs.Keeping.{may_go_on, size_bound, qos_bound, send_bounds, is_harmless as harmless, is_harmless_in as harmless_in};
+ghost use Rattle.mq_rules.specs.declared.role.Role.{Role as TheRole};
 ghost use Rattle.mq_rules.specs.declared.role.Role.TheVariants as roles;
+ghost use Rattle.mq_trace.specs.declared.kind.Direction.TheVariants as directions;
 
 use super::state::{ConnectionState, is_ordinary};
 use super::verdicts::has_explanation;
+use crate::bare::{Bare, BareFields};
 use crate::note::{ItemNote, Note};
 use crate::packet_note::{PacketFields, PublishNote};
 use crate::qos::qos_number;
 use crate::role::Role;
+use mq_trace::Direction;
 
 /// One byte more than the largest packet has.
 const ANY_SIZE: u64 = 0x1_0000_0000;
@@ -120,6 +124,34 @@ pub fn is_harmless(bounds: SendBounds, note: &Note) -> bool
         }
         Note::Recv(ItemNote::Packet(packet)) => 0 < bounds.size && is_ordinary(&packet.fields),
         _ => false,
+    }
+}
+
+/// The same of a packet without properties.
+#[inline(always)]
+#[tactic(auto, unfolding(crate::specs::Notes::note_of_bare))]
+pub fn is_bare_harmless(bounds: SendBounds, bare: Bare<'_>) -> bool
+    ensures { result ≡ harmless bounds (note_of_bare bare.entry) }
+{
+    match bare.direction {
+        Direction::Sent => {
+            u64::from(bare.size) < bounds.size && is_up_to(bounds.qos, bare.fields)
+        }
+        Direction::Recv => 0 < bounds.size,
+    }
+}
+
+// Whether it acknowledges a PUBLISH, or is one up to this QoS.
+#[inline(always)]
+fn is_up_to(most: u8, fields: BareFields<'_>) -> bool
+    ensures { (role : TheRole) → result ≡ harmless_in role most (bare_fields directions.Sent fields.entry) }
+{
+    match fields {
+        BareFields::Publish { qos, .. } => qos_number(qos) <= most,
+        BareFields::Puback { .. }
+        | BareFields::Pubrec { .. }
+        | BareFields::Pubrel { .. }
+        | BareFields::Pubcomp { .. } => true,
     }
 }
 
