@@ -31,6 +31,7 @@ pub mod DeliveryLaws
 pub mod KeepLaws
 pub mod ConcernLaws
 pub mod UsingConcernLaws
+pub mod MovingLaws
 pub mod SelectingLaws
 pub mod SizeLaws
 pub mod QueueSizeLaws

@@ -12,7 +12,7 @@ use Rattle.mq_rules.specs.declared.note.Note.TheVariants as notes
 use Rattle.mq_rules.specs.declared.note.Seen.{Seen}
 use Rattle.mq_rules.specs.declared.packet_note.ConnectNote.{ConnectNote}
 use Rattle.mq_rules.specs.declared.packet_note.ConnackNote.{ConnackNote}
-use Rattle.mq_rules.specs.Notes.{is_open, connect_of, connack_of, delivery_of, closer_of}
+use Rattle.mq_rules.specs.Notes.{bare_note, bare_fields, note_of_bare, is_open, connect_of, connack_of, delivery_of, closer_of}
 use Rattle.mq_rules.specs.Moments.{Moment, newest, note, those, is_next}
 use Rattle.mq_rules.specs.Connections.{connection, accepts, first_connect, first_connack}
 use Rattle.mq_rules.specs.Pasts.{peer_receive_maximum}
@@ -22,7 +22,12 @@ use Rattle.mq_rules.specs.Rules.{binds, found_line, line_of, lines, same_rule}
 use Rattle.mq_rules.specs.Statements.{statement}
 use Rattle.mq_rules.specs.Faults.{offset_of}
 use Rattle.mq_rules.specs.FaultKeys.{FaultMap}
-use Rattle.mq_rules.proofs.Exports.{S07-before, connection-newest as connection-next, first_found-next}
+use Rattle.mq_trace.specs.declared.kind.Direction.{Direction}
+use Rattle.mq_trace.specs.declared.kind.Direction.TheVariants.{Sent, Recv}
+use Rattle.mq_rules.specs.declared.bare.Bare.{Bare}
+use Rattle.mq_rules.specs.declared.bare.BareFields.{BareFields}
+use Rattle.mq_rules.specs.declared.bare.BareFields.TheVariants as bares
+use Rattle.mq_rules.proofs.Exports.{bare-closed, S07-before, connection-newest as connection-next, first_found-next}
 use Rattle.mq_books.specs.declared.quota.Quota.{Quota}
 use Rattle.mq_rules.specs.Under.{IsUnder, turns_with, fate_before}
 use Rattle.mq_rules.specs.Growing.{Gains}
@@ -160,3 +165,41 @@ quota-gains tested old f taken at e past m b under q is =
   where
     same : b ≡ exceeds f e.note tested.role (peer_room tested.role past) (in_flight (those (counts tested.role) (connection past)))
     same = is ∙ ap (λ r. exceeds f e.note r old.peer old.in_flight) q.same_role ∙ ap (λ o. exceeds f e.note tested.role o old.in_flight) q.same_peer ∙ ap (exceeds f e.note tested.role (peer_room tested.role past)) q.flying
+
+-- ---- packets without properties
+
+announces-nothing-note : (role : Role) (direction : Direction) (size : ℕ) (fields : BareFields) → announced role (bare_note direction size (bare_fields direction fields)) ≡ None
+announces-nothing-note Client Sent size (bares.Publish identifier qos duplicate topic) = refl
+announces-nothing-note Client Sent size (bares.Puback identifier code) = refl
+announces-nothing-note Client Sent size (bares.Pubrec identifier code) = refl
+announces-nothing-note Client Sent size (bares.Pubrel identifier code) = refl
+announces-nothing-note Client Sent size (bares.Pubcomp identifier code) = refl
+announces-nothing-note Client Recv size (bares.Publish identifier qos duplicate topic) = refl
+announces-nothing-note Client Recv size (bares.Puback identifier code) = refl
+announces-nothing-note Client Recv size (bares.Pubrec identifier code) = refl
+announces-nothing-note Client Recv size (bares.Pubrel identifier code) = refl
+announces-nothing-note Client Recv size (bares.Pubcomp identifier code) = refl
+announces-nothing-note Server Sent size (bares.Publish identifier qos duplicate topic) = refl
+announces-nothing-note Server Sent size (bares.Puback identifier code) = refl
+announces-nothing-note Server Sent size (bares.Pubrec identifier code) = refl
+announces-nothing-note Server Sent size (bares.Pubrel identifier code) = refl
+announces-nothing-note Server Sent size (bares.Pubcomp identifier code) = refl
+announces-nothing-note Server Recv size (bares.Publish identifier qos duplicate topic) = refl
+announces-nothing-note Server Recv size (bares.Puback identifier code) = refl
+announces-nothing-note Server Recv size (bares.Pubrec identifier code) = refl
+announces-nothing-note Server Recv size (bares.Pubrel identifier code) = refl
+announces-nothing-note Server Recv size (bares.Pubcomp identifier code) = refl
+
+-- none announces a Receive Maximum
+pub announces-nothing : (role : Role) (b : Bare) → announced role (note_of_bare b) ≡ None
+unfolding note_of_bare
+announces-nothing role b = announces-nothing-note role b.direction b.size b.fields
+
+-- how many are in flight after it
+pub flown-bare : (role : Role) (peer : Option ℕ) (b : Bare) (old : ℕ) (counted delivers closes : Bool) → counted ≡ may_count role peer → delivers ≡ is_some (delivery_of (note_of_bare b)) → closes ≡ is_some (closer_of (note_of_bare b))
+    → cond counted (cond delivers (old + 1) (cond closes (old - 1) old)) old ≡ flown (may_count role peer) (note_of_bare b) old
+flown-bare role peer b old counted delivers closes x y z =
+    ap (λ t. cond t (cond delivers (old + 1) (cond closes (old - 1) old)) old) x
+    ∙ ap (λ t. cond (may_count role peer) (cond t (old + 1) (cond closes (old - 1) old)) old) y
+    ∙ ap (λ t. cond (may_count role peer) (cond (is_some (delivery_of (note_of_bare b))) (old + 1) (cond t (old - 1) old)) old) z
+    ∙ sym (ap (λ t. cond t 0 (cond (may_count role peer) (cond (is_some (delivery_of (note_of_bare b))) (old + 1) (cond (is_some (closer_of (note_of_bare b))) (old - 1) old)) old)) (bare-closed b))

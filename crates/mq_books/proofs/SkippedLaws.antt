@@ -20,16 +20,26 @@ pub not_false : (b : Bool) → not b ≡ true → b ≡ false
 not_false true h = absurd (cc)
 not_false false h = refl
 
-pub early-skips : (agrees : Option Fate → List Seen → Type 0) (judges : Rule → Bool) (adds : ℕ → Rule → Bool) (role : Role) (fate : Option Fate) (held : List Seen) (tested : Tested) (e : Seen) (past : List Seen)
+-- what a step needs to know of an event of a decided connection, where nothing is held
+pub record AtOnce (agrees others : Option Fate → List Seen → Type 0) (judges : Rule → Bool) (adds : ℕ → Rule → Bool) (role : Role) (fate : Option Fate) (held : List Seen) (tested : Tested) (e : Seen) (past : List Seen) : Type 0 where
+  pub given : Fate
+  pub known : IsKnown tested (Some given) e past
+  pub before : agrees (Some given) past
+  pub after : others (latest_fate tested.role (e ∷ past)) (e ∷ past) → Holds others role fate held tested (e ∷ past)
+  pub same : (k : ℕ) (r : Rule) → adds k r ≡ (judges r && turns_session tested e past k r)
+
+pub at-once : (agrees others : Option Fate → List Seen → Type 0) (judges : Rule → Bool) (adds : ℕ → Rule → Bool) (role : Role) (fate : Option Fate) (held : List Seen) (tested : Tested) (e : Seen) (past : List Seen)
     → Holds agrees role fate held tested past → Follows tested e past → is_some fate ≡ true → is_nothing held ≡ true → is_open e.note ≡ false
     → ((k : ℕ) (r : Rule) → adds k r ≡ (judges r && turns_known tested e past k r))
-    → ((f : Fate) → IsKnown tested (Some f) e past → agrees (Some f) past → Skips agrees adds tested e past)
-    → Skips (λ taken log. Holds agrees role fate held tested log) (λ k r. judges r && turns_session tested e past k r) tested e past
-early-skips agrees judges adds role fate (d ∷ ds) tested e past h follows decided none closed same skips = absurd (cc)
-early-skips agrees judges adds role fate [] tested e past h follows decided none closed same skips = record {
-  stays = holds-none agrees role fate [] tested f e past [] r h.same_role some refl agrees
-      (subst (λ log. agrees (Some f) (e ∷ log)) (sym r.whole) (subst (λ o. agrees o (e ∷ past)) r.after whole.stays));
-  shows = λ m. gains_same adds (λ k s. judges s && turns_session tested e past k s) tested (e ∷ past) (length past + 1) m m (λ k s. same k s ∙ session k s) (whole.shows m);
+    → AtOnce agrees others judges adds role fate held tested e past
+at-once agrees others judges adds role fate (d ∷ ds) tested e past h follows decided none closed same = absurd (cc)
+at-once agrees others judges adds role fate [] tested e past h follows decided none closed same = record {
+  given = f;
+  known = record { fate = f; latest = r.after; same = refl };
+  before = subst (λ o. agrees o past) (sym h.same_fate ∙ some) (subst (λ log. agrees (latest_fate tested.role log) log) r.whole r.before);
+  after = λ agree. holds-none agrees role fate [] tested f e past [] r h.same_role some refl others
+      (subst (λ log. others (Some f) (e ∷ log)) (sym r.whole) (subst (λ o. others o (e ∷ past)) r.after agree));
+  same = λ k s. same k s ∙ session k s;
 }
   where
     f : Fate
@@ -41,11 +51,20 @@ early-skips agrees judges adds role fate [] tested e past h follows decided none
     r : Ready agrees tested f e past []
     r = ready agrees role fate fate [] [] tested f e past h follows (some ∙ sym (λ i. cond (closed i) None (option_or (some i) (decides role e.note)))) some refl
 
-    whole : Skips agrees adds tested e past
-    whole = skips f (record { fate = f; latest = r.after; same = refl })
-        (subst (λ o. agrees o past) (sym h.same_fate ∙ some) (subst (λ log. agrees (latest_fate tested.role log) log) r.whole r.before))
-
     session : (k : ℕ) (s : Rule) → (judges s && turns_known tested e past k s) ≡ (judges s && turns_session tested e past k s)
     session k s =
         subst (λ log. (judges s && turns_known tested e log k s) ≡ (judges s && turns_session tested e log k s)) r.whole
         ((passes tested f e [] r.base r.can).adds_same judges k s ∙ ap (λ b. judges s && b) ((passes tested f e [] r.base r.can).same k s))
+
+pub early-skips : (agrees : Option Fate → List Seen → Type 0) (judges : Rule → Bool) (adds : ℕ → Rule → Bool) (role : Role) (fate : Option Fate) (held : List Seen) (tested : Tested) (e : Seen) (past : List Seen)
+    → Holds agrees role fate held tested past → Follows tested e past → is_some fate ≡ true → is_nothing held ≡ true → is_open e.note ≡ false
+    → ((k : ℕ) (r : Rule) → adds k r ≡ (judges r && turns_known tested e past k r))
+    → ((f : Fate) → IsKnown tested (Some f) e past → agrees (Some f) past → Skips agrees adds tested e past)
+    → Skips (λ taken log. Holds agrees role fate held tested log) (λ k r. judges r && turns_session tested e past k r) tested e past
+early-skips agrees judges adds role fate held tested e past h follows decided none closed same skips =
+    let o = at-once agrees agrees judges adds role fate held tested e past h follows decided none closed same in
+    let whole = skips o.given o.known o.before in
+    record {
+      stays = o.after whole.stays;
+      shows = λ m. gains_same adds (λ k s. judges s && turns_session tested e past k s) tested (e ∷ past) (length past + 1) m m o.same (whole.shows m);
+    }

@@ -110,7 +110,7 @@ entry-stays tested f n place i old q =
         ∙ ap (λ o. opened_if (is_id i None) (sends_exactly_once n) place (closed_if (is_id i None) (confirmed_if (is_id i None) (released_if (is_id i None) place.position (sent_if (is_id i o) place.position old))))) q.delivery
         ∙ same-entry i place.position (sends_exactly_once n) place old
 
-wait-stays : (starts ends : Option ℕ) (opens : Bool) (i : ℕ) (old : Bool) → starts ≡ None → ends ≡ None → opens ≡ false → waits_next starts ends opens i old ≡ old
+pub wait-stays : (starts ends : Option ℕ) (opens : Bool) (i : ℕ) (old : Bool) → starts ≡ None → ends ≡ None → opens ≡ false → waits_next starts ends opens i old ≡ old
 wait-stays starts ends opens i old a b c = ap (λ o. waits_next o ends opens i old) a ∙ ap (λ o. waits_next None o opens i old) b ∙ ap (λ t. waits_next None None t i old) c
 
 greater-stays : (old : ℕ) → greater 0 old ≡ old
@@ -120,7 +120,7 @@ greater-stays old = go (nat_lt old 0) refl
     go true h = absurd (let few = ltb-true old 0 h in omega arith)
     go false h = refl
 
-resent-stays : (n : Note) (entry : ℕ → Option Entry) (old : ℕ) → is_open n ≡ false → resend_of n ≡ None → resent_next n entry old ≡ old
+pub resent-stays : (n : Note) (entry : ℕ → Option Entry) (old : ℕ) → is_open n ≡ false → resend_of n ≡ None → resent_next n entry old ≡ old
 resent-stays n entry old a b = ap (λ t. cond t 0 (greater (resent_by (resend_of n) entry) old)) a ∙ ap (λ o. greater (resent_by o entry) old) b ∙ greater-stays old
 
 flown-stays : (counted : Bool) (n : Note) (old : ℕ) → is_open n ≡ false → delivery_of n ≡ None → closer_of n ≡ None → flown counted n old ≡ old

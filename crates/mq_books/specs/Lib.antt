@@ -7,6 +7,7 @@ pub mod Orderings
 pub mod Answering
 pub mod Askings
 pub mod Using
+pub mod Moving
 pub mod Opened
 pub mod Resending
 pub mod Releasing

@@ -13,7 +13,10 @@ ghost use Rattle.mq_rules.specs.Growing.{Gains, GainsWithin};
 ghost use Rattle.mq_books.specs.Holding.{is_nothing, CanHand, CanPass, fate_after, turns_held, turns_session, settled, number_in, event_size as size_of, waiting, Holds};
 
 use crate::fated::Fated;
-use mq_rules::{Fate, Faults, Memory, Note, PacketFields, Role, Seen, Skipping, Tested, Watch};
+use mq_rules::{
+    Bare, Brisk, Fate, Faults, Memory, Note, PacketFields, Role, Seen, Skipping, Tested, Watch,
+    step_apart,
+};
 use mq_trace::Place3;
 use std::alloc::Global;
 
@@ -140,9 +143,17 @@ impl<W> Early<W> {
     // Whether an event is of a connection that is decided. No other events are held then.
     #[inline]
     fn is_settled(&self, note: &Note) -> bool
-        ensures { result ≡ (is_some self.now.fate && (is_nothing self.now.held.items && not (is_open note.now))) }
+        ensures { result ≡ ((is_some self.now.fate && is_nothing self.now.held.items) && not (is_open note.now)) }
     {
-        self.fate.is_some() && self.held.is_empty() && !note.is_open()
+        self.is_decided() && !note.is_open()
+    }
+
+    // Whether the latest connection is decided. No events are held then.
+    #[inline(always)]
+    fn is_decided(&self) -> bool
+        ensures { result ≡ (is_some self.now.fate && is_nothing self.now.held.items) }
+    {
+        self.fate.is_some() && self.held.is_empty()
     }
 }
 
@@ -177,5 +188,17 @@ impl<W: Fated + Skipping> Skipping for Early<W> {
     #[inline(always)]
     fn may_skip(&self, note: &Note) -> bool {
         self.is_settled(note) && self.watcher.may_skip(note)
+    }
+}
+
+impl<W: Fated + Brisk> Brisk for Early<W> {
+    #[inline(always)]
+    fn step_bare(&mut self, at: Place3, bare: Bare<'_>, faults: &mut Faults) -> Result<(), Memory> {
+        if !self.is_decided() {
+            step_apart(self, at, bare, faults)?;
+            return Ok(());
+        }
+        self.watcher.step_bare(at, bare, faults)?;
+        Ok(())
     }
 }

@@ -14,10 +14,12 @@ ghost use Rattle.mq_books.specs.Opened.{entry_next};
 ghost use Rattle.mq_books.specs.Resending.{bounds_next, IsResent};
 ghost use Rattle.mq_books.specs.Using.{IsUsing, breaks, is_inflight, waits_next, void_next, resent_next};
 ghost use Rattle.mq_books.specs.Concerns.{concerns_flight};
+ghost use Rattle.mq_rules.specs.Notes.{note_of_bare};
 ghost use Rattle.mq_books.specs.Selecting as selecting;
 
 mod broken;
 mod entry;
+mod moving;
 mod resends;
 
 use crate::asked::opened_after;
@@ -32,8 +34,10 @@ use broken::{
 };
 use entry::{Entry, take_entries};
 use indexmap::{IndexMap, IndexSet};
-use mq_rules::{Fate, Faults, ItemNote, Memory, Note, PacketFields, Role, Rule, Tested, Watch};
-use mq_trace::Place3;
+use mq_rules::{
+    Bare, BareFields, Fate, Faults, ItemNote, Memory, Note, PacketFields, Role, Rule, Tested, Watch,
+};
+use mq_trace::{Direction, Place3};
 use resends::{Resent, bounds_after, is_excused, resent_still, rests_now, settle, take_confirmed};
 use std::alloc::Global;
 
@@ -320,6 +324,11 @@ impl Selective for Inflight {
     fn may_concern(&self, note: &Note) -> bool {
         may_concern_identifiers(note)
     }
+
+    #[inline(always)]
+    fn may_concern_bare(&self, bare: Bare<'_>) -> bool {
+        bare_may_concern_identifiers(bare)
+    }
 }
 
 // Whether an event may have to do with Packet Identifiers that are in use.
@@ -365,4 +374,24 @@ fn frees_identifier(fields: &PacketFields) -> bool
             | PacketFields::Unsuback { .. }
             | PacketFields::Disconnect(_)
     )
+}
+
+// Whether a packet without properties may have to do with Packet Identifiers that are in use.
+#[inline(always)]
+#[tactic(auto, unfolding(mq_rules::specs::Notes::note_of_bare))]
+fn bare_may_concern_identifiers(bare: Bare<'_>) -> bool
+    ensures { result ≡ selecting.may_concern_identifiers (note_of_bare bare.entry) }
+{
+    match bare.direction {
+        Direction::Sent => match bare.fields {
+            BareFields::Publish { qos, .. } => is_acknowledged(qos),
+            BareFields::Pubrel { .. } => true,
+            _ => false,
+        },
+        Direction::Recv => match bare.fields {
+            BareFields::Puback { .. } | BareFields::Pubrec { .. } | BareFields::Pubcomp { .. } =>
+                true,
+            _ => false,
+        },
+    }
 }

@@ -3,6 +3,7 @@ ghost use Rattle.std.specs.Prelude.{◌≡◌, [], Some};
 ghost use Rattle.mq_rules.specs.declared.fate.Fate.TheVariants.{Void};
 ghost use Rattle.mq_rules.specs.Under.{turns_known};
 ghost use Rattle.mq_books.specs.Grouping.{of_messages, by_messages, messages_add};
+ghost use Rattle.mq_rules.specs.Notes.{note_of_bare};
 ghost use Rattle.mq_books.specs.Selecting as selecting;
 ghost use Rattle.mq_rules.specs.Notes.{is_acknowledged};
 
@@ -11,8 +12,11 @@ use crate::exchange::{E1, E2, E3, E4};
 use crate::fated::Fated;
 use crate::selective::Selective;
 use mq_packet::Qos;
-use mq_rules::{Both, Fate, Faults, ItemNote, Memory, Note, PacketFields, Tested, Watch};
-use mq_trace::Place3;
+use mq_rules::{
+    Bare, BareFields, Both, Brisk, Fate, Faults, ItemNote, Memory, Note, PacketFields, Tested,
+    Watch, step_apart,
+};
+use mq_trace::{Direction, Place3};
 use std::alloc::Global;
 
 /// Watches what the tested end owes for the messages that it receives and sends: E1A to E4R.
@@ -83,6 +87,14 @@ impl Fated for Messages {
     ghost known_adds = { λ tested e past k r. messages_add r (turns_known tested e past k r) };
 }
 
+impl Brisk for Messages {
+    #[inline(always)]
+    fn step_bare(&mut self, at: Place3, bare: Bare<'_>, faults: &mut Faults) -> Result<(), Memory> {
+        step_apart(self, at, bare, faults)?;
+        Ok(())
+    }
+}
+
 impl Selective for Messages {
     ghost concerns = { ⟦<Both<Both<Debts<E1>, Debts<E2>>, Both<Debts<E3>, Debts<E4>>> as Selective>⟧.concerns };
 
@@ -93,6 +105,11 @@ impl Selective for Messages {
     #[inline(always)]
     fn may_concern(&self, note: &Note) -> bool {
         may_concern_messages(note)
+    }
+
+    #[inline(always)]
+    fn may_concern_bare(&self, bare: Bare<'_>) -> bool {
+        bare_may_concern_messages(bare)
     }
 }
 
@@ -144,5 +161,27 @@ pub fn is_acknowledged(qos: Qos) -> bool
     match qos {
         Qos::AtMostOnce => false,
         Qos::AtLeastOnce | Qos::ExactlyOnce => true,
+    }
+}
+
+// Whether a packet without properties may have to do with an exchange of messages.
+#[inline(always)]
+#[tactic(auto, unfolding(mq_rules::specs::Notes::note_of_bare))]
+fn bare_may_concern_messages(bare: Bare<'_>) -> bool
+    ensures { result ≡ selecting.may_concern_messages (note_of_bare bare.entry) }
+{
+    match bare.direction {
+        Direction::Sent => match bare.fields {
+            BareFields::Publish { .. } => false,
+            BareFields::Puback { .. }
+            | BareFields::Pubrec { .. }
+            | BareFields::Pubrel { .. }
+            | BareFields::Pubcomp { .. } => true,
+        },
+        Direction::Recv => match bare.fields {
+            BareFields::Publish { qos, .. } => is_acknowledged(qos),
+            BareFields::Pubrec { .. } | BareFields::Pubrel { .. } => true,
+            _ => false,
+        },
     }
 }

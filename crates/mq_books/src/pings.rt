@@ -9,13 +9,17 @@ ghost use Rattle.mq_rules.specs.Under.{IsKnown, turns_known};
 ghost use Rattle.mq_books.specs.Pingings as keeping;
 ghost use Rattle.mq_books.specs.Pingings.{IsPings};
 ghost use Rattle.mq_books.specs.Concerns.{concerns_pings};
+ghost use Rattle.mq_rules.specs.Notes.{note_of_bare};
 ghost use Rattle.mq_books.specs.Selecting as selecting;
 
 use crate::fated::Fated;
 use crate::known::judge_by;
 use crate::quota::more;
 use crate::selective::Selective;
-use mq_rules::{Fate, Faults, ItemNote, Memory, Note, PacketFields, Role, Rule, Tested, Watch};
+use mq_rules::{
+    Bare, Brisk, Fate, Faults, ItemNote, Memory, Note, PacketFields, Role, Rule, Tested, Watch,
+    step_apart,
+};
 use mq_trace::Place3;
 
 /// Watches E7R.
@@ -153,6 +157,14 @@ impl Fated for Pings {
     ghost known_adds = { λ tested e past k r. refl };
 }
 
+impl Brisk for Pings {
+    #[inline(always)]
+    fn step_bare(&mut self, at: Place3, bare: Bare<'_>, faults: &mut Faults) -> Result<(), Memory> {
+        step_apart(self, at, bare, faults)?;
+        Ok(())
+    }
+}
+
 impl Selective for Pings {
     ghost concerns = { λ tested. concerns_pings };
 
@@ -161,6 +173,11 @@ impl Selective for Pings {
     #[inline(always)]
     fn may_concern(&self, note: &Note) -> bool {
         may_concern_pings(note)
+    }
+
+    #[inline(always)]
+    fn may_concern_bare(&self, bare: Bare<'_>) -> bool {
+        bare_may_concern_pings(bare)
     }
 }
 
@@ -182,4 +199,14 @@ fn may_concern_pings(note: &Note) -> bool
         ),
         Note::Sent(_) | Note::Recv(_) => true,
     }
+}
+
+// Whether a packet without properties may have to do with pings: none does.
+#[inline(always)]
+#[tactic(auto, unfolding(mq_rules::specs::Notes::note_of_bare))]
+fn bare_may_concern_pings(bare: Bare<'_>) -> bool
+    ensures { result ≡ selecting.may_concern_pings (note_of_bare bare.entry) }
+{
+    let _ = bare;
+    false
 }

@@ -1,24 +1,31 @@
 //! The send quota.
 ghost use Rattle.std.specs.Prelude.{refl};
-ghost use Rattle.std.specs.Prelude.{◌≡◌, ◌<◌, ◌+◌, ◌-◌, ◌&&◌, [], Some, None, is_some};
+ghost use Rattle.std.specs.Prelude.{◌≡◌, ◌<◌, ◌+◌, ◌-◌, ◌&&◌, ℕ, [], Some, None, is_some, nat_le, unwrap_or};
 ghost use Rattle.mq_rules.specs.declared.fate.Fate.TheVariants.{Void};
 ghost use Rattle.mq_rules.specs.declared.rule.Rule.TheVariants.{S07};
 ghost use Rattle.mq_rules.specs.Rules.{same_rule};
-ghost use Rattle.mq_rules.specs.Notes.{is_open};
+ghost use Rattle.mq_rules.specs.Words.{only};
+ghost use Rattle.mq_rules.specs.Connections.{accepts};
+ghost use Rattle.mq_rules.specs.Notes.{is_open, delivery_of, closer_of, refuses, is_acknowledged as acknowledges};
 ghost use Rattle.std.specs.Option.{option_or};
 ghost use Rattle.std.specs.Prelude.{cond};
 ghost use Rattle.mq_rules.specs.Under.{IsKnown, turns_known};
 ghost use Rattle.mq_books.specs.Quotas as keeping;
 ghost use Rattle.mq_books.specs.Quotas.{IsQuota};
 ghost use Rattle.mq_books.specs.Concerns.{concerns_quota};
+ghost use Rattle.mq_rules.specs.Notes.{note_of_bare};
 ghost use Rattle.mq_books.specs.Selecting as selecting;
 
 use crate::fated::Fated;
 use crate::known::judge_by;
 use crate::messages::is_acknowledged;
 use crate::selective::Selective;
-use mq_rules::{Fate, Faults, ItemNote, Memory, Note, PacketFields, Role, Rule, Tested, Watch};
-use mq_trace::Place3;
+use mq_packet::Qos;
+use mq_rules::{
+    Bare, BareFields, Brisk, Fate, Faults, ItemNote, Memory, Note, PacketFields, Role, Rule,
+    Tested, Watch,
+};
+use mq_trace::{Direction, Place3};
 
 /// The Receive Maximum of a peer that announces none.
 pub const RECEIVE_MAXIMUM: u16 = 65_535;
@@ -167,6 +174,107 @@ impl Fated for Quota {
     ghost known_adds = { λ tested e past k r. refl };
 }
 
+// Whether a packet without properties is a PUBLISH that counts: one of QoS above 0 that is sent.
+#[inline(always)]
+#[tactic(auto, unfolding(mq_rules::specs::Notes::note_of_bare))]
+fn is_bare_delivery(bare: Bare<'_>) -> bool
+    ensures { result ≡ is_some (delivery_of (note_of_bare bare.entry)) }
+{
+    match bare.direction {
+        Direction::Sent => match bare.fields {
+            BareFields::Publish {
+                identifier,
+                qos,
+                ..
+            } => is_delivery(identifier, qos),
+            _ => false,
+        },
+        Direction::Recv => false,
+    }
+}
+
+// Whether a PUBLISH has a QoS above 0, and so a Packet Identifier.
+#[inline(always)]
+fn is_delivery(identifier: Option<u16>, qos: Qos) -> bool
+    ensures { result ≡ is_some (only (acknowledges qos) identifier) }
+{
+    if is_acknowledged(qos) {
+        return identifier.is_some();
+    }
+    false
+}
+
+// Whether a packet without properties sets an identifier free: a PUBACK, a PUBCOMP or a refusing
+// PUBREC that is received.
+#[inline(always)]
+#[tactic(auto, unfolding(mq_rules::specs::Notes::note_of_bare))]
+fn is_bare_closer(bare: Bare<'_>) -> bool
+    ensures { result ≡ is_some (closer_of (note_of_bare bare.entry)) }
+{
+    match bare.direction {
+        Direction::Sent => false,
+        Direction::Recv => match bare.fields {
+            BareFields::Puback { .. } | BareFields::Pubcomp { .. } => true,
+            BareFields::Pubrec { code, .. } => is_refusing(code),
+            _ => false,
+        },
+    }
+}
+
+// Whether a Reason Code is 0x80 or more.
+#[inline(always)]
+fn is_refusing(code: u8) -> bool
+    ensures { (i : ℕ) → result ≡ is_some (only (refuses code) (Some i)) }
+{
+    if code < 0x80 {
+        return false;
+    }
+    true
+}
+
+/// What is in flight after a packet that counts, or one that sets an identifier free.
+#[inline(always)]
+pub fn flown_by(counted: bool, delivers: bool, closes: bool, old: u64, position: u32) -> u64
+    ensures { old < position → result ≡ cond counted (cond delivers (old + 1) (cond closes (old - 1) old)) old }
+{
+    if !counted {
+        return old;
+    }
+    if delivers {
+        return more(old, position);
+    }
+    if closes {
+        return old.saturating_sub(1);
+    }
+    old
+}
+
+impl Quota {
+    // Whether a packet passes the quota, where it counts or not.
+    #[inline(always)]
+    fn is_past(&self, delivers: bool) -> bool
+        ensures { result ≡ (accepts self.now.fate && (delivers && (keeping.may_count self.now.role self.now.peer && nat_le (unwrap_or self.now.peer 65535) self.now.in_flight))) }
+    {
+        self.fate.accepts()
+            && (delivers
+                && (may_count(self.role, self.peer)
+                    && u64::from(self.peer.unwrap_or(RECEIVE_MAXIMUM)) <= self.in_flight))
+    }
+}
+
+impl Brisk for Quota {
+    #[inline(always)]
+    fn step_bare(&mut self, at: Place3, bare: Bare<'_>, faults: &mut Faults) -> Result<(), Memory> {
+        let delivers = is_bare_delivery(bare);
+        let closes = is_bare_closer(bare);
+        let broken = self.is_past(delivers);
+        let counted = may_count(self.role, self.peer);
+        self.in_flight = flown_by(counted, delivers, closes, self.in_flight, at.position);
+        judge_by(Rule::S07, broken, at, at.position, faults)?;
+        Ok(())
+    }
+}
+
 impl Selective for Quota {
     ghost concerns = { concerns_quota };
 
@@ -175,6 +283,11 @@ impl Selective for Quota {
     #[inline(always)]
     fn may_concern(&self, note: &Note) -> bool {
         may_concern_quota(note)
+    }
+
+    #[inline(always)]
+    fn may_concern_bare(&self, bare: Bare<'_>) -> bool {
+        bare_may_concern_quota(bare)
     }
 }
 
@@ -199,5 +312,27 @@ fn may_concern_quota(note: &Note) -> bool
                 | PacketFields::Pubcomp { .. }
         ),
         Note::Sent(_) | Note::Recv(_) => false,
+    }
+}
+
+// Whether a packet without properties may have to do with the send quota.
+#[inline(always)]
+#[tactic(auto, unfolding(mq_rules::specs::Notes::note_of_bare))]
+fn bare_may_concern_quota(bare: Bare<'_>) -> bool
+    ensures { result ≡ selecting.may_concern_quota (note_of_bare bare.entry) }
+{
+    match bare.direction {
+        Direction::Sent => match bare.fields {
+            BareFields::Publish { qos, .. } => is_acknowledged(qos),
+            BareFields::Puback { .. }
+            | BareFields::Pubrec { .. }
+            | BareFields::Pubrel { .. }
+            | BareFields::Pubcomp { .. } => false,
+        },
+        Direction::Recv => match bare.fields {
+            BareFields::Puback { .. } | BareFields::Pubrec { .. } | BareFields::Pubcomp { .. } =>
+                true,
+            _ => false,
+        },
     }
 }

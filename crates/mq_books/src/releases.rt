@@ -12,6 +12,7 @@ ghost use Rattle.mq_books.specs.Burden.{brought_ids, released_ids};
 ghost use Rattle.mq_books.specs.Releasing as keeping;
 ghost use Rattle.mq_books.specs.Releasing.{IsReleasing};
 ghost use Rattle.mq_books.specs.Concerns.{concerns_releases};
+ghost use Rattle.mq_rules.specs.Notes.{note_of_bare};
 ghost use Rattle.mq_books.specs.Selecting as selecting;
 
 use crate::fated::Fated;
@@ -20,8 +21,11 @@ use crate::messages::is_acknowledged;
 use crate::selective::Selective;
 use crate::sizes::set_size;
 use indexmap::IndexSet;
-use mq_rules::{Fate, Faults, ItemNote, Memory, Note, PacketFields, Role, Rule, Tested, Watch};
-use mq_trace::Place3;
+use mq_rules::{
+    Bare, BareFields, Brisk, Fate, Faults, ItemNote, Memory, Note, PacketFields, Role, Rule,
+    Tested, Watch, step_apart,
+};
+use mq_trace::{Direction, Place3};
 use std::alloc::Global;
 
 /// Watches L1, L2 and L3.
@@ -263,6 +267,14 @@ impl Fated for Releases {
     ghost known_adds = { λ tested e past k r. refl };
 }
 
+impl Brisk for Releases {
+    #[inline(always)]
+    fn step_bare(&mut self, at: Place3, bare: Bare<'_>, faults: &mut Faults) -> Result<(), Memory> {
+        step_apart(self, at, bare, faults)?;
+        Ok(())
+    }
+}
+
 impl Selective for Releases {
     ghost concerns = { λ tested. concerns_releases };
 
@@ -271,6 +283,11 @@ impl Selective for Releases {
     #[inline(always)]
     fn may_concern(&self, note: &Note) -> bool {
         may_concern_releases(note)
+    }
+
+    #[inline(always)]
+    fn may_concern_bare(&self, bare: Bare<'_>) -> bool {
+        bare_may_concern_releases(bare)
     }
 }
 
@@ -291,5 +308,26 @@ fn may_concern_releases(note: &Note) -> bool
             _ => false,
         },
         Note::Sent(_) | Note::Recv(_) => false,
+    }
+}
+
+// Whether a packet without properties may have to do with a QoS 2 message that is received.
+#[inline(always)]
+#[tactic(auto, unfolding(mq_rules::specs::Notes::note_of_bare))]
+fn bare_may_concern_releases(bare: Bare<'_>) -> bool
+    ensures { result ≡ selecting.may_concern_releases (note_of_bare bare.entry) }
+{
+    match bare.direction {
+        Direction::Sent => match bare.fields {
+            BareFields::Pubrec { .. } | BareFields::Pubcomp { .. } => true,
+            _ => false,
+        },
+        Direction::Recv => match bare.fields {
+            BareFields::Publish { qos, .. } => is_acknowledged(qos),
+            BareFields::Puback { .. }
+            | BareFields::Pubrec { .. }
+            | BareFields::Pubrel { .. }
+            | BareFields::Pubcomp { .. } => false,
+        },
     }
 }

@@ -4,13 +4,17 @@ ghost use Rattle.std.specs.Prelude.{◌≡◌, [], Some};
 ghost use Rattle.mq_rules.specs.declared.fate.Fate.TheVariants.{Void};
 ghost use Rattle.mq_rules.specs.Under.{turns_known};
 ghost use Rattle.mq_books.specs.Grouping.{of_requests, by_requests, requests_add};
+ghost use Rattle.mq_rules.specs.Notes.{note_of_bare};
 ghost use Rattle.mq_books.specs.Selecting as selecting;
 
 use crate::debts::Debts;
 use crate::exchange::{E5, E6};
 use crate::fated::Fated;
 use crate::selective::Selective;
-use mq_rules::{Both, Fate, Faults, ItemNote, Memory, Note, PacketFields, Tested, Watch};
+use mq_rules::{
+    Bare, Both, Brisk, Fate, Faults, ItemNote, Memory, Note, PacketFields, Tested, Watch,
+    step_apart,
+};
 use mq_trace::Place3;
 use std::alloc::Global;
 
@@ -79,6 +83,14 @@ impl Fated for Requests {
     ghost known_adds = { λ tested e past k r. requests_add r (turns_known tested e past k r) };
 }
 
+impl Brisk for Requests {
+    #[inline(always)]
+    fn step_bare(&mut self, at: Place3, bare: Bare<'_>, faults: &mut Faults) -> Result<(), Memory> {
+        step_apart(self, at, bare, faults)?;
+        Ok(())
+    }
+}
+
 impl Selective for Requests {
     ghost concerns = { ⟦<Both<Debts<E5>, Debts<E6>> as Selective>⟧.concerns };
 
@@ -89,6 +101,11 @@ impl Selective for Requests {
     #[inline(always)]
     fn may_concern(&self, note: &Note) -> bool {
         may_concern_requests(note)
+    }
+
+    #[inline(always)]
+    fn may_concern_bare(&self, bare: Bare<'_>) -> bool {
+        bare_may_concern_requests(bare)
     }
 }
 
@@ -126,4 +143,14 @@ fn asks_by_request(fields: &PacketFields) -> bool
             | PacketFields::Unsubscribe { .. }
             | PacketFields::Disconnect(_)
     )
+}
+
+// Whether a packet without properties may have to do with requests: none does.
+#[inline(always)]
+#[tactic(auto, unfolding(mq_rules::specs::Notes::note_of_bare))]
+fn bare_may_concern_requests(bare: Bare<'_>) -> bool
+    ensures { result ≡ selecting.may_concern_requests (note_of_bare bare.entry) }
+{
+    let _ = bare;
+    false
 }

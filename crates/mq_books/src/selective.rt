@@ -4,11 +4,12 @@ ghost use Rattle.mq_rules.specs.declared.role.Tested.{Tested};
 ghost use Rattle.mq_rules.specs.declared.fate.Fate.{Fate as TheFate};
 ghost use Rattle.mq_rules.specs.declared.note.Note.{Note as TheNote};
 ghost use Rattle.mq_rules.specs.declared.note.Seen.{Seen};
+ghost use Rattle.mq_rules.specs.Notes.{note_of_bare};
 ghost use Rattle.mq_rules.specs.Under.{IsUnder, IsKnown, fate_before, turns_known};
 ghost use Rattle.mq_books.specs.Concerns.{Passes};
 
 use crate::fated::Fated;
-use mq_rules::{Both, Fate, Faults, Memory, Note, Skipping, Watch};
+use mq_rules::{Bare, Both, Brisk, Fate, Faults, Memory, Note, Skipping, Watch};
 use mq_trace::Place3;
 
 /// A watcher of which it is known which events concern it: any other event leaves what it keeps as
@@ -26,6 +27,15 @@ pub trait Selective: Fated {
         ensures { result ≡ false → (tested : Tested) (taken : Option TheFate) (past : List Seen) → Self.agrees self.now tested taken past → concerns tested note.now ≡ false }
     {
         let _ = note;
+        true
+    }
+
+    /// Whether a packet without properties may concern it. By default any may.
+    #[inline(always)]
+    fn may_concern_bare(&self, bare: Bare<'_>) -> bool
+        ensures { result ≡ false → (tested : Tested) (taken : Option TheFate) (past : List Seen) → Self.agrees self.now tested taken past → concerns tested (note_of_bare bare.entry) ≡ false }
+    {
+        let _ = bare;
         true
     }
 }
@@ -63,6 +73,7 @@ impl<W: Selective> Watch for Selecting<W> {
 
     ghost bound = { W.bound };
 
+    #[inline(always)]
     fn step(&mut self, at: Place3, note: &Note, faults: &mut Faults) -> Result<(), Memory> {
         if !self.watcher.may_concern(note) {
             self.watcher.passes();
@@ -80,6 +91,7 @@ impl<W: Selective> Watch for Selecting<W> {
 impl<W: Selective> Fated for Selecting<W> {
     ghost judges = { W.judges };
 
+    #[inline(always)]
     fn fated(
         &mut self,
         at: Place3,
@@ -109,5 +121,17 @@ impl<W: Selective> Skipping for Selecting<W> {
         }
         self.watcher.passes();
         true
+    }
+}
+
+impl<W: Selective + Brisk> Brisk for Selecting<W> {
+    #[inline(always)]
+    fn step_bare(&mut self, at: Place3, bare: Bare<'_>, faults: &mut Faults) -> Result<(), Memory> {
+        if !self.watcher.may_concern_bare(bare) {
+            self.watcher.passes();
+            return Ok(());
+        }
+        self.watcher.step_bare(at, bare, faults)?;
+        Ok(())
     }
 }

@@ -13,7 +13,7 @@ use crate::releases::Releases;
 use crate::requests::Requests;
 use crate::selective::Selecting;
 use crate::subs_all::Subs;
-use mq_rules::{Both, Fate, Faults, Memory, Note, Skipping, Tested, Watch};
+use mq_rules::{Bare, Both, Brisk, Fate, Faults, Memory, Note, Skipping, Tested, Watch};
 use mq_trace::Place3;
 use std::alloc::Global;
 
@@ -131,5 +131,13 @@ impl Skipping for Sessions {
     #[inline(always)]
     fn may_skip(&self, note: &Note) -> bool {
         self.watchers.may_skip(note)
+    }
+}
+
+impl Brisk for Sessions {
+    #[inline(always)]
+    fn step_bare(&mut self, at: Place3, bare: Bare<'_>, faults: &mut Faults) -> Result<(), Memory> {
+        self.watchers.step_bare(at, bare, faults)?;
+        Ok(())
     }
 }

@@ -4,14 +4,18 @@ ghost use Rattle.mq_rules.specs.declared.rule.Rule.TheVariants.{B01, B02, B03, B
 ghost use Rattle.mq_rules.specs.Rules.{same_rule};
 ghost use Rattle.mq_rules.specs.Under.{turns_known, either_adds};
 ghost use Rattle.mq_rules.specs.declared.fate.Fate.TheVariants.{Void};
+ghost use Rattle.mq_rules.specs.Notes.{note_of_bare};
 ghost use Rattle.mq_books.specs.Selecting as selecting;
 
 use crate::counts::{Counts, Subacks, Unsubacks};
 use crate::fated::Fated;
 use crate::selective::Selective;
 use crate::subs::Deliveries;
-use mq_rules::{Both, Fate, Faults, ItemNote, Memory, Note, PacketFields, Tested, Watch};
-use mq_trace::Place3;
+use mq_rules::{
+    Bare, BareFields, Both, Brisk, Fate, Faults, ItemNote, Memory, Note, PacketFields, Tested,
+    Watch, step_apart,
+};
+use mq_trace::{Direction, Place3};
 use std::alloc::Global;
 
 /// Watches B01 to B04.
@@ -82,6 +86,14 @@ impl Fated for Subs {
     ghost known_adds = { λ tested e past k r. either_adds ((same_rule r B01 || same_rule r B02) && turns_known tested e past k r) ((same_rule r B03 && turns_known tested e past k r) || (same_rule r B04 && turns_known tested e past k r)) (same_rule r B01 || same_rule r B02) (same_rule r B03 || same_rule r B04) (turns_known tested e past k r) refl (either_adds (same_rule r B03 && turns_known tested e past k r) (same_rule r B04 && turns_known tested e past k r) (same_rule r B03) (same_rule r B04) (turns_known tested e past k r) refl refl) };
 }
 
+impl Brisk for Subs {
+    #[inline(always)]
+    fn step_bare(&mut self, at: Place3, bare: Bare<'_>, faults: &mut Faults) -> Result<(), Memory> {
+        step_apart(self, at, bare, faults)?;
+        Ok(())
+    }
+}
+
 impl Selective for Subs {
     ghost concerns = { ⟦<Both<Deliveries, Both<Counts<Subacks>, Counts<Unsubacks>>> as Selective>⟧.concerns };
 
@@ -92,6 +104,11 @@ impl Selective for Subs {
     #[inline(always)]
     fn may_concern(&self, note: &Note) -> bool {
         may_concern_subscriptions(self.watchers.a.is_bound(), note)
+    }
+
+    #[inline(always)]
+    fn may_concern_bare(&self, bare: Bare<'_>) -> bool {
+        bare_may_concern_subscriptions(self.watchers.a.is_bound(), bare)
     }
 }
 
@@ -121,5 +138,29 @@ fn delivers_or_grants(bound: bool, fields: &PacketFields) -> bool
         PacketFields::Publish(publish) => bound || publish.topic_alias.is_some(),
         PacketFields::Suback { .. } | PacketFields::Unsuback { .. } => true,
         _ => false,
+    }
+}
+
+// Whether a packet without properties may have to do with what a client subscribed to.
+#[inline(always)]
+#[tactic(auto, unfolding(mq_rules::specs::Notes::note_of_bare))]
+fn bare_may_concern_subscriptions(bound: bool, bare: Bare<'_>) -> bool
+    ensures { result ≡ selecting.may_concern_subscriptions bound (note_of_bare bare.entry) }
+{
+    match bare.direction {
+        Direction::Sent => match bare.fields {
+            BareFields::Publish { .. } => bound,
+            BareFields::Puback { .. }
+            | BareFields::Pubrec { .. }
+            | BareFields::Pubrel { .. }
+            | BareFields::Pubcomp { .. } => false,
+        },
+        Direction::Recv => match bare.fields {
+            BareFields::Publish { .. } => false,
+            BareFields::Puback { .. }
+            | BareFields::Pubrec { .. }
+            | BareFields::Pubrel { .. }
+            | BareFields::Pubcomp { .. } => false,
+        },
     }
 }

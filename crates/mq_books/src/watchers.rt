@@ -7,7 +7,7 @@ ghost use Rattle.mq_books.specs.Burden.{burden};
 
 use crate::early::Early;
 use crate::sessions::Sessions;
-use mq_rules::{Both, Conn, Faults, Memory, Note, Shapes, Skipping, Tested, Watch};
+use mq_rules::{Bare, Both, Brisk, Conn, Faults, Memory, Note, Shapes, Skipping, Tested, Watch};
 use mq_trace::Place3;
 use std::alloc::Global;
 
@@ -66,5 +66,13 @@ impl Skipping for Watchers {
     #[inline(always)]
     fn may_skip(&self, note: &Note) -> bool {
         self.parts.may_skip(note)
+    }
+}
+
+impl Brisk for Watchers {
+    #[inline(always)]
+    fn step_bare(&mut self, at: Place3, bare: Bare<'_>, faults: &mut Faults) -> Result<(), Memory> {
+        self.parts.step_bare(at, bare, faults)?;
+        Ok(())
     }
 }

@@ -1,5 +1,5 @@
 //! What is kept of a Packet Identifier that is open in a session (MQTT 5.0, section 2.2.1).
-ghost use Rattle.std.specs.Prelude.{◌≡◌, ℕ, OnOk, nat_eq};
+ghost use Rattle.std.specs.Prelude.{◌≡◌, ℕ, OnOk, IfOk, is_some, nat_eq};
 ghost use Rattle.indexmap.specs.IndexMap.{get, IsUnique};
 ghost use Rattle.mq_rules.specs.Words.{is_id, is_some_and};
 ghost use Rattle.mq_rules.specs.Notes.{is_exactly_once, sent_publish};
@@ -48,8 +48,9 @@ fn send(entries: &mut IndexMap<u16, Entry>, identifier: Option<u16>, position: u
     }
 }
 
-// Takes in that a PUBREL is sent under an identifier.
-fn release(entries: &mut IndexMap<u16, Entry>, identifier: Option<u16>, position: u32)
+/// Takes in that a PUBREL is sent under an identifier.
+#[inline(always)]
+pub fn release(entries: &mut IndexMap<u16, Entry>, identifier: Option<u16>, position: u32)
     ensures entries { (i : ℕ) → get nat_eq entries.new i ≡ released_if (is_id i identifier) position (get nat_eq entries.old i) }
     ensures unique { IsUnique nat_eq entries.old → IsUnique nat_eq entries.new }
 {
@@ -61,8 +62,9 @@ fn release(entries: &mut IndexMap<u16, Entry>, identifier: Option<u16>, position
     }
 }
 
-// Takes in that a PUBREC below 0x80 is received under an identifier.
-fn confirm(entries: &mut IndexMap<u16, Entry>, identifier: Option<u16>)
+/// Takes in that a PUBREC below 0x80 is received under an identifier.
+#[inline(always)]
+pub fn confirm(entries: &mut IndexMap<u16, Entry>, identifier: Option<u16>)
     ensures entries { (i : ℕ) → get nat_eq entries.new i ≡ confirmed_if (is_id i identifier) (get nat_eq entries.old i) }
     ensures unique { IsUnique nat_eq entries.old → IsUnique nat_eq entries.new }
 {
@@ -73,8 +75,9 @@ fn confirm(entries: &mut IndexMap<u16, Entry>, identifier: Option<u16>)
     }
 }
 
-// Takes in that an identifier is set free.
-fn close(entries: &mut IndexMap<u16, Entry>, identifier: Option<u16>)
+/// Takes in that an identifier is set free.
+#[inline(always)]
+pub fn close(entries: &mut IndexMap<u16, Entry>, identifier: Option<u16>)
     ensures entries { (i : ℕ) → get nat_eq entries.new i ≡ closed_if (is_id i identifier) (get nat_eq entries.old i) }
     ensures unique { IsUnique nat_eq entries.old → IsUnique nat_eq entries.new }
 {
@@ -83,15 +86,17 @@ fn close(entries: &mut IndexMap<u16, Entry>, identifier: Option<u16>)
     }
 }
 
-// Takes in that an identifier is opened.
-fn open_new(
+/// Takes in that an identifier is opened, and returns whether it was open.
+#[inline(always)]
+pub fn open_new(
     entries: &mut IndexMap<u16, Entry>,
     identifier: Option<u16>,
     exactly_once: bool,
     at: Place3,
-) -> Result<(), Memory>
+) -> Result<bool, Memory>
     ensures entries { OnOk result ((i : ℕ) → get nat_eq entries.new i ≡ opened_if (is_id i identifier) exactly_once at (get nat_eq entries.old i)) }
     ensures unique { IsUnique nat_eq entries.old → OnOk result (IsUnique nat_eq entries.new) }
+    ensures busy { IfOk result (λ busy. busy ≡ is_some_and (λ i. is_some (get nat_eq entries.old i)) identifier) }
 {
     if let Some(i) = identifier {
         let entry = Entry {
@@ -101,9 +106,9 @@ fn open_new(
             released: false,
             sent: at.position,
         };
-        entries.insert(i, entry)?;
+        return Ok(entries.insert(i, entry)?.is_some());
     }
-    Ok(())
+    Ok(false)
 }
 
 // Takes in an event of the session.

@@ -150,7 +150,10 @@ pub fn take_confirmed(
     )
 }
 
-fn keep_confirmed(
+/// Keeps the identifier for which a PUBREC below 0x80 came, if it is open, and no longer the one
+/// that is set free.
+#[inline(always)]
+pub fn keep_confirmed(
     confirmed: &mut IndexSet<u16>,
     entries: &IndexMap<u16, Entry>,
     begun: Option<u16>,
@@ -164,7 +167,10 @@ fn keep_confirmed(
         }
     }
     if let Some(i) = ended {
-        confirmed.swap_remove(&i);
+        // In most logs none is kept.
+        if !confirmed.is_empty() {
+            confirmed.swap_remove(&i);
+        }
     }
     Ok(())
 }

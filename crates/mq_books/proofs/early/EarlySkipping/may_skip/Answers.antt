@@ -11,8 +11,8 @@ pub returns-then-is_settled : goal.returns-then-is_settled
 returns-then-is_settled g c = λ skips tested taken at past follows takes h.
     let s = c.args.self.now in
     let e = seen at c.args.note.now in
-    let first = both_true (is_some s.fate) (is_nothing s.held.items && not (is_open e.note)) (sym c.is_settled.ensures ∙ c.if-is_settled.true) in
-    let second = both_true (is_nothing s.held.items) (not (is_open e.note)) first.1 in
-    early-skips (g.W.Watch.agrees s.watcher tested) g.W.Fated.judges (g.W.Watch.adds tested e past) s.role s.fate s.held.items tested e past h follows first.0 second.0 (not_false (is_open e.note) second.1)
+    let first = both_true (is_some s.fate && is_nothing s.held.items) (not (is_open e.note)) (sym c.is_settled.ensures ∙ c.if-is_settled.true) in
+    let second = both_true (is_some s.fate) (is_nothing s.held.items) first.0 in
+    early-skips (g.W.Watch.agrees s.watcher tested) g.W.Fated.judges (g.W.Watch.adds tested e past) s.role s.fate s.held.items tested e past h follows second.0 second.1 (not_false (is_open e.note) first.1)
     (g.met.W.Fated.known_adds tested e past)
     (λ f known agree. c.may_skip.ensures skips tested (Some f) at past follows (g.met.W.Fated.known_taken tested (Some f) e past known) agree)

@@ -1,0 +1,258 @@
+//! Packets without properties, taken in by their numbers (MQTT 5.0, sections 2.2.1 and 4.3): a new
+//! PUBLISH, and what acknowledges one.
+ghost use Rattle.std.specs.Prelude.{◌≡◌, ◌<◌, ◌&&◌, ◌||◌, ℕ, List, Option, true, false, not, OnOk, OnErr, IfOk, Some, None, cond, is_some, nat_eq};
+ghost use Rattle.indexmap.specs.IndexMap.{get, IsUnique};
+ghost use Rattle.indexmap.specs.IndexSet.{contains};
+ghost use Rattle.mq_rules.specs.declared.role.Tested.{Tested};
+ghost use Rattle.mq_rules.specs.declared.fate.Fate.{Fate as TheFate};
+ghost use Rattle.mq_rules.specs.declared.note.Note.{Note as TheNote};
+ghost use Rattle.mq_rules.specs.declared.note.Seen.{Seen};
+ghost use Rattle.mq_rules.specs.declared.rule.Rule.{Rule as TheRule};
+ghost use Rattle.mq_rules.specs.FaultKeys.{FaultMap};
+ghost use Rattle.mq_rules.specs.Connections.{accepts};
+ghost use Rattle.mq_rules.specs.Growing.{GainsWithin};
+ghost use Rattle.mq_rules.specs.Under.{seen, Follows, IsKnown, turns_known};
+ghost use Rattle.mq_rules.specs.Notes.{note_of_bare, refuses, is_acknowledged, is_exactly_once as exactly_once};
+ghost use Rattle.mq_rules.specs.Words.{is_id, only};
+ghost use Rattle.mq_trace.specs.declared.kind.Direction.TheVariants as directions;
+ghost use Rattle.mq_books.specs.Quotas.{may_count as counts_now};
+ghost use Rattle.mq_books.specs.Moving.{Moves, IsMoved, IsStep, IsWithin, untouched};
+ghost use Rattle.mq_books.specs.Using.{IsUsing};
+
+use super::entry::{Entry, close, confirm, open_new, release};
+use super::resends::{Resent, keep_confirmed};
+use super::{Inflight, await_answer};
+use crate::known::judge_by;
+use crate::messages::is_acknowledged as acknowledges;
+use crate::quota::{flown_by, may_count};
+use indexmap::{IndexMap, IndexSet};
+use mq_packet::Qos;
+use mq_rules::{Bare, BareFields, Brisk, Faults, Memory, Rule, step_apart};
+use mq_trace::{Direction, Place3};
+
+// The identifier that a PUBLISH opens: its QoS is above 0, and DUP is 0.
+#[inline(always)]
+fn opened_by(identifier: Option<u16>, qos: Qos, duplicate: bool) -> Option<u16>
+    ensures { result ≡ only (not duplicate) (only (is_acknowledged qos) identifier) }
+{
+    if duplicate || !acknowledges(qos) {
+        return None;
+    }
+    identifier
+}
+
+#[inline(always)]
+fn is_exactly_once(qos: Qos) -> bool
+    ensures { result ≡ exactly_once qos }
+{
+    matches!(qos, Qos::ExactlyOnce)
+}
+
+// Whether a PUBREC below 0x80 comes for an identifier that is open and wasn't sent again on the
+// connection.
+#[inline(always)]
+fn confirms_late(entries: &IndexMap<u16, Entry>, opened: u32, pubrec: Option<u16>) -> bool
+    ensures { result ≡ untouched opened (get nat_eq entries.now) pubrec }
+{
+    match pubrec {
+        Some(i) => match entries.get(&i) {
+            Some(entry) => entry.sent < opened,
+            None => false,
+        },
+        None => false,
+    }
+}
+
+// Whether a SUBSCRIBE or an UNSUBSCRIBE under this identifier waits. In most logs none does.
+#[inline(always)]
+fn is_awaited(subscribing: &IndexSet<u16>, unsubscribing: &IndexSet<u16>, i: u16) -> bool
+    ensures { result ≡ (contains nat_eq subscribing.now i || contains nat_eq unsubscribing.now i) }
+{
+    is_in(subscribing, i) || is_in(unsubscribing, i)
+}
+
+#[inline(always)]
+fn either(a: bool, b: bool) -> bool
+    ensures { result ≡ (a || b) }
+{
+    a || b
+}
+
+// Whether a set has this identifier. Most sets are empty.
+#[inline(always)]
+fn is_in(set: &IndexSet<u16>, i: u16) -> bool
+    ensures { result ≡ contains nat_eq set.now i }
+{
+    if set.is_empty() {
+        return false;
+    }
+    set.contains(&i)
+}
+
+impl Inflight {
+    // Takes in what an event of a connection that is accepted does to identifiers. The answer is
+    // whether the one that it opens was open.
+    #[inline(always)]
+    fn shift(
+        &mut self,
+        at: Place3,
+        opener: Option<u16>,
+        exactly_once: bool,
+        closer: Option<u16>,
+        pubrel: Option<u16>,
+        pubrec: Option<u16>,
+    ) -> Result<bool, Memory>
+        ensures moved { OnOk result (IsMoved at opener exactly_once closer pubrel pubrec self.old self.new) }
+        ensures busy { (i : ℕ) → opener ≡ Some i → closer ≡ None → IfOk result (λ busy. busy ≡ is_some (get nat_eq self.old.entries i)) }
+    {
+        let alloc = self.alloc;
+        let late = confirms_late(&self.entries, self.opened, pubrec);
+        self.again = Resent {
+            all: self.again.all,
+            confirmed: self.again.confirmed && !late,
+        };
+        self.in_flight = flown_by(
+            may_count(self.role, self.peer),
+            opener.is_some(),
+            closer.is_some(),
+            self.in_flight,
+            at.position,
+        );
+        keep_confirmed(&mut self.confirmed, &self.entries, pubrec, closer)?;
+        release(&mut self.entries, pubrel, at.position);
+        confirm(&mut self.entries, pubrec);
+        close(&mut self.entries, closer);
+        let busy = open_new(&mut self.entries, opener, exactly_once, at)?;
+        await_answer(&mut self.delivering, alloc, false, opener, closer)?;
+        Ok(busy)
+    }
+
+    // Takes in a new PUBLISH under an identifier.
+    #[inline(never)]
+    fn open(
+        &mut self,
+        at: Place3,
+        i: u16,
+        exactly_once: bool,
+        faults: &mut Faults,
+    ) -> Result<(), Memory>
+        ensures ok { accepts self.old.fate ≡ true → OnOk result ((n : TheNote) (tested : Tested) (taken : Option TheFate) (past : List Seen) → Moves n (Some i) exactly_once None None None → Follows tested (seen at n) past → IsKnown tested taken (seen at n) past → IsUsing self.old tested taken past → IsStep at n self.new tested past faults.old faults.new) }
+        ensures memory { accepts self.old.fate ≡ true → OnErr result ((n : TheNote) (tested : Tested) (taken : Option TheFate) (past : List Seen) → Moves n (Some i) exactly_once None None None → Follows tested (seen at n) past → IsKnown tested taken (seen at n) past → IsUsing self.old tested taken past → IsWithin at n tested past faults.old faults.new) }
+    {
+        let awaited = is_awaited(&self.subscribing, &self.unsubscribing, i);
+        let busy = self.shift(at, Some(i), exactly_once, None, None, None)?;
+        judge_by(Rule::S01, either(busy, awaited), at, at.position, faults)?;
+        Ok(())
+    }
+
+    // Takes in that an identifier is set free.
+    #[inline(never)]
+    fn set_free(&mut self, at: Place3, i: u16) -> Result<(), Memory>
+        ensures { accepts self.old.fate ≡ true → OnOk result ((n : TheNote) (tested : Tested) (taken : Option TheFate) (past : List Seen) (m : FaultMap) → Moves n None false (Some i) None None → Follows tested (seen at n) past → IsKnown tested taken (seen at n) past → IsUsing self.old tested taken past → IsStep at n self.new tested past m m) }
+    {
+        self.shift(at, None, false, Some(i), None, None)?;
+        Ok(())
+    }
+
+    // Takes in that a PUBREL is sent under an identifier.
+    #[inline(never)]
+    fn send_pubrel(&mut self, at: Place3, i: u16) -> Result<(), Memory>
+        ensures { accepts self.old.fate ≡ true → OnOk result ((n : TheNote) (tested : Tested) (taken : Option TheFate) (past : List Seen) (m : FaultMap) → Moves n None false None (Some i) None → Follows tested (seen at n) past → IsKnown tested taken (seen at n) past → IsUsing self.old tested taken past → IsStep at n self.new tested past m m) }
+    {
+        self.shift(at, None, false, None, Some(i), None)?;
+        Ok(())
+    }
+
+    // Takes in a PUBREC that is received: from 0x80 on it sets its identifier free.
+    #[inline(never)]
+    fn take_pubrec(&mut self, at: Place3, i: u16, code: u8) -> Result<(), Memory>
+        ensures { accepts self.old.fate ≡ true → OnOk result ((n : TheNote) (tested : Tested) (taken : Option TheFate) (past : List Seen) (m : FaultMap) → Moves n None false (only (refuses code) (Some i)) None (only (not (refuses code)) (Some i)) → Follows tested (seen at n) past → IsKnown tested taken (seen at n) past → IsUsing self.old tested taken past → IsStep at n self.new tested past m m) }
+    {
+        if code < 0x80 {
+            self.receive_pubrec(at, i)?;
+            return Ok(());
+        }
+        self.set_free(at, i)?;
+        Ok(())
+    }
+
+    // Takes in that a PUBREC below 0x80 is received under an identifier.
+    #[inline(never)]
+    fn receive_pubrec(&mut self, at: Place3, i: u16) -> Result<(), Memory>
+        ensures { accepts self.old.fate ≡ true → OnOk result ((n : TheNote) (tested : Tested) (taken : Option TheFate) (past : List Seen) (m : FaultMap) → Moves n None false None None (Some i) → Follows tested (seen at n) past → IsKnown tested taken (seen at n) past → IsUsing self.old tested taken past → IsStep at n self.new tested past m m) }
+    {
+        self.shift(at, None, false, None, None, Some(i))?;
+        Ok(())
+    }
+}
+
+impl Inflight {
+    // Takes in a packet without properties that is sent on a connection that is accepted.
+    #[inline(always)]
+    fn take_sent(&mut self, at: Place3, bare: Bare<'_>, faults: &mut Faults) -> Result<(), Memory>
+        ensures agrees { accepts self.old.fate ≡ true → bare.entry.direction ≡ directions.Sent → OnOk result ((tested : Tested) (taken : Option TheFate) (past : List Seen) → Follows tested (seen at (note_of_bare bare.entry)) past → IsKnown tested taken (seen at (note_of_bare bare.entry)) past → IsUsing self.old tested taken past → IsStep at (note_of_bare bare.entry) self.new tested past faults.old faults.new) }
+        ensures memory { accepts self.old.fate ≡ true → bare.entry.direction ≡ directions.Sent → OnErr result ((tested : Tested) (taken : Option TheFate) (past : List Seen) → Follows tested (seen at (note_of_bare bare.entry)) past → IsKnown tested taken (seen at (note_of_bare bare.entry)) past → IsUsing self.old tested taken past → IsWithin at (note_of_bare bare.entry) tested past faults.old faults.new) }
+    {
+        match bare.fields {
+            BareFields::Publish {
+                identifier,
+                qos,
+                duplicate,
+                ..
+            } => match opened_by(identifier, qos, duplicate) {
+                Some(i) => {
+                    self.open(at, i, is_exactly_once(qos), faults)?;
+                    Ok(())
+                }
+                None => step_apart(self, at, bare, faults),
+            },
+            BareFields::Pubrel { identifier, .. } => {
+                self.send_pubrel(at, identifier)?;
+                Ok(())
+            }
+            _ => step_apart(self, at, bare, faults),
+        }
+    }
+
+    // Takes in one that is received.
+    #[inline(always)]
+    fn take_received(
+        &mut self,
+        at: Place3,
+        bare: Bare<'_>,
+        faults: &mut Faults,
+    ) -> Result<(), Memory>
+        ensures agrees { accepts self.old.fate ≡ true → bare.entry.direction ≡ directions.Recv → OnOk result ((tested : Tested) (taken : Option TheFate) (past : List Seen) → Follows tested (seen at (note_of_bare bare.entry)) past → IsKnown tested taken (seen at (note_of_bare bare.entry)) past → IsUsing self.old tested taken past → IsStep at (note_of_bare bare.entry) self.new tested past faults.old faults.new) }
+        ensures memory { accepts self.old.fate ≡ true → bare.entry.direction ≡ directions.Recv → OnErr result ((tested : Tested) (taken : Option TheFate) (past : List Seen) → Follows tested (seen at (note_of_bare bare.entry)) past → IsKnown tested taken (seen at (note_of_bare bare.entry)) past → IsUsing self.old tested taken past → IsWithin at (note_of_bare bare.entry) tested past faults.old faults.new) }
+    {
+        match bare.fields {
+            BareFields::Puback { identifier, .. } => {
+                self.set_free(at, identifier)?;
+                Ok(())
+            }
+            BareFields::Pubcomp { identifier, .. } => {
+                self.set_free(at, identifier)?;
+                Ok(())
+            }
+            BareFields::Pubrec { identifier, code } => {
+                self.take_pubrec(at, identifier, code)?;
+                Ok(())
+            }
+            _ => step_apart(self, at, bare, faults),
+        }
+    }
+}
+
+impl Brisk for Inflight {
+    #[inline(always)]
+    fn step_bare(&mut self, at: Place3, bare: Bare<'_>, faults: &mut Faults) -> Result<(), Memory> {
+        if !self.fate.accepts() {
+            step_apart(self, at, bare, faults)?;
+            return Ok(());
+        }
+        match bare.direction {
+            Direction::Sent => self.take_sent(at, bare, faults),
+            Direction::Recv => self.take_received(at, bare, faults),
+        }
+    }
+}
