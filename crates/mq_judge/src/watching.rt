@@ -7,12 +7,14 @@ ghost use Rattle.mq_trace.specs.Events.{packet as packet_item};
 ghost use Rattle.mq_trace.specs.Flows.{item_event};
 ghost use Rattle.mq_trace.specs.Reception.{event_of};
 ghost use Rattle.mq_rules.specs.declared.packet_note.PacketFields.TheVariants as fields_of;
-ghost use Rattle.mq_rules.specs.Notes.{tested_as, note_of, bare_note, bare_publish_note};
+ghost use Rattle.mq_rules.specs.Notes.{tested_as, note_of, bare_note, bare_publish_note, bare_fields, note_of_bare};
 ghost use Rattle.mq_judge.specs.Watching.{IsWatching, TakesIn, LeavesOut};
 
 use mq_books::Watchers;
 use mq_packet::{Packet, Publish, Qos};
-use mq_rules::{Faults, Memory, Note, PacketFields, Skipping, Tested, Watch, is_bare};
+use mq_rules::{
+    Bare, BareFields, Brisk, Faults, Memory, Note, PacketFields, Skipping, Tested, Watch, is_bare,
+};
 use mq_trace::{Direction, Event, Header, Place3, Refusal, Sink};
 use std::alloc::Global;
 use std::marker::{Brand, PhantomData};
@@ -106,6 +108,25 @@ impl Watching {
             }
             Err(Memory) => {
                 self.faults.drop_decided(place.position);
+                Err(Memory)
+            }
+        }
+    }
+
+    // The same of a packet without properties, by its parts.
+    #[inline(always)]
+    fn take_bare(&mut self, at: Place3, bare: Bare<'_>) -> Result<(), Memory>
+        ensures tested { self.new.tested ≡ self.old.tested }
+        ensures ok { OnOk result (TakesIn self.old self.new at (note_of_bare bare.entry)) }
+        ensures memory { OnErr result (LeavesOut self.old self.new at (note_of_bare bare.entry)) }
+    {
+        match self.watchers.step_bare(at, bare, &mut self.faults) {
+            Ok(()) => {
+                self.events = at.position;
+                Ok(())
+            }
+            Err(Memory) => {
+                self.faults.drop_decided(at.position);
                 Err(Memory)
             }
         }
@@ -207,8 +228,111 @@ impl Watching {
         ensures ok { OnOk result (TakesIn self.old self.new place (bare_note direction size (fields_of.Publish (bare_publish_note direction identifier qos duplicate topic.now)))) }
         ensures memory { OnErr result (LeavesOut self.old self.new place (bare_note direction size (fields_of.Publish (bare_publish_note direction identifier qos duplicate topic.now)))) }
     {
-        let note = Note::of_bare_publish(direction, size, identifier, qos, duplicate, topic);
-        self.take_in(place, &note)
+        let bare = Bare::of_publish(direction, size, identifier, qos, duplicate, topic);
+        self.take_bare(place, bare)
+    }
+
+    // Takes in what acknowledges a PUBLISH, and has no properties.
+    #[inline(always)]
+    fn take_acknowledgement(
+        &mut self,
+        place: Place3,
+        direction: Direction,
+        size: u32,
+        fields: BareFields<'_>,
+    ) -> Result<(), Memory>
+        ensures tested { self.new.tested ≡ self.old.tested }
+        ensures ok { OnOk result (TakesIn self.old self.new place (bare_note direction size (bare_fields direction fields.entry))) }
+        ensures memory { OnErr result (LeavesOut self.old self.new place (bare_note direction size (bare_fields direction fields.entry))) }
+    {
+        match direction {
+            Direction::Sent => self.take_bare(
+                place,
+                Bare {
+                    direction: Direction::Sent,
+                    size,
+                    fields,
+                },
+            ),
+            Direction::Recv => self.take_bare(
+                place,
+                Bare {
+                    direction: Direction::Recv,
+                    size,
+                    fields,
+                },
+            ),
+        }
+    }
+
+    // One function for each type: in it the compiler leaves out all that has nothing to do with it.
+
+    #[inline(never)]
+    fn take_puback(
+        &mut self,
+        place: Place3,
+        direction: Direction,
+        size: u32,
+        identifier: u16,
+        code: u8,
+    ) -> Result<(), Memory>
+        ensures tested { self.new.tested ≡ self.old.tested }
+        ensures ok { OnOk result (TakesIn self.old self.new place (bare_note direction size (fields_of.Puback identifier code))) }
+        ensures memory { OnErr result (LeavesOut self.old self.new place (bare_note direction size (fields_of.Puback identifier code))) }
+    {
+        let fields = BareFields::Puback { identifier, code };
+        self.take_acknowledgement(place, direction, size, fields)
+    }
+
+    #[inline(never)]
+    fn take_pubrec(
+        &mut self,
+        place: Place3,
+        direction: Direction,
+        size: u32,
+        identifier: u16,
+        code: u8,
+    ) -> Result<(), Memory>
+        ensures tested { self.new.tested ≡ self.old.tested }
+        ensures ok { OnOk result (TakesIn self.old self.new place (bare_note direction size (fields_of.Pubrec identifier code))) }
+        ensures memory { OnErr result (LeavesOut self.old self.new place (bare_note direction size (fields_of.Pubrec identifier code))) }
+    {
+        let fields = BareFields::Pubrec { identifier, code };
+        self.take_acknowledgement(place, direction, size, fields)
+    }
+
+    #[inline(never)]
+    fn take_pubrel(
+        &mut self,
+        place: Place3,
+        direction: Direction,
+        size: u32,
+        identifier: u16,
+        code: u8,
+    ) -> Result<(), Memory>
+        ensures tested { self.new.tested ≡ self.old.tested }
+        ensures ok { OnOk result (TakesIn self.old self.new place (bare_note direction size (fields_of.Pubrel identifier code))) }
+        ensures memory { OnErr result (LeavesOut self.old self.new place (bare_note direction size (fields_of.Pubrel identifier code))) }
+    {
+        let fields = BareFields::Pubrel { identifier, code };
+        self.take_acknowledgement(place, direction, size, fields)
+    }
+
+    #[inline(never)]
+    fn take_pubcomp(
+        &mut self,
+        place: Place3,
+        direction: Direction,
+        size: u32,
+        identifier: u16,
+        code: u8,
+    ) -> Result<(), Memory>
+        ensures tested { self.new.tested ≡ self.old.tested }
+        ensures ok { OnOk result (TakesIn self.old self.new place (bare_note direction size (fields_of.Pubcomp identifier code))) }
+        ensures memory { OnErr result (LeavesOut self.old self.new place (bare_note direction size (fields_of.Pubcomp identifier code))) }
+    {
+        let fields = BareFields::Pubcomp { identifier, code };
+        self.take_acknowledgement(place, direction, size, fields)
     }
 
     // Takes in the next event, a packet.
@@ -229,7 +353,21 @@ impl Watching {
         if self.pass_ping(place, direction, size, &packet) {
             return Ok(());
         }
-        self.take_packet(place, direction, size, packet)
+        match BareFields::of_acknowledgement(&packet) {
+            Some(BareFields::Puback { identifier, code }) => {
+                self.take_puback(place, direction, size, identifier, code)
+            }
+            Some(BareFields::Pubrec { identifier, code }) => {
+                self.take_pubrec(place, direction, size, identifier, code)
+            }
+            Some(BareFields::Pubrel { identifier, code }) => {
+                self.take_pubrel(place, direction, size, identifier, code)
+            }
+            Some(BareFields::Pubcomp { identifier, code }) => {
+                self.take_pubcomp(place, direction, size, identifier, code)
+            }
+            _ => self.take_packet(place, direction, size, packet),
+        }
     }
 
     // Takes in the next event, a PUBLISH that has these fields, a short Topic Name, and no
