@@ -1,12 +1,12 @@
-//! Packets in their shortest form, which are most packets of a log: a PUBLISH of QoS 0 with no
-//! properties, an acknowledgement that is no more than a Packet Identifier, PINGREQ and PINGRESP.
+//! Packets in their shortest form, which are most packets of a log: a PUBLISH with no properties, an
+//! acknowledgement that is no more than a Packet Identifier, PINGREQ and PINGRESP.
 //!
 //! Each is decoded by a function in which no other packet is possible, so that it takes no stack
 //! for others.
 
 ghost use Rattle.std.specs.Prelude.{◌≡◌, ◌≤◌, ◌<◌, IfSome, is_some, Ok, Some, length};
 ghost use Rattle.mq_packet.specs.declared.packet.Packet.TheVariants as packets;
-ghost use Rattle.mq_packet.specs.Brief.{has_no_properties, is_brief, is_brief_acknowledgement, is_ping};
+ghost use Rattle.mq_packet.specs.Brief.{has_no_properties, is_brief, is_brief_identified, is_brief_acknowledgement, is_ping};
 ghost use Rattle.mq_packet.specs.FirstBytes.{flags_in};
 ghost use Rattle.mq_packet.specs.Entries.{none_listed, acknowledgement_place};
 ghost use Rattle.mq_packet.specs.Decoding.{decoded};
@@ -15,9 +15,10 @@ ghost use Rattle.mq_packet.specs.Sizes.{remaining_length};
 
 use crate::first_bytes::{PINGREQ, PINGRESP, PUBACK, PUBCOMP, PUBREC, PUBREL, flags};
 use crate::header::header_len;
-use crate::packet::{Acknowledgement, AcknowledgementKind, Packet, Publish};
-use crate::reading::{SUCCESS, read_brief_publish};
-use mq_props::{Props, after_empty_list};
+use crate::packet::{Acknowledgement, AcknowledgementKind, Packet, Publish, Qos};
+use crate::protocol::{DUP, QOS, QOS_ONE, RETAIN};
+use crate::reading::{SUCCESS, brief_topic, identified_topic};
+use mq_props::{Place, Props, after_empty_list};
 use mq_wire::Cursor;
 
 /// Whether the body of a PUBLISH of QoS 0 has a Topic Name that isn't cut short, and no properties
@@ -58,8 +59,62 @@ fn read_brief_body<'a>(first: u8, body: &'a [u8]) -> Option<Publish<'a>>
     ensures brief { is_some result ≡ is_brief (flags_in first) body.now }
     ensures exact { IfSome result (λ publish. decoded first body.now ≡ Ok (view (packets.Publish publish))) }
 {
+    let flags = flags(first);
     let cursor = Cursor::starting_at(body, header_len(body.len() as u32));
-    read_brief_publish(flags(first), cursor)
+    let topic = brief_topic(flags, cursor)?;
+    Some(Publish {
+        duplicate: false,
+        qos: Qos::AtMostOnce,
+        retain: flags & RETAIN != 0,
+        topic,
+        identifier: None,
+        properties: Props::empty(Place::Publish),
+        payload: &body[topic.len() + 3..],
+    })
+}
+
+/// The PUBLISH that has this first byte and this body, if it has QoS 1 or 2, a plain Topic Name that
+/// isn't empty, a Packet Identifier other than 0, and no properties, as most have: the packet that
+/// [`decode`](crate::decode) returns for them. `None` for any other packet, and for a fault.
+#[inline(always)]
+pub fn decode_identified_publish<'a>(first: u8, body: &'a [u8]) -> Option<Publish<'a>>
+    requires from { 48 ≤ first }
+    requires to { first < 64 }
+    requires bound { length body.now ≤ 268435455 }
+    ensures brief { is_some result ≡ is_brief_identified (flags_in first) body.now }
+    ensures exact { IfSome result (λ publish. decoded first body.now ≡ Ok (view (packets.Publish publish))) }
+    ensures size { IfSome result (λ publish. remaining_length (packets.Publish publish) ≡ length body.now) }
+{
+    read_identified_body(first, body)
+}
+
+#[inline(always)]
+#[tactic(auto, unfolding(crate::specs::Decoding::decoded, crate::specs::Decoding::body_start))]
+fn read_identified_body<'a>(first: u8, body: &'a [u8]) -> Option<Publish<'a>>
+    requires from { 48 ≤ first }
+    requires to { first < 64 }
+    requires bound { length body.now ≤ 268435455 }
+    ensures brief { is_some result ≡ is_brief_identified (flags_in first) body.now }
+    ensures exact { IfSome result (λ publish. decoded first body.now ≡ Ok (view (packets.Publish publish))) }
+{
+    let flags = flags(first);
+    let cursor = Cursor::starting_at(body, header_len(body.len() as u32));
+    let topic = identified_topic(flags, cursor)?;
+    let len = topic.len();
+    let qos = if flags & QOS == QOS_ONE {
+        Qos::AtLeastOnce
+    } else {
+        Qos::ExactlyOnce
+    };
+    Some(Publish {
+        duplicate: flags & DUP != 0,
+        qos,
+        retain: flags & RETAIN != 0,
+        topic,
+        identifier: Some(u16::from_be_bytes([body[len + 2], body[len + 3]])),
+        properties: Props::empty(Place::Publish),
+        payload: &body[len + 5..],
+    })
 }
 
 /// The PUBACK, PUBREC, PUBREL or PUBCOMP that has this first byte and this body, if the body is no

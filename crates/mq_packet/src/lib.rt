@@ -29,7 +29,8 @@ mod validity;
 mod writing;
 
 pub use brief::{
-    decode_brief_acknowledgement, decode_brief_publish, decode_ping, has_no_properties,
+    decode_brief_acknowledgement, decode_brief_publish, decode_identified_publish, decode_ping,
+    has_no_properties,
 };
 pub use cutting::cut;
 pub use decoding::{decode, decode_publish};

@@ -29,7 +29,7 @@ pub use fields::SUCCESS;
 use fields::whole;
 pub use lists::check_filters;
 use mq_wire::Cursor;
-pub use publish::{names_topic, read_brief_publish, read_publish};
+pub use publish::{brief_topic, identified_topic, names_topic, read_publish};
 use reason_packet::read_reason_packet;
 pub use request::{read_answer, read_request};
 

@@ -2,6 +2,7 @@
 //! lists below them. All its tests are here, since the functions of a crate that has tests are
 //! proved once more for them.
 
+mod brief;
 mod changed;
 mod cuts;
 mod encoding;

@@ -29,7 +29,8 @@ use super::sink::Sink;
 use super::unfinished::Unfinished;
 use mq_packet::{
     DecodeFault, FixedHeader, Packet, PacketRule, Publish, decode, decode_brief_acknowledgement,
-    decode_brief_publish, decode_ping, decode_publish, fixed_header, has_no_properties,
+    decode_brief_publish, decode_identified_publish, decode_ping, decode_publish, fixed_header,
+    has_no_properties,
 };
 use std::alloc::Global;
 
@@ -383,7 +384,8 @@ pub fn emit_frame<S: Sink>(
         0x30..0x32 if has_no_properties(frame.body()) => {
             emit_brief_publish_frame(context, connections, at, frame, sink)
         }
-        0x30..0x40 => emit_publish_frame(context, connections, at, frame, sink),
+        0x30..0x32 => emit_publish_frame(context, connections, at, frame, sink),
+        0x32..0x40 => emit_identified_publish_frame(context, connections, at, frame, sink),
         0x40 => emit_puback_frame(context, connections, at, frame, sink),
         0xC0..0xE0 => emit_ping_frame(context, connections, at, frame, sink),
         _ => emit_other_frame(context, connections, at, frame, sink),
@@ -408,6 +410,29 @@ fn emit_brief_publish_frame<S: Sink>(
     ensures err { IfErr result (λ refusal. NotEmitted (Declines S.agrees S.refuses) at (refusal_at_frame at context.now connections.old frame.now.bytes.now) (put (placed_frame at context.now connections.old frame.now.bytes.now) []) sink.old sink.new refusal) }
 {
     match decode_brief_publish(frame.first(), frame.body()) {
+        Some(publish) => emit_decoded_publish(context, connections, at, frame, publish, sink),
+        None => emit_publish_frame(context, connections, at, frame, sink),
+    }
+}
+
+// Emits a PUBLISH of QoS 1 or 2. Most have a plain Topic Name and no properties.
+#[inline(never)]
+fn emit_identified_publish_frame<S: Sink>(
+    context: &BodyContext,
+    connections: &mut Connections,
+    at: u64,
+    frame: &Frame<'_>,
+    sink: &mut S,
+) -> Result<(), Refusal>
+    requires frame { IsFrame frame.now }
+    requires publish { (48 ≤ slice_index frame.now.bytes.now 0) × (slice_index frame.now.bytes.now 0 < 64) }
+    ensures met { OnOk result (refusal_at_frame at context.now connections.old frame.now.bytes.now ≡ None) }
+    ensures kept { OnOk result (connections.new ≡ connections_then context.now.server connections.old (frame_event context.now.direction frame.now.bytes.now)) }
+    ensures receives { (earlier : List Placed) → S.agrees sink.old earlier → AreEvents (put (placed_frame at context.now connections.old frame.now.bytes.now) earlier)
+        → OnOk result (S.agrees sink.new (put (placed_frame at context.now connections.old frame.now.bytes.now) earlier)) }
+    ensures err { IfErr result (λ refusal. NotEmitted (Declines S.agrees S.refuses) at (refusal_at_frame at context.now connections.old frame.now.bytes.now) (put (placed_frame at context.now connections.old frame.now.bytes.now) []) sink.old sink.new refusal) }
+{
+    match decode_identified_publish(frame.first(), frame.body()) {
         Some(publish) => emit_decoded_publish(context, connections, at, frame, publish, sink),
         None => emit_publish_frame(context, connections, at, frame, sink),
     }

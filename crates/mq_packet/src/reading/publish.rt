@@ -1,11 +1,13 @@
 //! The reader of PUBLISH (MQTT 5.0, section 3.3).
 
-ghost use Rattle.std.specs.Prelude.{◌≡◌, Ok, IfOk, IfSome, is_some, if◌then◌else◌};
+ghost use Rattle.std.specs.Prelude.{◌≡◌, ◌+◌, ◌≤◌, ◌==◌, Bool, Ok, IfOk, IfSome, is_some, length, bit_and, if◌then◌else◌};
 ghost use Rattle.mq_props.specs.declared.table.Place.TheVariants as places;
 ghost use Rattle.mq_packet.specs.declared.rule.PacketRule.TheVariants as rules;
 ghost use Rattle.mq_packet.specs.Entries.{publish, listed};
 ghost use Rattle.mq_packet.specs.Formats.{bad_first_byte, properties, alias_objection, names_topic, has_bits, qos_of, publish_format, publish_unacknowledged, publish_acknowledged, publish_from};
-ghost use Rattle.mq_packet.specs.Brief.{is_brief, is_brief_body};
+ghost use Rattle.mq_packet.specs.declared.packet.Qos.{Qos as TheQos};
+ghost use Rattle.mq_packet.specs.declared.packet.Qos.TheVariants.{AtLeastOnce, ExactlyOnce};
+ghost use Rattle.mq_packet.specs.Brief.{is_brief, is_brief_body, brief_fields, is_brief_identified, is_identified_body, identified_fields, starts_identified};
 ghost use Rattle.mq_packet.specs.Decoding.{read, read_field};
 ghost use Rattle.mq_packet.specs.Reading.{ReadsField, Reads, publish_view};
 
@@ -40,12 +42,13 @@ pub fn read_publish<'a>(flags: u8, cursor: Cursor<'a>) -> Result<Publish<'a>, Re
     }
 }
 
-/// Reads a PUBLISH with these flags from all that is left, if it has QoS 0, a plain Topic Name that
-/// isn't empty, and no properties, as most have. `None` for any other: [`read_publish`] reads it.
+/// The Topic Name of a PUBLISH with these flags whose body is left, if it has QoS 0, a plain Topic
+/// Name that isn't empty, and no properties, as most have. `None` for any other.
 #[inline(always)]
-pub fn read_brief_publish<'a>(flags: u8, cursor: Cursor<'a>) -> Option<Publish<'a>>
+pub fn brief_topic<'a>(flags: u8, cursor: Cursor<'a>) -> Option<&'a str>
     ensures brief { is_some result ≡ is_brief flags cursor.entry.rest }
-    ensures exact { IfSome result (λ p. read (publish_format flags) cursor.entry ≡ Ok (publish (publish_view p))) }
+    ensures exact { IfSome result (λ topic. read (publish_format flags) cursor.entry ≡ Ok (publish (brief_fields (has_bits 1 flags) topic.now cursor.entry.rest))) }
+    ensures long { IfSome result (λ topic. length topic.now + 3 ≤ length cursor.entry.rest) }
 {
     if flags & QOS != 0 {
         return None;
@@ -53,28 +56,69 @@ pub fn read_brief_publish<'a>(flags: u8, cursor: Cursor<'a>) -> Option<Publish<'
     if flags & DUP != 0 {
         return None;
     }
-    read_brief(cursor, flags & RETAIN != 0)
+    topic_without_properties(cursor)
 }
 
 #[inline(always)]
-fn read_brief<'a>(mut cursor: Cursor<'a>, retain: bool) -> Option<Publish<'a>>
+fn topic_without_properties<'a>(mut cursor: Cursor<'a>) -> Option<&'a str>
     ensures brief { is_some result ≡ is_brief_body cursor.entry.rest }
-    ensures exact { IfSome result (λ p. read (publish_unacknowledged retain) cursor.entry ≡ Ok (publish (publish_view p))) }
+    ensures exact { (retain : Bool) → IfSome result (λ topic. read (publish_unacknowledged retain) cursor.entry ≡ Ok (publish (brief_fields retain topic.now cursor.entry.rest))) }
+    ensures long { IfSome result (λ topic. length topic.now + 3 ≤ length cursor.entry.rest) }
 {
     let topic = cursor.plain_text()?;
     if topic.is_empty() {
         return None;
     }
-    let payload = after_empty_list(cursor.rest())?;
-    Some(Publish {
-        duplicate: false,
-        qos: Qos::AtMostOnce,
-        retain,
-        topic,
-        identifier: None,
-        properties: Props::empty(Place::Publish),
-        payload,
-    })
+    match after_empty_list(cursor.rest()) {
+        Some(_) => Some(topic),
+        None => None,
+    }
+}
+
+/// The Topic Name of a PUBLISH with these flags whose body is left, if it has QoS 1 or 2, a plain
+/// Topic Name that isn't empty, a Packet Identifier other than 0, and no properties, as most have.
+/// `None` for any other.
+#[inline(always)]
+pub fn identified_topic<'a>(flags: u8, cursor: Cursor<'a>) -> Option<&'a str>
+    ensures brief { is_some result ≡ is_brief_identified flags cursor.entry.rest }
+    ensures exact { IfSome result (λ topic. read (publish_format flags) cursor.entry ≡ Ok (publish (identified_fields (has_bits 8 flags) (if bit_and flags 6 == 2 then AtLeastOnce else ExactlyOnce) (has_bits 1 flags) topic.now cursor.entry.rest))) }
+    ensures long { IfSome result (λ topic. length topic.now + 5 ≤ length cursor.entry.rest) }
+{
+    match flags & QOS {
+        QOS_ONE | QOS_TWO => topic_with_identifier(cursor),
+        _ => None,
+    }
+}
+
+#[inline(always)]
+fn topic_with_identifier<'a>(mut cursor: Cursor<'a>) -> Option<&'a str>
+    ensures brief { is_some result ≡ is_identified_body cursor.entry.rest }
+    ensures exact { (duplicate : Bool) (qos : TheQos) (retain : Bool) → IfSome result (λ topic. read (publish_acknowledged duplicate qos retain) cursor.entry ≡ Ok (publish (identified_fields duplicate qos retain topic.now cursor.entry.rest))) }
+    ensures long { IfSome result (λ topic. length topic.now + 5 ≤ length cursor.entry.rest) }
+{
+    let topic = cursor.plain_text()?;
+    if topic.is_empty() {
+        return None;
+    }
+    if !starts_identified(cursor.rest()) {
+        return None;
+    }
+    Some(topic)
+}
+
+// Whether a Packet Identifier other than 0 is at the front of these bytes, and an empty property
+// list is next.
+#[inline(always)]
+fn starts_identified(bytes: &[u8]) -> bool
+    ensures { result ≡ starts_identified bytes.now }
+{
+    let [high, low, rest @ ..] = bytes else {
+        return false;
+    };
+    if u16::from_be_bytes([*high, *low]) == 0 {
+        return false;
+    }
+    after_empty_list(rest).is_some()
 }
 
 #[inline(always)]
