@@ -387,7 +387,8 @@ pub fn emit_frame<S: Sink>(
         0x30..0x32 => emit_publish_frame(context, connections, at, frame, sink),
         0x32..0x40 => emit_identified_publish_frame(context, connections, at, frame, sink),
         0x40 => emit_puback_frame(context, connections, at, frame, sink),
-        0xC0..0xE0 => emit_ping_frame(context, connections, at, frame, sink),
+        0xC0 => emit_pingreq_frame(context, connections, at, frame, sink),
+        0xD0 => emit_pingresp_frame(context, connections, at, frame, sink),
         _ => emit_other_frame(context, connections, at, frame, sink),
     }
 }
@@ -485,9 +486,9 @@ fn emit_puback_frame<S: Sink>(
     }
 }
 
-// Emits a PINGREQ or PINGRESP.
+// Emits a PINGREQ. The first byte is a constant here, as above.
 #[inline(never)]
-fn emit_ping_frame<S: Sink>(
+fn emit_pingreq_frame<S: Sink>(
     context: &BodyContext,
     connections: &mut Connections,
     at: u64,
@@ -495,13 +496,37 @@ fn emit_ping_frame<S: Sink>(
     sink: &mut S,
 ) -> Result<(), Refusal>
     requires frame { IsFrame frame.now }
+    requires pingreq { slice_index frame.now.bytes.now 0 ≡ 192 }
     ensures met { OnOk result (refusal_at_frame at context.now connections.old frame.now.bytes.now ≡ None) }
     ensures kept { OnOk result (connections.new ≡ connections_then context.now.server connections.old (frame_event context.now.direction frame.now.bytes.now)) }
     ensures receives { (earlier : List Placed) → S.agrees sink.old earlier → AreEvents (put (placed_frame at context.now connections.old frame.now.bytes.now) earlier)
         → OnOk result (S.agrees sink.new (put (placed_frame at context.now connections.old frame.now.bytes.now) earlier)) }
     ensures err { IfErr result (λ refusal. NotEmitted (Declines S.agrees S.refuses) at (refusal_at_frame at context.now connections.old frame.now.bytes.now) (put (placed_frame at context.now connections.old frame.now.bytes.now) []) sink.old sink.new refusal) }
 {
-    match decode_ping(frame.first(), frame.body()) {
+    match decode_ping(0xC0, frame.body()) {
+        Some(packet) => emit_decoded(context, connections, at, frame, packet, sink),
+        None => emit_other_frame(context, connections, at, frame, sink),
+    }
+}
+
+// Emits a PINGRESP, likewise.
+#[inline(never)]
+fn emit_pingresp_frame<S: Sink>(
+    context: &BodyContext,
+    connections: &mut Connections,
+    at: u64,
+    frame: &Frame<'_>,
+    sink: &mut S,
+) -> Result<(), Refusal>
+    requires frame { IsFrame frame.now }
+    requires pingresp { slice_index frame.now.bytes.now 0 ≡ 208 }
+    ensures met { OnOk result (refusal_at_frame at context.now connections.old frame.now.bytes.now ≡ None) }
+    ensures kept { OnOk result (connections.new ≡ connections_then context.now.server connections.old (frame_event context.now.direction frame.now.bytes.now)) }
+    ensures receives { (earlier : List Placed) → S.agrees sink.old earlier → AreEvents (put (placed_frame at context.now connections.old frame.now.bytes.now) earlier)
+        → OnOk result (S.agrees sink.new (put (placed_frame at context.now connections.old frame.now.bytes.now) earlier)) }
+    ensures err { IfErr result (λ refusal. NotEmitted (Declines S.agrees S.refuses) at (refusal_at_frame at context.now connections.old frame.now.bytes.now) (put (placed_frame at context.now connections.old frame.now.bytes.now) []) sink.old sink.new refusal) }
+{
+    match decode_ping(0xD0, frame.body()) {
         Some(packet) => emit_decoded(context, connections, at, frame, packet, sink),
         None => emit_other_frame(context, connections, at, frame, sink),
     }
