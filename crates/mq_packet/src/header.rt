@@ -35,8 +35,26 @@ pub enum FixedHeader {
 /// assert_eq!(rt; fixed_header(&[0x40, 2]), whole);
 /// assert_eq!(rt; fixed_header(&[0x40]), FixedHeader::Short);
 /// ```
-#[tactic(auto, using(crate::proofs::Lengths::number_length), unfolding(crate::specs::Stream::fixed_header_of))]
+#[inline(always)]
+#[tactic(auto, unfolding(crate::specs::Stream::fixed_header_of, mq_wire::specs::Fields::varint_at))]
 pub fn fixed_header(bytes: &[u8]) -> FixedHeader
+    ensures exact { result ≡ fixed_header_of bytes.now }
+    ensures bounds { HasBounds result }
+{
+    match *bytes {
+        [_, remaining @ 0..128, ..] => FixedHeader::Whole {
+            length: 2,
+            size: 2 + usize::from(remaining),
+        },
+        _ => any_fixed_header(bytes),
+    }
+}
+
+// The same for any Remaining Length. It is a function of its own, so that the call for one byte,
+// the usual case, is inlined.
+#[inline(never)]
+#[tactic(auto, using(crate::proofs::Lengths::number_length), unfolding(crate::specs::Stream::fixed_header_of))]
+fn any_fixed_header(bytes: &[u8]) -> FixedHeader
     ensures exact { result ≡ fixed_header_of bytes.now }
     ensures bounds { HasBounds result }
 {
