@@ -28,4 +28,5 @@ pub mod StopLaws
 pub mod WritingLaws
 pub mod Exports
 pub mod HeadLaws
+pub mod FrontLaws
 pub mod BeginLaws

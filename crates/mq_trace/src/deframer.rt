@@ -381,10 +381,7 @@ pub fn emit_frame<S: Sink>(
     ensures err { IfErr result (λ refusal. NotEmitted (Declines S.agrees S.refuses) at (refusal_at_frame at context.now connections.old frame.now.bytes.now) (put (placed_frame at context.now connections.old frame.now.bytes.now) []) sink.old sink.new refusal) }
 {
     match frame.first() {
-        0x30..0x32 if has_no_properties(frame.body()) => {
-            emit_brief_publish_frame(context, connections, at, frame, sink)
-        }
-        0x30..0x32 => emit_publish_frame(context, connections, at, frame, sink),
+        0x30..0x32 => emit_brief_publish_frame(context, connections, at, frame, sink),
         0x32..0x40 => emit_identified_publish_frame(context, connections, at, frame, sink),
         0x40 => emit_puback_frame(context, connections, at, frame, sink),
         0xC0 => emit_pingreq_frame(context, connections, at, frame, sink),
@@ -393,7 +390,8 @@ pub fn emit_frame<S: Sink>(
     }
 }
 
-// Emits a PUBLISH of QoS 0 with no properties. Most have a plain Topic Name.
+// Emits a PUBLISH of QoS 0. Most have a plain Topic Name and no properties. That there are none is
+// tested first, so that the Topic Name of one that has some isn't checked twice.
 #[inline(never)]
 fn emit_brief_publish_frame<S: Sink>(
     context: &BodyContext,
@@ -410,7 +408,11 @@ fn emit_brief_publish_frame<S: Sink>(
         → OnOk result (S.agrees sink.new (put (placed_frame at context.now connections.old frame.now.bytes.now) earlier)) }
     ensures err { IfErr result (λ refusal. NotEmitted (Declines S.agrees S.refuses) at (refusal_at_frame at context.now connections.old frame.now.bytes.now) (put (placed_frame at context.now connections.old frame.now.bytes.now) []) sink.old sink.new refusal) }
 {
-    match decode_brief_publish(frame.first(), frame.body()) {
+    let body = frame.body();
+    if !has_no_properties(body) {
+        return emit_publish_frame(context, connections, at, frame, sink);
+    }
+    match decode_brief_publish(frame.first(), body) {
         Some(publish) => emit_decoded_publish(context, connections, at, frame, publish, sink),
         None => emit_publish_frame(context, connections, at, frame, sink),
     }

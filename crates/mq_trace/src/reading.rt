@@ -126,13 +126,12 @@ impl Reading {
         }
     }
 
-    // Takes in the head of a SENT or RECV of this moment that carries `left` bytes in this
-    // direction, and those of the first packet of its body: most records are taken in so, in one
-    // step. Returns how many bytes it took.
+    // As `consume_record`, in two steps: the head, and then the body, which may be any. It is a
+    // function of its own, since most bodies begin with a whole packet.
     //
     // Errors: As `consume`.
-    #[inline(always)]
-    fn consume_record<S: Sink>(
+    #[inline(never)]
+    fn consume_parts<S: Sink>(
         &mut self,
         direction: Direction,
         left: u32,

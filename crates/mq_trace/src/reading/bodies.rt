@@ -1,24 +1,103 @@
 //! Passing the bytes of a body on to their direction.
 
-ghost use Rattle.std.specs.Prelude.{◌≡◌, ◌+◌, ◌^◌, ◌<◌, ◌≤◌, ◌++◌, [], List, false, None, OnOk, IfOk, IfErr, IsTrue, length, take, OnErr};
+ghost use Rattle.std.specs.Prelude.{◌≡◌, ◌+◌, ◌^◌, ◌<◌, ◌≤◌, ◌++◌, [], List, false, None, OnOk, IfOk, IfErr, IfSome, IsTrue, is_some, length, take, OnErr};
 ghost use Rattle.mq_trace.specs.Keeping.{state_in, IsUnfinished, IsSound, Comes, StepStops, HoldsHeader};
 ghost use Rattle.mq_trace.specs.declared.stage.Stage.TheVariants as stages;
 ghost use Rattle.mq_trace.specs.Events.{Placed};
 ghost use Rattle.mq_trace.specs.Reception.{AreEvents, Declines};
-ghost use Rattle.mq_trace.specs.Stepping.{in_record_of, context_for, deframer_for, flow_for, redirected};
+ghost use Rattle.mq_trace.specs.Stepping.{IsBodyHead, leaving, in_record_of, context_for, deframer_for, flow_for, redirected};
 ghost use Rattle.mq_trace.specs.Flows.{flow_refused, flow_events, flow_after_bytes};
 ghost use Rattle.mq_trace.specs.Deframing.{flow_of, FlowStops};
 ghost use Rattle.mq_trace.specs.Settling.{IsStep, IsWhole};
 
 use super::super::deframer::{BodyContext, Step, consume_whole, whole_packet};
 use super::super::frame::Frame;
+use super::super::header::head_length;
 use super::super::kind::Direction;
 use super::super::place::InRecord;
 use super::super::refusal::Refusal;
 use super::super::sink::Sink;
+use super::super::stage::Stage;
 use super::Reading;
 
 impl Reading {
+    /// Takes in the head of a SENT or RECV of this moment that carries `left` bytes in this
+    /// direction, and those of the first packet of its body: most records are taken in so, in one
+    /// step. Returns how many bytes it took.
+    ///
+    /// What is kept is set once, after the packet was emitted.
+    ///
+    /// # Errors
+    ///
+    /// As `consume`.
+    #[inline(always)]
+    pub fn consume_record<S: Sink>(
+        &mut self,
+        direction: Direction,
+        left: u32,
+        moment: u64,
+        bytes: &[u8],
+        sink: &mut S,
+    ) -> Result<usize, Refusal>
+        requires sound { IsSound self.old }
+        requires head { IsBodyHead self.old bytes.now direction left moment }
+        ensures count { IfOk result (λ n. (1 ≤ n) × (n ≤ length bytes.now)) }
+        ensures sound { OnOk result (IsSound self.new) }
+        ensures comes { IfOk result (λ n. Comes S.agrees self.old self.new (take n bytes.now) sink.old sink.new) }
+        ensures stops { IfErr result (λ refusal. StepStops (Declines S.agrees S.refuses) self.old bytes.now sink.old sink.new refusal) }
+        ensures stays { OnErr result (HoldsHeader self.old self.new) }
+    {
+        let head = head_length(self.header.version);
+        let rest = &bytes[head..];
+        let body = &rest[..rest.len().min(left as usize)];
+        let Some((header, size)) = self.front_packet(direction, body) else {
+            return self.consume_parts(direction, left, moment, bytes, sink);
+        };
+        let at = self.at + head as u64;
+        let context = self.body_context(direction, moment);
+        let frame = Frame::new(&body[..size], header);
+        match consume_whole(context, &mut self.connections, at, frame, sink) {
+            Ok(()) => {
+                self.at = at + size as u64;
+                self.moment = moment;
+                self.enter(direction, left - size as u32);
+                Ok(head + size)
+            }
+            Err(refusal) => Err(refusal),
+        }
+    }
+
+    // The lengths of the fixed header and of the packet, if the direction is neither lost nor
+    // inside a packet and the body begins with a whole one.
+    #[inline(always)]
+    fn front_packet(&self, direction: Direction, body: &[u8]) -> Option<(usize, usize)>
+        ensures idle { IsTrue (is_some result) → state_in (deframer_for self.now direction) ≡ record { unfinished = []; lost = false } }
+        ensures whole { IfSome result (λ lengths. IsWhole self.now.limit body.now lengths.0 lengths.1) }
+    {
+        if !self.is_idle(direction) {
+            return None;
+        }
+        match whole_packet(self.limit, body) {
+            Ok(lengths) => Some(lengths),
+            Err(_) => None,
+        }
+    }
+
+    // Sets the state, which is that between two records, to that with `left` bytes of a record's
+    // body still to come.
+    #[inline(always)]
+    fn enter(&mut self, direction: Direction, left: u32)
+        requires between { self.old.stage ≡ stages.Between }
+        requires numbered { self.old.records < 4294967295 }
+        ensures { self.new ≡ leaving self.old direction left }
+    {
+        if left == 0 {
+            self.records += 1;
+        } else {
+            self.stage = Stage::Body { direction, left };
+        }
+    }
+
     /// Takes in bytes of a body, of which `left` are still to come: those of one packet.
     #[inline(always)]
     pub fn consume_body<S: Sink>(
@@ -116,7 +195,7 @@ impl Reading {
         ensures sound { OnOk result (IsUnfinished self.old.limit (state_in (deframer_for self.new direction))) }
         ensures stops { IfErr result (λ refusal. FlowStops (Declines S.agrees S.refuses) self.old.limit (context_for self.old direction) (flow_for self.old direction) body.now sink.old sink.new refusal) }
     {
-        let context = self.body_context(direction);
+        let context = self.body_context(direction, self.moment);
         let frame = Frame::new(&body[..size], header);
         match consume_whole(context, &mut self.connections, self.at, frame, sink) {
             Ok(()) => Ok(size),
@@ -148,7 +227,7 @@ impl Reading {
         ensures sound { OnOk result (IsUnfinished self.old.limit (state_in (deframer_for self.new direction))) }
         ensures stops { IfErr result (λ refusal. FlowStops (Declines S.agrees S.refuses) self.old.limit (context_for self.old direction) (flow_for self.old direction) body.now sink.old sink.new refusal) }
     {
-        let context = self.body_context(direction);
+        let context = self.body_context(direction, self.moment);
         let at = self.at;
         match direction {
             Direction::Sent => self
@@ -160,18 +239,18 @@ impl Reading {
         }
     }
 
-    // What stays the same while the record's body is read.
+    // What stays the same while the body of the record, which has this moment, is read.
     #[inline(always)]
-    fn body_context(&self, direction: Direction) -> BodyContext
+    fn body_context(&self, direction: Direction, moment: u64) -> BodyContext
         requires { self.now.records < 4294967295 }
-        ensures { result ≡ record { direction = direction; server = self.now.header.server; in_record = in_record_of self.now self.now.moment; limit = self.now.limit } }
+        ensures { result ≡ record { direction = direction; server = self.now.header.server; in_record = in_record_of self.now moment; limit = self.now.limit } }
     {
         BodyContext {
             direction,
             server: self.header.server,
             in_record: InRecord {
                 record_no: self.records + 1,
-                moment: self.moment,
+                moment,
             },
             limit: self.limit,
         }

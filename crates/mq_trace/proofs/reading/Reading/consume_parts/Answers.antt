@@ -8,7 +8,7 @@ use Rattle.mq_trace.proofs.TracingLaws.{rest_same}
 use Rattle.mq_trace.proofs.FramingLaws.{head_least}
 use Rattle.mq_trace.proofs.MomentLaws.{head_most}
 use Rattle.mq_trace.proofs.HeadLaws.{head_taken, head_sound, comes_after_head, stops_after_head}
-use Rattle.mq_trace.proofs.reading.Reading.consume_record.Goals as goal
+use Rattle.mq_trace.proofs.reading.Reading.consume_parts.Goals as goal
 
 pub skip_head-requires-clause-room : goal.skip_head-requires-clause-room
 skip_head-requires-clause-room g c =
