@@ -1,5 +1,5 @@
-//! Packets in their shortest form, which are most packets of a log: a PUBLISH with no properties, an
-//! acknowledgement that is no more than a Packet Identifier, PINGREQ and PINGRESP.
+//! Packets in their shortest form, which are most packets of a log: a PUBLISH with no properties,
+//! an acknowledgement that is no more than a Packet Identifier, PINGREQ and PINGRESP.
 //!
 //! Each is decoded by a function in which no other packet is possible, so that it takes no stack
 //! for others.
@@ -59,6 +59,11 @@ fn read_brief_body<'a>(first: u8, body: &'a [u8]) -> Option<Publish<'a>>
     ensures brief { is_some result ≡ is_brief (flags_in first) body.now }
     ensures exact { IfSome result (λ publish. decoded first body.now ≡ Ok (view (packets.Publish publish))) }
 {
+    // Properties are looked for first, so that the Topic Name of a packet that has some isn't
+    // checked twice.
+    if !has_no_properties(body) {
+        return None;
+    }
     let flags = flags(first);
     let cursor = Cursor::starting_at(body, header_len(body.len() as u32));
     let topic = brief_topic(flags, cursor)?;
@@ -73,9 +78,9 @@ fn read_brief_body<'a>(first: u8, body: &'a [u8]) -> Option<Publish<'a>>
     })
 }
 
-/// The PUBLISH that has this first byte and this body, if it has QoS 1 or 2, a plain Topic Name that
-/// isn't empty, a Packet Identifier other than 0, and no properties, as most have: the packet that
-/// [`decode`](crate::decode) returns for them. `None` for any other packet, and for a fault.
+/// The PUBLISH that has this first byte and this body, if it has QoS 1 or 2, a plain Topic Name
+/// that isn't empty, a Packet Identifier other than 0, and no properties, as most have: the packet
+/// that [`decode`](crate::decode) returns for them. `None` for any other packet, and for a fault.
 #[inline(always)]
 pub fn decode_identified_publish<'a>(first: u8, body: &'a [u8]) -> Option<Publish<'a>>
     requires from { 48 ≤ first }

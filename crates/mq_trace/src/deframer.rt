@@ -30,7 +30,6 @@ use super::unfinished::Unfinished;
 use mq_packet::{
     DecodeFault, FixedHeader, Packet, PacketRule, Publish, decode, decode_brief_acknowledgement,
     decode_brief_publish, decode_identified_publish, decode_ping, decode_publish, fixed_header,
-    has_no_properties,
 };
 use std::alloc::Global;
 
@@ -390,8 +389,7 @@ pub fn emit_frame<S: Sink>(
     }
 }
 
-// Emits a PUBLISH of QoS 0. Most have a plain Topic Name and no properties. That there are none is
-// tested first, so that the Topic Name of one that has some isn't checked twice.
+// Emits a PUBLISH of QoS 0. Most have a plain Topic Name and no properties.
 #[inline(never)]
 fn emit_brief_publish_frame<S: Sink>(
     context: &BodyContext,
@@ -408,11 +406,7 @@ fn emit_brief_publish_frame<S: Sink>(
         → OnOk result (S.agrees sink.new (put (placed_frame at context.now connections.old frame.now.bytes.now) earlier)) }
     ensures err { IfErr result (λ refusal. NotEmitted (Declines S.agrees S.refuses) at (refusal_at_frame at context.now connections.old frame.now.bytes.now) (put (placed_frame at context.now connections.old frame.now.bytes.now) []) sink.old sink.new refusal) }
 {
-    let body = frame.body();
-    if !has_no_properties(body) {
-        return emit_publish_frame(context, connections, at, frame, sink);
-    }
-    match decode_brief_publish(frame.first(), body) {
+    match decode_brief_publish(frame.first(), frame.body()) {
         Some(publish) => emit_decoded_publish(context, connections, at, frame, publish, sink),
         None => emit_publish_frame(context, connections, at, frame, sink),
     }

@@ -1,13 +1,13 @@
 //! The reader of PUBLISH (MQTT 5.0, section 3.3).
 
-ghost use Rattle.std.specs.Prelude.{◌≡◌, ◌+◌, ◌≤◌, ◌==◌, Bool, Ok, IfOk, IfSome, is_some, length, bit_and, if◌then◌else◌};
+ghost use Rattle.std.specs.Prelude.{◌≡◌, ◌+◌, ◌≤◌, ◌==◌, Bool, true, Ok, IfOk, IfSome, is_some, length, bit_and, if◌then◌else◌};
 ghost use Rattle.mq_props.specs.declared.table.Place.TheVariants as places;
 ghost use Rattle.mq_packet.specs.declared.rule.PacketRule.TheVariants as rules;
 ghost use Rattle.mq_packet.specs.Entries.{publish, listed};
 ghost use Rattle.mq_packet.specs.Formats.{bad_first_byte, properties, alias_objection, names_topic, has_bits, qos_of, publish_format, publish_unacknowledged, publish_acknowledged, publish_from};
 ghost use Rattle.mq_packet.specs.declared.packet.Qos.{Qos as TheQos};
 ghost use Rattle.mq_packet.specs.declared.packet.Qos.TheVariants.{AtLeastOnce, ExactlyOnce};
-ghost use Rattle.mq_packet.specs.Brief.{is_brief, is_brief_body, brief_fields, is_brief_identified, is_identified_body, identified_fields, starts_identified};
+ghost use Rattle.mq_packet.specs.Brief.{has_no_properties, is_brief, is_brief_body, brief_fields, is_brief_identified, is_identified_body, identified_fields, starts_identified};
 ghost use Rattle.mq_packet.specs.Decoding.{read, read_field};
 ghost use Rattle.mq_packet.specs.Reading.{ReadsField, Reads, publish_view};
 
@@ -42,10 +42,11 @@ pub fn read_publish<'a>(flags: u8, cursor: Cursor<'a>) -> Result<Publish<'a>, Re
     }
 }
 
-/// The Topic Name of a PUBLISH with these flags whose body is left, if it has QoS 0, a plain Topic
-/// Name that isn't empty, and no properties, as most have. `None` for any other.
+/// The Topic Name of a PUBLISH with these flags whose body, which has no properties, is left, if it
+/// has QoS 0, and a plain Topic Name that isn't empty, as most have. `None` for any other.
 #[inline(always)]
 pub fn brief_topic<'a>(flags: u8, cursor: Cursor<'a>) -> Option<&'a str>
+    requires { has_no_properties cursor.rest ≡ true }
     ensures brief { is_some result ≡ is_brief flags cursor.entry.rest }
     ensures exact { IfSome result (λ topic. read (publish_format flags) cursor.entry ≡ Ok (publish (brief_fields (has_bits 1 flags) topic.now cursor.entry.rest))) }
     ensures long { IfSome result (λ topic. length topic.now + 3 ≤ length cursor.entry.rest) }
@@ -61,6 +62,7 @@ pub fn brief_topic<'a>(flags: u8, cursor: Cursor<'a>) -> Option<&'a str>
 
 #[inline(always)]
 fn topic_without_properties<'a>(mut cursor: Cursor<'a>) -> Option<&'a str>
+    requires { has_no_properties cursor.rest ≡ true }
     ensures brief { is_some result ≡ is_brief_body cursor.entry.rest }
     ensures exact { (retain : Bool) → IfSome result (λ topic. read (publish_unacknowledged retain) cursor.entry ≡ Ok (publish (brief_fields retain topic.now cursor.entry.rest))) }
     ensures long { IfSome result (λ topic. length topic.now + 3 ≤ length cursor.entry.rest) }
@@ -69,10 +71,7 @@ fn topic_without_properties<'a>(mut cursor: Cursor<'a>) -> Option<&'a str>
     if topic.is_empty() {
         return None;
     }
-    match after_empty_list(cursor.rest()) {
-        Some(_) => Some(topic),
-        None => None,
-    }
+    Some(topic)
 }
 
 /// The Topic Name of a PUBLISH with these flags whose body is left, if it has QoS 1 or 2, a plain
