@@ -43,14 +43,14 @@ pub struct Deframer {
 /// What stays the same while the body of a record is read.
 #[derive(Clone, Copy, Debug, PartialEq, Eq)]
 pub struct BodyContext {
-    /// The direction of the body's bytes.
-    pub direction: Direction,
-    /// Whether the tested end is a server.
-    pub server: bool,
     /// The record.
     pub in_record: InRecord,
     /// The largest packet that is read, in bytes.
     pub limit: u32,
+    /// The direction of the body's bytes.
+    pub direction: Direction,
+    /// Whether the tested end is a server.
+    pub server: bool,
 }
 
 /// What the next bytes of a direction are, where they don't begin with a whole packet.
