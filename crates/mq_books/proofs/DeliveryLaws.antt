@@ -1,13 +1,12 @@
 -- B01 and B02.
-use Rattle.std.proofs.Common.{◌≡◌, ℕ, ◌+◌, ◌==◌, nat_le, Bool, true, false, cond, ◌&&◌, ◌||◌, not, List, [], ◌∷◌, length, Option, Some, None, refl, ap, sym, ◌∙◌, subst}
-use Rattle.std.specs.Option.{option_or, option_and_then}
+use Rattle.std.proofs.Common.{◌≡◌, ℕ, ◌==◌, nat_le, Bool, true, false, cond, ◌&&◌, not, List, ◌∷◌, length, Option, Some, None, refl, ap, sym, ◌∙◌}
+use Rattle.std.specs.Option.{option_and_then}
 use Rattle.std.specs.List.{list_any}
 use Rattle.mq_topic.specs.Matching.{matches}
 use Rattle.mq_rules.specs.declared.role.Role.{Role}
 use Rattle.mq_rules.specs.declared.role.Role.TheVariants.{Client, Server}
 use Rattle.mq_rules.specs.declared.role.Tested.{Tested}
 use Rattle.mq_rules.specs.declared.fate.Fate.{Fate}
-use Rattle.mq_rules.specs.declared.rule.Rule.{Rule}
 use Rattle.mq_rules.specs.declared.rule.Rule.TheVariants.{B01, B02}
 use Rattle.mq_rules.specs.declared.note.Note.{Note}
 use Rattle.mq_rules.specs.declared.note.Note.TheVariants as notes
@@ -15,11 +14,11 @@ use Rattle.mq_rules.specs.declared.note.Seen.{Seen}
 use Rattle.mq_rules.specs.declared.packet_note.PublishNote.{PublishNote}
 use Rattle.mq_rules.specs.Words.{is_some_and, only}
 use Rattle.mq_rules.specs.Notes.{is_open, sent_publish, qos_number}
-use Rattle.mq_rules.specs.Moments.{Moment, newest, note, is_next, some}
+use Rattle.mq_rules.specs.Moments.{Moment, newest, is_next, some}
 use Rattle.mq_rules.specs.Connections.{connection, latest_fate, accepts, session}
-use Rattle.mq_rules.specs.Subscriptions.{Standing, standing_of, standing_at, asks_to_share, topic_of, last_set, is_delivered_so, breaks_B01, breaks_B02}
+use Rattle.mq_rules.specs.Subscriptions.{Standing, standing_at, asks_to_share, topic_of, last_set, is_delivered_so, breaks_B01, breaks_B02}
 use Rattle.mq_rules.specs.Rules.{binds, found_line, line_of, lines, same_rule}
-use Rattle.mq_rules.specs.Statements.{statement, in_session}
+use Rattle.mq_rules.specs.Statements.{statement}
 use Rattle.mq_rules.specs.Faults.{offset_of}
 use Rattle.mq_rules.specs.FaultKeys.{FaultMap}
 use Rattle.mq_rules.specs.Under.{IsUnder, fate_before, turns_with}

@@ -36,6 +36,8 @@ pub mod SelectingLaws
 pub mod SizeLaws
 pub mod QueueSizeLaws
 pub mod LiteralLaws
+pub mod NearLaws
+pub mod FilterLaws
 pub mod AwaitedLaws
 pub mod StandLaws
 pub mod StandingSizeLaws

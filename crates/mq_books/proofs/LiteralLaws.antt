@@ -28,7 +28,7 @@ never_true : (b : Bool) → (b ≡ true → ⊥) → b ≡ false
 never_true false never = refl
 never_true true never = absurd (never refl)
 
-equal : (xs ys : List ℕ) → bytes_eq xs ys ≡ true → xs ≡ ys
+pub equal : (xs ys : List ℕ) → bytes_eq xs ys ≡ true → xs ≡ ys
 equal xs ys h = (bytes_eq-Decides xs ys).0 h
 
 itself : (xs : List ℕ) → bytes_eq xs xs ≡ true
@@ -36,17 +36,17 @@ itself xs = (bytes_eq-Decides xs xs).1 refl
 
 -- ---- the levels of a text without wildcards
 
-abbrev AreNames : List (List ℕ) → Type 0
+abbrev pub AreNames : List (List ℕ) → Type 0
 AreNames [] = Unit {0}
 AreNames (level ∷ levels) = (is_name level ≡ true) × AreNames levels
 
-plain : (b : ℕ) (bytes : List ℕ) → is_name (b ∷ bytes) ≡ true → (not (b == 35) && not (b == 43)) ≡ true
+pub plain : (b : ℕ) (bytes : List ℕ) → is_name (b ∷ bytes) ≡ true → (not (b == 35) && not (b == 43)) ≡ true
 plain b bytes h = is_first (not (b == 35) && not (b == 43)) (is_name bytes) h
 
-others : (b : ℕ) (bytes : List ℕ) → is_name (b ∷ bytes) ≡ true → is_name bytes ≡ true
+pub others : (b : ℕ) (bytes : List ℕ) → is_name (b ∷ bytes) ≡ true → is_name bytes ≡ true
 others b bytes h = is_second (not (b == 35) && not (b == 43)) (is_name bytes) h
 
-levels-named : (bytes : List ℕ) → is_name bytes ≡ true → AreNames (levels_of bytes)
+pub levels-named : (bytes : List ℕ) → is_name bytes ≡ true → AreNames (levels_of bytes)
 levels-named [] h = (refl, tt)
 levels-named (b ∷ bytes) h = go (b == 47) (levels_of bytes) (levels-named bytes (others b bytes h))
   where
@@ -59,10 +59,10 @@ no-byte : (test : ℕ → Bool) → ((b : ℕ) → (not (b == 35) && not (b == 4
 no-byte test none [] h = refl
 no-byte test none (b ∷ bytes) h = ap (λ t. t || list_any test bytes) (none b (plain b bytes h)) ∙ no-byte test none bytes (others b bytes h)
 
-hash-none : (b : ℕ) → (not (b == 35) && not (b == 43)) ≡ true → (b == 35) ≡ false
+pub hash-none : (b : ℕ) → (not (b == 35) && not (b == 43)) ≡ true → (b == 35) ≡ false
 hash-none b h = unset (b == 35) (is_first (not (b == 35)) (not (b == 43)) h)
 
-plus-none : (b : ℕ) → (not (b == 35) && not (b == 43)) ≡ true → (b == 43) ≡ false
+pub plus-none : (b : ℕ) → (not (b == 35) && not (b == 43)) ≡ true → (b == 43) ≡ false
 plus-none b h = unset (b == 43) (is_second (not (b == 35)) (not (b == 43)) h)
 
 no-hash : (level : List ℕ) → is_name level ≡ true → is_hash level ≡ false
@@ -137,13 +137,19 @@ matches-itself (b ∷ bytes) h =
     text : List ℕ
     text = b ∷ bytes
 
-matched-levels : (filter name : List ℕ) → matches filter name ≡ true → levels_match (levels_of filter) (levels_of name) ≡ true
+pub matched-levels : (filter name : List ℕ) → matches filter name ≡ true → levels_match (levels_of filter) (levels_of name) ≡ true
 unfolding matches
 matched-levels filter name h =
     let a = is_second (is_none (filter_fault filter)) (is_name name && (not (is_empty name) && (levels_match (levels_of filter) (levels_of name) && not (begins_wild filter && begins_dollar name)))) h in
     let b = is_second (is_name name) (not (is_empty name) && (levels_match (levels_of filter) (levels_of name) && not (begins_wild filter && begins_dollar name))) a in
     let c = is_second (not (is_empty name)) (levels_match (levels_of filter) (levels_of name) && not (begins_wild filter && begins_dollar name)) b in
     is_first (levels_match (levels_of filter) (levels_of name)) (not (begins_wild filter && begins_dollar name)) c
+
+pub matched-name : (filter name : List ℕ) → matches filter name ≡ true → is_name name ≡ true
+unfolding matches
+matched-name filter name h =
+    is_first (is_name name) (not (is_empty name) && (levels_match (levels_of filter) (levels_of name) && not (begins_wild filter && begins_dollar name)))
+    (is_second (is_none (filter_fault filter)) (is_name name && (not (is_empty name) && (levels_match (levels_of filter) (levels_of name) && not (begins_wild filter && begins_dollar name)))) h)
 
 pub literal-matches : (filter name : List ℕ) → is_name filter ≡ true → matches filter name ≡ (bytes_eq name filter && not (is_empty name))
 literal-matches filter name h = go (bytes_eq name filter) refl

@@ -194,6 +194,17 @@ module _ {Y : Type 0} where
   names-length [] = refl
   names-length (e ∷ es) = let rest = names-length es in omega (arith, rest)
 
+  standings-length : (es : List (String Y × ℕ)) → length (standings es) ≡ length es
+  standings-length [] = refl
+  standings-length (e ∷ es) = let rest = standings-length es in omega (arith, rest)
+
+  pub all-length : (literal wild : List (String Y × ℕ)) → length (standings literal ++ standings wild) ≡ length literal + length wild
+  all-length literal wild =
+      let joined = length-append (standings literal) (standings wild) in
+      let first = standings-length literal in
+      let second = standings-length wild in
+      omega (arith, joined, first, second)
+
   names-any : (f : List ℕ) (es : List (String Y × ℕ)) → list_any (bytes_eq f) (names es) ≡ list_any (λ s. bytes_eq f s.filter) (standings es)
   names-any f [] = refl
   names-any f (e ∷ es) = ap (λ b. bytes_eq f (string_bytes e.0) || b) (names-any f es)

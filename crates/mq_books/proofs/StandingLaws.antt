@@ -1,12 +1,11 @@
 -- Filters that stand, with one event more.
-use Rattle.std.proofs.Common.{◌≡◌, ℕ, ◌+◌, ◌<◌, ◌≤◌, ◌==◌, ◌%◌, nat_le, nat_lt, arith, Bool, true, false, cond, ◌&&◌, ◌||◌, not, List, [], ◌∷◌, ◌++◌, length, Option, Some, None, refl, ap, sym, ◌∙◌, subst, inl, inr}
+use Rattle.std.proofs.Common.{◌≡◌, ℕ, ◌+◌, ◌≤◌, ◌==◌, ◌%◌, nat_le, nat_lt, arith, Bool, true, false, cond, ◌&&◌, ◌||◌, not, List, [], ◌∷◌, ◌++◌, length, Option, Some, None, refl, ap, sym, ◌∙◌, inl, inr}
 use Rattle.std.specs.Prelude.{is_none, unwrap_or, option_map}
 use Rattle.std.specs.Option.{option_or, option_and_then}
 use Rattle.std.specs.List.{list_any, sum_by}
 use Rattle.std.proofs.lemmas.Bool.{eq-eqb, le-leb}
 use Rattle.std.proofs.lemmas.Bool.Decides.{nat_tests}
 use Rattle.std.proofs.lemmas.List.Folds.{list_any-append}
-use Rattle.mq_rules.specs.declared.role.Role.{Role}
 use Rattle.mq_rules.specs.declared.role.Tested.{Tested}
 use Rattle.mq_rules.specs.declared.fate.Fate.{Fate}
 use Rattle.mq_rules.specs.declared.note.Note.{Note}
@@ -16,11 +15,11 @@ use Rattle.mq_rules.specs.declared.text.NotedFilter.{NotedFilter}
 use Rattle.mq_rules.specs.Words.{is_some_and, only}
 use Rattle.mq_rules.specs.Notes.{is_open, is_release, refuses, Subscription, Grant, received_subscription, sent_grant}
 use Rattle.mq_rules.specs.Moments.{Moment, newest, note, moments, position, is_after, some, those, first_found, Among}
-use Rattle.mq_rules.specs.Connections.{begun, number, of_connection, connection, latest_fate, accepts, accepted, begins, voided, any_accepted, has_session, with_first, session}
+use Rattle.mq_rules.specs.Connections.{begun, number, of_connection, connection, latest_fate, accepts, begins, voided, any_accepted, has_session, with_first, session}
 use Rattle.mq_rules.specs.Subscriptions.{Standing, granted, codes_under, standing_from, standing_of, asks_to_share, is_shared, topic_set, last_set}
 use Rattle.mq_rules.proofs.Exports.{among-within, and_false, begun-least, begun-open, begun-same, connection-newest as connection-next, none-first_found, option_or-none, or_false, session-members, those-among}
 use Rattle.mq_rules.specs.Under.{fate_before}
-use Rattle.mq_books.specs.Standings.{allows, Waits, asked, total, weighed, sum_next, codes_in, waits_by, standing_by, settled_by, waiting_by, settled_from, waiting_from, first_code, other_codes, with_code, with_codes, goes_on, is_answered, grants_some, settled_next, waiting_next, sharing_next, topic_next, IsStanding, any_kept}
+use Rattle.mq_books.specs.Standings.{allows, Waits, asked, total, weighed, sum_next, codes_in, waits_by, standing_by, settled_by, waiting_by, settled_from, waiting_from, with_codes, goes_on, is_answered, grants_some, settled_next, waiting_next, sharing_next, topic_next, IsStanding, any_kept}
 
 -- ---- one SUBSCRIBE
 

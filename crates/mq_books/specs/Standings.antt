@@ -1,13 +1,12 @@
 -- What the book of deliveries keeps: filters that stand, SUBSCRIBEs that wait for their SUBACK, topics by their Topic Alias.
-use Rattle.std.specs.Prelude.{ℕ, ◌≡◌, ◌+◌, ◌==◌, nat_le, Bool, true, false, ◌&&◌, ◌||◌, not, cond, List, [], ◌∷◌, ◌++◌, length, Option, Some, None, is_none, unwrap_or, option_map}
+use Rattle.std.specs.Prelude.{ℕ, ◌≡◌, ◌+◌, ◌==◌, nat_le, Bool, true, false, ◌&&◌, ◌||◌, not, cond, List, [], ◌∷◌, ◌++◌, length, Option, Some, None, is_none, is_some, unwrap_or, option_map}
 use Rattle.std.specs.Option.{option_or, option_and_then}
 use Rattle.std.specs.List.{list_any, sum_by, IsDistinct}
 use Rattle.std.specs.Map.{keys_of}
 use Rattle.std.specs.String.{string_bytes, string_eq}
 use Rattle.std.specs.declared.string.String.{String}
 use Rattle.mq_topic.specs.Levels.{is_name}
-use Rattle.mq_topic.specs.Matching.{matches}
-use Rattle.mq_rules.specs.declared.role.Role.{Role}
+use Rattle.mq_topic.specs.Matching.{matches, is_empty}
 use Rattle.mq_rules.specs.declared.role.Tested.{Tested}
 use Rattle.mq_rules.specs.declared.fate.Fate.{Fate}
 use Rattle.mq_rules.specs.declared.note.Note.{Note}
@@ -188,3 +187,36 @@ is_unasked settled waiting p topic = not (any_kept (λ s. matches s.filter topic
 
 abbrev pub is_above : List Standing → List Waits → PublishNote → List ℕ → Bool
 is_above settled waiting p topic = any_kept (λ s. matches s.filter topic) settled waiting && not (any_kept (λ s. matches s.filter topic && nat_le (qos_number p.qos) s.ceiling) settled waiting)
+
+-- ---- filters that may match (MQTT 5.0, section 4.7); 35 is `#`, 43 is `+`, 47 is `/`
+
+-- what follows the first level of a name
+abbrev pub after_level : List ℕ → List ℕ
+after_level [] = []
+after_level (b ∷ bytes) = cond (b == 47) (b ∷ bytes) (after_level bytes)
+
+-- a filter and a name are alike up to a `#` or to the end of one of them, where a `+` stands for a level
+abbrev pub is_near : List ℕ → List ℕ → Bool
+is_near [] name = is_empty name
+is_near (f ∷ filter) [] = true
+is_near (f ∷ filter) (b ∷ name) = cond (f == b) (is_near filter name) (cond (f == 43) (is_near filter (after_level (b ∷ name))) (f == 35))
+
+-- ---- what was found for topics
+
+-- the event may change which filters stand or wait
+abbrev pub changes_filters : Note → Bool
+changes_filters n = is_open n || (is_some (sent_grant n) || is_some (received_subscription n))
+
+-- the QoS that is allowed for a topic
+abbrev pub allows_topic : List Standing → List Waits → List ℕ → ℕ → Bool
+allows_topic settled waiting topic qos = any_kept (λ s. matches s.filter topic && nat_le qos s.ceiling) settled waiting
+
+-- the filters of a session: those that stand whatever comes, and the SUBSCRIBEs that wait
+pub record SessionFilters : Type 0 where
+  pub settled : List Standing
+  pub waiting : List Waits
+
+-- each topic of a map has the greatest ceiling of the filters that match it
+abbrev pub Remembers : {Y : Type 0} → List Standing → List Waits → List (String Y × Option ℕ) → Type 0
+Remembers settled waiting [] = Unit {0}
+Remembers settled waiting (e ∷ es) = ((qos : ℕ) → is_some_and (nat_le qos) e.1 ≡ allows_topic settled waiting (string_bytes e.0) qos) × Remembers settled waiting es

@@ -1,16 +1,17 @@
 //! SUBSCRIBE packets that wait for their SUBACK (MQTT 5.0, sections 3.8 and 3.9).
-ghost use Rattle.std.specs.Prelude.{◌≡◌, ◌≤◌, ◌+◌, ◌==◌, ◌&&◌, ◌||◌, ◌++◌, ◌∷◌, [], nat_eq, nat_le, ℕ, Bool, false, List, Some, None, cond, not, length, unwrap_or, OnOk, IfOk};
+ghost use Rattle.std.specs.Prelude.{◌≡◌, ◌≤◌, ◌+◌, ◌==◌, ◌&&◌, ◌||◌, ◌++◌, ◌∷◌, [], nat_eq, nat_le, ℕ, Bool, true, false, List, Some, None, cond, not, length, unwrap_or, OnOk, IfOk};
 ghost use Rattle.std.specs.List.{list_any, sum_by, AllByRecursion};
 ghost use Rattle.std.specs.Map.{keys_of};
 ghost use Rattle.indexmap.specs.IndexMap.{values};
 ghost use Rattle.mq_topic.specs.Matching.{matches as is_match};
 ghost use Rattle.mq_rules.specs.Subscriptions.{Standing, granted};
+ghost use Rattle.mq_rules.specs.Words.{is_some_and};
 ghost use Rattle.mq_books.specs.Standings.{allows, Waits, waits_weight, first_code, other_codes, with_code, with_codes, under, waits_of, taken};
 
+use crate::ceilings::{higher, raised_by};
 use crate::stands::StandingFilters;
 use indexmap::IndexMap;
 use mq_rules::{Memory, NotedFilter, Text};
-use mq_topic::matches;
 use std::alloc::Global;
 use std::marker::Model;
 
@@ -167,16 +168,15 @@ fn settle(
     Ok(())
 }
 
-fn is_for(kept: &Kept, topic: &str) -> bool
-    ensures { result ≡ is_match kept.now.filter topic.now }
+// The greatest ceiling of the filters that match a topic.
+fn ceiling_among(filters: &[Kept], topic: &str) -> Option<u8>
+    ensures { (qos : ℕ) → is_some_and (nat_le qos) result ≡ list_any (λ s. is_match s.filter topic.now && nat_le qos s.ceiling) filters.now }
 {
-    matches(kept.filter.as_str(), topic)
-}
-
-fn allows_at(kept: &Kept, topic: &str, qos: u8) -> bool
-    ensures { result ≡ (is_match kept.now.filter topic.now && nat_le qos kept.now.ceiling) }
-{
-    matches(kept.filter.as_str(), topic) && qos <= kept.ceiling
+    let mut best = None;
+    for kept in filters {
+        best = raised_by(best, kept.filter.as_str(), kept.ceiling, topic);
+    }
+    best
 }
 
 // ---- one SUBSCRIBE
@@ -202,22 +202,11 @@ impl Request {
         settle(alloc, settled, self.filters.as_slice(), codes)
     }
 
-    fn any_for(&self, topic: &str) -> bool
-        ensures { result ≡ list_any (λ s. is_match s.filter topic.now) self.now }
+    // The greatest ceiling of its filters that match a topic.
+    fn ceiling_for(&self, topic: &str) -> Option<u8>
+        ensures { (qos : ℕ) → is_some_and (nat_le qos) result ≡ list_any (λ s. is_match s.filter topic.now && nat_le qos s.ceiling) self.now }
     {
-        self.filters
-            .as_slice()
-            .iter()
-            .any(|filter| is_for(filter, topic))
-    }
-
-    fn any_allowing(&self, topic: &str, qos: u8) -> bool
-        ensures { result ≡ list_any (λ s. is_match s.filter topic.now && nat_le qos s.ceiling) self.now }
-    {
-        self.filters
-            .as_slice()
-            .iter()
-            .any(|filter| allows_at(filter, topic, qos))
+        ceiling_among(self.filters.as_slice(), topic)
     }
 
     // How much it counts: itself, and its filters.
@@ -228,18 +217,14 @@ impl Request {
     }
 }
 
-fn any_request_for(requests: &[Request], topic: &str) -> bool
-    ensures { result ≡ list_any (λ filters. list_any (λ s. is_match s.filter topic.now) filters) requests.now }
+fn ceiling_of_all(requests: &[Request], topic: &str) -> Option<u8>
+    ensures { (qos : ℕ) → is_some_and (nat_le qos) result ≡ list_any (λ filters. list_any (λ s. is_match s.filter topic.now && nat_le qos s.ceiling) filters) requests.now }
 {
-    requests.iter().any(|request| request.any_for(topic))
-}
-
-fn any_request_allowing(requests: &[Request], topic: &str, qos: u8) -> bool
-    ensures { result ≡ list_any (λ filters. list_any (λ s. is_match s.filter topic.now && nat_le qos s.ceiling) filters) requests.now }
-{
-    requests
-        .iter()
-        .any(|request| request.any_allowing(topic, qos))
+    let mut best = None;
+    for request in requests {
+        best = higher(best, request.ceiling_for(topic));
+    }
+    best
 }
 
 // Settles all by the Reason Codes of one SUBACK.
@@ -294,17 +279,14 @@ impl Requests {
         self.settle(alloc, settled, &[])
     }
 
-    fn any_for(&self, topic: &str) -> bool
-        ensures { result ≡ list_any (λ filters. list_any (λ s. is_match s.filter topic.now) filters) self.now }
+    // The greatest ceiling of their filters that match a topic.
+    fn ceiling_for(&self, topic: &str) -> Option<u8>
+        ensures { (qos : ℕ) → is_some_and (nat_le qos) result ≡ list_any (λ filters. list_any (λ s. is_match s.filter topic.now && nat_le qos s.ceiling) filters) self.now }
     {
-        self.first.any_for(topic) || any_request_for(self.others.as_slice(), topic)
-    }
-
-    fn any_allowing(&self, topic: &str, qos: u8) -> bool
-        ensures { result ≡ list_any (λ filters. list_any (λ s. is_match s.filter topic.now && nat_le qos s.ceiling) filters) self.now }
-    {
-        self.first.any_allowing(topic, qos)
-            || any_request_allowing(self.others.as_slice(), topic, qos)
+        higher(
+            self.first.ceiling_for(topic),
+            ceiling_of_all(self.others.as_slice(), topic),
+        )
     }
 
     // How much they count, with the entry of their identifier.
@@ -361,17 +343,14 @@ fn settle_values(
     Ok(())
 }
 
-fn any_value_for(all: &IndexMap<u16, Requests>, topic: &str) -> bool
-    ensures { result ≡ list_any (λ requests. list_any (λ filters. list_any (λ s. is_match s.filter topic.now) filters) requests) (values all.now) }
+fn ceiling_of_values(all: &IndexMap<u16, Requests>, topic: &str) -> Option<u8>
+    ensures { (qos : ℕ) → is_some_and (nat_le qos) result ≡ list_any (λ requests. list_any (λ filters. list_any (λ s. is_match s.filter topic.now && nat_le qos s.ceiling) filters) requests) (values all.now) }
 {
-    all.values().any(|requests| requests.any_for(topic))
-}
-
-fn any_value_allowing(all: &IndexMap<u16, Requests>, topic: &str, qos: u8) -> bool
-    ensures { result ≡ list_any (λ requests. list_any (λ filters. list_any (λ s. is_match s.filter topic.now && nat_le qos s.ceiling) filters) requests) (values all.now) }
-{
-    all.values()
-        .any(|requests| requests.any_allowing(topic, qos))
+    let mut best = None;
+    for requests in all.values() {
+        best = higher(best, requests.ceiling_for(topic));
+    }
+    best
 }
 
 fn values_size(all: &IndexMap<u16, Requests>) -> usize
@@ -424,18 +403,19 @@ impl Awaited {
         Ok(())
     }
 
-    /// Whether some filter matches a topic.
-    pub fn any_for(&self, topic: &str) -> bool
-        ensures { result ≡ list_any (λ w. list_any (λ s. is_match s.filter topic.now) w.filters) self.now }
+    /// The greatest ceiling of the filters that match a topic.
+    pub fn ceiling_for(&self, topic: &str) -> Option<u8>
+        ensures { (qos : ℕ) → is_some_and (nat_le qos) result ≡ list_any (λ w. list_any (λ s. is_match s.filter topic.now && nat_le qos s.ceiling) w.filters) self.now }
     {
-        any_value_for(&self.requests, topic)
+        ceiling_of_values(&self.requests, topic)
     }
 
-    /// Whether some filter matches a topic, and allows this QoS.
-    pub fn any_allowing(&self, topic: &str, qos: u8) -> bool
-        ensures { result ≡ list_any (λ w. list_any (λ s. is_match s.filter topic.now && nat_le qos s.ceiling) w.filters) self.now }
+    /// Whether none waits.
+    #[inline]
+    pub fn is_empty(&self) -> bool
+        ensures { result ≡ true → self.now ≡ [] }
     {
-        any_value_allowing(&self.requests, topic, qos)
+        self.requests.is_empty()
     }
 
     /// How many SUBSCRIBEs wait, and how many filters they have together.

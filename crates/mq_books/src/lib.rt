@@ -8,11 +8,13 @@
 
 mod asked;
 mod awaited;
+mod ceilings;
 mod counts;
 mod debts;
 mod early;
 mod exchange;
 mod fated;
+mod filters;
 mod inflight;
 mod judging;
 mod known;

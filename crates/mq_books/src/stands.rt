@@ -1,18 +1,20 @@
 //! Topic Filters that stand, each with the greatest QoS of what may be sent for it (MQTT 5.0,
 //! sections 3.8.4 and 4.7).
-ghost use Rattle.std.specs.Prelude.{◌≡◌, ◌≤◌, ◌∷◌, [], ◌||◌, ◌&&◌, nat_le, ℕ, Bool, true, None, List, OnOk, IfOk, cond};
-ghost use Rattle.std.specs.List.{list_any};
+ghost use Rattle.std.specs.Prelude.{◌≡◌, ◌≤◌, ◌∷◌, [], ◌||◌, ◌&&◌, nat_le, ℕ, Bool, true, None, List, length, OnOk, IfOk, cond};
+ghost use Rattle.std.specs.List.{list_any, list_all};
 ghost use Rattle.std.specs.Set.{distinct_count};
 ghost use Rattle.std.specs.Str.{bytes_eq};
 ghost use Rattle.std.specs.String.{string_bytes, string_eq};
-ghost use Rattle.indexmap.specs.IndexMap.{get_by_text, keys, IsUnique};
+ghost use Rattle.indexmap.specs.IndexMap.{get_by_text, IsUnique};
+ghost use Rattle.mq_topic.specs.Levels.{is_name};
 ghost use Rattle.mq_topic.specs.Matching.{matches as is_match, is_empty as empty};
 ghost use Rattle.mq_rules.specs.Words.{is_some_and};
 ghost use Rattle.mq_books.specs.Standings.{allows, standings, stands_any, AllFilters};
 
+use crate::ceilings::{ceiling_among, higher};
 use indexmap::IndexMap;
 use mq_rules::Memory;
-use mq_topic::{check_name, matches};
+use mq_topic::check_name;
 use std::alloc::Global;
 use std::marker::Model;
 
@@ -26,8 +28,8 @@ fn stands(standing: &IndexMap<String, u8>, filter: &str, ceiling: u8) -> bool
     }
 }
 
-// A copy of a text.
-fn copy_of(alloc: Global, text: &str) -> Result<String, Memory>
+/// A copy of a text.
+pub fn copy_of(alloc: Global, text: &str) -> Result<String, Memory>
     ensures { IfOk result (λ copy. string_bytes copy ≡ text.now) }
 {
     let mut copy = String::with_capacity(alloc, text.len())?;
@@ -65,39 +67,6 @@ fn literal_ceiling(literal: &IndexMap<String, u8>, topic: &str) -> Option<u8>
         Some(ceiling) => Some(*ceiling),
         None => None,
     }
-}
-
-// Whether there is a ceiling that allows this QoS.
-fn is_within(ceiling: Option<u8>, qos: u8) -> bool
-    ensures { result ≡ is_some_and (nat_le qos) ceiling }
-{
-    match ceiling {
-        Some(ceiling) => qos <= ceiling,
-        None => false,
-    }
-}
-
-// Whether some filter of a map matches a topic.
-fn any_key(standing: &IndexMap<String, u8>, topic: &str) -> bool
-    ensures { result ≡ list_any (λ k. is_match (string_bytes k) topic.now) (keys standing.now) }
-{
-    standing
-        .keys()
-        .any(|filter| matches(filter.as_str(), topic))
-}
-
-// Whether a filter matches a topic, and its ceiling allows this QoS.
-fn allows_at(filter: &str, ceiling: u8, topic: &str, qos: u8) -> bool
-    ensures { result ≡ (is_match filter.now topic.now && nat_le qos ceiling) }
-{
-    matches(filter, topic) && qos <= ceiling
-}
-
-// Whether some filter of a map matches a topic, and allows this QoS.
-fn any_entry(standing: &IndexMap<String, u8>, topic: &str, qos: u8) -> bool
-    ensures { result ≡ list_any (λ e. is_match (string_bytes e.0) topic.now && nat_le qos e.1) standing.now.entries }
-{
-    standing.iter().any(|(filter, ceiling)| allows_at(filter.as_str(), *ceiling, topic, qos))
 }
 
 /// Filters that stand, each with the greatest QoS of what may be sent for it.
@@ -153,24 +122,29 @@ impl StandingFilters {
         raise(alloc, &mut self.wild, filter, ceiling)
     }
 
-    /// Whether some filter matches a topic.
-    pub fn any_for(&self, topic: &str) -> bool
-        ensures { result ≡ list_any (λ s. is_match s.filter topic.now) self.now }
+    /// The greatest ceiling of the filters that match a topic.
+    pub fn ceiling_for(&self, topic: &str) -> Option<u8>
+        ensures { (qos : ℕ) → is_some_and (nat_le qos) result ≡ list_any (λ s. is_match s.filter topic.now && nat_le qos s.ceiling) self.now }
     {
-        literal_ceiling(&self.literal, topic).is_some() || any_key(&self.wild, topic)
+        higher(
+            literal_ceiling(&self.literal, topic),
+            ceiling_among(&self.wild, topic),
+        )
     }
 
-    /// Whether some filter matches a topic, and allows this QoS.
-    pub fn any_allowing(&self, topic: &str, qos: u8) -> bool
-        ensures { result ≡ list_any (λ s. is_match s.filter topic.now && nat_le qos s.ceiling) self.now }
+    /// Whether no filter has a wildcard.
+    #[inline]
+    pub fn is_literal(&self) -> bool
+        ensures { result ≡ true → list_all (λ s. is_name s.filter) self.now ≡ true }
     {
-        is_within(literal_ceiling(&self.literal, topic), qos) || any_entry(&self.wild, topic, qos)
+        self.wild.is_empty()
     }
 
     /// How many filters there are. They are no more than the different ones among filters that have
     /// each of them.
     pub fn len(&self) -> usize
-        ensures { (filters : List (List ℕ)) → ((f : List ℕ) → list_any (λ s. bytes_eq f s.filter) self.now ≡ true → list_any (bytes_eq f) filters ≡ true) → result ≤ distinct_count bytes_eq filters }
+        ensures size { result ≡ length self.now }
+        ensures different { (filters : List (List ℕ)) → ((f : List ℕ) → list_any (λ s. bytes_eq f s.filter) self.now ≡ true → list_any (bytes_eq f) filters ≡ true) → result ≤ distinct_count bytes_eq filters }
     {
         self.literal.len().saturating_add(self.wild.len())
     }

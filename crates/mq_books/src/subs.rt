@@ -1,29 +1,28 @@
 //! What a server may deliver: topics that were subscribed to, at no more than the QoS that was
 //! granted (MQTT 5.0, sections 3.3.1.2, 3.8.4 and 4.7).
 ghost use Rattle.std.specs.Prelude.{refl};
-ghost use Rattle.std.specs.Prelude.{◌≡◌, ◌+◌, ◌*◌, ◌&&◌, ◌||◌, ◌==◌, nat_le, ℕ, Bool, List, cond, not, OnOk, nat_eq, [], Some, length, option_map};
-ghost use Rattle.std.specs.List.{list_any, sum_by};
+ghost use Rattle.std.specs.Prelude.{◌≡◌, ◌+◌, ◌*◌, ◌&&◌, ◌||◌, ◌==◌, nat_le, ℕ, not, OnOk, IfOk, nat_eq, [], Some, length, option_map, is_none, is_some};
+ghost use Rattle.std.specs.List.{list_any};
 ghost use Rattle.std.specs.Option.{option_or};
 ghost use Rattle.indexmap.specs.IndexMap.{get};
-ghost use Rattle.mq_topic.specs.Matching.{matches as is_match};
 ghost use Rattle.mq_rules.specs.declared.fate.Fate.TheVariants.{Void};
 ghost use Rattle.mq_rules.specs.declared.rule.Rule.TheVariants.{B01, B02};
 ghost use Rattle.mq_rules.specs.Words.{is_some_and, is_id, only};
-ghost use Rattle.mq_rules.specs.Notes.{received_subscription, qos_number as number_of, subscription_in, sent_grant};
-ghost use Rattle.mq_rules.specs.Connections.{accepts, begins};
-ghost use Rattle.mq_rules.specs.Subscriptions.{granted, is_shared as begins_shared};
+ghost use Rattle.mq_rules.specs.Notes.{received_subscription, qos_number as number_of, subscription_in};
+ghost use Rattle.mq_rules.specs.Connections.{accepts};
+ghost use Rattle.mq_rules.specs.Subscriptions.{is_shared as begins_shared};
 ghost use Rattle.mq_rules.specs.Rules.{same_rule, binds as is_bound};
 ghost use Rattle.mq_rules.specs.Under.{IsKnown, turns_known};
 ghost use Rattle.mq_books.specs.Burden.{standing_count, asked_filters, aliased_ids};
-ghost use Rattle.mq_books.specs.Standings.{allows, Waits, asked, weighed, sum_next, with_codes, goes_on as keeps_session, is_answered, grants_some, settled_next, waiting_next, sharing_next, topic_next, IsStanding, any_kept, topic_kept, delivers_so, judged_topic as topic_judged, is_unasked as unasked, is_above as above};
+ghost use Rattle.mq_books.specs.Standings.{goes_on as keeps_session, sharing_next, topic_next, IsStanding, topic_kept, delivers_so, judged_topic as topic_judged, is_unasked as unasked, is_above as above};
 ghost use Rattle.mq_books.specs.Concerns.{concerns_deliveries};
 
-use crate::awaited::{Awaited, Request};
+use crate::ceilings::is_within;
 use crate::fated::Fated;
+use crate::filters::Filters;
 use crate::known::judge_by;
 use crate::selective::Selective;
 use crate::sizes::map_size;
-use crate::stands::StandingFilters;
 use indexmap::IndexMap;
 use mq_packet::Qos;
 use mq_rules::{
@@ -32,116 +31,6 @@ use mq_rules::{
 };
 use mq_trace::Place3;
 use std::alloc::Global;
-
-// ---- SUBSCRIBEs
-
-// Settles the SUBSCRIBEs that wait under this identifier.
-fn answer(
-    alloc: Global,
-    settled: &mut StandingFilters,
-    waiting: &mut Awaited,
-    identifier: u16,
-    codes: &[u8],
-) -> Result<(), Memory>
-    ensures settled { OnOk result ((among : List ℕ → Bool) (qos : ℕ) → list_any (allows among qos) settled.new ≡ (list_any (allows among qos) settled.old || list_any (λ w. (identifier == w.identifier) && list_any (allows among qos) (with_codes w.filters codes.now)) waiting.old)) }
-    ensures left { OnOk result ((t : Waits → Bool) → list_any t waiting.new ≡ list_any (λ w. not (identifier == w.identifier) && t w) waiting.old) }
-    ensures sums { OnOk result ((weigh : Waits → ℕ) → sum_by weigh waiting.new ≡ sum_by (λ w. cond (identifier == w.identifier) 0 (weigh w)) waiting.old) }
-{
-    match waiting.answer(identifier) {
-        Some(requests) => requests.settle(alloc, settled, codes),
-        None => Ok(()),
-    }
-}
-
-// Takes in an OPEN of a connection that has this fate.
-fn open(
-    alloc: Global,
-    settled: &mut StandingFilters,
-    waiting: &mut Awaited,
-    fate: Fate,
-) -> Result<(), Memory>
-    ensures settled { OnOk result ((among : List ℕ → Bool) (qos : ℕ) → list_any (allows among qos) settled.new ≡ (not (begins (Some fate)) && (list_any (allows among qos) settled.old || list_any (λ w. list_any (allows among qos) w.filters) waiting.old))) }
-    ensures none { OnOk result (waiting.new ≡ []) }
-{
-    if matches!(fate, Fate::New) {
-        // A large map that is cleared costs its size each time.
-        *settled = StandingFilters::new(alloc);
-        *waiting = Awaited::new(alloc);
-        return Ok(());
-    }
-    waiting.settle_all(alloc, settled)?;
-    *waiting = Awaited::new(alloc);
-    Ok(())
-}
-
-// Takes in a SUBACK, if the event sends one.
-fn take_grant(
-    alloc: Global,
-    settled: &mut StandingFilters,
-    waiting: &mut Awaited,
-    note: &Note,
-) -> Result<(), Memory>
-    ensures settled { OnOk result ((among : List ℕ → Bool) (qos : ℕ) → list_any (allows among qos) settled.new ≡ (list_any (allows among qos) settled.old || grants_some (allows among qos) (sent_grant note.now) (λ p. list_any p waiting.old))) }
-    ensures left { OnOk result ((t : Waits → Bool) → list_any t waiting.new ≡ list_any (λ w. not (is_answered (sent_grant note.now) w) && t w) waiting.old) }
-    ensures sums { OnOk result ((weigh : Waits → ℕ) → sum_by weigh waiting.new ≡ sum_by (λ w. cond (is_answered (sent_grant note.now) w) 0 (weigh w)) waiting.old) }
-{
-    match note.sent_fields() {
-        Some(PacketFields::Suback { identifier, codes }) => {
-            answer(alloc, settled, waiting, *identifier, codes.as_slice())?;
-            Ok(())
-        }
-        _ => Ok(()),
-    }
-}
-
-// Takes in a SUBSCRIBE, if the event is one that is received on a connection that is accepted.
-fn take_request(
-    alloc: Global,
-    waiting: &mut Awaited,
-    accepted: bool,
-    note: &Note,
-) -> Result<(), Memory>
-    ensures any { OnOk result ((t : Waits → Bool) → list_any t waiting.new ≡ ((accepted && is_some_and t (option_map asked (received_subscription note.now))) || list_any t waiting.old)) }
-    ensures sums { OnOk result ((weigh : Waits → ℕ) → sum_by weigh waiting.new ≡ cond accepted (weighed weigh (option_map asked (received_subscription note.now))) 0 + sum_by weigh waiting.old) }
-{
-    if !accepted {
-        return Ok(());
-    }
-    match note.received_fields() {
-        Some(
-            PacketFields::Subscribe {
-                identifier,
-                filters,
-            },
-        ) => {
-            let request = Request::of(alloc, filters.as_slice())?;
-            waiting.wait(alloc, *identifier, request)?;
-            Ok(())
-        }
-        _ => Ok(()),
-    }
-}
-
-// Takes in what an event of a connection that has this fate says of filters.
-fn take_filters(
-    alloc: Global,
-    settled: &mut StandingFilters,
-    waiting: &mut Awaited,
-    fate: Fate,
-    note: &Note,
-) -> Result<(), Memory>
-    ensures settled { OnOk result ((among : List ℕ → Bool) (qos : ℕ) → list_any (allows among qos) settled.new ≡ settled_next fate note.now (allows among qos) (list_any (allows among qos) settled.old) (λ p. list_any p waiting.old)) }
-    ensures waiting { OnOk result ((t : Waits → Bool) → list_any t waiting.new ≡ waiting_next fate note.now t (λ p. list_any p waiting.old)) }
-    ensures sums { OnOk result ((weigh : Waits → ℕ) → sum_by weigh waiting.new ≡ sum_next fate note.now weigh (λ g. sum_by g waiting.old)) }
-{
-    if note.is_open() {
-        open(alloc, settled, waiting, fate)?;
-        return Ok(());
-    }
-    take_grant(alloc, settled, waiting, note)?;
-    take_request(alloc, waiting, fate.accepts(), note)?;
-    Ok(())
-}
 
 // ---- shared subscriptions
 
@@ -259,25 +148,78 @@ fn judged_topic<'a>(
 
 // ---- deliveries
 
-// Whether some filter matches a topic.
-fn is_asked(settled: &StandingFilters, waiting: &Awaited, topic: &str) -> bool
-    ensures { result ≡ any_kept (λ s. is_match s.filter topic.now) settled.now waiting.now }
-{
-    settled.any_for(topic) || waiting.any_for(topic)
+// Which of B01 and B02 an event breaks.
+#[derive(Clone, Copy)]
+struct Broken {
+    unasked: bool,
+    above: bool,
 }
 
-// Whether some filter matches a topic, and allows this QoS.
-fn is_allowed(settled: &StandingFilters, waiting: &Awaited, topic: &str, qos: Qos) -> bool
-    ensures { result ≡ any_kept (λ s. is_match s.filter topic.now && nat_le (number_of qos) s.ceiling) settled.now waiting.now }
+const NOTHING_BROKEN: Broken = Broken {
+    unasked: false,
+    above: false,
+};
+
+// What a delivery with this QoS breaks, by the greatest ceiling of the filters that match its
+// topic.
+fn broken_by(ceiling: Option<u8>, qos: Qos) -> Broken
+    ensures unasked { result.unasked ≡ is_none ceiling }
+    ensures above { result.above ≡ (is_some ceiling && not (is_some_and (nat_le (number_of qos)) ceiling)) }
 {
-    settled.any_allowing(topic, qos_number(qos)) || waiting.any_allowing(topic, qos_number(qos))
+    Broken {
+        unasked: ceiling.is_none(),
+        above: ceiling.is_some() && !is_within(ceiling, qos_number(qos)),
+    }
 }
 
-// Whether some filter matches the topic of a PUBLISH, and none that does allows its QoS.
-fn is_over(settled: &StandingFilters, waiting: &Awaited, publish: &PublishNote, topic: &str) -> bool
-    ensures { result ≡ above settled.now waiting.now publish.now topic.now }
+// What a PUBLISH that is sent breaks.
+fn judge(
+    alloc: Global,
+    filters: &mut Filters,
+    sharing: bool,
+    topics: &IndexMap<u16, Text>,
+    publish: &PublishNote,
+) -> Result<Broken, Memory>
+    ensures unchanged { filters.new ≡ filters.old }
+    ensures unasked { IfOk result (λ broken. broken.unasked ≡ is_some_and (unasked filters.old.settled filters.old.waiting publish.now) (topic_judged sharing (get nat_eq topics.now) publish.now)) }
+    ensures above { IfOk result (λ broken. broken.above ≡ is_some_and (above filters.old.settled filters.old.waiting publish.now) (topic_judged sharing (get nat_eq topics.now) publish.now)) }
 {
-    is_asked(settled, waiting, topic) && !is_allowed(settled, waiting, topic, publish.qos)
+    match judged_topic(publish, sharing, topics) {
+        Some(topic) => {
+            let ceiling = filters.ceiling_for(alloc, topic)?;
+            Ok(broken_by(ceiling, publish.qos))
+        }
+        None => Ok(NOTHING_BROKEN),
+    }
+}
+
+// Whether events of a connection that has this fate are judged.
+fn is_judged(bound: bool, fate: Fate) -> bool
+    ensures { result ≡ (bound && accepts fate) }
+{
+    bound && fate.accepts()
+}
+
+// What an event breaks.
+fn judge_event(
+    alloc: Global,
+    filters: &mut Filters,
+    sharing: bool,
+    topics: &IndexMap<u16, Text>,
+    binds: bool,
+    note: &Note,
+) -> Result<Broken, Memory>
+    ensures unchanged { filters.new ≡ filters.old }
+    ensures unasked { IfOk result (λ broken. broken.unasked ≡ (binds && delivers_so note.now sharing (get nat_eq topics.now) (unasked filters.old.settled filters.old.waiting))) }
+    ensures above { IfOk result (λ broken. broken.above ≡ (binds && delivers_so note.now sharing (get nat_eq topics.now) (above filters.old.settled filters.old.waiting))) }
+{
+    if !binds {
+        return Ok(NOTHING_BROKEN);
+    }
+    match note.sent_publish() {
+        Some(publish) => judge(alloc, filters, sharing, topics, publish),
+        None => Ok(NOTHING_BROKEN),
+    }
 }
 
 /// Watches B01 and B02.
@@ -286,9 +228,7 @@ pub struct Deliveries {
     alloc: Global,
     bound: bool,
     fate: Fate,
-    // The filters that stand whatever comes.
-    settled: StandingFilters,
-    waiting: Awaited,
+    filters: Filters,
     sharing: bool,
     topics: IndexMap<u16, Text>,
 }
@@ -302,8 +242,7 @@ impl Deliveries {
             alloc,
             bound: Rule::B01.is_judged(tested),
             fate: Fate::Void,
-            settled: StandingFilters::new(alloc),
-            waiting: Awaited::new(alloc),
+            filters: Filters::new(alloc),
             sharing: false,
             topics: IndexMap::new(alloc),
         }
@@ -316,60 +255,16 @@ impl Deliveries {
     {
         self.bound
     }
-
-    // Whether no filter matches the topic of a PUBLISH.
-    fn is_unasked(&self, publish: &PublishNote) -> bool
-        ensures { result ≡ is_some_and (unasked self.now.settled self.now.waiting publish.now) (topic_judged self.now.sharing (get nat_eq self.now.topics) publish.now) }
-    {
-        match judged_topic(publish, self.sharing, &self.topics) {
-            Some(topic) => !is_asked(&self.settled, &self.waiting, topic),
-            None => false,
-        }
-    }
-
-    // Whether some filter matches the topic of a PUBLISH, and none that does allows its QoS.
-    fn is_above(&self, publish: &PublishNote) -> bool
-        ensures { result ≡ is_some_and (above self.now.settled self.now.waiting publish.now) (topic_judged self.now.sharing (get nat_eq self.now.topics) publish.now) }
-    {
-        match judged_topic(publish, self.sharing, &self.topics) {
-            Some(topic) => is_over(&self.settled, &self.waiting, publish, topic),
-            None => false,
-        }
-    }
-
-    // Whether an event delivers a message to which nobody subscribed.
-    fn breaks_asked(&self, fate: Fate, note: &Note) -> bool
-        ensures { result ≡ (self.now.bound && (accepts fate && delivers_so note.now self.now.sharing (get nat_eq self.now.topics) (unasked self.now.settled self.now.waiting))) }
-    {
-        self.bound
-            && (fate.accepts()
-                && match note.sent_publish() {
-                    Some(publish) => self.is_unasked(publish),
-                    None => false,
-                })
-    }
-
-    // Whether an event delivers a message at a higher QoS than was granted.
-    fn breaks_granted(&self, fate: Fate, note: &Note) -> bool
-        ensures { result ≡ (self.now.bound && (accepts fate && delivers_so note.now self.now.sharing (get nat_eq self.now.topics) (above self.now.settled self.now.waiting))) }
-    {
-        self.bound
-            && (fate.accepts()
-                && match note.sent_publish() {
-                    Some(publish) => self.is_above(publish),
-                    None => false,
-                })
-    }
 }
 
 impl Watch for Deliveries {
-    ghost agrees = { λ s tested taken past. (s.bound ≡ is_bound B01 tested) × IsStanding s.fate s.settled s.waiting s.sharing (get nat_eq s.topics) tested taken past };
+    ghost agrees = { λ s tested taken past. (s.bound ≡ is_bound B01 tested) × IsStanding s.fate s.filters.settled s.filters.waiting s.sharing (get nat_eq s.topics) tested taken past };
 
     ghost takes = { IsKnown };
 
     ghost adds = { λ tested e past k r. (same_rule r B01 || same_rule r B02) && turns_known tested e past k r };
 
-    ghost bound = { λ tested taken past. standing_count tested.role taken past + 2 * asked_filters past + aliased_ids past };
+    ghost bound = { λ tested taken past. 3 * standing_count tested.role taken past + 2 * asked_filters past + aliased_ids past };
 
     fn step(&mut self, at: Place3, note: &Note, faults: &mut Faults) -> Result<(), Memory> {
         let fate = self.fate;
@@ -377,12 +272,9 @@ impl Watch for Deliveries {
         Ok(())
     }
 
-    // Both maps and the list of the struct, with the filters of each SUBSCRIBE that waits.
+    // Both maps of the struct, and all that is kept of filters.
     fn weight(&self) -> usize {
-        self.settled
-            .len()
-            .saturating_add(self.waiting.size())
-            .saturating_add(map_size(&self.topics))
+        self.filters.size().saturating_add(map_size(&self.topics))
     }
 }
 
@@ -397,15 +289,22 @@ impl Fated for Deliveries {
         note: &Note,
         faults: &mut Faults,
     ) -> Result<(), Memory> {
-        let unasked = self.breaks_asked(fate, note);
-        let above = self.breaks_granted(fate, note);
         let alloc = self.alloc;
-        take_filters(alloc, &mut self.settled, &mut self.waiting, fate, note)?;
+        let binds = is_judged(self.bound, fate);
+        let broken = judge_event(
+            alloc,
+            &mut self.filters,
+            self.sharing,
+            &self.topics,
+            binds,
+            note,
+        )?;
+        self.filters.take_in(alloc, fate, note)?;
         take_topic(alloc, &mut self.topics, note)?;
         self.sharing = shares(fate, note, self.sharing);
         self.fate = fate;
-        judge_by(Rule::B01, unasked, at, decided, faults)?;
-        judge_by(Rule::B02, above, at, decided, faults)?;
+        judge_by(Rule::B01, broken.unasked, at, decided, faults)?;
+        judge_by(Rule::B02, broken.above, at, decided, faults)?;
         Ok(())
     }
 

@@ -1,11 +1,14 @@
-use Rattle.std.proofs.Common.{◌≡◌, ◌&&◌, ◌||◌, ◌∷◌, nat_eq, subst, sym, ap, ◌∙◌}
+use Rattle.std.proofs.Common.{◌&&◌, ◌∷◌, nat_eq, subst, sym}
 use Rattle.indexmap.specs.IndexMap.{get}
 use Rattle.mq_rules.specs.declared.rule.Rule.TheVariants.{B01, B02}
 use Rattle.mq_rules.specs.Rules.{same_rule}
 use Rattle.mq_rules.specs.FaultKeys.{FaultMap}
-use Rattle.mq_rules.proofs.Exports.{gains_either, on_err, within_all, within_either_first, within_either_second, within_nothing}
-use Rattle.mq_rules.specs.Under.{seen, turns_with}
+use Rattle.mq_rules.proofs.Exports.{gains_either, on_err, within_either_second, within_nothing}
+use Rattle.mq_rules.specs.Connections.{accepts}
+use Rattle.mq_rules.specs.Under.{seen, turns_with, fate_before}
 use Rattle.mq_rules.specs.Growing.{Gains}
+use Rattle.mq_books.specs.Standings.{SessionFilters, IsStanding, delivers_so, is_unasked, is_above}
+use Rattle.mq_books.proofs.FilterLaws.{judged-so}
 use Rattle.mq_books.proofs.StandingLaws.{standing-next}
 use Rattle.mq_books.proofs.DeliveryLaws.{B01-gains, B02-gains}
 use Rattle.mq_books.proofs.subs.DeliveriesFated.fated.Goals as goal
@@ -13,10 +16,12 @@ use Rattle.mq_books.proofs.subs.DeliveriesFated.fated.Goals as goal
 pub returns-clause-agrees : goal.returns-clause-agrees
 returns-clause-agrees c = λ tested past under q.
     let s = c.args.self.now in
-    let e = seen c.args.at c.args.note.now in (
+    let e = seen c.args.at c.args.note.now in
+    let f = c.judge_event.new.filters in (
       q.0,
-      standing-next tested s.fate c.args.fate s.settled c.take_filters.new.settled s.waiting c.take_filters.new.waiting s.sharing c.shares-self.result (get nat_eq s.topics) (get nat_eq c.take_topic.new.topics) e past q.1
-          c.in_ok-take_filters.ensures.settled c.in_ok-take_filters.ensures.waiting c.in_ok-take_filters.ensures.sums c.shares-self.ensures c.in_ok-take_topic.ensures,
+      standing-next tested s.fate c.args.fate f.settled c.take_in.new.self.settled f.waiting c.take_in.new.self.waiting s.sharing c.shares-self.result (get nat_eq s.topics) (get nat_eq c.take_topic.new.topics) e past
+          (subst (λ (g : SessionFilters). IsStanding s.fate g.settled g.waiting s.sharing (get nat_eq s.topics) tested (fate_before tested c.args.fate e past) past) (sym c.judge_event.ensures.unchanged) q.1)
+          c.in_ok-take_in.ensures.settled c.in_ok-take_in.ensures.waiting c.in_ok-take_in.ensures.sums c.shares-self.ensures c.in_ok-take_topic.ensures,
     )
 
 pub returns-clause-grows : goal.returns-clause-grows
@@ -25,9 +30,9 @@ returns-clause-grows c = λ tested past under q.
     let e = seen c.args.at c.args.note.now in
     gains_either (λ r. same_rule r B01) (λ r. same_rule r B02) (λ k r. turns_with tested c.args.fate e past k r) tested (e ∷ past) c.args.decided c.args.faults.now c.judge_by.new.faults c.judge_by-2.new.faults
     (subst (λ (m : FaultMap). Gains (λ k r. same_rule r B01 && turns_with tested c.args.fate e past k r) tested (e ∷ past) c.args.decided c.args.faults.now m) (sym c.in_ok-judge_by.ensures.ok)
-    (B01-gains tested s.fate c.args.fate s.settled s.waiting s.sharing (get nat_eq s.topics) c.args.decided e past c.args.faults.now s.bound c.breaks_asked-unasked.result under q.1 q.0 c.breaks_asked-unasked.ensures))
+    (B01-gains tested s.fate c.args.fate s.filters.settled s.filters.waiting s.sharing (get nat_eq s.topics) c.args.decided e past c.args.faults.now s.bound c.in_ok-broken.broken.unasked under q.1 q.0 (judged-so c.in_ok-broken.broken.unasked c.is_judged-binds.result s.bound (accepts c.args.fate) (delivers_so e.note s.sharing (get nat_eq s.topics) (is_unasked s.filters.settled s.filters.waiting)) c.in_ok-broken.ensures.unasked c.is_judged-binds.ensures)))
     (subst (λ (m : FaultMap). Gains (λ k r. same_rule r B02 && turns_with tested c.args.fate e past k r) tested (e ∷ past) c.args.decided c.judge_by.new.faults m) (sym c.in_ok-judge_by-2.ensures.ok)
-    (B02-gains tested s.fate c.args.fate s.settled s.waiting s.sharing (get nat_eq s.topics) c.args.decided e past c.judge_by.new.faults s.bound c.breaks_granted-above.result under q.1 q.0 c.breaks_granted-above.ensures))
+    (B02-gains tested s.fate c.args.fate s.filters.settled s.filters.waiting s.sharing (get nat_eq s.topics) c.args.decided e past c.judge_by.new.faults s.bound c.in_ok-broken.broken.above under q.1 q.0 (judged-so c.in_ok-broken.broken.above c.is_judged-binds.result s.bound (accepts c.args.fate) (delivers_so e.note s.sharing (get nat_eq s.topics) (is_above s.filters.settled s.filters.waiting)) c.in_ok-broken.ensures.above c.is_judged-binds.ensures)))
 
 pub returns-in_err-judge_by-2-clause-memory : goal.returns-in_err-judge_by-2-clause-memory
 returns-in_err-judge_by-2-clause-memory c =
@@ -36,5 +41,5 @@ returns-in_err-judge_by-2-clause-memory c =
     let e = seen c.args.at c.args.note.now in
     within_either_second (λ r. same_rule r B01) (λ r. same_rule r B02) (λ k r. turns_with tested c.args.fate e past k r) tested (e ∷ past) c.args.decided c.args.faults.now c.judge_by.new.faults c.judge_by-2.new.faults
     (subst (λ (m : FaultMap). Gains (λ k r. same_rule r B01 && turns_with tested c.args.fate e past k r) tested (e ∷ past) c.args.decided c.args.faults.now m) (sym c.in_ok-judge_by.ensures.ok)
-    (B01-gains tested s.fate c.args.fate s.settled s.waiting s.sharing (get nat_eq s.topics) c.args.decided e past c.args.faults.now s.bound c.breaks_asked-unasked.result under q.1 q.0 c.breaks_asked-unasked.ensures))
+    (B01-gains tested s.fate c.args.fate s.filters.settled s.filters.waiting s.sharing (get nat_eq s.topics) c.args.decided e past c.args.faults.now s.bound c.in_ok-broken.broken.unasked under q.1 q.0 (judged-so c.in_ok-broken.broken.unasked c.is_judged-binds.result s.bound (accepts c.args.fate) (delivers_so e.note s.sharing (get nat_eq s.topics) (is_unasked s.filters.settled s.filters.waiting)) c.in_ok-broken.ensures.unasked c.is_judged-binds.ensures)))
     (within_nothing (λ k r. same_rule r B02 && turns_with tested c.args.fate e past k r) tested (e ∷ past) c.args.decided c.judge_by.new.faults c.judge_by-2.new.faults c.in_err-judge_by-2.ensures.unchanged))

@@ -6,5 +6,5 @@ use Rattle.mq_books.proofs.subs.DeliveriesSelective.passes.Goals as goal
 pub returns : goal.returns
 returns c = λ tested fate at e past h under agree.
     let s = c.args.self.now in
-    let both = standing-passes tested s.fate fate s.settled s.waiting s.sharing (get nat_eq s.topics) at e past s.bound h under agree.0 agree.1 in
+    let both = standing-passes tested s.fate fate s.filters.settled s.filters.waiting s.sharing (get nat_eq s.topics) at e past s.bound h under agree.0 agree.1 in
     record { stays = (agree.0, both.0); shows = both.1 }

@@ -13,8 +13,8 @@ pub returns : goal.returns
 unfolding standing_count aliased_ids
 returns c = λ tested taken past q.
     let s = c.args.self.now in
-    let settled = c.len.ensures (standing_filters past (session tested.role taken past)) (settled-stand tested s.fate s.settled s.waiting s.sharing (get nat_eq s.topics) taken past q.1) in
+    let kept = c.size.ensures (standing_filters past (session tested.role taken past)) (settled-stand tested s.fate s.filters.settled s.filters.waiting s.sharing (get nat_eq s.topics) taken past q.1) in
     let sum = q.1.waiting_sums waits_weight in
     let asking = asking-within tested.role taken past in
     let topics = c.map_size.ensures.bounded (λ alias. is_some (last_set alias (connection past))) (λ alias here. ap is_some (sym (q.1.topics_are alias)) ∙ here) in
-    omega (arith, c.saturating_add.ensures, c.saturating_add-2.ensures, settled, c.size.ensures, sum, asking, topics)
+    omega (arith, c.saturating_add.ensures, kept, sum, asking, topics)

@@ -3,7 +3,7 @@ use Rattle.std.specs.Prelude.{unwrap_or}
 use Rattle.std.specs.List.{list_any}
 use Rattle.mq_rules.specs.Subscriptions.{Standing}
 use Rattle.mq_books.specs.Standings.{allows, with_codes}
-use Rattle.mq_books.proofs.subs.answer.Goals as goal
+use Rattle.mq_books.proofs.filters.answer.Goals as goal
 
 right-none : (b : Bool) → b ≡ (b || false)
 right-none true = refl
