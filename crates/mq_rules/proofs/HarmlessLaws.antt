@@ -284,7 +284,7 @@ harmless-grows conn tested e past faults bounds is t here placed =
 pub harmless-skips : (conn : Conn) (tested : Tested) (taken : Option Fate) (e : Seen) (past : List Seen) → Follows tested e past → IsOnConnection e past → is_harmless (send_bounds conn.role conn.state) e.note ≡ true
     → IsConn conn tested taken past → Skips (IsConn conn tested) (λ k r. is_on_past tested r && turns tested e past k r) tested e past
 harmless-skips conn tested taken e past follows on t here = record {
-  stays = conn-next conn conn tested taken (latest_fate tested.role (e ∷ past)) e past on here refl (harmless-state conn.role conn.state e.note t) aliases as_many;
+  stays = conn-next conn conn tested taken (latest_fate tested.role (e ∷ past)) e past on here refl (harmless-state conn.role conn.state e.note t) here.same_bounds aliases as_many;
   shows = λ m. conn-gains conn tested taken e past m m follows on here (harmless-found conn.role conn.state (contains nat_cmp conn.aliases) e.note e.place m t);
 }
   where

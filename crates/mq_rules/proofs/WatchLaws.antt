@@ -23,7 +23,7 @@ use Rattle.mq_rules.specs.Steps.{turns}
 use Rattle.mq_rules.specs.Under.{Follows}
 use Rattle.mq_rules.specs.Growing.{Gains, GainsWithin, Judges, JudgesWithin}
 use Rattle.mq_rules.specs.Burden.{sets_another, aliases_sent}
-use Rattle.mq_rules.specs.Keeping.{kept, is_alias_set, is_another, connection_after, is_found, Agrees, IsConn}
+use Rattle.mq_rules.specs.Keeping.{send_bounds, kept, is_alias_set, is_another, connection_after, is_found, Agrees, IsConn}
 use Rattle.mq_rules.specs.FaultKeys.{FaultMap}
 use Rattle.mq_rules.proofs.BoolLaws.{or_false, or-turn}
 use Rattle.mq_rules.proofs.ConnLaws.{connection-next, kept-next, is_alias_set-next}
@@ -80,13 +80,14 @@ count-next e past =
 
 -- What a step makes of what is kept. At a CLOSE the Topic Aliases are forgotten.
 pub conn-next : (old new : Conn) (tested : Tested) (taken after : Option Fate) (e : Seen) (past : List Seen) → IsOnConnection e past → IsConn old tested taken past
-    → new.role ≡ old.role → new.state ≡ connection_after old.role old.state e.note
+    → new.role ≡ old.role → new.state ≡ connection_after old.role old.state e.note → new.bounds ≡ send_bounds new.role new.state
     → ((alias : ℕ) → contains nat_cmp new.aliases alias ≡ (not (is_close e.note) && ((not (is_open e.note) && contains nat_cmp old.aliases alias) || is_id alias (set_alias e.note))))
     → btree_set_len new.aliases ≡ cond (is_close e.note) 0 (cond (is_another (λ alias. not (is_open e.note) && contains nat_cmp old.aliases alias) (set_alias e.note)) 1 0 + cond (is_open e.note) 0 (btree_set_len old.aliases))
     → IsConn new tested after (e ∷ past)
 unfolding aliases_sent
-conn-next old new tested taken after e past on here role state aliases as_many = record {
+conn-next old new tested taken after e past on here role state bounds aliases as_many = record {
   same_role = role ∙ here.same_role;
+  same_bounds = bounds;
   same_state = state ∙ (λ i. connection_after (here.same_role i) (here.same_state i) e.note) ∙ sym (kept-next tested.role e past);
   same_aliases = λ alias. aliases alias
       ∙ ap (λ b. not (is_close e.note) && ((not (is_open e.note) && b) || is_id alias (set_alias e.note))) (here.same_aliases alias)

@@ -326,6 +326,7 @@ pub record Agrees (conn : Conn) (tested : Tested) (past : List Seen) : Type 0 wh
 -- The same of a watcher. It keeps the Topic Aliases of the connection that is open alone.
 pub record IsConn (conn : Conn) (tested : Tested) (taken : Option Fate) (past : List Seen) : Type 0 where
   pub same_role : conn.role ≡ tested.role
+  pub same_bounds : conn.bounds ≡ send_bounds conn.role conn.state
   pub same_state : conn.state ≡ kept tested.role past
   pub same_aliases : (alias : ℕ) → contains nat_cmp conn.aliases alias ≡ (is_connected past && is_alias_set past alias)
   pub as_many : btree_set_len conn.aliases ≡ aliases_sent past

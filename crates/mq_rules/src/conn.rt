@@ -42,6 +42,8 @@ use verdicts::{Verdict, breaks_c19};
 pub struct Conn {
     role: Role,
     state: ConnectionState,
+    /// What most packets are compared with. They follow from the state.
+    bounds: SendBounds,
     /// The Topic Aliases that the tested end set (MQTT 5.0, section 3.3.2.3.4).
     aliases: BTreeSet<u16>,
 }
@@ -52,9 +54,11 @@ impl Conn {
     pub fn new(alloc: Global, tested: Tested) -> Self
         ensures { ⟦<Conn as Watch>⟧.agrees result tested (Some Void) [] }
     {
+        let state = ConnectionState::new();
         Conn {
             role: tested.role,
-            state: ConnectionState::new(),
+            state,
+            bounds: state.send_bounds(tested.role),
             aliases: BTreeSet::new(alloc),
         }
     }
@@ -154,6 +158,7 @@ impl Watch for Conn {
         self.judge(at, note, faults)?;
         self.consume(note)?;
         self.end_aliases(note);
+        self.bounds = self.send_bounds();
         Ok(())
     }
 
@@ -165,14 +170,14 @@ impl Watch for Conn {
 impl Skipping for Conn {
     #[inline(always)]
     fn may_skip(&self, note: &Note) -> bool {
-        is_harmless(self.send_bounds(), note)
+        is_harmless(self.bounds, note)
     }
 }
 
 impl Brisk for Conn {
     #[inline(always)]
     fn step_bare(&mut self, at: Place3, bare: Bare<'_>, faults: &mut Faults) -> Result<(), Memory> {
-        if is_bare_harmless(self.send_bounds(), bare) {
+        if is_bare_harmless(self.bounds, bare) {
             return Ok(());
         }
         step_apart(self, at, bare, faults)?;

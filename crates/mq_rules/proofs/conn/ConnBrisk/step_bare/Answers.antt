@@ -9,10 +9,10 @@ pub returns-then-is_bare_harmless-clause-agrees : goal.returns-then-is_bare_harm
 returns-then-is_bare_harmless-clause-agrees c = λ tested taken past follows on here.
     let n = note_of_bare c.args.bare in
     (harmless-skips c.args.self.now tested taken (seen c.args.at n) past follows on
-    (subst (λ b. is_harmless b n ≡ true) c.send_bounds.ensures (sym c.is_bare_harmless.ensures ∙ c.if-is_bare_harmless.true)) here).stays
+    (subst (λ b. is_harmless b n ≡ true) here.same_bounds (sym c.is_bare_harmless.ensures ∙ c.if-is_bare_harmless.true)) here).stays
 
 pub returns-then-is_bare_harmless-clause-grows : goal.returns-then-is_bare_harmless-clause-grows
 returns-then-is_bare_harmless-clause-grows c = λ tested taken past follows on here.
     let n = note_of_bare c.args.bare in
     (harmless-skips c.args.self.now tested taken (seen c.args.at n) past follows on
-    (subst (λ b. is_harmless b n ≡ true) c.send_bounds.ensures (sym c.is_bare_harmless.ensures ∙ c.if-is_bare_harmless.true)) here).shows c.args.faults.now
+    (subst (λ b. is_harmless b n ≡ true) here.same_bounds (sym c.is_bare_harmless.ensures ∙ c.if-is_bare_harmless.true)) here).shows c.args.faults.now

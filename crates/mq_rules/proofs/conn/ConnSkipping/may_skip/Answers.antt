@@ -7,4 +7,4 @@ use Rattle.mq_rules.proofs.conn.ConnSkipping.may_skip.Goals as goal
 pub returns : goal.returns
 returns c = λ harmless tested taken at past follows on here.
     harmless-skips c.args.self.now tested taken (seen at c.args.note.now) past follows on
-    (subst (λ b. is_harmless b c.args.note.now ≡ true) c.send_bounds.ensures (sym c.is_harmless.ensures ∙ harmless)) here
+    (subst (λ b. is_harmless b c.args.note.now ≡ true) here.same_bounds (sym c.is_harmless.ensures ∙ harmless)) here

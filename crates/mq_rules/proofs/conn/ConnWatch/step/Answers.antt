@@ -14,9 +14,10 @@ pub returns-clause-agrees : goal.returns-clause-agrees
 returns-clause-agrees c = λ tested taken past follows on here.
     let n = c.args.note.now in
     let e = seen c.args.at n in
-    conn-next c.args.self.now c.end_aliases.new.self tested taken (latest_fate tested.role (e ∷ past)) e past on here
+    conn-next c.args.self.now (record { role = c.end_aliases.new.self.role; state = c.end_aliases.new.self.state; bounds = c.send_bounds-self.result; aliases = c.end_aliases.new.self.aliases }) tested taken (latest_fate tested.role (e ∷ past)) e past on here
     (c.end_aliases.ensures.role ∙ c.in_ok-consume.ensures.role)
     (c.end_aliases.ensures.state ∙ c.in_ok-consume.ensures.state)
+    c.send_bounds-self.ensures
     (λ alias. c.end_aliases.ensures.aliases alias ∙ ap (λ b. not (is_close n) && b) (c.in_ok-consume.ensures.aliases alias))
     (c.end_aliases.ensures.as_many ∙ ap (cond (is_close n) 0) c.in_ok-consume.ensures.as_many)
 
