@@ -1,5 +1,5 @@
 -- The book of the identifiers in use, with one event more.
-use Rattle.std.proofs.Common.{◌≡◌, ℕ, ◌+◌, ◌<◌, ◌==◌, nat_eq, arith, Bool, cond, ◌&&◌, ◌||◌, not, List, ◌∷◌, length, Some, None, ap, sym, ◌∙◌}
+use Rattle.std.proofs.Common.{◌≡◌, ℕ, ◌+◌, ◌<◌, ◌≤◌, ◌==◌, nat_eq, arith, Bool, false, cond, ◌&&◌, ◌||◌, not, List, ◌∷◌, length, Some, None, ap, sym, subst, ◌∙◌}
 use Rattle.std.specs.Option.{option_or}
 use Rattle.std.specs.Map.{values_of}
 use Rattle.indexmap.specs.IndexMap.{get, IsUnique}
@@ -9,7 +9,7 @@ use Rattle.mq_rules.specs.declared.fate.Fate.{Fate}
 use Rattle.mq_rules.specs.declared.rule.Rule.TheVariants.{S06}
 use Rattle.mq_rules.specs.declared.note.Seen.{Seen}
 use Rattle.mq_rules.specs.Notes.{is_open, closer_of, delivery_of, sent_as, received_as, subscribe_in, suback_in, unsubscribe_in, unsuback_in}
-use Rattle.mq_rules.specs.Connections.{ends_binding}
+use Rattle.mq_rules.specs.Connections.{latest_fate, ends_binding}
 use Rattle.mq_rules.specs.Rules.{same_rule}
 use Rattle.mq_rules.specs.FaultKeys.{FaultMap}
 use Rattle.mq_rules.proofs.Exports.{gains_either, some-next}
@@ -21,7 +21,9 @@ use Rattle.mq_books.specs.Pingings.{ends_by}
 use Rattle.mq_books.specs.Quotas.{announced, peer_room, may_count, flown}
 use Rattle.mq_books.specs.Opened.{entry_next}
 use Rattle.mq_books.specs.Resending.{bounds_next, excuses, settles, told, IsResent}
-use Rattle.mq_books.specs.Using.{waits_next, void_next, resent_next, breaks, judged_all, is_at_once, is_inflight, IsUsing}
+use Rattle.mq_books.specs.Using.{in_delivery, delivering, stray_next, ArePublished, waits_next, void_next, resent_next, breaks, judged_all, is_at_once, is_inflight, IsUsing}
+use Rattle.mq_books.proofs.DueLaws.{opened-within}
+use Rattle.mq_books.proofs.StrayLaws.{delivering-next, published-next}
 use Rattle.mq_books.proofs.QuotaLaws.{peer-next, flown-next, flying-most}
 use Rattle.mq_books.proofs.VoidLaws.{void_sent-next}
 use Rattle.mq_books.proofs.OpenedLaws.{entry-under}
@@ -39,20 +41,22 @@ inflight-gains tested s f at e past m b rests excused under u b_is rest_is excus
 pub inflight-next : (tested : Tested) (s t : Inflight) (f : Fate) (at : ℕ) (e : Seen) (past : List Seen) → IsUnder tested f at e past → IsUsing s tested (fate_before tested f e past) past
     → t.role ≡ s.role → t.fate ≡ f → t.ordered ≡ s.ordered → IsUnique nat_eq t.entries
     → ((i : ℕ) → get nat_eq t.entries i ≡ entry_next f e.note e.place i (get nat_eq s.entries i))
-    → ((i : ℕ) → contains nat_eq t.delivering i ≡ waits_next (delivery_of e.note) (closer_of e.note) (is_open e.note) i (contains nat_eq s.delivering i))
+    → ((i : ℕ) → contains nat_eq t.stray i ≡ stray_next f e.note (get nat_eq t.entries) i (contains nat_eq s.stray i))
     → ((i : ℕ) → contains nat_eq t.void i ≡ void_next f e.note i (contains nat_eq s.void i))
     → ((i : ℕ) → contains nat_eq t.subscribing i ≡ waits_next (sent_as subscribe_in e.note) (received_as suback_in e.note) (is_open e.note) i (contains nat_eq s.subscribing i))
     → ((i : ℕ) → contains nat_eq t.unsubscribing i ≡ waits_next (sent_as unsubscribe_in e.note) (received_as unsuback_in e.note) (is_open e.note) i (contains nat_eq s.unsubscribing i))
     → t.resent ≡ resent_next e.note (get nat_eq s.entries) s.resent → t.ended ≡ (ends_by e.note || (not (is_open e.note) && s.ended)) → t.opened ≡ cond (is_open e.note) e.place.position s.opened
     → t.peer ≡ option_or (cond (is_open e.note) None s.peer) (announced s.role e.note) → (s.in_flight < e.place.position → t.in_flight ≡ flown (may_count s.role s.peer) e.note s.in_flight)
     → t.bounds ≡ bounds_next s.role e.note s.bounds → IsResent t.opened (get nat_eq t.entries) (contains nat_eq t.confirmed) t.again → IsUsing t tested (Some f) (e ∷ past)
-inflight-next tested s t f at e past under u role fate ordered distinct entries delivering void subscribing unsubscribing resent ended opened peer flying bounds again = record {
+inflight-next tested s t f at e past under u role fate ordered distinct entries stray void subscribing unsubscribing resent ended opened peer flying bounds again = record {
   same_role = role ∙ u.same_role;
   same_fate = ap Some (sym fate);
   is_ordered = ordered ∙ u.is_ordered;
   distinct = distinct;
   entries_are = λ i. entries i ∙ entry-under tested f i (get nat_eq s.entries i) e past (u.entries_are i);
-  delivering_are = waiting delivery_of closer_of (contains nat_eq s.delivering) (contains nat_eq t.delivering) e past u.delivering_are delivering;
+  delivering_are = waiting delivery_of closer_of (delivering s) (delivering t) e past u.delivering_are delivered;
+  published_are = subst (λ g. ArePublished g t.opened (get nat_eq t.entries) (e ∷ past)) (sym fate)
+      (subst (λ o. ArePublished f o (get nat_eq t.entries) (e ∷ past)) (sym opened) (published-next f s.fate e s.opened (get nat_eq s.entries) (get nat_eq t.entries) past under.follows.placed.0 u.published_are same entries));
   void_are = λ i. void i ∙ ap (void_next f e.note i) (u.void_are i) ∙ sym (void_sent-next tested i f e past);
   subscribing_are = waiting (sent_as subscribe_in) (received_as suback_in) (contains nat_eq s.subscribing) (contains nat_eq t.subscribing) e past u.subscribing_are subscribing;
   unsubscribing_are = waiting (sent_as unsubscribe_in) (received_as unsuback_in) (contains nat_eq s.unsubscribing) (contains nat_eq t.unsubscribing) e past u.unsubscribing_are unsubscribing;
@@ -67,5 +71,14 @@ inflight-next tested s t f at e past under u role fate ordered distinct entries 
   resent_are = again;
 }
   where
+    same : is_open e.note ≡ false → s.fate ≡ f
+    same closed = let h : Some s.fate ≡ Some f = sym u.same_fate ∙ ap (λ b. cond b (latest_fate tested.role past) (Some f)) closed in cc
+
+    delivered : (i : ℕ) → delivering t i ≡ waits_next (delivery_of e.note) (closer_of e.note) (is_open e.note) i (delivering s i)
+    delivered i =
+        ap (λ o. in_delivery o (get nat_eq t.entries) (contains nat_eq t.stray) i) opened
+        ∙ delivering-next f s.fate e.note e.place s.opened (get nat_eq s.entries) (get nat_eq t.entries) (contains nat_eq s.stray) (contains nat_eq t.stray) past under.follows.placed.0
+        (let a = u.opened_is in let b = opened-within past in let c = under.follows.placed.0 in omega arith) u.published_are same entries stray i
+
     below : s.in_flight < e.place.position
     below = let a = flying-most tested.role past in let b = u.flying in let c = under.follows.placed.0 in omega arith

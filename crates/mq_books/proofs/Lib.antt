@@ -19,6 +19,7 @@ pub mod QueueLaws
 pub mod OrderLaws
 pub mod OwingLaws
 pub mod OpenedLaws
+pub mod StrayLaws
 pub mod BrokenLaws
 pub mod DueLaws
 pub mod PlacesLaws

@@ -36,11 +36,12 @@ use Rattle.mq_books.specs.Opened.{entry_after, entry_next, opened_if, closed_if,
 use Rattle.mq_books.specs.Pingings.{ends_by}
 use Rattle.mq_books.specs.Quotas.{announced, may_count, flown, judged_by}
 use Rattle.mq_books.specs.Resending.{bounds_by, confirmed_next, confirms_untouched, excuses, settles, IsResent}
-use Rattle.mq_books.specs.Using.{waits_next, void_next, resent_next, breaks, unopened, past_pubrel, out_of_order, is_inflight, IsUsing}
+use Rattle.mq_books.specs.Using.{delivering, stray_next, void_next, resent_next, breaks, unopened, past_pubrel, out_of_order, is_inflight, IsUsing}
 use Rattle.mq_books.proofs.AgainLaws.{again-next}
 use Rattle.mq_books.proofs.DueLaws.{opened-within}
 use Rattle.mq_books.proofs.InflightLaws.{inflight-next, inflight-gains}
 use Rattle.mq_books.proofs.KnownLaws.{knows, known-gains, known-within}
+use Rattle.mq_books.proofs.StrayLaws.{kept-anew}
 use Rattle.mq_books.proofs.UsingConcernLaws.{wait-stays, resent-stays}
 
 -- ---- what is kept of an identifier
@@ -72,10 +73,6 @@ entry-moves f n place i old opener x closer pubrel pubrec m accepted =
 
 -- ---- the others
 
-waiting-moves : (n : Note) (i : ℕ) (old : Bool) (opener : Option ℕ) (x : Bool) (closer pubrel pubrec : Option ℕ) → Moves n opener x closer pubrel pubrec → waits_next opener closer false i old ≡ waits_next (delivery_of n) (closer_of n) (is_open n) i old
-waiting-moves n i old opener x closer pubrel pubrec m =
-    sym (ap (λ o. waits_next o (closer_of n) (is_open n) i old) m.delivers ∙ ap (λ o. waits_next opener o (is_open n) i old) m.closes ∙ ap (λ b. waits_next opener closer b i old) m.closed)
-
 flown-moves : (n : Note) (counted : Bool) (old : ℕ) (opener : Option ℕ) (x : Bool) (closer pubrel pubrec : Option ℕ) → Moves n opener x closer pubrel pubrec → moved counted opener closer old ≡ flown counted n old
 flown-moves n counted old opener x closer pubrel pubrec m =
     sym (
@@ -105,7 +102,7 @@ pub moved-next : (tested : Tested) (s t : Inflight) (f : Fate) (at : ℕ) (e : S
     → Moves e.note opener x closer pubrel pubrec → accepts f ≡ true → f ≡ s.fate → IsMoved e.place opener x closer pubrel pubrec s t → IsUsing t tested (Some f) (e ∷ past)
 moved-next tested s t f at e past opener x closer pubrel pubrec under u m accepted same w =
     inflight-next tested s t f at e past under u w.others.role (w.others.fate ∙ sym same) w.others.ordered (w.distinct u.distinct) entries
-    (λ i. w.delivering i ∙ waiting-moves n i (contains nat_eq s.delivering i) opener x closer pubrel pubrec m)
+    (λ i. w.stray i ∙ sym (stray-moves i))
     (λ i. ap (λ v. contains nat_eq v i) w.others.void
     ∙ sym (ap (λ b. (is_id i (delivery_of n) && not b) || contains nat_eq s.void i) accepted ∙ ap (λ b. b || contains nat_eq s.void i) (and_false (is_id i (delivery_of n)))))
     (λ i. ap (λ v. contains nat_eq v i) w.others.subscribing ∙ sym (wait-stays (sent_as subscribe_in n) (received_as suback_in n) (is_open n) i (contains nat_eq s.subscribing i) m.subscribe m.suback m.closed))
@@ -124,6 +121,18 @@ moved-next tested s t f at e past opener x closer pubrel pubrec under u m accept
   where
     n : Note
     n = e.note
+
+    rest : ℕ → Option Entry
+    rest i = closed_if (is_id i closer) (confirmed_if (is_id i pubrec) (released_if (is_id i pubrel) e.place.position (get nat_eq s.entries i)))
+
+    stray-moves : (i : ℕ) → stray_next f n (get nat_eq t.entries) i (contains nat_eq s.stray i) ≡ (not (is_id i closer) && contains nat_eq s.stray i)
+    stray-moves i =
+        ap (λ b. cond b false ((is_id i (delivery_of n) && not (accepts f && is_some (get nat_eq t.entries i))) || (not (is_id i (closer_of n)) && contains nat_eq s.stray i))) m.closed
+        ∙ ap (λ o. (is_id i o && not (accepts f && is_some (get nat_eq t.entries i))) || (not (is_id i (closer_of n)) && contains nat_eq s.stray i)) m.delivers
+        ∙ ap (λ b. (is_id i opener && not (b && is_some (get nat_eq t.entries i))) || (not (is_id i (closer_of n)) && contains nat_eq s.stray i)) accepted
+        ∙ ap (λ z. (is_id i opener && not (true && is_some z)) || (not (is_id i (closer_of n)) && contains nat_eq s.stray i)) (w.entries i)
+        ∙ ap (λ b. b || (not (is_id i (closer_of n)) && contains nat_eq s.stray i)) (kept-anew (is_id i opener) x e.place (rest i))
+        ∙ ap (λ o. not (is_id i o) && contains nat_eq s.stray i) m.closes
 
     entries : (i : ℕ) → get nat_eq t.entries i ≡ entry_next f n e.place i (get nat_eq s.entries i)
     entries i = w.entries i ∙ entry-moves f n e.place i (get nat_eq s.entries i) opener x closer pubrel pubrec m accepted
@@ -151,7 +160,7 @@ breaks-moves s f n opener x closer pubrel pubrec m accepted =
   where
     broken : Bool → Option ℕ → Option ℕ → Broken
     broken a t o =
-        broken_by (a && is_some_and (busy s) t) (a && is_some_and (unopened (get nat_eq s.entries) (contains nat_eq s.void)) o) (a && is_some_and (contains nat_eq s.delivering) o)
+        broken_by (a && is_some_and (busy s) t) (a && is_some_and (unopened (get nat_eq s.entries) (contains nat_eq s.void)) o) (a && is_some_and (delivering s) o)
         (a && is_some_and (past_pubrel (get nat_eq s.entries)) o) (s.ordered && (a && is_some_and (out_of_order (get nat_eq s.entries) s.resent) o))
 
 pub moved-gains : (tested : Tested) (s : Inflight) (f : Fate) (at : ℕ) (e : Seen) (past : List Seen) (m : FaultMap) (opener : Option ℕ) (x : Bool) (closer pubrel pubrec : Option ℕ) → IsUnder tested f at e past

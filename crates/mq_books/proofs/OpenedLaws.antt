@@ -168,7 +168,7 @@ entry-is i (m ∷ ms) o d h = go (opens_id i m) refl (closes_id i m) refl (entry
     unsure false q s h = h
 
     older : (p : Entry) → opens_id i m ≡ false → closes_id i m ≡ false → IsEntry i ms p
-        → IsEntry i (m ∷ ms) (record { place = p.place; exactly_once = p.exactly_once; confirmed = confirms i m || p.confirmed; released = sends_pubrel i m || p.released; sent = cond (sends_pubrel i m) m.event.place.position (cond (delivers i m) m.event.place.position p.sent) })
+        → IsEntry i (m ∷ ms) (record { place = p.place; exactly_once = p.exactly_once; confirmed = confirms i m || p.confirmed; released = sends_pubrel i m || p.released; sent = cond (sends_pubrel i m) m.event.place.position (cond (delivers i m) m.event.place.position p.sent); published = cond (delivers i m) m.event.place.position p.published })
     older p t u r =
         let before : position r.opener < position m = d.0 r.opener r.there in
         let other : is_same r.opener m ≡ false = differ (position r.opener) (position m) (λ same. absurd (omega arith)) in
@@ -191,5 +191,5 @@ entry-is i (m ∷ ms) o d h = go (opens_id i m) refl (closes_id i m) refl (entry
     go false t true u x rest h = absurd (cc)
     go false t false u None rest h = absurd (cc)
     go false t false u (Some p) rest h =
-        let same : record { place = p.place; exactly_once = p.exactly_once; confirmed = confirms i m || p.confirmed; released = sends_pubrel i m || p.released; sent = cond (sends_pubrel i m) m.event.place.position (cond (delivers i m) m.event.place.position p.sent) } ≡ o = cc in
+        let same : record { place = p.place; exactly_once = p.exactly_once; confirmed = confirms i m || p.confirmed; released = sends_pubrel i m || p.released; sent = cond (sends_pubrel i m) m.event.place.position (cond (delivers i m) m.event.place.position p.sent); published = cond (delivers i m) m.event.place.position p.published } ≡ o = cc in
         subst (IsEntry i (m ∷ ms)) same (older p t u (rest p refl))

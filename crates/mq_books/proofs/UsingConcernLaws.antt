@@ -29,8 +29,9 @@ use Rattle.mq_books.specs.Opened.{entry_after, entry_next, opened_if, closed_if,
 use Rattle.mq_books.specs.Pingings.{ends_by}
 use Rattle.mq_books.specs.Quotas.{announced, may_count, flown}
 use Rattle.mq_books.specs.Resending.{bounds_by, excuses, settles}
-use Rattle.mq_books.specs.Using.{waits_next, void_next, resent_next, greater, resent_by, takes_busy, unopened, past_pubrel, out_of_order, breaks, is_inflight, IsUsing}
+use Rattle.mq_books.specs.Using.{delivering, waits_next, void_next, resent_next, greater, resent_by, takes_busy, unopened, past_pubrel, out_of_order, breaks, is_inflight, IsUsing}
 use Rattle.mq_books.proofs.ConcernLaws.{nothing, neither, same_cond, some-same, and2_false, closed-before}
+use Rattle.mq_books.proofs.StrayLaws.{stray-stays}
 use Rattle.mq_books.proofs.InflightLaws.{inflight-next, inflight-gains}
 
 -- nothing of these is there
@@ -150,7 +151,7 @@ unbroken tested s f n q =
 
     broken : Bool → Option ℕ → Broken
     broken a o =
-        broken_by a (accepts f && is_some_and (unopened (get nat_eq s.entries) (contains nat_eq s.void)) o) (accepts f && is_some_and (contains nat_eq s.delivering) o)
+        broken_by a (accepts f && is_some_and (unopened (get nat_eq s.entries) (contains nat_eq s.void)) o) (accepts f && is_some_and (delivering s) o)
         (accepts f && is_some_and (past_pubrel (get nat_eq s.entries)) o) (s.ordered && (accepts f && is_some_and (out_of_order (get nat_eq s.entries) s.resent) o))
 
 pub inflight-passes : (tested : Tested) (s : Inflight) (f : Fate) (at : ℕ) (e : Seen) (past : List Seen) → concerns_flight tested e.note ≡ false → IsUnder tested f at e past → IsUsing s tested (fate_before tested f e past) past
@@ -163,7 +164,7 @@ inflight-passes tested s f at e past h under before =
     let bounds : bounds_by s.role n ≡ None = ap (λ r. bounds_by r n) u.same_role ∙ q.bounds in (
       inflight-next tested s s f at e past under before refl (sym (some-same f s.fate u.same_fate)) refl u.distinct
           (λ i. sym (entry-stays tested f n e.place i (get nat_eq s.entries i) q))
-          (λ i. sym (wait-stays (delivery_of n) (closer_of n) (is_open n) i (contains nat_eq s.delivering i) q.delivery q.closer q.closed))
+          (λ i. sym (stray-stays f n (get nat_eq s.entries) i (contains nat_eq s.stray i) q.closed q.delivery q.closer))
           (λ i. sym (ap (λ o. (is_id i o && not (accepts f)) || contains nat_eq s.void i) q.delivery))
           (λ i. sym (wait-stays (sent_as subscribe_in n) (received_as suback_in n) (is_open n) i (contains nat_eq s.subscribing i) q.subscribe q.suback q.closed))
           (λ i. sym (wait-stays (sent_as unsubscribe_in n) (received_as unsuback_in n) (is_open n) i (contains nat_eq s.unsubscribing i) q.unsubscribe q.unsuback q.closed))

@@ -28,7 +28,7 @@ use Rattle.mq_books.specs.declared.inflight.entry.Entry.{Entry}
 use Rattle.mq_rules.specs.Under.{IsUnder, fate_before, turns_with}
 use Rattle.mq_rules.specs.Growing.{Gains}
 use Rattle.mq_books.specs.Opened.{sends_exactly_once, entry_in}
-use Rattle.mq_books.specs.Using.{waits, waits_next, place_or_zero, resent_by, greater, resent_next, resent_in, unopened, past_pubrel, out_of_order, breaks, judged_all, is_at_once, IsUsing}
+use Rattle.mq_books.specs.Using.{delivering, waits, waits_next, place_or_zero, resent_by, greater, resent_next, resent_in, unopened, past_pubrel, out_of_order, breaks, judged_all, is_at_once, IsUsing}
 use Rattle.mq_books.proofs.JudgeLaws.{session-turns_with}
 use Rattle.mq_books.proofs.OpenedLaws.{entry-there, entry-is, IsEntry}
 use Rattle.mq_books.proofs.VoidLaws.{void_sent-read}
@@ -225,7 +225,7 @@ S02-turns tested s f at e past under u =
 S03-turns : (tested : Tested) (s : Inflight) (f : Fate) (e : Seen) (past : List Seen) → IsUsing s tested (fate_before tested f e past) past → (k : ℕ) → turns_with tested f e past k S03 ≡ (is_next past k && (breaks s f e.note).twice)
 unfolding breaks_S03
 S03-turns tested s f e past u =
-    resend-turns tested S03 (λ f. breaks_S03) refl true (binds-S03 tested.role tested.releases) f e past (λ i. since (delivers i) (closes_id i) (connection past)) (contains nat_eq s.delivering) refl (λ closed accepted i. u.delivering_are i)
+    resend-turns tested S03 (λ f. breaks_S03) refl true (binds-S03 tested.role tested.releases) f e past (λ i. since (delivers i) (closes_id i) (connection past)) (delivering s) refl (λ closed accepted i. u.delivering_are i)
 
 S04-turns : (tested : Tested) (s : Inflight) (f : Fate) (e : Seen) (past : List Seen) → IsUsing s tested (fate_before tested f e past) past → (k : ℕ) → turns_with tested f e past k S04 ≡ (is_next past k && (breaks s f e.note).past_pubrel)
 unfolding breaks_S04

@@ -20,7 +20,7 @@ use Rattle.mq_books.specs.Opened.{sends_exactly_once, opened_if, closed_if, conf
 use Rattle.mq_books.specs.Pingings.{ends_by}
 use Rattle.mq_books.specs.Quotas.{announced, may_count}
 use Rattle.mq_books.specs.Resending.{bounds_by}
-use Rattle.mq_books.specs.Using.{waits_next, is_inflight, IsUsing}
+use Rattle.mq_books.specs.Using.{is_inflight, IsUsing}
 
 -- All that an event does to identifiers: it opens the first, with QoS 2 or not; sets the second free; sends a PUBREL under the third; and receives a PUBREC below 0x80 under
 -- the last.
@@ -72,7 +72,7 @@ pub record IsMoved (place : Place3) (opener : Option ℕ) (exactly_once : Bool) 
   pub entries : (i : ℕ) → get nat_eq new.entries i
       ≡ opened_if (is_id i opener) exactly_once place (closed_if (is_id i closer) (confirmed_if (is_id i pubrec) (released_if (is_id i pubrel) place.position (get nat_eq old.entries i))))
   pub confirmed : (i : ℕ) → contains nat_eq new.confirmed i ≡ (not (is_id i closer) && (contains nat_eq old.confirmed i || (is_id i pubrec && is_some (get nat_eq old.entries i))))
-  pub delivering : (i : ℕ) → contains nat_eq new.delivering i ≡ waits_next opener closer false i (contains nat_eq old.delivering i)
+  pub stray : (i : ℕ) → contains nat_eq new.stray i ≡ (not (is_id i closer) && contains nat_eq old.stray i)
   pub flying : old.in_flight < place.position → new.in_flight ≡ moved (may_count old.role old.peer) opener closer old.in_flight
   pub again : new.again ≡ record { all = old.again.all; confirmed = old.again.confirmed && not (untouched old.opened (get nat_eq old.entries) pubrec) }
 

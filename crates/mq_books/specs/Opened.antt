@@ -13,17 +13,17 @@ use Rattle.mq_books.specs.declared.inflight.entry.Entry.{Entry}
 
 -- an identifier that is opened at this place
 abbrev pub opened_by : Bool → Place3 → Entry
-opened_by exactly_once place = record { place = place; exactly_once = exactly_once; confirmed = false; released = false; sent = place.position }
+opened_by exactly_once place = record { place = place; exactly_once = exactly_once; confirmed = false; released = false; sent = place.position; published = place.position }
 
 -- what is kept of an identifier, if a PUBLISH of it is sent; if a PUBREL is; if a PUBREC below 0x80 is received; if it is set free; if it is opened
 abbrev pub sent_if : Bool → ℕ → Option Entry → Option Entry
-sent_if b at old = option_map (λ o. record { place = o.place; exactly_once = o.exactly_once; confirmed = o.confirmed; released = o.released; sent = cond b at o.sent }) old
+sent_if b at old = option_map (λ o. record { place = o.place; exactly_once = o.exactly_once; confirmed = o.confirmed; released = o.released; sent = cond b at o.sent; published = cond b at o.published }) old
 
 abbrev pub released_if : Bool → ℕ → Option Entry → Option Entry
-released_if b at old = option_map (λ o. record { place = o.place; exactly_once = o.exactly_once; confirmed = o.confirmed; released = b || o.released; sent = cond b at o.sent }) old
+released_if b at old = option_map (λ o. record { place = o.place; exactly_once = o.exactly_once; confirmed = o.confirmed; released = b || o.released; sent = cond b at o.sent; published = o.published }) old
 
 abbrev pub confirmed_if : Bool → Option Entry → Option Entry
-confirmed_if b old = option_map (λ o. record { place = o.place; exactly_once = o.exactly_once; confirmed = b || o.confirmed; released = o.released; sent = o.sent }) old
+confirmed_if b old = option_map (λ o. record { place = o.place; exactly_once = o.exactly_once; confirmed = b || o.confirmed; released = o.released; sent = o.sent; published = o.published }) old
 
 abbrev pub closed_if : Bool → Option Entry → Option Entry
 closed_if b old = cond b None old

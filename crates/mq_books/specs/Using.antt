@@ -1,5 +1,5 @@
 -- What the book of identifiers in use keeps.
-use Rattle.std.specs.Prelude.{ℕ, ◌≡◌, nat_eq, nat_lt, Bool, ◌&&◌, ◌||◌, not, cond, List, [], ◌∷◌, Option, Some, None, is_some}
+use Rattle.std.specs.Prelude.{ℕ, ◌≡◌, nat_eq, nat_le, nat_lt, length, Bool, false, ◌&&◌, ◌||◌, not, cond, List, [], ◌∷◌, Option, Some, None, is_some}
 use Rattle.indexmap.specs.IndexMap.{get, IsUnique}
 use Rattle.indexmap.specs.IndexSet.{contains}
 use Rattle.mq_trace.specs.declared.place.Place3.{Place3}
@@ -31,6 +31,22 @@ waits starts ends i past = since (λ m. is_id i (starts (note m))) (λ m. is_id 
 
 abbrev pub waits_next : Option ℕ → Option ℕ → Bool → ℕ → Bool → Bool
 waits_next starts ends opens i old = is_id i starts || (not (is_id i ends) && (not opens && old))
+
+-- a PUBLISH was sent under i on the latest connection, whose OPEN is at this position, and not acknowledged there since: what is open says so itself, and the others are listed
+abbrev pub in_delivery : ℕ → (ℕ → Option Entry) → (ℕ → Bool) → ℕ → Bool
+in_delivery opened entry stray i = stray i || is_some_and (λ o. nat_le opened o.published) (entry i)
+
+abbrev pub delivering : Inflight → ℕ → Bool
+delivering s = in_delivery s.opened (get nat_eq s.entries) (contains nat_eq s.stray)
+
+-- whether it is listed after an event of a connection with this fate, where this is then kept of what is open
+abbrev pub stray_next : Fate → Note → (ℕ → Option Entry) → ℕ → Bool → Bool
+stray_next f n entry i old = cond (is_open n) false ((is_id i (delivery_of n) && not (accepts f && is_some (entry i))) || (not (is_id i (closer_of n)) && old))
+
+-- No PUBLISH is later than these events, and none of what is open was sent on a connection that isn't accepted.
+pub record ArePublished (f : Fate) (opened : ℕ) (entry : ℕ → Option Entry) (past : List Seen) : Type 0 where
+  pub within : (i : ℕ) → is_some_and (λ o. nat_lt (length past) o.published) (entry i) ≡ false
+  pub accepted : accepts f ≡ false → (i : ℕ) → is_some_and (λ o. nat_le opened o.published) (entry i) ≡ false
 
 -- a PUBLISH under i was sent on a void connection, where the latest one is taken to have this fate
 abbrev pub void_sent : Role → ℕ → Option Fate → List Seen → Bool
@@ -81,7 +97,7 @@ abbrev pub breaks : Inflight → Fate → Note → Broken
 breaks s f n = record {
   takes_busy = takes_busy f s.role n (get nat_eq s.entries) (contains nat_eq s.subscribing) (contains nat_eq s.unsubscribing);
   unopened = accepts f && is_some_and (unopened (get nat_eq s.entries) (contains nat_eq s.void)) (resend_of n);
-  twice = accepts f && is_some_and (contains nat_eq s.delivering) (resend_of n);
+  twice = accepts f && is_some_and (delivering s) (resend_of n);
   past_pubrel = accepts f && is_some_and (past_pubrel (get nat_eq s.entries)) (resend_of n);
   out_of_order = s.ordered && (accepts f && is_some_and (out_of_order (get nat_eq s.entries) s.resent) (resend_of n));
 }
@@ -105,7 +121,8 @@ pub record IsUsing (s : Inflight) (tested : Tested) (taken : Option Fate) (past 
   pub is_ordered : s.ordered ≡ binds S05 tested
   pub distinct : IsUnique nat_eq s.entries
   pub entries_are : (i : ℕ) → get nat_eq s.entries i ≡ entry_in i (session tested.role taken past)
-  pub delivering_are : (i : ℕ) → contains nat_eq s.delivering i ≡ waits delivery_of closer_of i past
+  pub delivering_are : (i : ℕ) → delivering s i ≡ waits delivery_of closer_of i past
+  pub published_are : ArePublished s.fate s.opened (get nat_eq s.entries) past
   pub void_are : (i : ℕ) → contains nat_eq s.void i ≡ void_sent tested.role i taken past
   pub subscribing_are : (i : ℕ) → contains nat_eq s.subscribing i ≡ waits (sent_as subscribe_in) (received_as suback_in) i past
   pub unsubscribing_are : (i : ℕ) → contains nat_eq s.unsubscribing i ≡ waits (sent_as unsubscribe_in) (received_as unsuback_in) i past

@@ -1,18 +1,20 @@
 //! The Packet Identifiers in use, and what is sent again (MQTT 5.0, sections 2.2.1, 4.3 and 4.4).
 ghost use Rattle.std.specs.Prelude.{refl};
-ghost use Rattle.std.specs.Prelude.{◌≡◌, ◌<◌, ◌≤◌, ◌+◌, ◌*◌, ℕ, ◌&&◌, ◌||◌, not, cond, OnOk, nat_eq, [], Some, None};
+ghost use Rattle.std.specs.Prelude.{◌≡◌, ◌<◌, ◌≤◌, ◌+◌, ◌*◌, ℕ, ◌&&◌, ◌||◌, not, cond, is_some, OnOk, nat_eq, [], Some, None};
 ghost use Rattle.std.specs.Option.{option_or};
 ghost use Rattle.indexmap.specs.IndexMap.{get, IsUnique};
 ghost use Rattle.indexmap.specs.IndexSet.{contains};
 ghost use Rattle.mq_rules.specs.declared.fate.Fate.TheVariants.{Void};
-ghost use Rattle.mq_rules.specs.Notes.{closer_of, delivery_of, sent_as, received_as, subscribe_in, suback_in, unsubscribe_in, unsuback_in, is_open as opens};
+ghost use Rattle.mq_rules.specs.Notes.{sent_as, received_as, subscribe_in, suback_in, unsubscribe_in, unsuback_in, is_open as opens};
 ghost use Rattle.mq_rules.specs.Under.{IsKnown, turns_known};
 ghost use Rattle.mq_books.specs.Burden.{open_ids, delivering_ids, void_ids, subscribing_ids, unsubscribing_ids};
 ghost use Rattle.mq_books.specs.Pingings.{ends_by};
 ghost use Rattle.mq_books.specs.Quotas.{announced, may_count as counts_now, flown as flown_by};
 ghost use Rattle.mq_books.specs.Opened.{entry_next};
 ghost use Rattle.mq_books.specs.Resending.{bounds_next, IsResent};
-ghost use Rattle.mq_books.specs.Using.{IsUsing, breaks, is_inflight, waits_next, void_next, resent_next};
+ghost use Rattle.mq_rules.specs.Connections.{accepts};
+ghost use Rattle.mq_rules.specs.Words.{is_id};
+ghost use Rattle.mq_books.specs.Using.{IsUsing, breaks, is_inflight, waits_next, stray_next, void_next, resent_next};
 ghost use Rattle.mq_books.specs.Concerns.{concerns_flight};
 ghost use Rattle.mq_rules.specs.Notes.{note_of_bare};
 ghost use Rattle.mq_books.specs.Selecting as selecting;
@@ -55,8 +57,9 @@ pub struct Inflight {
     confirmed: IndexSet<u16>,
     /// What is known to have been sent again on the connection.
     again: Resent,
-    /// Those of PUBLISH packets that were sent on the connection, and not acknowledged there since.
-    delivering: IndexSet<u16>,
+    /// Those of PUBLISH packets that were sent on the connection, and not acknowledged there since,
+    /// but for those whose PUBLISH is in its entry.
+    stray: IndexSet<u16>,
     /// Those of PUBLISH packets that were sent on void connections.
     void: IndexSet<u16>,
     /// Those of SUBSCRIBE packets that were sent on the connection, and not answered.
@@ -113,18 +116,40 @@ fn take_void(void: &mut IndexSet<u16>, fate: Fate, note: &Note) -> Result<(), Me
     Ok(())
 }
 
-// Takes in a PUBLISH and what acknowledges it.
-fn take_delivering(delivering: &mut IndexSet<u16>, alloc: Global, note: &Note) -> Result<(), Memory>
-    ensures { OnOk result ((i : ℕ) → contains nat_eq delivering.new i ≡ waits_next (delivery_of note.now) (closer_of note.now) (opens note.now) i (contains nat_eq delivering.old i)) }
+// Takes in a PUBLISH whose identifier isn't open, and what acknowledges it. What is open was taken
+// in before.
+fn take_stray(
+    stray: &mut IndexSet<u16>,
+    alloc: Global,
+    entries: &IndexMap<u16, Entry>,
+    fate: Fate,
+    note: &Note,
+) -> Result<(), Memory>
+    ensures { OnOk result ((i : ℕ) → contains nat_eq stray.new i ≡ stray_next fate note.now (get nat_eq entries.now) i (contains nat_eq stray.old i)) }
 {
     await_answer(
-        delivering,
+        stray,
         alloc,
         note.is_open(),
-        note.delivery(),
+        unkept(entries, fate, note.delivery()),
         note.closer(),
     )?;
     Ok(())
+}
+
+// The identifier of a PUBLISH, if no entry keeps that it was sent.
+fn unkept(entries: &IndexMap<u16, Entry>, fate: Fate, delivery: Option<u16>) -> Option<u16>
+    ensures { (i : ℕ) → is_id i result ≡ (is_id i delivery && not (accepts fate && is_some (get nat_eq entries.now i))) }
+{
+    match delivery {
+        Some(i) => {
+            if fate.accepts() && entries.contains_key(&i) {
+                return None;
+            }
+            Some(i)
+        }
+        None => None,
+    }
 }
 
 // Takes in a SUBSCRIBE and a SUBACK.
@@ -179,7 +204,7 @@ impl Inflight {
                 all: false,
                 confirmed: false,
             },
-            delivering: IndexSet::new(alloc),
+            stray: IndexSet::new(alloc),
             void: IndexSet::new(alloc),
             subscribing: IndexSet::new(alloc),
             unsubscribing: IndexSet::new(alloc),
@@ -206,7 +231,7 @@ impl Inflight {
                 &self.unsubscribing,
             ),
             unopened: is_unopened(fate, note, &self.entries, &self.void),
-            twice: is_twice(fate, note, &self.delivering),
+            twice: is_twice(fate, note, &self.entries, self.opened, &self.stray),
             past_pubrel: is_past_pubrel(fate, note, &self.entries),
             out_of_order: is_out_of_order(self.ordered, fate, note, &self.entries, self.resent),
         }
@@ -219,7 +244,7 @@ impl Inflight {
         ensures ordered { OnOk result (self.new.ordered ≡ self.old.ordered) }
         ensures distinct { IsUnique nat_eq self.old.entries → OnOk result (IsUnique nat_eq self.new.entries) }
         ensures entries { OnOk result ((i : ℕ) → get nat_eq self.new.entries i ≡ entry_next fate note.now at i (get nat_eq self.old.entries i)) }
-        ensures delivering { OnOk result ((i : ℕ) → contains nat_eq self.new.delivering i ≡ waits_next (delivery_of note.now) (closer_of note.now) (opens note.now) i (contains nat_eq self.old.delivering i)) }
+        ensures stray { OnOk result ((i : ℕ) → contains nat_eq self.new.stray i ≡ stray_next fate note.now (get nat_eq self.new.entries) i (contains nat_eq self.old.stray i)) }
         ensures void { OnOk result ((i : ℕ) → contains nat_eq self.new.void i ≡ void_next fate note.now i (contains nat_eq self.old.void i)) }
         ensures subscribing { OnOk result ((i : ℕ) → contains nat_eq self.new.subscribing i ≡ waits_next (sent_as subscribe_in note.now) (received_as suback_in note.now) (opens note.now) i (contains nat_eq self.old.subscribing i)) }
         ensures unsubscribing { OnOk result ((i : ℕ) → contains nat_eq self.new.unsubscribing i ≡ waits_next (sent_as unsubscribe_in note.now) (received_as unsuback_in note.now) (opens note.now) i (contains nat_eq self.old.unsubscribing i)) }
@@ -247,7 +272,7 @@ impl Inflight {
         self.bounds = bounds_after(self.role, self.bounds, note);
         take_confirmed(&mut self.confirmed, alloc, &self.entries, fate, note)?;
         take_entries(&mut self.entries, alloc, at, fate, note)?;
-        take_delivering(&mut self.delivering, alloc, note)?;
+        take_stray(&mut self.stray, alloc, &self.entries, fate, note)?;
         take_void(&mut self.void, fate, note)?;
         take_subscribing(&mut self.subscribing, alloc, note)?;
         take_unsubscribing(&mut self.unsubscribing, alloc, note)?;
@@ -274,7 +299,7 @@ impl Watch for Inflight {
     fn weight(&self) -> usize {
         map_size(&self.entries)
             .saturating_add(set_size(&self.confirmed))
-            .saturating_add(set_size(&self.delivering))
+            .saturating_add(set_size(&self.stray))
             .saturating_add(set_size(&self.void))
             .saturating_add(set_size(&self.subscribing))
             .saturating_add(set_size(&self.unsubscribing))

@@ -82,16 +82,13 @@ pub fn flown(counted: bool, note: &Note, old: u64, position: u32) -> u64
     if note.is_open() {
         return 0;
     }
-    if !counted {
-        return old;
-    }
-    if note.delivery().is_some() {
-        return more(old, position);
-    }
-    if note.closer().is_some() {
-        return old.saturating_sub(1);
-    }
-    old
+    flown_by(
+        counted,
+        note.delivery().is_some(),
+        note.closer().is_some(),
+        old,
+        position,
+    )
 }
 
 /// What the peer has announced after an event.

@@ -6,7 +6,7 @@ ghost use Rattle.mq_rules.specs.Words.{is_some_and};
 ghost use Rattle.mq_rules.specs.Notes.{resend_of};
 ghost use Rattle.mq_rules.specs.Connections.{accepts};
 ghost use Rattle.mq_books.specs.Owings.{Keeps};
-ghost use Rattle.mq_books.specs.Using.{takes_busy, judged_all, unopened, past_pubrel, out_of_order, resent_by, resent_next};
+ghost use Rattle.mq_books.specs.Using.{in_delivery, takes_busy, judged_all, unopened, past_pubrel, out_of_order, resent_by, resent_next};
 
 use super::entry::Entry;
 use crate::known::judge_by;
@@ -75,14 +75,31 @@ pub fn is_unopened(
         }
 }
 
+// Whether a PUBLISH was sent under an identifier on the connection, and not acknowledged since.
+fn is_delivering(entries: &IndexMap<u16, Entry>, opened: u32, stray: &IndexSet<u16>, i: u16) -> bool
+    ensures { result ≡ in_delivery opened (get nat_eq entries.now) (contains nat_eq stray.now) i }
+{
+    stray.contains(&i)
+        || match entries.get(&i) {
+            Some(entry) => opened <= entry.published,
+            None => false,
+        }
+}
+
 /// Whether an event sends a PUBLISH again that was sent on its connection, and wasn't acknowledged
 /// since.
-pub fn is_twice(fate: Fate, note: &Note, delivering: &IndexSet<u16>) -> bool
-    ensures { result ≡ (accepts fate && is_some_and (contains nat_eq delivering.now) (resend_of note.now)) }
+pub fn is_twice(
+    fate: Fate,
+    note: &Note,
+    entries: &IndexMap<u16, Entry>,
+    opened: u32,
+    stray: &IndexSet<u16>,
+) -> bool
+    ensures { result ≡ (accepts fate && is_some_and (in_delivery opened (get nat_eq entries.now) (contains nat_eq stray.now)) (resend_of note.now)) }
 {
     fate.accepts()
         && match note.resend() {
-            Some(i) => delivering.contains(&i),
+            Some(i) => is_delivering(entries, opened, stray, i),
             None => false,
         }
 }

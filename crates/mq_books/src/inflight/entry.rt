@@ -24,6 +24,8 @@ pub struct Entry {
     pub released: bool,
     /// The position of the latest PUBLISH or PUBREL that was sent under it.
     pub sent: u32,
+    /// The position of the latest PUBLISH that was.
+    pub published: u32,
 }
 
 // Whether a PUBLISH of QoS 2 is sent.
@@ -44,6 +46,7 @@ fn send(entries: &mut IndexMap<u16, Entry>, identifier: Option<u16>, position: u
     if let Some(i) = identifier {
         if let Some(entry) = entries.get_mut(&i) {
             entry.sent = position;
+            entry.published = position;
         }
     }
 }
@@ -105,6 +108,7 @@ pub fn open_new(
             confirmed: false,
             released: false,
             sent: at.position,
+            published: at.position,
         };
         return Ok(entries.insert(i, entry)?.is_some());
     }

@@ -1,27 +1,24 @@
 //! Packets without properties, taken in by their numbers (MQTT 5.0, sections 2.2.1 and 4.3): a new
 //! PUBLISH, and what acknowledges one.
-ghost use Rattle.std.specs.Prelude.{◌≡◌, ◌<◌, ◌&&◌, ◌||◌, ℕ, List, Option, true, false, not, OnOk, OnErr, IfOk, Some, None, cond, is_some, nat_eq};
+ghost use Rattle.std.specs.Prelude.{◌≡◌, ◌<◌, ◌&&◌, ◌||◌, ℕ, List, Option, true, false, not, OnOk, OnErr, IfOk, Some, None, is_some, nat_eq};
 ghost use Rattle.indexmap.specs.IndexMap.{get, IsUnique};
 ghost use Rattle.indexmap.specs.IndexSet.{contains};
 ghost use Rattle.mq_rules.specs.declared.role.Tested.{Tested};
 ghost use Rattle.mq_rules.specs.declared.fate.Fate.{Fate as TheFate};
 ghost use Rattle.mq_rules.specs.declared.note.Note.{Note as TheNote};
 ghost use Rattle.mq_rules.specs.declared.note.Seen.{Seen};
-ghost use Rattle.mq_rules.specs.declared.rule.Rule.{Rule as TheRule};
 ghost use Rattle.mq_rules.specs.FaultKeys.{FaultMap};
 ghost use Rattle.mq_rules.specs.Connections.{accepts};
-ghost use Rattle.mq_rules.specs.Growing.{GainsWithin};
-ghost use Rattle.mq_rules.specs.Under.{seen, Follows, IsKnown, turns_known};
+ghost use Rattle.mq_rules.specs.Under.{seen, Follows, IsKnown};
 ghost use Rattle.mq_rules.specs.Notes.{note_of_bare, refuses, is_acknowledged, is_exactly_once as exactly_once};
 ghost use Rattle.mq_rules.specs.Words.{is_id, only};
 ghost use Rattle.mq_trace.specs.declared.kind.Direction.TheVariants as directions;
-ghost use Rattle.mq_books.specs.Quotas.{may_count as counts_now};
 ghost use Rattle.mq_books.specs.Moving.{Moves, IsMoved, IsStep, IsWithin, untouched};
 ghost use Rattle.mq_books.specs.Using.{IsUsing};
 
+use super::Inflight;
 use super::entry::{Entry, close, confirm, open_new, release};
 use super::resends::{Resent, keep_confirmed};
-use super::{Inflight, await_answer};
 use crate::known::judge_by;
 use crate::messages::is_acknowledged as acknowledges;
 use crate::quota::{flown_by, may_count};
@@ -78,6 +75,18 @@ fn either(a: bool, b: bool) -> bool
     a || b
 }
 
+// Takes an identifier out of a set. Most sets are empty.
+#[inline(always)]
+fn remove(set: &mut IndexSet<u16>, identifier: Option<u16>)
+    ensures { (i : ℕ) → contains nat_eq set.new i ≡ (not (is_id i identifier) && contains nat_eq set.old i) }
+{
+    if let Some(i) = identifier {
+        if !set.is_empty() {
+            set.swap_remove(&i);
+        }
+    }
+}
+
 // Whether a set has this identifier. Most sets are empty.
 #[inline(always)]
 fn is_in(set: &IndexSet<u16>, i: u16) -> bool
@@ -105,7 +114,6 @@ impl Inflight {
         ensures moved { OnOk result (IsMoved at opener exactly_once closer pubrel pubrec self.old self.new) }
         ensures busy { (i : ℕ) → opener ≡ Some i → closer ≡ None → IfOk result (λ busy. busy ≡ is_some (get nat_eq self.old.entries i)) }
     {
-        let alloc = self.alloc;
         let late = confirms_late(&self.entries, self.opened, pubrec);
         self.again = Resent {
             all: self.again.all,
@@ -123,7 +131,7 @@ impl Inflight {
         confirm(&mut self.entries, pubrec);
         close(&mut self.entries, closer);
         let busy = open_new(&mut self.entries, opener, exactly_once, at)?;
-        await_answer(&mut self.delivering, alloc, false, opener, closer)?;
+        remove(&mut self.stray, closer);
         Ok(busy)
     }
 

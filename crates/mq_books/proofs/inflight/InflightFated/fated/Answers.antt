@@ -25,7 +25,7 @@ returns-clause-agrees c = λ tested past under u.
     let b = opened-within past in
     let d = under.follows.placed.0 in
     omega (arith, a, b, d) in
-    inflight-next tested c.args.self.now c.take_in.new.self c.args.fate c.args.decided (seen c.args.at c.args.note.now) past under u t.role t.fate t.ordered (t.distinct u.distinct) t.entries t.delivering t.void t.subscribing t.unsubscribing t.resent t.ended t.opened t.peer t.flying t.bounds
+    inflight-next tested c.args.self.now c.take_in.new.self c.args.fate c.args.decided (seen c.args.at c.args.note.now) past under u t.role t.fate t.ordered (t.distinct u.distinct) t.entries t.stray t.void t.subscribing t.unsubscribing t.resent t.ended t.opened t.peer t.flying t.bounds
     (t.again below (c.in_ok-self.ensures.resent u.resent_are))
 
 pub returns-clause-grows : goal.returns-clause-grows

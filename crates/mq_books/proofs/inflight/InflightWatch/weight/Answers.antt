@@ -1,6 +1,10 @@
-use Rattle.std.proofs.Common.{◌&&◌, arith, ap, sym, ◌∙◌}
+use Rattle.std.proofs.Common.{◌&&◌, nat_eq, nat_le, arith, ap, sym, ◌∙◌}
 use Rattle.std.specs.Prelude.{is_some}
-use Rattle.mq_rules.specs.Words.{is_id}
+use Rattle.indexmap.specs.IndexMap.{get}
+use Rattle.indexmap.specs.IndexSet.{contains}
+use Rattle.mq_rules.specs.Words.{is_id, is_some_and}
+use Rattle.mq_rules.proofs.Exports.{or_left}
+use Rattle.mq_books.specs.declared.inflight.entry.Entry.{Entry}
 use Rattle.mq_rules.specs.Notes.{sent_as, received_as, subscribe_in, suback_in, unsubscribe_in, unsuback_in}
 use Rattle.mq_rules.specs.Moments.{note, moments, some, since}
 use Rattle.mq_rules.specs.Connections.{number, connection, voided, fate_under, session}
@@ -15,7 +19,7 @@ returns c = λ tested taken past u.
     let ms = session tested.role taken past in
     let opened = c.map_size.ensures.bounded (λ i. since (opens_id i) (closes_id i) ms) (λ i here. sym (entry-there i ms) ∙ ap is_some (sym (u.entries_are i)) ∙ here) in
     let confirmed = c.set_size.ensures.bounded (λ i. since (opens_id i) (closes_id i) ms) (λ i here. sym (entry-there i ms) ∙ ap is_some (sym (u.entries_are i)) ∙ u.resent_are.opened_are i here) in
-    let delivering = c.set_size-2.ensures.bounded (λ i. since (delivers i) (closes_id i) (connection past)) (λ i here. sym (u.delivering_are i) ∙ here) in
+    let delivering = c.set_size-2.ensures.bounded (λ i. since (delivers i) (closes_id i) (connection past)) (λ i here. sym (u.delivering_are i) ∙ or_left (contains nat_eq c.args.self.now.stray i) (is_some_and (λ (o : Entry). nat_le c.args.self.now.opened o.published) (get nat_eq c.args.self.now.entries i)) here) in
     let void = c.set_size-3.ensures.bounded (λ i. some (λ m. delivers i m && voided (fate_under tested.role taken past (number m))) (moments past)) (λ i here. sym (u.void_are i) ∙ here) in
     let subscribing = c.set_size-4.ensures.bounded (λ i. since (λ m. is_id i (sent_as subscribe_in (note m))) (λ m. is_id i (received_as suback_in (note m))) (connection past)) (λ i here. sym (u.subscribing_are i) ∙ here) in
     let unsubscribing = c.set_size-5.ensures.bounded (λ i. since (λ m. is_id i (sent_as unsubscribe_in (note m))) (λ m. is_id i (received_as unsuback_in (note m))) (connection past)) (λ i here. sym (u.unsubscribing_are i) ∙ here) in
