@@ -14,7 +14,12 @@ use Rattle.mq_rules.specs.declared.packet_note.PacketFields.{PacketFields}
 use Rattle.mq_rules.specs.declared.packet_note.PacketFields.TheVariants.{Connect, Connack, Publish, Puback, Pubrec, Pubrel, Pubcomp, Subscribe, Suback, Unsubscribe, Unsuback, Pingreq, Pingresp, Disconnect, Auth}
 use Rattle.mq_rules.specs.declared.packet_note.PublishNote.{PublishNote}
 use Rattle.mq_rules.specs.Words.{only}
-use Rattle.mq_rules.specs.Notes.{is_acknowledged}
+use Rattle.mq_trace.specs.declared.kind.Direction.{Direction}
+use Rattle.mq_trace.specs.declared.kind.Direction.TheVariants.{Sent, Recv}
+use Rattle.mq_rules.specs.declared.bare.Bare.{Bare}
+use Rattle.mq_rules.specs.declared.bare.BareFields.{BareFields}
+use Rattle.mq_rules.specs.declared.bare.BareFields.TheVariants as bares
+use Rattle.mq_rules.specs.Notes.{bare_note, bare_fields, note_of_bare, is_acknowledged}
 use Rattle.mq_rules.specs.Exchanges.{Exchange, publish_puback, publish_pubrec, pubrec_pubrel, pubrel_pubcomp, subscribe_suback, unsubscribe_unsuback}
 use Rattle.mq_rules.specs.Rules.{binds}
 use Rattle.mq_rules.proofs.Exports.{or_false}
@@ -456,3 +461,21 @@ subscriptions-unconcerned tested bound is (notes.Sent items.Lost) h = refl
 subscriptions-unconcerned tested bound is (notes.Recv (items.Packet p)) h = subscriptions-received tested bound is p.size p.has_reason_string p.has_user_property p.fields h
 subscriptions-unconcerned tested bound is (notes.Recv (items.Bad first rule at)) h = refl
 subscriptions-unconcerned tested bound is (notes.Recv items.Lost) h = refl
+
+-- ---- a packet without properties is no SUBSCRIBE or UNSUBSCRIBE, and answers none
+
+counts-unconcerned-note : (direction : Direction) (size : ℕ) (fields : BareFields) → (concerns_count subscribes (bare_note direction size (bare_fields direction fields)) || concerns_count unsubscribes (bare_note direction size (bare_fields direction fields))) ≡ false
+counts-unconcerned-note Sent size (bares.Publish identifier qos duplicate topic) = refl
+counts-unconcerned-note Sent size (bares.Puback identifier code) = refl
+counts-unconcerned-note Sent size (bares.Pubrec identifier code) = refl
+counts-unconcerned-note Sent size (bares.Pubrel identifier code) = refl
+counts-unconcerned-note Sent size (bares.Pubcomp identifier code) = refl
+counts-unconcerned-note Recv size (bares.Publish identifier qos duplicate topic) = refl
+counts-unconcerned-note Recv size (bares.Puback identifier code) = refl
+counts-unconcerned-note Recv size (bares.Pubrec identifier code) = refl
+counts-unconcerned-note Recv size (bares.Pubrel identifier code) = refl
+counts-unconcerned-note Recv size (bares.Pubcomp identifier code) = refl
+
+pub counts-unconcerned : (b : Bare) → (concerns_count subscribes (note_of_bare b) || concerns_count unsubscribes (note_of_bare b)) ≡ false
+unfolding note_of_bare
+counts-unconcerned b = counts-unconcerned-note b.direction b.size b.fields

@@ -1,11 +1,13 @@
 //! Watchers that are given only the events that may concern them.
-ghost use Rattle.std.specs.Prelude.{◌≡◌, ◌&&◌, ◌||◌, ℕ, Bool, false, List, Option, Some, refl};
+ghost use Rattle.std.specs.Prelude.{◌≡◌, ◌∷◌, ◌+◌, ◌&&◌, ◌||◌, ℕ, Bool, false, List, Option, Some, length, OnOk, OnErr, refl};
+ghost use Rattle.mq_rules.specs.Connections.{latest_fate};
+ghost use Rattle.mq_rules.specs.Growing.{Gains, GainsWithin};
 ghost use Rattle.mq_rules.specs.declared.role.Tested.{Tested};
 ghost use Rattle.mq_rules.specs.declared.fate.Fate.{Fate as TheFate};
 ghost use Rattle.mq_rules.specs.declared.note.Note.{Note as TheNote};
 ghost use Rattle.mq_rules.specs.declared.note.Seen.{Seen};
 ghost use Rattle.mq_rules.specs.Notes.{note_of_bare};
-ghost use Rattle.mq_rules.specs.Under.{IsUnder, IsKnown, fate_before, turns_known};
+ghost use Rattle.mq_rules.specs.Under.{seen, Follows, IsUnder, IsKnown, fate_before, turns_known};
 ghost use Rattle.mq_books.specs.Concerns.{Passes};
 
 use crate::fated::Fated;
@@ -134,4 +136,24 @@ impl<W: Selective + Brisk> Brisk for Selecting<W> {
         self.watcher.step_bare(at, bare, faults)?;
         Ok(())
     }
+}
+
+/// Takes in a packet without properties that doesn't concern the second of two watchers.
+///
+/// # Errors
+///
+/// As in `step`.
+pub fn step_first<A: Fated + Brisk, B: Selective>(
+    both: &mut Both<A, B>,
+    at: Place3,
+    bare: Bare<'_>,
+    faults: &mut Faults,
+) -> Result<(), Memory>
+    ensures agrees { ((tested : Tested) → B.concerns tested (note_of_bare bare.entry) ≡ false) → OnOk result ((tested : Tested) (taken : Option TheFate) (past : List Seen) → Follows tested (seen at (note_of_bare bare.entry)) past → IsKnown tested taken (seen at (note_of_bare bare.entry)) past → A.agrees both.old.a tested taken past → B.agrees both.old.b tested taken past → A.agrees both.new.a tested (latest_fate tested.role (seen at (note_of_bare bare.entry) ∷ past)) (seen at (note_of_bare bare.entry) ∷ past) × B.agrees both.new.b tested (latest_fate tested.role (seen at (note_of_bare bare.entry) ∷ past)) (seen at (note_of_bare bare.entry) ∷ past)) }
+    ensures grows { ((tested : Tested) → B.concerns tested (note_of_bare bare.entry) ≡ false) → OnOk result ((tested : Tested) (taken : Option TheFate) (past : List Seen) → Follows tested (seen at (note_of_bare bare.entry)) past → IsKnown tested taken (seen at (note_of_bare bare.entry)) past → A.agrees both.old.a tested taken past → B.agrees both.old.b tested taken past → Gains (λ k r. A.adds tested (seen at (note_of_bare bare.entry)) past k r || B.adds tested (seen at (note_of_bare bare.entry)) past k r) tested (seen at (note_of_bare bare.entry) ∷ past) (length past + 1) faults.old faults.new) }
+    ensures memory { ((tested : Tested) → B.concerns tested (note_of_bare bare.entry) ≡ false) → OnErr result ((tested : Tested) (taken : Option TheFate) (past : List Seen) → Follows tested (seen at (note_of_bare bare.entry)) past → IsKnown tested taken (seen at (note_of_bare bare.entry)) past → A.agrees both.old.a tested taken past → B.agrees both.old.b tested taken past → GainsWithin (λ k r. A.adds tested (seen at (note_of_bare bare.entry)) past k r || B.adds tested (seen at (note_of_bare bare.entry)) past k r) tested (seen at (note_of_bare bare.entry) ∷ past) (length past + 1) faults.old faults.new) }
+{
+    both.a.step_bare(at, bare, faults)?;
+    both.b.passes();
+    Ok(())
 }

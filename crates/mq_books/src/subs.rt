@@ -26,8 +26,8 @@ use crate::sizes::map_size;
 use indexmap::IndexMap;
 use mq_packet::Qos;
 use mq_rules::{
-    Fate, Faults, Memory, Note, NotedFilter, PacketFields, PublishNote, Rule, Tested, Text, Watch,
-    qos_number,
+    Bare, Brisk, Fate, Faults, Memory, Note, NotedFilter, PacketFields, PublishNote, Rule, Tested,
+    Text, Watch, qos_number, step_apart,
 };
 use mq_trace::Place3;
 use std::alloc::Global;
@@ -311,6 +311,14 @@ impl Fated for Deliveries {
     ghost known_taken = { λ tested taken e past known. known };
 
     ghost known_adds = { λ tested e past k r. refl };
+}
+
+impl Brisk for Deliveries {
+    #[inline(always)]
+    fn step_bare(&mut self, at: Place3, bare: Bare<'_>, faults: &mut Faults) -> Result<(), Memory> {
+        step_apart(self, at, bare, faults)?;
+        Ok(())
+    }
 }
 
 impl Selective for Deliveries {

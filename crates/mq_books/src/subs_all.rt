@@ -9,11 +9,11 @@ ghost use Rattle.mq_books.specs.Selecting as selecting;
 
 use crate::counts::{Counts, Subacks, Unsubacks};
 use crate::fated::Fated;
-use crate::selective::Selective;
+use crate::selective::{Selective, step_first};
 use crate::subs::Deliveries;
 use mq_rules::{
     Bare, BareFields, Both, Brisk, Fate, Faults, ItemNote, Memory, Note, PacketFields, Tested,
-    Watch, step_apart,
+    Watch,
 };
 use mq_trace::{Direction, Place3};
 use std::alloc::Global;
@@ -89,7 +89,7 @@ impl Fated for Subs {
 impl Brisk for Subs {
     #[inline(always)]
     fn step_bare(&mut self, at: Place3, bare: Bare<'_>, faults: &mut Faults) -> Result<(), Memory> {
-        step_apart(self, at, bare, faults)?;
+        step_first(&mut self.watchers, at, bare, faults)?;
         Ok(())
     }
 }
