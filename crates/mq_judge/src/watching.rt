@@ -228,8 +228,16 @@ impl Watching {
         ensures ok { OnOk result (TakesIn self.old self.new place (bare_note direction size (fields_of.Publish (bare_publish_note direction identifier qos duplicate topic.now)))) }
         ensures memory { OnErr result (LeavesOut self.old self.new place (bare_note direction size (fields_of.Publish (bare_publish_note direction identifier qos duplicate topic.now)))) }
     {
-        let bare = Bare::of_publish(direction, size, identifier, qos, duplicate, topic);
-        self.take_bare(place, bare)
+        match direction {
+            Direction::Sent => self.take_bare(
+                place,
+                Bare::of_publish(Direction::Sent, size, identifier, qos, duplicate, topic),
+            ),
+            Direction::Recv => self.take_bare(
+                place,
+                Bare::of_publish(Direction::Recv, size, identifier, qos, duplicate, topic),
+            ),
+        }
     }
 
     // Takes in what acknowledges a PUBLISH, and has no properties.
@@ -390,6 +398,12 @@ impl Watching {
         ensures ok { OnOk result (TakesIn self.old self.new place (bare_note direction size (fields_of.Publish (bare_publish_note direction identifier qos duplicate topic.now)))) }
         ensures memory { OnErr result (LeavesOut self.old self.new place (bare_note direction size (fields_of.Publish (bare_publish_note direction identifier qos duplicate topic.now)))) }
     {
+        // One that is acknowledged isn't passed over.
+        if !matches!(qos, Qos::AtMostOnce) {
+            return self.take_bare_publish(
+                place, direction, size, identifier, qos, duplicate, topic,
+            );
+        }
         if self.pass_bare_publish(place, direction, size, identifier, qos, duplicate, topic) {
             return Ok(());
         }
