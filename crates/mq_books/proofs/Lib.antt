@@ -20,6 +20,7 @@ pub mod OrderLaws
 pub mod OwingLaws
 pub mod OpenedLaws
 pub mod StrayLaws
+pub mod BareLaws
 pub mod BrokenLaws
 pub mod DueLaws
 pub mod PlacesLaws

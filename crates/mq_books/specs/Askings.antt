@@ -22,10 +22,13 @@ owed role x i taken past = session_since role (causes x i) (λ j. answers x i j 
 abbrev pub is_before : ℕ → Option ℕ → Bool
 is_before opened stamp = is_some_and (λ s. nat_lt s opened) stamp
 
--- The position of the latest answer since the latest cause, after an event at a position: 0 with a cause, and none while no cause is in the session.
+-- The position of the latest answer since the latest cause, after an event at a position, which is an OPEN or not: 0 with a cause, and none while no cause is in the session.
+abbrev pub answered_by : Fate → Bool → Option ℕ → Option ℕ → ℕ → ℕ → Option ℕ → Option ℕ
+answered_by f opens cause answer at i old =
+    cond opens (cond (begins (Some f)) None old) (cond (accepts f) (cond (is_id i cause) (Some 0) (cond (is_id i answer) (option_map (λ s. at) old) old)) old)
+
 abbrev pub answered_next : Fate → Note → Option ℕ → Option ℕ → ℕ → ℕ → Option ℕ → Option ℕ
-answered_next f n cause answer at i old =
-    cond (is_open n) (cond (begins (Some f)) None old) (cond (accepts f) (cond (is_id i cause) (Some 0) (cond (is_id i answer) (option_map (λ s. at) old) old)) old)
+answered_next f n cause answer at i old = answered_by f (is_open n) cause answer at i old
 
 -- an answer, of which no cause is owed
 abbrev pub is_unasked : Fate → ℕ → Option ℕ → (ℕ → Option ℕ) → Bool

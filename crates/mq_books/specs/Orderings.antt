@@ -38,9 +38,12 @@ abbrev pub fallen : (ℕ → Option Place3) → ℕ → Option ℕ → List Debt
 fallen due at None = []
 fallen due at (Some i) = cond (is_some (due i)) [] (record { identifier = i; position = at } ∷ [])
 
--- the queue after an event
+-- the queue after an event, which is an OPEN or not
+abbrev pub queued_by : Bool → Option ℕ → ℕ → (ℕ → Option Place3) → List Debt → List Debt
+queued_by opens cause at due queue = cond opens [] (queue ++ fallen due at cause)
+
 abbrev pub queued_next : Note → Option ℕ → ℕ → (ℕ → Option Place3) → List Debt → List Debt
-queued_next n cause at due queue = cond (is_open n) [] (queue ++ fallen due at cause)
+queued_next n cause at due queue = queued_by (is_open n) cause at due queue
 
 -- the queue, or all of it that is still due
 abbrev pub IsTidied : (ℕ → Option Place3) → List Debt → List Debt → Type 0

@@ -25,9 +25,12 @@ due_of x i past = earliest_since (causes x i) (answers x i) (connection past)
 abbrev pub place_of : Option Moment → Option Place3
 place_of o = option_map (λ m. m.event.place) o
 
--- what is due after an event
+-- what is due after an event, which is an OPEN or not
+abbrev pub due_by : Bool → Option ℕ → Option ℕ → Place3 → ℕ → Option Place3 → Option Place3
+due_by opens cause answer at i old = option_or (cond (is_id i answer) None (cond opens None old)) (cond (is_id i cause) (Some at) None)
+
 abbrev pub due_next : Note → Option ℕ → Option ℕ → Place3 → ℕ → Option Place3 → Option Place3
-due_next n cause answer at i old = option_or (cond (is_id i answer) None (cond (is_open n) None old)) (cond (is_id i cause) (Some at) None)
+due_next n cause answer at i old = due_by (is_open n) cause answer at i old
 
 -- These events lead to what is kept. What is due is known where the connection is accepted.
 pub record IsOwed (x : Exchange) (fate : Fate) (ended : Bool) (due : ℕ → Option Place3) (tested : Tested) (taken : Option Fate) (past : List Seen) : Type 0 where

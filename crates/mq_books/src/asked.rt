@@ -7,7 +7,7 @@ ghost use Rattle.mq_rules.specs.Rules.{same_rule, binds as is_bound};
 ghost use Rattle.mq_rules.specs.Under.{IsKnown, turns_known};
 ghost use Rattle.mq_books.specs.Burden.{caused_ids};
 ghost use Rattle.mq_books.specs.Askings as keeping;
-ghost use Rattle.mq_books.specs.Askings.{IsAsked, answered_next};
+ghost use Rattle.mq_books.specs.Askings.{IsAsked, answered_by};
 ghost use Rattle.mq_books.specs.Concerns.{concerns_asked};
 
 use crate::exchange::Exchange;
@@ -16,7 +16,7 @@ use crate::known::judge_by;
 use crate::selective::Selective;
 use crate::sizes::map_size;
 use indexmap::IndexMap;
-use mq_rules::{Fate, Faults, Memory, Note, Tested, Watch};
+use mq_rules::{Bare, Brisk, Fate, Faults, Memory, Note, Tested, Watch};
 use mq_trace::Place3;
 use std::alloc::Global;
 use std::marker::PhantomData;
@@ -42,13 +42,13 @@ fn take_answered(
     alloc: Global,
     position: u32,
     fate: Fate,
-    note: &Note,
+    opens: bool,
     cause: Option<u16>,
     answer: Option<u16>,
 ) -> Result<(), Memory>
-    ensures { OnOk result ((i : ℕ) → get nat_eq answered.new i ≡ answered_next fate note.now cause answer position i (get nat_eq answered.old i)) }
+    ensures { OnOk result ((i : ℕ) → get nat_eq answered.new i ≡ answered_by fate opens cause answer position i (get nat_eq answered.old i)) }
 {
-    if note.is_open() {
+    if opens {
         if matches!(fate, Fate::New) {
             // A large map that is cleared costs its size each time.
             *answered = IndexMap::new(alloc);
@@ -154,7 +154,7 @@ impl<X: Exchange> Fated for Asked<X> {
             alloc,
             at.position,
             fate,
-            note,
+            note.is_open(),
             cause,
             answer,
         )?;
@@ -167,6 +167,27 @@ impl<X: Exchange> Fated for Asked<X> {
     ghost known_taken = { λ tested taken e past known. known };
 
     ghost known_adds = { λ tested e past k r. refl };
+}
+
+impl<X: Exchange> Brisk for Asked<X> {
+    fn step_bare(&mut self, at: Place3, bare: Bare<'_>, faults: &mut Faults) -> Result<(), Memory> {
+        let cause = X::bare_cause(bare);
+        let answer = X::bare_answer(bare);
+        let fate = self.fate;
+        let broken = is_unasked(self.binds, fate, self.opened, answer, &self.answered);
+        let alloc = self.alloc;
+        take_answered(
+            &mut self.answered,
+            alloc,
+            at.position,
+            fate,
+            false,
+            cause,
+            answer,
+        )?;
+        judge_by(X::asked_rule(), broken, at, at.position, faults)?;
+        Ok(())
+    }
 }
 
 impl<X: Exchange> Selective for Asked<X> {

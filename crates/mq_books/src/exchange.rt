@@ -1,7 +1,13 @@
 //! Exchanges: what is received, the cause, asks for an answer, which is sent (MQTT 5.0, sections
 //! 3.8.4, 3.10.4 and 4.3).
 
-use mq_rules::{Note, Rule};
+ghost use Rattle.std.specs.Prelude.{◌≡◌, Some, not};
+ghost use Rattle.mq_rules.specs.Words.{only};
+ghost use Rattle.mq_rules.specs.Notes.{is_at_least_once, is_exactly_once, refuses};
+
+use mq_packet::Qos;
+use mq_rules::{Bare, BareFields, Note, Rule};
+use mq_trace::Direction;
 
 /// An exchange: under which Packet Identifier an event is a cause, and under which one it is an
 /// answer.
@@ -11,6 +17,7 @@ pub trait Exchange {
     ghost use Rattle.mq_rules.specs.declared.rule.Rule.{Rule};
     ghost use Rattle.mq_rules.specs.Exchanges as exchanges;
     ghost use Rattle.mq_rules.specs.Statements.{statement, in_session, at_rest};
+    ghost use Rattle.mq_rules.specs.Notes.{note_of_bare};
     ghost use Rattle.mq_books.specs.Answering.{IsApart};
 
     // The cause, and the answer.
@@ -29,6 +36,14 @@ pub trait Exchange {
     /// The Packet Identifier under which an event is an answer.
     fn answer(note: &Note) -> Option<u16>
         ensures { result ≡ exchange.answer note.now };
+
+    /// The Packet Identifier under which a packet without properties is a cause.
+    fn bare_cause(bare: Bare<'_>) -> Option<u16>
+        ensures { result ≡ exchange.cause (note_of_bare bare.entry) };
+
+    /// The Packet Identifier under which a packet without properties is an answer.
+    fn bare_answer(bare: Bare<'_>) -> Option<u16>
+        ensures { result ≡ exchange.answer (note_of_bare bare.entry) };
 
     /// The statement that each answer was asked for.
     fn asked_rule() -> Rule
@@ -52,6 +67,39 @@ pub trait Exchange {
     ghost says_settled: { (role : Role) → statement role settled ≡ at_rest (exchanges.shows_R exchange) };
 
     ghost says_ordered: { (role : Role) (rule : Rule) → ordered ≡ Some rule → statement role rule ≡ in_session (λ f. exchanges.breaks_O exchange) };
+}
+
+// The identifier of a PUBLISH of QoS 1.
+#[inline(always)]
+fn at_least_once(qos: Qos, identifier: Option<u16>) -> Option<u16>
+    ensures { result ≡ only (is_at_least_once qos) identifier }
+{
+    match qos {
+        Qos::AtLeastOnce => identifier,
+        Qos::AtMostOnce | Qos::ExactlyOnce => None,
+    }
+}
+
+// The identifier of a PUBLISH of QoS 2.
+#[inline(always)]
+fn exactly_once(qos: Qos, identifier: Option<u16>) -> Option<u16>
+    ensures { result ≡ only (is_exactly_once qos) identifier }
+{
+    match qos {
+        Qos::ExactlyOnce => identifier,
+        Qos::AtMostOnce | Qos::AtLeastOnce => None,
+    }
+}
+
+// The identifier of a PUBREC that doesn't refuse.
+#[inline(always)]
+fn accepted(identifier: u16, code: u8) -> Option<u16>
+    ensures { result ≡ only (not (refuses code)) (Some identifier) }
+{
+    if code < 0x80 {
+        return Some(identifier);
+    }
+    None
 }
 
 /// A PUBLISH of QoS 1 that is received, and its PUBACK.
@@ -78,6 +126,34 @@ impl Exchange for E1 {
 
     fn answer(note: &Note) -> Option<u16> {
         note.sent_puback()
+    }
+
+    #[inline(always)]
+    #[tactic(auto, unfolding(mq_rules::specs::Notes::note_of_bare))]
+    fn bare_cause(bare: Bare<'_>) -> Option<u16> {
+        match bare.direction {
+            Direction::Sent => None,
+            Direction::Recv => match bare.fields {
+                BareFields::Publish {
+                    identifier,
+                    qos,
+                    ..
+                } => at_least_once(qos, identifier),
+                _ => None,
+            },
+        }
+    }
+
+    #[inline(always)]
+    #[tactic(auto, unfolding(mq_rules::specs::Notes::note_of_bare))]
+    fn bare_answer(bare: Bare<'_>) -> Option<u16> {
+        match bare.direction {
+            Direction::Sent => match bare.fields {
+                BareFields::Puback { identifier, .. } => Some(identifier),
+                _ => None,
+            },
+            Direction::Recv => None,
+        }
     }
 
     fn asked_rule() -> Rule {
@@ -125,6 +201,34 @@ impl Exchange for E2 {
 
     fn answer(note: &Note) -> Option<u16> {
         note.sent_pubrec()
+    }
+
+    #[inline(always)]
+    #[tactic(auto, unfolding(mq_rules::specs::Notes::note_of_bare))]
+    fn bare_cause(bare: Bare<'_>) -> Option<u16> {
+        match bare.direction {
+            Direction::Sent => None,
+            Direction::Recv => match bare.fields {
+                BareFields::Publish {
+                    identifier,
+                    qos,
+                    ..
+                } => exactly_once(qos, identifier),
+                _ => None,
+            },
+        }
+    }
+
+    #[inline(always)]
+    #[tactic(auto, unfolding(mq_rules::specs::Notes::note_of_bare))]
+    fn bare_answer(bare: Bare<'_>) -> Option<u16> {
+        match bare.direction {
+            Direction::Sent => match bare.fields {
+                BareFields::Pubrec { identifier, .. } => Some(identifier),
+                _ => None,
+            },
+            Direction::Recv => None,
+        }
     }
 
     fn asked_rule() -> Rule {
@@ -175,6 +279,30 @@ impl Exchange for E3 {
         note.sent_pubrel()
     }
 
+    #[inline(always)]
+    #[tactic(auto, unfolding(mq_rules::specs::Notes::note_of_bare))]
+    fn bare_cause(bare: Bare<'_>) -> Option<u16> {
+        match bare.direction {
+            Direction::Sent => None,
+            Direction::Recv => match bare.fields {
+                BareFields::Pubrec { identifier, code } => accepted(identifier, code),
+                _ => None,
+            },
+        }
+    }
+
+    #[inline(always)]
+    #[tactic(auto, unfolding(mq_rules::specs::Notes::note_of_bare))]
+    fn bare_answer(bare: Bare<'_>) -> Option<u16> {
+        match bare.direction {
+            Direction::Sent => match bare.fields {
+                BareFields::Pubrel { identifier, .. } => Some(identifier),
+                _ => None,
+            },
+            Direction::Recv => None,
+        }
+    }
+
     fn asked_rule() -> Rule {
         Rule::E3A
     }
@@ -221,6 +349,30 @@ impl Exchange for E4 {
 
     fn answer(note: &Note) -> Option<u16> {
         note.sent_pubcomp()
+    }
+
+    #[inline(always)]
+    #[tactic(auto, unfolding(mq_rules::specs::Notes::note_of_bare))]
+    fn bare_cause(bare: Bare<'_>) -> Option<u16> {
+        match bare.direction {
+            Direction::Sent => None,
+            Direction::Recv => match bare.fields {
+                BareFields::Pubrel { identifier, .. } => Some(identifier),
+                _ => None,
+            },
+        }
+    }
+
+    #[inline(always)]
+    #[tactic(auto, unfolding(mq_rules::specs::Notes::note_of_bare))]
+    fn bare_answer(bare: Bare<'_>) -> Option<u16> {
+        match bare.direction {
+            Direction::Sent => match bare.fields {
+                BareFields::Pubcomp { identifier, .. } => Some(identifier),
+                _ => None,
+            },
+            Direction::Recv => None,
+        }
     }
 
     fn asked_rule() -> Rule {
@@ -271,6 +423,18 @@ impl Exchange for E5 {
         note.sent_suback()
     }
 
+    #[inline(always)]
+    #[tactic(auto, unfolding(mq_rules::specs::Notes::note_of_bare))]
+    fn bare_cause(_: Bare<'_>) -> Option<u16> {
+        None
+    }
+
+    #[inline(always)]
+    #[tactic(auto, unfolding(mq_rules::specs::Notes::note_of_bare))]
+    fn bare_answer(_: Bare<'_>) -> Option<u16> {
+        None
+    }
+
     fn asked_rule() -> Rule {
         Rule::E5A
     }
@@ -317,6 +481,18 @@ impl Exchange for E6 {
 
     fn answer(note: &Note) -> Option<u16> {
         note.sent_unsuback()
+    }
+
+    #[inline(always)]
+    #[tactic(auto, unfolding(mq_rules::specs::Notes::note_of_bare))]
+    fn bare_cause(_: Bare<'_>) -> Option<u16> {
+        None
+    }
+
+    #[inline(always)]
+    #[tactic(auto, unfolding(mq_rules::specs::Notes::note_of_bare))]
+    fn bare_answer(_: Bare<'_>) -> Option<u16> {
+        None
     }
 
     fn asked_rule() -> Rule {

@@ -14,7 +14,7 @@ use crate::selective::Selective;
 use mq_packet::Qos;
 use mq_rules::{
     Bare, BareFields, Both, Brisk, Fate, Faults, ItemNote, Memory, Note, PacketFields, Tested,
-    Watch, step_apart,
+    Watch,
 };
 use mq_trace::{Direction, Place3};
 use std::alloc::Global;
@@ -90,7 +90,7 @@ impl Fated for Messages {
 impl Brisk for Messages {
     #[inline(always)]
     fn step_bare(&mut self, at: Place3, bare: Bare<'_>, faults: &mut Faults) -> Result<(), Memory> {
-        step_apart(self, at, bare, faults)?;
+        self.watchers.step_bare(at, bare, faults)?;
         Ok(())
     }
 }

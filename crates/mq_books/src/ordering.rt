@@ -4,12 +4,12 @@ ghost use Rattle.indexmap.specs.IndexMap.{get};
 ghost use Rattle.mq_rules.specs.Connections.{accepts};
 ghost use Rattle.mq_books.specs.Burden.{ids_where};
 ghost use Rattle.mq_books.specs.Orderings as keeping;
-ghost use Rattle.mq_books.specs.Orderings.{first_debt, from_due, queued_next, ordered_by, IsQueue, IsTidied};
+ghost use Rattle.mq_books.specs.Orderings.{first_debt, from_due, queued_by, ordered_by, IsQueue, IsTidied};
 
 use crate::known::judge_by;
 use crate::sizes::map_size;
 use indexmap::IndexMap;
-use mq_rules::{Fate, Faults, Memory, Note, Rule};
+use mq_rules::{Fate, Faults, Memory, Rule};
 use mq_trace::Place3;
 use std::collections::VecDeque;
 
@@ -77,12 +77,12 @@ pub fn enqueue(
     queue: &mut VecDeque<Debt>,
     due: &IndexMap<u16, Place3>,
     at: Place3,
-    note: &Note,
+    opens: bool,
     cause: Option<u16>,
 ) -> Result<(), Memory>
-    ensures { OnOk result (queue.new.items ≡ queued_next note.now cause at.position (get nat_eq due.now) queue.old.items) }
+    ensures { OnOk result (queue.new.items ≡ queued_by opens cause at.position (get nat_eq due.now) queue.old.items) }
 {
-    if note.is_open() {
+    if opens {
         queue.clear();
         return Ok(());
     }
@@ -104,15 +104,15 @@ pub fn take_queue(
     rule: Option<Rule>,
     at: Place3,
     fate: Fate,
-    note: &Note,
+    opens: bool,
     cause: Option<u16>,
 ) -> Result<(), Memory>
-    ensures { OnOk result (queue.new.items ≡ cond (is_some rule && accepts fate) (queued_next note.now cause at.position (get nat_eq due.now) queue.old.items) queue.old.items) }
+    ensures { OnOk result (queue.new.items ≡ cond (is_some rule && accepts fate) (queued_by opens cause at.position (get nat_eq due.now) queue.old.items) queue.old.items) }
 {
     if !(rule.is_some() && fate.accepts()) {
         return Ok(());
     }
-    enqueue(queue, due, at, note, cause)?;
+    enqueue(queue, due, at, opens, cause)?;
     Ok(())
 }
 

@@ -8,7 +8,7 @@ ghost use Rattle.mq_rules.specs.Connections.{accepts};
 ghost use Rattle.mq_rules.specs.Rules.{same_rule, binds as is_bound};
 ghost use Rattle.mq_rules.specs.Under.{IsKnown, turns_known};
 ghost use Rattle.mq_books.specs.Burden.{caused_ids};
-ghost use Rattle.mq_books.specs.Owings.{IsOwing, due_next, blamed, Keeps, binds_by};
+ghost use Rattle.mq_books.specs.Owings.{IsOwing, due_by, blamed, Keeps, binds_by};
 ghost use Rattle.mq_books.specs.Orderings as passing;
 ghost use Rattle.mq_books.specs.Orderings.{looked_at};
 ghost use Rattle.mq_books.specs.Concerns.{concerns_owed};
@@ -20,7 +20,7 @@ use crate::pings::ended_after;
 use crate::selective::Selective;
 use crate::sizes::map_size;
 use indexmap::IndexMap;
-use mq_rules::{Fate, Fault, FaultKey, Faults, Memory, Note, Rule, Tested, Watch};
+use mq_rules::{Bare, Brisk, Fate, Fault, FaultKey, Faults, Memory, Note, Rule, Tested, Watch};
 use mq_trace::Place3;
 use std::alloc::Global;
 use std::collections::VecDeque;
@@ -32,14 +32,14 @@ fn fall_due(
     due: &mut IndexMap<u16, Place3>,
     alloc: Global,
     at: Place3,
-    note: &Note,
+    opens: bool,
     cause: Option<u16>,
     answer: Option<u16>,
 ) -> Result<(), Memory>
-    ensures due { OnOk result ((i : ℕ) → get nat_eq due.new i ≡ due_next note.now cause answer at i (get nat_eq due.old i)) }
+    ensures due { OnOk result ((i : ℕ) → get nat_eq due.new i ≡ due_by opens cause answer at i (get nat_eq due.old i)) }
     ensures unique { IsUnique nat_eq due.old → OnOk result (IsUnique nat_eq due.new) }
 {
-    if note.is_open() {
+    if opens {
         // A large map that is cleared costs its size each time.
         *due = IndexMap::new(alloc);
     }
@@ -60,18 +60,18 @@ fn take_due(
     alloc: Global,
     at: Place3,
     fate: Fate,
-    note: &Note,
+    opens: bool,
     cause: Option<u16>,
     answer: Option<u16>,
 ) -> Result<(), Memory>
-    ensures due { accepts fate ≡ true → OnOk result ((i : ℕ) → get nat_eq due.new i ≡ due_next note.now cause answer at i (get nat_eq due.old i)) }
+    ensures due { accepts fate ≡ true → OnOk result ((i : ℕ) → get nat_eq due.new i ≡ due_by opens cause answer at i (get nat_eq due.old i)) }
     ensures same { accepts fate ≡ false → OnOk result ((i : ℕ) → get nat_eq due.new i ≡ get nat_eq due.old i) }
     ensures unique { IsUnique nat_eq due.old → OnOk result (IsUnique nat_eq due.new) }
 {
     if !fate.accepts() {
         return Ok(());
     }
-    fall_due(due, alloc, at, note, cause, answer)?;
+    fall_due(due, alloc, at, opens, cause, answer)?;
     Ok(())
 }
 
@@ -227,9 +227,10 @@ impl<X: Exchange> Fated for Owed<X> {
         let rests = rests_now(self.binds, fate, decided == at.position, self.ended, note);
         let broken = is_out_of_order(self.order_binds, fate, &mut self.queue, &self.due, answer);
         settle(rests, &self.due, X::settled_rule(), decided, faults)?;
-        take_queue(&mut self.queue, &self.due, ordered, at, fate, note, cause)?;
+        let opens = note.is_open();
+        take_queue(&mut self.queue, &self.due, ordered, at, fate, opens, cause)?;
         let alloc = self.alloc;
-        take_due(&mut self.due, alloc, at, fate, note, cause, answer)?;
+        take_due(&mut self.due, alloc, at, fate, opens, cause, answer)?;
         tidy(&mut self.queue, &self.due, cause);
         self.ended = ended_after(self.ended, note);
         self.fate = fate;
@@ -240,6 +241,22 @@ impl<X: Exchange> Fated for Owed<X> {
     ghost known_taken = { λ tested taken e past known. known };
 
     ghost known_adds = { λ tested e past k r. refl };
+}
+
+impl<X: Exchange> Brisk for Owed<X> {
+    fn step_bare(&mut self, at: Place3, bare: Bare<'_>, faults: &mut Faults) -> Result<(), Memory> {
+        let cause = X::bare_cause(bare);
+        let answer = X::bare_answer(bare);
+        let ordered = X::ordered_rule();
+        let fate = self.fate;
+        let broken = is_out_of_order(self.order_binds, fate, &mut self.queue, &self.due, answer);
+        take_queue(&mut self.queue, &self.due, ordered, at, fate, false, cause)?;
+        let alloc = self.alloc;
+        take_due(&mut self.due, alloc, at, fate, false, cause, answer)?;
+        tidy(&mut self.queue, &self.due, cause);
+        judge_order(ordered, broken, at, at.position, faults)?;
+        Ok(())
+    }
 }
 
 impl<X: Exchange> Selective for Owed<X> {

@@ -5,7 +5,7 @@ use Rattle.mq_rules.specs.FaultKeys.{FaultMap}
 use Rattle.mq_rules.specs.Under.{seen, turns_with}
 use Rattle.mq_rules.specs.Growing.{Gains}
 use Rattle.mq_books.specs.Quotas.{judged_by}
-use Rattle.mq_books.specs.Askings.{answered_next, is_unasked}
+use Rattle.mq_books.specs.Askings.{answered_by, answered_next, is_unasked}
 use Rattle.mq_books.proofs.AskedLaws.{asked-next, asked-gains}
 use Rattle.mq_books.proofs.asked.AskedFated.fated.Goals as goal
 
@@ -16,6 +16,7 @@ returns-clause-agrees g c = λ tested past under q.
       q.0,
       asked-next tested g.X.Exchange.exchange c.args.fate s.fate s.opened c.opened_after-self.result (get nat_eq s.answered) (get nat_eq c.take_answered.new.answered) e past g.met.X.Exchange.apart under.follows.placed.0 q.1 c.opened_after-self.ensures
           (λ i. c.in_ok-take_answered.ensures i
+          ∙ ap (λ b. answered_by c.args.fate b c.cause-cause.result c.answer-answer.result e.place.position i (get nat_eq s.answered i)) c.is_open.ensures
           ∙ ap (λ o. answered_next c.args.fate e.note o c.answer-answer.result e.place.position i (get nat_eq s.answered i)) c.cause-cause.ensures
           ∙ ap (λ o. answered_next c.args.fate e.note (g.X.Exchange.exchange.cause e.note) o e.place.position i (get nat_eq s.answered i)) c.answer-answer.ensures),
     )

@@ -9,8 +9,8 @@ use Rattle.mq_rules.specs.FaultKeys.{FaultMap}
 use Rattle.mq_rules.proofs.Exports.{gains_either, on_err, within_all, within_either_first}
 use Rattle.mq_rules.specs.Under.{seen, turns_with}
 use Rattle.mq_rules.specs.Growing.{Gains, GainsWithin}
-use Rattle.mq_books.specs.Owings.{due_next, blamed, Keeps}
-use Rattle.mq_books.specs.Orderings.{looked_at, passes_over, queued_next, ordered_by}
+use Rattle.mq_books.specs.Owings.{due_by, due_next, blamed, Keeps}
+use Rattle.mq_books.specs.Orderings.{looked_at, passes_over, queued_by, queued_next, ordered_by}
 use Rattle.mq_books.proofs.BlameLaws.{within_kept}
 use Rattle.mq_books.proofs.OwingLaws.{owing-next, rest-gains, answer-gains}
 use Rattle.mq_books.proofs.owed.OwedFated.fated.Goals as goal
@@ -23,11 +23,13 @@ returns-clause-agrees g c = λ tested past under q.
       c.in_ok-take_due.ensures.unique q.0,
       owing-next tested x g.met.X.Exchange.apart g.X.Exchange.settled g.X.Exchange.ordered s.binds s.order_binds c.args.fate s.fate c.args.decided s.ended c.ended_after-self.result (get nat_eq s.due) (get nat_eq c.take_due.new.due) s.queue.items c.is_out_of_order-broken.new.queue.items c.take_queue.new.queue.items c.tidy.new.queue.items e past under q.1 c.ended_after-self.ensures
           (λ accepted i. c.in_ok-take_due.ensures.due accepted i
+          ∙ ap (λ b. due_by b c.cause-cause.result c.answer-answer.result e.place i (get nat_eq s.due i)) c.is_open-opens.ensures
           ∙ ap (λ o. due_next e.note o c.answer-answer.result e.place i (get nat_eq s.due i)) c.cause-cause.ensures
           ∙ ap (λ o. due_next e.note (x.cause e.note) o e.place i (get nat_eq s.due i)) c.answer-answer.ensures)
           c.in_ok-take_due.ensures.same
           (c.is_out_of_order-broken.ensures.queue ∙ ap (λ o. cond (s.order_binds && accepts c.args.fate) (looked_at (get nat_eq s.due) o s.queue.items) s.queue.items) c.answer-answer.ensures)
           (c.in_ok-take_queue.ensures
+          ∙ ap (λ b. cond (is_some c.ordered_rule-ordered.result && accepts c.args.fate) (queued_by b c.cause-cause.result e.place.position (get nat_eq s.due) c.is_out_of_order-broken.new.queue.items) c.is_out_of_order-broken.new.queue.items) c.is_open-opens.ensures
           ∙ ap (λ o. cond (is_some o && accepts c.args.fate) (queued_next e.note c.cause-cause.result e.place.position (get nat_eq s.due) c.is_out_of_order-broken.new.queue.items) c.is_out_of_order-broken.new.queue.items) c.ordered_rule-ordered.ensures
           ∙ ap (λ o. cond (is_some g.X.Exchange.ordered && accepts c.args.fate) (queued_next e.note o e.place.position (get nat_eq s.due) c.is_out_of_order-broken.new.queue.items) c.is_out_of_order-broken.new.queue.items) c.cause-cause.ensures)
           c.tidy.ensures.tidied
