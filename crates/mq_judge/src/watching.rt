@@ -7,7 +7,7 @@ ghost use Rattle.mq_trace.specs.Events.{packet as packet_item};
 ghost use Rattle.mq_trace.specs.Flows.{item_event};
 ghost use Rattle.mq_trace.specs.Reception.{event_of};
 ghost use Rattle.mq_rules.specs.declared.packet_note.PacketFields.TheVariants as fields_of;
-ghost use Rattle.mq_rules.specs.Notes.{tested_as, note_of, bare_note, bare_publish_note, bare_fields, note_of_bare};
+ghost use Rattle.mq_rules.specs.Notes.{tested_as, note_of, bare_note, bare_publish_note, note_of_bare};
 ghost use Rattle.mq_judge.specs.Watching.{IsWatching, TakesIn, LeavesOut};
 
 use mq_books::Watchers;
@@ -113,7 +113,7 @@ impl Watching {
         }
     }
 
-    // The same of a packet without properties, by its parts.
+    // The same of a packet without properties, by its numbers.
     #[inline(always)]
     fn take_bare(&mut self, at: Place3, bare: Bare<'_>) -> Result<(), Memory>
         ensures tested { self.new.tested ≡ self.old.tested }
@@ -240,19 +240,23 @@ impl Watching {
         }
     }
 
-    // Takes in what acknowledges a PUBLISH, and has no properties.
-    #[inline(always)]
-    fn take_acknowledgement(
+    // One function for each type, and inside it a way for each direction: on it the compiler leaves
+    // out all that has nothing to do with it. More in one function would be too much to inline.
+
+    #[inline(never)]
+    fn take_puback(
         &mut self,
         place: Place3,
         direction: Direction,
         size: u32,
-        fields: BareFields<'_>,
+        identifier: u16,
+        code: u8,
     ) -> Result<(), Memory>
         ensures tested { self.new.tested ≡ self.old.tested }
-        ensures ok { OnOk result (TakesIn self.old self.new place (bare_note direction size (bare_fields direction fields.entry))) }
-        ensures memory { OnErr result (LeavesOut self.old self.new place (bare_note direction size (bare_fields direction fields.entry))) }
+        ensures ok { OnOk result (TakesIn self.old self.new place (bare_note direction size (fields_of.Puback identifier code))) }
+        ensures memory { OnErr result (LeavesOut self.old self.new place (bare_note direction size (fields_of.Puback identifier code))) }
     {
+        let fields = BareFields::Puback { identifier, code };
         match direction {
             Direction::Sent => self.take_bare(
                 place,
@@ -273,25 +277,6 @@ impl Watching {
         }
     }
 
-    // One function for each type: in it the compiler leaves out all that has nothing to do with it.
-
-    #[inline(never)]
-    fn take_puback(
-        &mut self,
-        place: Place3,
-        direction: Direction,
-        size: u32,
-        identifier: u16,
-        code: u8,
-    ) -> Result<(), Memory>
-        ensures tested { self.new.tested ≡ self.old.tested }
-        ensures ok { OnOk result (TakesIn self.old self.new place (bare_note direction size (fields_of.Puback identifier code))) }
-        ensures memory { OnErr result (LeavesOut self.old self.new place (bare_note direction size (fields_of.Puback identifier code))) }
-    {
-        let fields = BareFields::Puback { identifier, code };
-        self.take_acknowledgement(place, direction, size, fields)
-    }
-
     #[inline(never)]
     fn take_pubrec(
         &mut self,
@@ -306,7 +291,24 @@ impl Watching {
         ensures memory { OnErr result (LeavesOut self.old self.new place (bare_note direction size (fields_of.Pubrec identifier code))) }
     {
         let fields = BareFields::Pubrec { identifier, code };
-        self.take_acknowledgement(place, direction, size, fields)
+        match direction {
+            Direction::Sent => self.take_bare(
+                place,
+                Bare {
+                    direction: Direction::Sent,
+                    size,
+                    fields,
+                },
+            ),
+            Direction::Recv => self.take_bare(
+                place,
+                Bare {
+                    direction: Direction::Recv,
+                    size,
+                    fields,
+                },
+            ),
+        }
     }
 
     #[inline(never)]
@@ -323,7 +325,24 @@ impl Watching {
         ensures memory { OnErr result (LeavesOut self.old self.new place (bare_note direction size (fields_of.Pubrel identifier code))) }
     {
         let fields = BareFields::Pubrel { identifier, code };
-        self.take_acknowledgement(place, direction, size, fields)
+        match direction {
+            Direction::Sent => self.take_bare(
+                place,
+                Bare {
+                    direction: Direction::Sent,
+                    size,
+                    fields,
+                },
+            ),
+            Direction::Recv => self.take_bare(
+                place,
+                Bare {
+                    direction: Direction::Recv,
+                    size,
+                    fields,
+                },
+            ),
+        }
     }
 
     #[inline(never)]
@@ -340,7 +359,24 @@ impl Watching {
         ensures memory { OnErr result (LeavesOut self.old self.new place (bare_note direction size (fields_of.Pubcomp identifier code))) }
     {
         let fields = BareFields::Pubcomp { identifier, code };
-        self.take_acknowledgement(place, direction, size, fields)
+        match direction {
+            Direction::Sent => self.take_bare(
+                place,
+                Bare {
+                    direction: Direction::Sent,
+                    size,
+                    fields,
+                },
+            ),
+            Direction::Recv => self.take_bare(
+                place,
+                Bare {
+                    direction: Direction::Recv,
+                    size,
+                    fields,
+                },
+            ),
+        }
     }
 
     // Takes in the next event, a packet.

@@ -181,8 +181,8 @@ fn weight_after(alloc: Global, words: &'static str) -> Result<Option<usize>, Fai
     Ok(Some(judge.weight()))
 }
 
-// An identifier that is in use is in two collections until it is set free; an undecided
-// connection's events are held.
+// An identifier that is in use is in one collection until it is set free; an undecided connection's
+// events are held.
 #[test]
 fn weighs_what_is_open(rt: HostRuntime) -> Result<(), Fail> {
     assert_eq!(rt;
@@ -191,7 +191,7 @@ fn weighs_what_is_open(rt: HostRuntime) -> Result<(), Fail> {
     );
     assert_eq!(rt;
         weight_after(rt.alloc(), "client OPEN >CONNECT <CONNACK >PUBLISH1:1")?,
-        Some(2)
+        Some(1)
     );
     assert_eq!(rt;
         weight_after(
