@@ -98,7 +98,7 @@ within-later judges tested f (d ∷ later) hs base at first new g = within-later
 -- ---- the next of the held events
 
 can-tail : (tested : Tested) (at : ℕ) (e : Seen) (hs base : List Seen) → CanHand tested at (e ∷ hs) base → CanHand tested at hs base
-can-tail tested at e hs base c = record { later = let l = c.later in omega arith; are_held = c.are_held.2; placed = c.placed.1; in_turn = c.in_turn.1 }
+can-tail tested at e hs base c = record { later = let l = c.later in omega arith; are_held = c.are_held.2; placed = c.placed.1; in_turn = c.in_turn.1; on_connections = c.on_connections.1 }
 
 can-tails : (tested : Tested) (at : ℕ) (later hs base : List Seen) → CanHand tested at (reverse_aux later hs) base → CanHand tested at hs base
 can-tails tested at [] hs base c = c
@@ -113,7 +113,7 @@ pub record IsAt (tested : Tested) (f : Fate) (at : ℕ) (held : List Seen) (i : 
 pub can-at : (tested : Tested) (f : Fate) (at : ℕ) (held : List Seen) (i : ℕ) (e : Seen) (base : List Seen) → i < length held → e ≡ get_or held i e → CanHand tested at (reverse held) base → IsAt tested f at held i e base
 can-at tested f at held i e base lt is can = record {
   under = record {
-    follows = record { placed = here.placed; in_turn = here.in_turn };
+    follows = record { placed = here.placed; in_turn = here.in_turn; on_connections = here.on_connections };
     fits = λ g h. absurd (let none : latest_fate tested.role (e ∷ (reverse (take i held) ++ base)) ≡ None = here.are_held.1 in cc);
     later = λ h. let l = here.later in let p = here.placed.0 in omega arith;
   };

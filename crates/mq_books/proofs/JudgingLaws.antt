@@ -13,7 +13,7 @@ use Rattle.mq_rules.specs.declared.rule.Rule.TheVariants.{W01}
 use Rattle.mq_rules.specs.declared.fault.Fault.{Fault}
 use Rattle.mq_rules.specs.declared.note.Seen.{Seen}
 use Rattle.mq_rules.specs.Moments.{moment, IsPlaced}
-use Rattle.mq_rules.specs.Connections.{latest_fate}
+use Rattle.mq_rules.specs.Connections.{latest_fate, AreOnConnections}
 use Rattle.mq_rules.specs.Words.{is_some_and}
 use Rattle.mq_rules.specs.Rules.{same_rule}
 use Rattle.mq_rules.specs.Statements.{Statement, on_bytes, on_past, in_session, at_release, at_rest, statement, is_by_bytes, is_by_past, is_on_bytes, is_on_past}
@@ -34,10 +34,11 @@ tails P tail (e ∷ later) past h = tail e past (tails P tail later (e ∷ past)
 front : (P : List Seen → Type 0) → ((e : Seen) (past : List Seen) → P (e ∷ past) → P past) → (seen : List Seen) (i : ℕ) (e : Seen) → i < length seen → e ≡ get_or seen i e → P (reverse seen) → P (e ∷ reverse (take i seen))
 front P tail seen i e lt is h = subst P (newest-first seen i e lt is) (tails P tail (drop (i + 1) seen) (reverse (take (i + 1) seen)) (subst P (sym (beginning seen (i + 1))) h))
 
-pub follows-at : (tested : Tested) (seen : List Seen) (i : ℕ) (e : Seen) → i < length seen → e ≡ get_or seen i e → IsPlaced (reverse seen) → IsInTurn tested.role (reverse seen) → Follows tested e (reverse (take i seen))
-follows-at tested seen i e lt is placed turn = record {
+pub follows-at : (tested : Tested) (seen : List Seen) (i : ℕ) (e : Seen) → i < length seen → e ≡ get_or seen i e → IsPlaced (reverse seen) → IsInTurn tested.role (reverse seen) → AreOnConnections (reverse seen) → Follows tested e (reverse (take i seen))
+follows-at tested seen i e lt is placed turn connected = record {
   placed = front IsPlaced (λ e past h. h.1) seen i e lt is placed;
   in_turn = front (IsInTurn tested.role) (λ e past h. h.1) seen i e lt is turn;
+  on_connections = front AreOnConnections (λ e past h. h.1) seen i e lt is connected;
 }
 
 -- the faults of a watcher of whole logs grow by what turns out to fail

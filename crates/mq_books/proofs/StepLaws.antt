@@ -10,7 +10,7 @@ use Rattle.mq_rules.specs.declared.rule.Rule.{Rule}
 use Rattle.mq_rules.specs.declared.note.Seen.{Seen}
 use Rattle.mq_rules.specs.Notes.{is_open, decides}
 use Rattle.mq_rules.specs.Moments.{IsPlaced}
-use Rattle.mq_rules.specs.Connections.{latest_fate}
+use Rattle.mq_rules.specs.Connections.{latest_fate, AreOnConnections}
 use Rattle.mq_rules.specs.FaultKeys.{FaultMap}
 use Rattle.mq_rules.proofs.Exports.{and_false, gains_nothing, latest_fate-next, there}
 use Rattle.mq_rules.specs.Under.{IsInTurn, Follows}
@@ -92,7 +92,7 @@ pub ready : (agrees : Option Fate → List Seen → Type 0) (role : Role) (fate 
 ready agrees role fate now held given tested f e past h follows is some same = record {
   base = base;
   can = record {
-    hand = record { later = subst (λ log. length log < e.place.position) joined (let p = follows.placed.0 in omega arith); are_held = subst (λ hs. AreHeld tested.role (reverse hs) base) (sym same) h.are_held; placed = subst IsPlaced joined follows.placed.1; in_turn = subst (IsInTurn tested.role) joined follows.in_turn.1 };
+    hand = record { later = subst (λ log. length log < e.place.position) joined (let p = follows.placed.0 in omega arith); are_held = subst (λ hs. AreHeld tested.role (reverse hs) base) (sym same) h.are_held; placed = subst IsPlaced joined follows.placed.1; in_turn = subst (IsInTurn tested.role) joined follows.in_turn.1; on_connections = subst AreOnConnections joined follows.on_connections.1 };
     known = h.known;
     follows = subst (Follows tested e) joined follows;
     decided = ap (λ log. latest_fate tested.role (e ∷ log)) (sym joined) ∙ after;

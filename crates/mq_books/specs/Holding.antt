@@ -8,7 +8,7 @@ use Rattle.mq_rules.specs.declared.note.Note.{Note}
 use Rattle.mq_rules.specs.declared.note.Seen.{Seen}
 use Rattle.mq_rules.specs.Notes.{is_open, received_subscription, sent_grant}
 use Rattle.mq_rules.specs.Moments.{note, IsPlaced}
-use Rattle.mq_rules.specs.Connections.{latest_fate, connection}
+use Rattle.mq_rules.specs.Connections.{latest_fate, connection, AreOnConnections}
 use Rattle.mq_rules.specs.Steps.{turns}
 use Rattle.mq_rules.specs.Under.{is_on_session, turns_with, IsInTurn, Follows}
 use Rattle.mq_books.specs.Standings.{total}
@@ -28,6 +28,7 @@ pub record CanHand (tested : Tested) (at : ℕ) (hs base : List Seen) : Type 0 w
   pub are_held : AreHeld tested.role hs base
   pub placed : IsPlaced (hs ++ base)
   pub in_turn : IsInTurn tested.role (hs ++ base)
+  pub on_connections : AreOnConnections (hs ++ base)
 
 -- the fate that the latest connection is taken to have, once these were handed on with this fate
 abbrev pub fate_after : Tested → Fate → List Seen → List Seen → Option Fate

@@ -4,6 +4,7 @@ ghost use Rattle.mq_rules.specs.declared.role.Tested.{Tested as TheTested};
 ghost use Rattle.mq_rules.specs.declared.rule.Rule.{Rule as TheRule};
 ghost use Rattle.mq_rules.specs.declared.fate.Fate.TheVariants.{Void};
 ghost use Rattle.mq_rules.specs.Moments.{IsPlaced};
+ghost use Rattle.mq_rules.specs.Connections.{AreOnConnections};
 ghost use Rattle.mq_rules.specs.Faults.{Grows, GrowsWithin};
 ghost use Rattle.mq_rules.specs.Under.{is_on_session, IsInTurn};
 ghost use Rattle.mq_books.specs.Judging.{IsWhole};
@@ -25,8 +26,8 @@ pub fn watch_all<W: Watch>(
     seen: &[Seen],
     faults: &mut Faults,
 ) -> Result<(), Memory>
-    ensures ok { OnOk result ((tested : TheTested) (chosen : TheRule → Bool) → IsWhole (W.takes tested) (W.adds tested) chosen tested → W.agrees watcher.old tested (Some Void) [] → IsPlaced (reverse seen.now) → IsInTurn tested.role (reverse seen.now) → Grows chosen tested (reverse seen.now) faults.old faults.new) }
-    ensures memory { OnErr result ((tested : TheTested) (chosen : TheRule → Bool) → IsWhole (W.takes tested) (W.adds tested) chosen tested → W.agrees watcher.old tested (Some Void) [] → IsPlaced (reverse seen.now) → IsInTurn tested.role (reverse seen.now) → GrowsWithin chosen tested (reverse seen.now) faults.old faults.new) }
+    ensures ok { OnOk result ((tested : TheTested) (chosen : TheRule → Bool) → IsWhole (W.takes tested) (W.adds tested) chosen tested → W.agrees watcher.old tested (Some Void) [] → IsPlaced (reverse seen.now) → IsInTurn tested.role (reverse seen.now) → AreOnConnections (reverse seen.now) → Grows chosen tested (reverse seen.now) faults.old faults.new) }
+    ensures memory { OnErr result ((tested : TheTested) (chosen : TheRule → Bool) → IsWhole (W.takes tested) (W.adds tested) chosen tested → W.agrees watcher.old tested (Some Void) [] → IsPlaced (reverse seen.now) → IsInTurn tested.role (reverse seen.now) → AreOnConnections (reverse seen.now) → GrowsWithin chosen tested (reverse seen.now) faults.old faults.new) }
 {
     for event in seen {
         watcher.step(event.place, &event.note, faults)?;
@@ -47,8 +48,8 @@ pub fn watch_sessions(
     seen: &[Seen],
     faults: &mut Faults,
 ) -> Result<(), Memory>
-    ensures ok { IsPlaced (reverse seen.now) → IsInTurn tested.role (reverse seen.now) → OnOk result (Grows (is_on_session tested) tested (reverse seen.now) faults.old faults.new) }
-    ensures memory { IsPlaced (reverse seen.now) → IsInTurn tested.role (reverse seen.now) → OnErr result (GrowsWithin (is_on_session tested) tested (reverse seen.now) faults.old faults.new) }
+    ensures ok { IsPlaced (reverse seen.now) → IsInTurn tested.role (reverse seen.now) → AreOnConnections (reverse seen.now) → OnOk result (Grows (is_on_session tested) tested (reverse seen.now) faults.old faults.new) }
+    ensures memory { IsPlaced (reverse seen.now) → IsInTurn tested.role (reverse seen.now) → AreOnConnections (reverse seen.now) → OnErr result (GrowsWithin (is_on_session tested) tested (reverse seen.now) faults.old faults.new) }
 {
     let mut watcher = Early::new(alloc, tested, Sessions::new(alloc, tested));
     watch_all(&mut watcher, seen, faults)

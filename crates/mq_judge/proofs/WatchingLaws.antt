@@ -34,6 +34,7 @@ may-come tested p earlier are =
       follows = record {
         placed = subst IsPlaced same (orderly are.limit are.log are.unrefused).placed;
         in_turn = subst (IsInTurn tested.role) same (turned_for tested.role are.limit are.log are.unrefused);
+        on_connections = subst AreOnConnections same (on_connections are.limit are.log are.unrefused);
       };
       on_connection = (subst AreOnConnections same (on_connections are.limit are.log are.unrefused)).0;
     }

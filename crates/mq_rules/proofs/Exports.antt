@@ -13,6 +13,7 @@ pub use Rattle.mq_rules.proofs.GainLaws.{gains_either, gains_in, gains_nothing, 
 pub use Rattle.mq_rules.proofs.GivenLaws.{begun-closed, begun-open as begun-open-of-given, given-gives, number-within, rest-opens-nothing, rest-undecided}
 pub use Rattle.mq_rules.proofs.GrowLaws.{grows-start}
 pub use Rattle.mq_rules.proofs.ListingLaws.{entries-listed}
+pub use Rattle.mq_rules.proofs.OnOpenLaws.{has_item, on_open-connected, on_open-fold}
 pub use Rattle.mq_rules.proofs.OpenLaws.{on_connections}
 pub use Rattle.mq_rules.proofs.OrderLaws.{orderly}
 pub use Rattle.mq_rules.proofs.PlainLaws.{beginning, grows-next, newest-first, within-next}

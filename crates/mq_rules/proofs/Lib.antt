@@ -15,6 +15,7 @@ pub mod FateLaws
 pub mod OrderLaws
 pub mod TurnLaws
 pub mod OpenLaws
+pub mod OnOpenLaws
 pub mod GainLaws
 pub mod SkipLaws
 pub mod BareLaws

@@ -35,6 +35,10 @@ of_connection c log = those (λ m. number m == c) (moments log)
 abbrev pub connection : List Seen → List Moment
 connection log = of_connection (begun log) log
 
+-- what has come so far on the connection that is open; nothing if none is
+abbrev pub on_open : List Seen → List Moment
+on_open log = cond (is_connected log) (connection log) []
+
 -- The fate of the connection of this number, if this log decides it: the first CONNACK from the server does, or a CLOSE before one came. Before
 -- the first connection there is none to wait for.
 abbrev pub fate : Role → ℕ → List Seen → Option Fate

@@ -224,6 +224,10 @@ abbrev pub is_close : Note → Bool
 is_close notes.Close = true
 is_close _ = false
 
+-- a network connection begins or ends
+abbrev pub is_boundary : Note → Bool
+is_boundary n = is_open n || is_close n
+
 abbrev pub is_rest : Note → Bool
 is_rest notes.Rest = true
 is_rest _ = false

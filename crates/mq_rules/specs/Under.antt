@@ -11,7 +11,7 @@ use Rattle.mq_rules.specs.declared.note.Seen.{Seen}
 use Rattle.mq_rules.specs.Words.{is_some_and}
 use Rattle.mq_rules.specs.Notes.{is_open}
 use Rattle.mq_rules.specs.Moments.{newest, moment, is_next, IsPlaced}
-use Rattle.mq_rules.specs.Connections.{latest_fate, accepts, is_binding}
+use Rattle.mq_rules.specs.Connections.{latest_fate, accepts, is_binding, AreOnConnections}
 use Rattle.mq_rules.specs.Rules.{binds}
 use Rattle.mq_rules.specs.Statements.{Statement, on_bytes, on_past, in_session, at_release, at_rest, statement}
 
@@ -46,10 +46,11 @@ abbrev pub IsInTurn : Role → List Seen → Type 0
 IsInTurn role [] = Unit {0}
 IsInTurn role (e ∷ past) = (is_open e.note ≡ true → is_some (latest_fate role past) ≡ true) × IsInTurn role past
 
--- This event may follow these: each has its place, and connections follow one another.
+-- This event may follow these: each has its place, connections follow one another, and what happens only on an open connection comes on one.
 pub record Follows (tested : Tested) (e : Seen) (past : List Seen) : Type 0 where
   pub placed : IsPlaced (e ∷ past)
   pub in_turn : IsInTurn tested.role (e ∷ past)
+  pub on_connections : AreOnConnections (e ∷ past)
 
 -- The event may follow these, and its connection is decided at this position, by this fate: at or before the event, which then counts as decided at its own position, or later.
 pub record IsUnder (tested : Tested) (f : Fate) (at : ℕ) (e : Seen) (past : List Seen) : Type 0 where

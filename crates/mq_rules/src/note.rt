@@ -170,6 +170,14 @@ impl Note {
         matches!(self, Note::Close)
     }
 
+    /// Whether a network connection begins or ends.
+    #[inline]
+    pub fn is_boundary(&self) -> bool
+        ensures { result ≡ notes.is_boundary self.now }
+    {
+        matches!(self, Note::Open | Note::Close)
+    }
+
     /// Whether the tested end is at rest.
     #[inline]
     pub fn is_rest(&self) -> bool

@@ -10,15 +10,15 @@ use Rattle.mq_books.proofs.JudgingLaws.{on_error, on_ok, sessions-whole}
 use Rattle.mq_books.proofs.judging.watch_sessions.Goals as goal
 
 pub returns-clause-ok : goal.returns-clause-ok
-returns-clause-ok c = λ placed turn.
+returns-clause-ok c = λ placed turn connected.
     let tested = c.args.tested in
     on_ok c.watch_all.result _ (Grows (is_on_session tested) tested (reverse c.args.seen.now) c.args.faults.now c.watch_all.new.faults)
-    (λ f. f tested (is_on_session tested) (record { taken = λ e past. tt; added = sessions-whole tested }) (c.new-watcher.ensures c.new.ensures) placed turn)
+    (λ f. f tested (is_on_session tested) (record { taken = λ e past. tt; added = sessions-whole tested }) (c.new-watcher.ensures c.new.ensures) placed turn connected)
     c.watch_all.ensures.ok
 
 pub returns-clause-memory : goal.returns-clause-memory
-returns-clause-memory c = λ placed turn.
+returns-clause-memory c = λ placed turn connected.
     let tested = c.args.tested in
     on_error c.watch_all.result _ (GrowsWithin (is_on_session tested) tested (reverse c.args.seen.now) c.args.faults.now c.watch_all.new.faults)
-    (λ f. f tested (is_on_session tested) (record { taken = λ e past. tt; added = sessions-whole tested }) (c.new-watcher.ensures c.new.ensures) placed turn)
+    (λ f. f tested (is_on_session tested) (record { taken = λ e past. tt; added = sessions-whole tested }) (c.new-watcher.ensures c.new.ensures) placed turn connected)
     c.watch_all.ensures.memory
