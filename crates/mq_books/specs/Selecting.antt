@@ -8,16 +8,16 @@ use Rattle.mq_rules.specs.declared.packet_note.PacketFields.{PacketFields}
 use Rattle.mq_rules.specs.declared.packet_note.PacketFields.TheVariants.{Connect, Connack, Publish, Puback, Pubrec, Pubrel, Pubcomp, Subscribe, Suback, Unsubscribe, Unsuback, Pingreq, Pingresp, Disconnect}
 use Rattle.mq_rules.specs.Notes.{is_acknowledged}
 
--- An event, by a test of the packets that are sent, one of those that are received, and whether a REST, and bytes that are no packet, may concern.
-abbrev pub selects : (PacketFields → Bool) → (PacketFields → Bool) → Bool → Bool → Bool → Note → Bool
-selects sent received rest release broken notes.Open = true
-selects sent received rest release broken notes.Close = false
-selects sent received rest release broken notes.Rest = rest
-selects sent received rest release broken (notes.Release identifier) = release
-selects sent received rest release broken (notes.Sent (items.Packet p)) = sent p.fields
-selects sent received rest release broken (notes.Sent _) = broken
-selects sent received rest release broken (notes.Recv (items.Packet p)) = received p.fields
-selects sent received rest release broken (notes.Recv _) = broken
+-- An event, by a test of the packets that are sent, one of those that are received, and whether a CLOSE, a REST, a RELEASE, and bytes that are no packet, may concern.
+abbrev pub selects : (PacketFields → Bool) → (PacketFields → Bool) → Bool → Bool → Bool → Bool → Note → Bool
+selects sent received close rest release broken notes.Open = true
+selects sent received close rest release broken notes.Close = close
+selects sent received close rest release broken notes.Rest = rest
+selects sent received close rest release broken (notes.Release identifier) = release
+selects sent received close rest release broken (notes.Sent (items.Packet p)) = sent p.fields
+selects sent received close rest release broken (notes.Sent _) = broken
+selects sent received close rest release broken (notes.Recv (items.Packet p)) = received p.fields
+selects sent received close rest release broken (notes.Recv _) = broken
 
 -- ---- exchanges of messages (MQTT 5.0, section 4.3)
 
@@ -37,7 +37,7 @@ asks_by_message (Disconnect note) = true
 asks_by_message _ = false
 
 abbrev pub may_concern_messages : Note → Bool
-may_concern_messages = selects answers_message asks_by_message true false true
+may_concern_messages = selects answers_message asks_by_message false true false true
 
 -- ---- requests to subscribe and to unsubscribe (MQTT 5.0, sections 3.8.4 and 3.10.4)
 
@@ -54,7 +54,7 @@ asks_by_request (Disconnect note) = true
 asks_by_request _ = false
 
 abbrev pub may_concern_requests : Note → Bool
-may_concern_requests = selects answers_request asks_by_request true false true
+may_concern_requests = selects answers_request asks_by_request false true false true
 
 -- ---- releases (MQTT 5.0, section 4.3.3)
 
@@ -68,7 +68,7 @@ brings_message (Publish p) = is_acknowledged p.qos
 brings_message _ = false
 
 abbrev pub may_concern_releases : Note → Bool
-may_concern_releases = selects ends_release brings_message false true false
+may_concern_releases = selects ends_release brings_message false false true false
 
 -- ---- subscriptions (MQTT 5.0, sections 3.8.4 and 3.9.3), where deliveries are judged or not
 
@@ -84,7 +84,7 @@ subscribes_or_not (Unsubscribe identifier count) = true
 subscribes_or_not _ = false
 
 abbrev pub may_concern_subscriptions : Bool → Note → Bool
-may_concern_subscriptions bound = selects (delivers_or_grants bound) subscribes_or_not false false false
+may_concern_subscriptions bound = selects (delivers_or_grants bound) subscribes_or_not false false false false
 
 -- ---- Packet Identifiers in use (MQTT 5.0, section 2.2.1)
 
@@ -108,7 +108,7 @@ frees_identifier (Disconnect note) = true
 frees_identifier _ = false
 
 abbrev pub may_concern_identifiers : Note → Bool
-may_concern_identifiers = selects uses_identifier frees_identifier true false true
+may_concern_identifiers = selects uses_identifier frees_identifier false true false true
 
 -- ---- the send quota (MQTT 5.0, section 4.9)
 
@@ -125,7 +125,7 @@ gives_quota (Pubcomp identifier code) = true
 gives_quota _ = false
 
 abbrev pub may_concern_quota : Note → Bool
-may_concern_quota = selects takes_quota gives_quota false false false
+may_concern_quota = selects takes_quota gives_quota false false false false
 
 -- ---- pings (MQTT 5.0, section 3.12)
 
@@ -140,4 +140,4 @@ pings (Disconnect note) = true
 pings _ = false
 
 abbrev pub may_concern_pings : Note → Bool
-may_concern_pings = selects answers_ping pings true false true
+may_concern_pings = selects answers_ping pings false true false true
