@@ -29,11 +29,15 @@ unended-note Sent size (bares.Puback identifier code) = refl
 unended-note Sent size (bares.Pubrec identifier code) = refl
 unended-note Sent size (bares.Pubrel identifier code) = refl
 unended-note Sent size (bares.Pubcomp identifier code) = refl
+unended-note Sent size bares.Pingreq = refl
+unended-note Sent size bares.Pingresp = refl
 unended-note Recv size (bares.Publish identifier qos duplicate topic) = refl
 unended-note Recv size (bares.Puback identifier code) = refl
 unended-note Recv size (bares.Pubrec identifier code) = refl
 unended-note Recv size (bares.Pubrel identifier code) = refl
 unended-note Recv size (bares.Pubcomp identifier code) = refl
+unended-note Recv size bares.Pingreq = refl
+unended-note Recv size bares.Pingresp = refl
 
 -- after one a REST may bind
 pub bare-unended : (b : Bare) → ends_by (note_of_bare b) ≡ false

@@ -4,7 +4,7 @@ pub mod QuotaLaws
 pub mod HoldLaws
 pub mod EarlyLaws
 pub mod StepLaws
-pub mod SkippedLaws
+pub mod AtOnceLaws
 pub mod PingLaws
 pub mod JudgingLaws
 pub mod BlameLaws

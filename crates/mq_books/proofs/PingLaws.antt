@@ -7,6 +7,7 @@ use Rattle.mq_rules.specs.declared.role.Role.TheVariants.{Client, Server}
 use Rattle.mq_rules.specs.declared.role.Tested.{Tested}
 use Rattle.mq_rules.specs.declared.fate.Fate.{Fate}
 use Rattle.mq_rules.specs.declared.rule.Rule.TheVariants.{E7R}
+use Rattle.mq_rules.specs.declared.note.Note.{Note}
 use Rattle.mq_rules.specs.declared.note.Seen.{Seen}
 use Rattle.mq_rules.specs.Notes.{is_open, is_rest, is_sent_pingresp, is_received_pingreq}
 use Rattle.mq_rules.specs.Moments.{Moment, newest, note, some, count, is_next}
@@ -96,6 +97,16 @@ E7R-turns tested f at e past k under =
     session-turns_with tested E7R (λ f. breaks_E7R tested.role) refl f e past k
     ∙ ap (λ b. is_next past k && (b && (accepts f && breaks_E7R tested.role (newest e past)))) (binds-E7R tested.role tested.releases)
     ∙ ap (λ b. is_next past k && (is_server tested.role && (accepts f && (b && nat_lt (count (λ m. is_sent_pingresp (note m)) (connection past)) (count (λ m. is_received_pingreq (note m)) (connection past)))))) (binding-under tested f at e past under)
+
+-- an event that is no REST shows none
+pub awake-answered : (role : Role) (f : Fate) (known ended : Bool) (n : Note) (asked answered : ℕ) → is_rest n ≡ false → unanswered role f known ended n asked answered ≡ false
+awake-answered role f known ended n asked answered h =
+    ap (λ b. is_server role && (accepts f && ((b && (known && (accepts f && not ended))) && nat_lt answered asked))) h ∙ go (is_server role) (accepts f)
+  where
+    go : (a b : Bool) → (a && (b && false)) ≡ false
+    go true true = refl
+    go true false = refl
+    go false b = refl
 
 pub pings-gains : (tested : Tested) (old : Pings) (f : Fate) (taken : Option Fate) (at : ℕ) (e : Seen) (past : List Seen) (m : FaultMap) (b : Bool) → IsUnder tested f at e past → IsPings old tested taken past
     → b ≡ unanswered old.role f (at == e.place.position) old.ended e.note old.asked old.answered

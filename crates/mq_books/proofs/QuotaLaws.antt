@@ -174,21 +174,29 @@ announces-nothing-note Client Sent size (bares.Puback identifier code) = refl
 announces-nothing-note Client Sent size (bares.Pubrec identifier code) = refl
 announces-nothing-note Client Sent size (bares.Pubrel identifier code) = refl
 announces-nothing-note Client Sent size (bares.Pubcomp identifier code) = refl
+announces-nothing-note Client Sent size bares.Pingreq = refl
+announces-nothing-note Client Sent size bares.Pingresp = refl
 announces-nothing-note Client Recv size (bares.Publish identifier qos duplicate topic) = refl
 announces-nothing-note Client Recv size (bares.Puback identifier code) = refl
 announces-nothing-note Client Recv size (bares.Pubrec identifier code) = refl
 announces-nothing-note Client Recv size (bares.Pubrel identifier code) = refl
 announces-nothing-note Client Recv size (bares.Pubcomp identifier code) = refl
+announces-nothing-note Client Recv size bares.Pingreq = refl
+announces-nothing-note Client Recv size bares.Pingresp = refl
 announces-nothing-note Server Sent size (bares.Publish identifier qos duplicate topic) = refl
 announces-nothing-note Server Sent size (bares.Puback identifier code) = refl
 announces-nothing-note Server Sent size (bares.Pubrec identifier code) = refl
 announces-nothing-note Server Sent size (bares.Pubrel identifier code) = refl
 announces-nothing-note Server Sent size (bares.Pubcomp identifier code) = refl
+announces-nothing-note Server Sent size bares.Pingreq = refl
+announces-nothing-note Server Sent size bares.Pingresp = refl
 announces-nothing-note Server Recv size (bares.Publish identifier qos duplicate topic) = refl
 announces-nothing-note Server Recv size (bares.Puback identifier code) = refl
 announces-nothing-note Server Recv size (bares.Pubrec identifier code) = refl
 announces-nothing-note Server Recv size (bares.Pubrel identifier code) = refl
 announces-nothing-note Server Recv size (bares.Pubcomp identifier code) = refl
+announces-nothing-note Server Recv size bares.Pingreq = refl
+announces-nothing-note Server Recv size bares.Pingresp = refl
 
 -- none announces a Receive Maximum
 pub announces-nothing : (role : Role) (b : Bare) → announced role (note_of_bare b) ≡ None

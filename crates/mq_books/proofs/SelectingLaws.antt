@@ -470,11 +470,15 @@ counts-unconcerned-note Sent size (bares.Puback identifier code) = refl
 counts-unconcerned-note Sent size (bares.Pubrec identifier code) = refl
 counts-unconcerned-note Sent size (bares.Pubrel identifier code) = refl
 counts-unconcerned-note Sent size (bares.Pubcomp identifier code) = refl
+counts-unconcerned-note Sent size bares.Pingreq = refl
+counts-unconcerned-note Sent size bares.Pingresp = refl
 counts-unconcerned-note Recv size (bares.Publish identifier qos duplicate topic) = refl
 counts-unconcerned-note Recv size (bares.Puback identifier code) = refl
 counts-unconcerned-note Recv size (bares.Pubrec identifier code) = refl
 counts-unconcerned-note Recv size (bares.Pubrel identifier code) = refl
 counts-unconcerned-note Recv size (bares.Pubcomp identifier code) = refl
+counts-unconcerned-note Recv size bares.Pingreq = refl
+counts-unconcerned-note Recv size bares.Pingresp = refl
 
 pub counts-unconcerned : (b : Bare) → (concerns_count subscribes (note_of_bare b) || concerns_count unsubscribes (note_of_bare b)) ≡ false
 unfolding note_of_bare

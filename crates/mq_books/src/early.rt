@@ -14,8 +14,7 @@ ghost use Rattle.mq_books.specs.Holding.{is_nothing, CanHand, CanPass, fate_afte
 
 use crate::fated::Fated;
 use mq_rules::{
-    Bare, Brisk, Fate, Faults, Memory, Note, PacketFields, Role, Seen, Skipping, Tested, Watch,
-    step_apart,
+    Bare, Brisk, Fate, Faults, Memory, Note, PacketFields, Role, Seen, Tested, Watch, step_apart,
 };
 use mq_trace::Place3;
 use std::alloc::Global;
@@ -140,14 +139,6 @@ impl<W: Fated> Early<W> {
 }
 
 impl<W> Early<W> {
-    // Whether an event is of a connection that is decided. No other events are held then.
-    #[inline]
-    fn is_settled(&self, note: &Note) -> bool
-        ensures { result ≡ ((is_some self.now.fate && is_nothing self.now.held.items) && not (is_open note.now)) }
-    {
-        self.is_decided() && !note.is_open()
-    }
-
     // Whether the latest connection is decided. No events are held then.
     #[inline(always)]
     fn is_decided(&self) -> bool
@@ -181,13 +172,6 @@ impl<W: Fated> Watch for Early<W> {
     // The list of the struct, with the filters and Reason Codes of its events, and the watcher.
     fn weight(&self) -> usize {
         held_size(self.held.as_slice()).saturating_add(self.watcher.weight())
-    }
-}
-
-impl<W: Fated + Skipping> Skipping for Early<W> {
-    #[inline(always)]
-    fn may_skip(&self, note: &Note) -> bool {
-        self.is_settled(note) && self.watcher.may_skip(note)
     }
 }
 

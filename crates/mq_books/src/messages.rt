@@ -172,7 +172,7 @@ fn bare_may_concern_messages(bare: Bare<'_>) -> bool
 {
     match bare.direction {
         Direction::Sent => match bare.fields {
-            BareFields::Publish { .. } => false,
+            BareFields::Publish { .. } | BareFields::Pingreq | BareFields::Pingresp => false,
             BareFields::Puback { .. }
             | BareFields::Pubrec { .. }
             | BareFields::Pubrel { .. }

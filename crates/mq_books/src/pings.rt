@@ -4,7 +4,7 @@ ghost use Rattle.std.specs.Prelude.{◌≡◌, ◌<◌, ◌&&◌, ◌||◌, not,
 ghost use Rattle.mq_rules.specs.declared.fate.Fate.TheVariants.{Void};
 ghost use Rattle.mq_rules.specs.declared.rule.Rule.TheVariants.{E7R};
 ghost use Rattle.mq_rules.specs.Rules.{same_rule};
-ghost use Rattle.mq_rules.specs.Notes.{is_open};
+ghost use Rattle.mq_rules.specs.Notes.{is_open, is_received_pingreq, is_sent_pingresp};
 ghost use Rattle.mq_rules.specs.Under.{IsKnown, turns_known};
 ghost use Rattle.mq_books.specs.Pingings as keeping;
 ghost use Rattle.mq_books.specs.Pingings.{IsPings};
@@ -17,10 +17,10 @@ use crate::known::judge_by;
 use crate::quota::more;
 use crate::selective::Selective;
 use mq_rules::{
-    Bare, Brisk, Fate, Faults, ItemNote, Memory, Note, PacketFields, Role, Rule, Tested, Watch,
-    step_apart,
+    Bare, BareFields, Brisk, Fate, Faults, ItemNote, Memory, Note, PacketFields, Role, Rule,
+    Tested, Watch,
 };
-use mq_trace::Place3;
+use mq_trace::{Direction, Place3};
 
 /// Watches E7R.
 #[derive(Drop)]
@@ -157,10 +157,35 @@ impl Fated for Pings {
     ghost known_adds = { λ tested e past k r. refl };
 }
 
+// Whether a packet without properties is a PINGREQ that is received.
+#[inline(always)]
+#[tactic(auto, unfolding(mq_rules::specs::Notes::note_of_bare))]
+fn is_bare_pingreq(bare: Bare<'_>) -> bool
+    ensures { result ≡ is_received_pingreq (note_of_bare bare.entry) }
+{
+    match bare.direction {
+        Direction::Sent => false,
+        Direction::Recv => matches!(bare.fields, BareFields::Pingreq),
+    }
+}
+
+// Whether it is a PINGRESP that is sent.
+#[inline(always)]
+#[tactic(auto, unfolding(mq_rules::specs::Notes::note_of_bare))]
+fn is_bare_pingresp(bare: Bare<'_>) -> bool
+    ensures { result ≡ is_sent_pingresp (note_of_bare bare.entry) }
+{
+    match bare.direction {
+        Direction::Sent => matches!(bare.fields, BareFields::Pingresp),
+        Direction::Recv => false,
+    }
+}
+
 impl Brisk for Pings {
     #[inline(always)]
-    fn step_bare(&mut self, at: Place3, bare: Bare<'_>, faults: &mut Faults) -> Result<(), Memory> {
-        step_apart(self, at, bare, faults)?;
+    fn step_bare(&mut self, at: Place3, bare: Bare<'_>, _: &mut Faults) -> Result<(), Memory> {
+        self.asked = counted(is_bare_pingreq(bare), false, self.asked, at.position);
+        self.answered = counted(is_bare_pingresp(bare), false, self.answered, at.position);
         Ok(())
     }
 }
@@ -201,12 +226,14 @@ fn may_concern_pings(note: &Note) -> bool
     }
 }
 
-// Whether a packet without properties may have to do with pings: none does.
+// Whether a packet without properties may have to do with pings.
 #[inline(always)]
 #[tactic(auto, unfolding(mq_rules::specs::Notes::note_of_bare))]
 fn bare_may_concern_pings(bare: Bare<'_>) -> bool
     ensures { result ≡ selecting.may_concern_pings (note_of_bare bare.entry) }
 {
-    let _ = bare;
-    false
+    match bare.direction {
+        Direction::Sent => matches!(bare.fields, BareFields::Pingresp),
+        Direction::Recv => matches!(bare.fields, BareFields::Pingreq),
+    }
 }

@@ -324,7 +324,9 @@ fn bare_may_concern_quota(bare: Bare<'_>) -> bool
             BareFields::Puback { .. }
             | BareFields::Pubrec { .. }
             | BareFields::Pubrel { .. }
-            | BareFields::Pubcomp { .. } => false,
+            | BareFields::Pubcomp { .. }
+            | BareFields::Pingreq
+            | BareFields::Pingresp => false,
         },
         Direction::Recv => match bare.fields {
             BareFields::Puback { .. } | BareFields::Pubrec { .. } | BareFields::Pubcomp { .. } =>

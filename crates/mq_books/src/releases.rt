@@ -327,7 +327,9 @@ fn bare_may_concern_releases(bare: Bare<'_>) -> bool
             BareFields::Puback { .. }
             | BareFields::Pubrec { .. }
             | BareFields::Pubrel { .. }
-            | BareFields::Pubcomp { .. } => false,
+            | BareFields::Pubcomp { .. }
+            | BareFields::Pingreq
+            | BareFields::Pingresp => false,
         },
     }
 }

@@ -11,7 +11,7 @@ ghost use Rattle.mq_rules.specs.Under.{seen, Follows, IsUnder, IsKnown, fate_bef
 ghost use Rattle.mq_books.specs.Concerns.{Passes};
 
 use crate::fated::Fated;
-use mq_rules::{Bare, Both, Brisk, Fate, Faults, Memory, Note, Skipping, Watch};
+use mq_rules::{Bare, Both, Brisk, Fate, Faults, Memory, Note, Watch};
 use mq_trace::Place3;
 
 /// A watcher of which it is known which events concern it: any other event leaves what it keeps as
@@ -113,17 +113,6 @@ impl<W: Selective> Fated for Selecting<W> {
     ghost known_taken = { λ tested taken e past known. known };
 
     ghost known_adds = { λ tested e past k r. refl };
-}
-
-impl<W: Selective> Skipping for Selecting<W> {
-    #[inline(always)]
-    fn may_skip(&self, note: &Note) -> bool {
-        if self.watcher.may_concern(note) {
-            return false;
-        }
-        self.watcher.passes();
-        true
-    }
 }
 
 impl<W: Selective + Brisk> Brisk for Selecting<W> {

@@ -13,7 +13,7 @@ use crate::releases::Releases;
 use crate::requests::Requests;
 use crate::selective::Selecting;
 use crate::subs_all::Subs;
-use mq_rules::{Bare, Both, Brisk, Fate, Faults, Memory, Note, Skipping, Tested, Watch};
+use mq_rules::{Bare, Both, Brisk, Fate, Faults, Memory, Note, Tested, Watch};
 use mq_trace::Place3;
 use std::alloc::Global;
 
@@ -125,13 +125,6 @@ impl Fated for Sessions {
     ghost known_taken = { λ tested taken e past known. ((known, (known, known)), ((known, known), (known, known))) };
 
     ghost known_adds = { λ tested e past k r. sessions_add r (turns_known tested e past k r) };
-}
-
-impl Skipping for Sessions {
-    #[inline(always)]
-    fn may_skip(&self, note: &Note) -> bool {
-        self.watchers.may_skip(note)
-    }
 }
 
 impl Brisk for Sessions {

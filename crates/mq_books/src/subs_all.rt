@@ -153,14 +153,18 @@ fn bare_may_concern_subscriptions(bound: bool, bare: Bare<'_>) -> bool
             BareFields::Puback { .. }
             | BareFields::Pubrec { .. }
             | BareFields::Pubrel { .. }
-            | BareFields::Pubcomp { .. } => false,
+            | BareFields::Pubcomp { .. }
+            | BareFields::Pingreq
+            | BareFields::Pingresp => false,
         },
         Direction::Recv => match bare.fields {
             BareFields::Publish { .. } => false,
             BareFields::Puback { .. }
             | BareFields::Pubrec { .. }
             | BareFields::Pubrel { .. }
-            | BareFields::Pubcomp { .. } => false,
+            | BareFields::Pubcomp { .. }
+            | BareFields::Pingreq
+            | BareFields::Pingresp => false,
         },
     }
 }

@@ -7,7 +7,7 @@ ghost use Rattle.mq_books.specs.Burden.{burden};
 
 use crate::early::Early;
 use crate::sessions::Sessions;
-use mq_rules::{Bare, Both, Brisk, Conn, Faults, Memory, Note, Shapes, Skipping, Tested, Watch};
+use mq_rules::{Bare, Both, Brisk, Conn, Faults, Memory, Note, Shapes, Tested, Watch};
 use mq_trace::Place3;
 use std::alloc::Global;
 
@@ -59,13 +59,6 @@ impl Watch for Watchers {
 
     fn weight(&self) -> usize {
         self.parts.weight()
-    }
-}
-
-impl Skipping for Watchers {
-    #[inline(always)]
-    fn may_skip(&self, note: &Note) -> bool {
-        self.parts.may_skip(note)
     }
 }
 

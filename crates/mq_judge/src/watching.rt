@@ -1,20 +1,18 @@
 //! Judging each event as it comes.
-ghost use Rattle.std.specs.Prelude.{◌≡◌, [], None, List, length, ◌≤◌, ◌*◌, false, IfSome, IsTrue, OnOk, OnErr};
+ghost use Rattle.std.specs.Prelude.{◌≡◌, [], None, List, length, ◌≤◌, ◌*◌, IfSome, OnOk, OnErr};
 ghost use Rattle.mq_books.specs.Burden.{burden};
 ghost use Rattle.mq_rules.specs.declared.note.Seen.{Seen as TheSeen};
 ghost use Rattle.mq_packet.specs.Reading.{view};
+ghost use Rattle.mq_packet.specs.declared.packet.Packet.TheVariants as packets;
 ghost use Rattle.mq_trace.specs.Events.{packet as packet_item};
 ghost use Rattle.mq_trace.specs.Flows.{item_event};
 ghost use Rattle.mq_trace.specs.Reception.{event_of};
-ghost use Rattle.mq_rules.specs.declared.packet_note.PacketFields.TheVariants as fields_of;
-ghost use Rattle.mq_rules.specs.Notes.{tested_as, note_of, bare_note, bare_publish_note, note_of_bare};
+ghost use Rattle.mq_rules.specs.Notes.{tested_as, note_of, note_of_bare};
 ghost use Rattle.mq_judge.specs.Watching.{IsWatching, TakesIn, LeavesOut};
 
 use mq_books::Watchers;
-use mq_packet::{Packet, Publish, Qos};
-use mq_rules::{
-    Bare, BareFields, Brisk, Faults, Memory, Note, PacketFields, Skipping, Tested, Watch, is_bare,
-};
+use mq_packet::{Packet, Publish};
+use mq_rules::{Bare, BareFields, Brisk, Faults, Memory, Note, Tested, Watch, is_bare};
 use mq_trace::{Direction, Event, Header, Place3, Refusal, Sink};
 use std::alloc::Global;
 use std::marker::{Brand, PhantomData};
@@ -77,21 +75,6 @@ impl Watching {
         replace(&mut self.faults, Faults::new(self.alloc))
     }
 
-    // Counts the next event, if the watchers need not take it in: it changes nothing that they
-    // keep, and shows no fault. If it returns false, nothing has changed.
-    #[inline(always)]
-    fn pass_over(&mut self, place: Place3, note: &Note) -> bool
-        ensures tested { self.new.tested ≡ self.old.tested }
-        ensures passed { IsTrue result → TakesIn self.old self.new place note.now }
-        ensures unchanged { result ≡ false → self.new ≡ self.old }
-    {
-        if !self.watchers.may_skip(note) {
-            return false;
-        }
-        self.events = place.position;
-        true
-    }
-
     // Takes in the next event, and finds the faults that it shows.
     //
     // Errors: `Memory` if there is no memory for a fault, or for what is kept. The faults are then
@@ -132,48 +115,6 @@ impl Watching {
         }
     }
 
-    // Counts a PINGREQ or PINGRESP that need not be taken in. If it returns false, nothing has
-    // changed.
-    #[inline(always)]
-    fn pass_ping(
-        &mut self,
-        place: Place3,
-        direction: Direction,
-        size: u32,
-        packet: &Packet<'_>,
-    ) -> bool
-        ensures tested { self.new.tested ≡ self.old.tested }
-        ensures passed { IsTrue result → TakesIn self.old self.new place (note_of (item_event direction (packet_item size (view packet.now)))) }
-        ensures unchanged { result ≡ false → self.new ≡ self.old }
-    {
-        match PacketFields::of_ping(packet) {
-            Some(ping) => self.pass_over(place, &Note::of_bare(direction, size, ping)),
-            None => false,
-        }
-    }
-
-    // Counts a PUBLISH that has these fields, a short Topic Name, and no properties, if it need not
-    // be taken in. If it returns false, nothing has changed.
-    #[inline(always)]
-    fn pass_bare_publish(
-        &mut self,
-        place: Place3,
-        direction: Direction,
-        size: u32,
-        identifier: Option<u16>,
-        qos: Qos,
-        duplicate: bool,
-        topic: &str,
-    ) -> bool
-        requires { length topic.now ≤ 30 }
-        ensures tested { self.new.tested ≡ self.old.tested }
-        ensures passed { IsTrue result → TakesIn self.old self.new place (bare_note direction size (fields_of.Publish (bare_publish_note direction identifier qos duplicate topic.now))) }
-        ensures unchanged { result ≡ false → self.new ≡ self.old }
-    {
-        let note = Note::of_bare_publish(direction, size, identifier, qos, duplicate, topic);
-        self.pass_over(place, &note)
-    }
-
     // What makes a note that is taken in is a call of its own: a note that a function makes lies in
     // memory on all ways through it.
 
@@ -210,173 +151,20 @@ impl Watching {
         self.take_in(place, &note)
     }
 
-    // Makes a note of a PUBLISH that has these fields, a short Topic Name, and no properties, and
-    // takes it in.
+    // The same of a PUBLISH.
     #[inline(never)]
-    fn take_bare_publish(
+    fn take_publish(
         &mut self,
         place: Place3,
         direction: Direction,
         size: u32,
-        identifier: Option<u16>,
-        qos: Qos,
-        duplicate: bool,
-        topic: &str,
-    ) -> Result<(), Memory>
-        requires { length topic.now ≤ 30 }
-        ensures tested { self.new.tested ≡ self.old.tested }
-        ensures ok { OnOk result (TakesIn self.old self.new place (bare_note direction size (fields_of.Publish (bare_publish_note direction identifier qos duplicate topic.now)))) }
-        ensures memory { OnErr result (LeavesOut self.old self.new place (bare_note direction size (fields_of.Publish (bare_publish_note direction identifier qos duplicate topic.now)))) }
-    {
-        match direction {
-            Direction::Sent => self.take_bare(
-                place,
-                Bare::of_publish(Direction::Sent, size, identifier, qos, duplicate, topic),
-            ),
-            Direction::Recv => self.take_bare(
-                place,
-                Bare::of_publish(Direction::Recv, size, identifier, qos, duplicate, topic),
-            ),
-        }
-    }
-
-    // One function for each type, and inside it a way for each direction: on it the compiler leaves
-    // out all that has nothing to do with it. More in one function would be too much to inline.
-
-    #[inline(never)]
-    fn take_puback(
-        &mut self,
-        place: Place3,
-        direction: Direction,
-        size: u32,
-        identifier: u16,
-        code: u8,
+        publish: Publish<'_>,
     ) -> Result<(), Memory>
         ensures tested { self.new.tested ≡ self.old.tested }
-        ensures ok { OnOk result (TakesIn self.old self.new place (bare_note direction size (fields_of.Puback identifier code))) }
-        ensures memory { OnErr result (LeavesOut self.old self.new place (bare_note direction size (fields_of.Puback identifier code))) }
+        ensures ok { OnOk result (TakesIn self.old self.new place (note_of (item_event direction (packet_item size (view (packets.Publish publish.entry)))))) }
+        ensures memory { OnErr result (LeavesOut self.old self.new place (note_of (item_event direction (packet_item size (view (packets.Publish publish.entry)))))) }
     {
-        let fields = BareFields::Puback { identifier, code };
-        match direction {
-            Direction::Sent => self.take_bare(
-                place,
-                Bare {
-                    direction: Direction::Sent,
-                    size,
-                    fields,
-                },
-            ),
-            Direction::Recv => self.take_bare(
-                place,
-                Bare {
-                    direction: Direction::Recv,
-                    size,
-                    fields,
-                },
-            ),
-        }
-    }
-
-    #[inline(never)]
-    fn take_pubrec(
-        &mut self,
-        place: Place3,
-        direction: Direction,
-        size: u32,
-        identifier: u16,
-        code: u8,
-    ) -> Result<(), Memory>
-        ensures tested { self.new.tested ≡ self.old.tested }
-        ensures ok { OnOk result (TakesIn self.old self.new place (bare_note direction size (fields_of.Pubrec identifier code))) }
-        ensures memory { OnErr result (LeavesOut self.old self.new place (bare_note direction size (fields_of.Pubrec identifier code))) }
-    {
-        let fields = BareFields::Pubrec { identifier, code };
-        match direction {
-            Direction::Sent => self.take_bare(
-                place,
-                Bare {
-                    direction: Direction::Sent,
-                    size,
-                    fields,
-                },
-            ),
-            Direction::Recv => self.take_bare(
-                place,
-                Bare {
-                    direction: Direction::Recv,
-                    size,
-                    fields,
-                },
-            ),
-        }
-    }
-
-    #[inline(never)]
-    fn take_pubrel(
-        &mut self,
-        place: Place3,
-        direction: Direction,
-        size: u32,
-        identifier: u16,
-        code: u8,
-    ) -> Result<(), Memory>
-        ensures tested { self.new.tested ≡ self.old.tested }
-        ensures ok { OnOk result (TakesIn self.old self.new place (bare_note direction size (fields_of.Pubrel identifier code))) }
-        ensures memory { OnErr result (LeavesOut self.old self.new place (bare_note direction size (fields_of.Pubrel identifier code))) }
-    {
-        let fields = BareFields::Pubrel { identifier, code };
-        match direction {
-            Direction::Sent => self.take_bare(
-                place,
-                Bare {
-                    direction: Direction::Sent,
-                    size,
-                    fields,
-                },
-            ),
-            Direction::Recv => self.take_bare(
-                place,
-                Bare {
-                    direction: Direction::Recv,
-                    size,
-                    fields,
-                },
-            ),
-        }
-    }
-
-    #[inline(never)]
-    fn take_pubcomp(
-        &mut self,
-        place: Place3,
-        direction: Direction,
-        size: u32,
-        identifier: u16,
-        code: u8,
-    ) -> Result<(), Memory>
-        ensures tested { self.new.tested ≡ self.old.tested }
-        ensures ok { OnOk result (TakesIn self.old self.new place (bare_note direction size (fields_of.Pubcomp identifier code))) }
-        ensures memory { OnErr result (LeavesOut self.old self.new place (bare_note direction size (fields_of.Pubcomp identifier code))) }
-    {
-        let fields = BareFields::Pubcomp { identifier, code };
-        match direction {
-            Direction::Sent => self.take_bare(
-                place,
-                Bare {
-                    direction: Direction::Sent,
-                    size,
-                    fields,
-                },
-            ),
-            Direction::Recv => self.take_bare(
-                place,
-                Bare {
-                    direction: Direction::Recv,
-                    size,
-                    fields,
-                },
-            ),
-        }
+        self.take_packet(place, direction, size, Packet::Publish(publish))
     }
 
     // Takes in the next event, a packet.
@@ -394,56 +182,46 @@ impl Watching {
         ensures ok { OnOk result (TakesIn self.old self.new place (note_of (item_event direction (packet_item size (view packet.entry))))) }
         ensures memory { OnErr result (LeavesOut self.old self.new place (note_of (item_event direction (packet_item size (view packet.entry))))) }
     {
-        if self.pass_ping(place, direction, size, &packet) {
-            return Ok(());
-        }
-        match BareFields::of_acknowledgement(&packet) {
-            Some(BareFields::Puback { identifier, code }) => {
-                self.take_puback(place, direction, size, identifier, code)
-            }
-            Some(BareFields::Pubrec { identifier, code }) => {
-                self.take_pubrec(place, direction, size, identifier, code)
-            }
-            Some(BareFields::Pubrel { identifier, code }) => {
-                self.take_pubrel(place, direction, size, identifier, code)
-            }
-            Some(BareFields::Pubcomp { identifier, code }) => {
-                self.take_pubcomp(place, direction, size, identifier, code)
-            }
-            _ => self.take_packet(place, direction, size, packet),
+        match BareFields::of_packet(&packet) {
+            Some(fields) => self.take_bare(
+                place,
+                Bare {
+                    direction,
+                    size,
+                    fields,
+                },
+            ),
+            None => self.take_packet(place, direction, size, packet),
         }
     }
 
-    // Takes in the next event, a PUBLISH that has these fields, a short Topic Name, and no
-    // properties.
+    // Takes in the next event, a PUBLISH.
     //
     // Errors: As in `take_in`.
     #[inline(always)]
-    fn receive_bare_publish(
+    fn receive_publish(
         &mut self,
         place: Place3,
         direction: Direction,
         size: u32,
-        identifier: Option<u16>,
-        qos: Qos,
-        duplicate: bool,
-        topic: &str,
+        publish: Publish<'_>,
     ) -> Result<(), Memory>
-        requires { length topic.now ≤ 30 }
         ensures tested { self.new.tested ≡ self.old.tested }
-        ensures ok { OnOk result (TakesIn self.old self.new place (bare_note direction size (fields_of.Publish (bare_publish_note direction identifier qos duplicate topic.now)))) }
-        ensures memory { OnErr result (LeavesOut self.old self.new place (bare_note direction size (fields_of.Publish (bare_publish_note direction identifier qos duplicate topic.now)))) }
+        ensures ok { OnOk result (TakesIn self.old self.new place (note_of (item_event direction (packet_item size (view (packets.Publish publish.entry)))))) }
+        ensures memory { OnErr result (LeavesOut self.old self.new place (note_of (item_event direction (packet_item size (view (packets.Publish publish.entry)))))) }
     {
-        // One that is acknowledged isn't passed over.
-        if !matches!(qos, Qos::AtMostOnce) {
-            return self.take_bare_publish(
-                place, direction, size, identifier, qos, duplicate, topic,
-            );
+        if !is_bare(&publish) {
+            return self.take_publish(place, direction, size, publish);
         }
-        if self.pass_bare_publish(place, direction, size, identifier, qos, duplicate, topic) {
-            return Ok(());
-        }
-        self.take_bare_publish(place, direction, size, identifier, qos, duplicate, topic)
+        let bare = Bare::of_publish(
+            direction,
+            size,
+            publish.identifier,
+            publish.qos,
+            publish.duplicate,
+            publish.topic,
+        );
+        self.take_bare(place, bare)
     }
 }
 
@@ -522,19 +300,7 @@ impl<K: End> Sink for Judging<K> {
         size: u32,
         publish: Publish<'_>,
     ) -> Result<(), Refusal> {
-        if !is_bare(&publish) {
-            return self.packet(place, direction, size, Packet::Publish(publish));
-        }
-        let received = self.watching.receive_bare_publish(
-            place,
-            direction,
-            size,
-            publish.identifier,
-            publish.qos,
-            publish.duplicate,
-            publish.topic,
-        );
-        match received {
+        match self.watching.receive_publish(place, direction, size, publish) {
             Ok(()) => Ok(()),
             Err(Memory) => Err(Refusal::Memory(0)),
         }

@@ -17,7 +17,6 @@ pub mod TurnLaws
 pub mod OpenLaws
 pub mod OnOpenLaws
 pub mod GainLaws
-pub mod SkipLaws
 pub mod BareLaws
 pub mod WatchLaws
 pub mod RowLaws

@@ -44,7 +44,7 @@ pub on_open-fold : {X : Type 0} (f : List Moment → X) (more : X → X) (e : Se
 on_open-fold {X} f more e past one idle on =
     ap (λ ms. f (cond (is_connected (e ∷ past)) ms [])) (connection-next e past)
     ∙ go (is_open e.note) (is_close e.note) (is_connected past) (open-no_close e.note) (λ c. idle (close-itemless e.note c))
-      (λ k. idle (item-connected e.note (needless (needs_connection e.note) (is_connected past) on k)))
+    (λ k. idle (item-connected e.note (needless (needs_connection e.note) (is_connected past) on k)))
   where
     needless : (needs k : Bool) → (needs ≡ true → k ≡ true) → k ≡ false → needs ≡ false
     needless false k on h = refl

@@ -203,6 +203,8 @@ bare_fields direction (bares.Puback identifier code) = Puback identifier code
 bare_fields direction (bares.Pubrec identifier code) = Pubrec identifier code
 bare_fields direction (bares.Pubrel identifier code) = Pubrel identifier code
 bare_fields direction (bares.Pubcomp identifier code) = Pubcomp identifier code
+bare_fields direction bares.Pingreq = Pingreq
+bare_fields direction bares.Pingresp = Pingresp
 
 unfoldable pub note_of_bare : Bare → Note
 note_of_bare b = bare_note b.direction b.size (bare_fields b.direction b.fields)

@@ -26,20 +26,6 @@ pub fn is_bare(publish: &Publish<'_>) -> bool
     }
 }
 
-impl PacketFields {
-    /// What the statements look at in a PINGREQ or PINGRESP, if this is one: its type.
-    #[inline(always)]
-    pub fn of_ping(packet: &Packet<'_>) -> Option<PacketFields>
-        ensures { IfSome result (λ fields. (direction : TheDirection) (size : ℕ) → bare_note direction size fields ≡ note_of (item_event direction (packet_item size (view packet.now)))) }
-    {
-        match packet {
-            Packet::Pingreq => Some(PacketFields::Pingreq),
-            Packet::Pingresp => Some(PacketFields::Pingresp),
-            _ => None,
-        }
-    }
-}
-
 impl Note {
     /// What the statements look at in a packet that has these fields, and no properties.
     #[inline(always)]
@@ -92,7 +78,7 @@ impl Note {
     }
 }
 
-/// The fields of a packet without properties: of a PUBLISH, or of what acknowledges one.
+/// The fields of a packet without properties: of a PUBLISH, of what acknowledges one, or of a ping.
 #[derive(Clone, Copy)]
 pub enum BareFields<'a> {
     /// PUBLISH.
@@ -134,12 +120,17 @@ pub enum BareFields<'a> {
         /// The Reason Code.
         code: u8,
     },
+    /// PINGREQ.
+    Pingreq,
+    /// PINGRESP.
+    Pingresp,
 }
 
 impl BareFields<'_> {
-    /// The fields of a packet, if it acknowledges a PUBLISH and has no properties.
+    /// The fields of a packet, if it acknowledges a PUBLISH and has no properties, or is a PINGREQ or
+    /// PINGRESP.
     #[inline(always)]
-    pub fn of_acknowledgement(packet: &Packet<'_>) -> Option<BareFields<'static>>
+    pub fn of_packet(packet: &Packet<'_>) -> Option<BareFields<'static>>
         ensures { IfSome result (λ fields. (direction : TheDirection) (size : ℕ) → bare_note direction size (bare_fields direction fields) ≡ note_of (item_event direction (packet_item size (view packet.now)))) }
     {
         match packet {
@@ -171,6 +162,8 @@ impl BareFields<'_> {
                     code: packet.code,
                 }),
             },
+            Packet::Pingreq => Some(BareFields::Pingreq),
+            Packet::Pingresp => Some(BareFields::Pingresp),
             _ => None,
         }
     }
@@ -264,6 +257,12 @@ impl<'a> Bare<'a> {
                 self.size,
                 PacketFields::Pubcomp { identifier, code },
             ),
+            BareFields::Pingreq => {
+                Note::of_bare(self.direction, self.size, PacketFields::Pingreq)
+            }
+            BareFields::Pingresp => {
+                Note::of_bare(self.direction, self.size, PacketFields::Pingresp)
+            }
         }
     }
 }

@@ -28,7 +28,7 @@ use crate::note::{ItemNote, Note};
 use crate::packet_note::{ConnackNote, DisconnectNote, PacketNote, PublishNote};
 use crate::role::{Role, Tested};
 use crate::rule::Rule;
-use crate::watch::{Brisk, Skipping, Watch, step_apart};
+use crate::watch::{Brisk, Watch, step_apart};
 pub use harmless::{SendBounds, is_bare_harmless, is_harmless};
 use mq_trace::Place3;
 pub use state::ConnectionState;
@@ -152,7 +152,7 @@ impl Watch for Conn {
     ghost bound = { λ tested taken past. aliases_sent past };
 
     fn step(&mut self, at: Place3, note: &Note, faults: &mut Faults) -> Result<(), Memory> {
-        if self.may_skip(note) {
+        if is_harmless(self.bounds, note) {
             return Ok(());
         }
         self.judge(at, note, faults)?;
@@ -164,13 +164,6 @@ impl Watch for Conn {
 
     fn weight(&self) -> usize {
         self.aliases.len()
-    }
-}
-
-impl Skipping for Conn {
-    #[inline(always)]
-    fn may_skip(&self, note: &Note) -> bool {
-        is_harmless(self.bounds, note)
     }
 }
 

@@ -9,7 +9,7 @@ use crate::faults::{FaultKey, Faults, Memory};
 use crate::note::Note;
 use crate::role::Tested;
 use crate::rule::Rule;
-use crate::watch::{Brisk, Skipping, Watch};
+use crate::watch::{Brisk, Watch};
 use mq_trace::Place3;
 
 /// Watches W01 to W21. Each is false exactly at an event whose bytes break it, so nothing is kept.
@@ -47,13 +47,6 @@ impl Watch for Shapes {
 
     fn weight(&self) -> usize {
         0
-    }
-}
-
-impl Skipping for Shapes {
-    #[inline(always)]
-    fn may_skip(&self, note: &Note) -> bool {
-        note.body_fault().is_none()
     }
 }
 

@@ -1,6 +1,6 @@
 //! Watchers: each takes in the events of a log one by one, and adds the faults of its statements as
 //! they show.
-ghost use Rattle.std.specs.Prelude.{◌≡◌, ◌∷◌, ◌||◌, ◌+◌, ◌≤◌, ℕ, Bool, List, Option, length, OnOk, OnErr, IsTrue};
+ghost use Rattle.std.specs.Prelude.{◌≡◌, ◌∷◌, ◌||◌, ◌+◌, ◌≤◌, ℕ, Bool, List, Option, length, OnOk, OnErr};
 ghost use Rattle.mq_rules.specs.declared.role.Tested.{Tested};
 ghost use Rattle.mq_rules.specs.declared.fate.Fate.{Fate};
 ghost use Rattle.mq_rules.specs.declared.rule.Rule.{Rule};
@@ -9,8 +9,6 @@ ghost use Rattle.mq_rules.specs.Connections.{latest_fate};
 ghost use Rattle.mq_rules.specs.Notes.{note_of_bare};
 ghost use Rattle.mq_rules.specs.Under.{seen, Follows};
 ghost use Rattle.mq_rules.specs.Growing.{Gains, GainsWithin};
-ghost use Rattle.mq_rules.specs.Skipping.{Skips};
-ghost use Rattle.mq_trace.specs.declared.place.Place3.{Place3 as ThePlace};
 
 use crate::bare::Bare;
 use crate::faults::{Faults, Memory};
@@ -48,14 +46,6 @@ pub trait Watch {
     /// The sum of the lengths of all collections that it keeps.
     fn weight(&self) -> usize
         ensures { (tested : Tested) (taken : Option Fate) (past : List Seen) → agrees self.now tested taken past → result ≤ bound tested taken past };
-}
-
-/// A watcher that sees at once that it need not take in some events: they leave what it keeps
-/// right, and show none of its statements to be false.
-pub trait Skipping: Watch {
-    /// Whether it need not take in the event, at whatever place that is. It may take in any event.
-    fn may_skip(&self, note: &Note) -> bool
-        ensures { IsTrue result → (tested : Tested) (taken : Option Fate) (at : ThePlace) (past : List Seen) → Follows tested (seen at note.now) past → Self.takes tested taken (seen at note.now) past → Self.agrees self.now tested taken past → Skips (Self.agrees self.now tested) (Self.adds tested (seen at note.now) past) tested (seen at note.now) past };
 }
 
 /// Takes in a packet without properties by a note that is made of it.
@@ -99,7 +89,7 @@ pub fn step_apart<W: Watch>(
     Ok(())
 }
 
-/// A watcher that can take in a packet without properties from its parts, as it does by its note.
+/// A watcher that can take in a packet without properties by its numbers, as it does by its note.
 pub trait Brisk: Watch {
     /// Takes in the next event, a packet without properties.
     ///
@@ -149,13 +139,6 @@ impl<A: Watch, B: Watch> Watch for Both<A, B> {
 
     fn weight(&self) -> usize {
         self.a.weight().saturating_add(self.b.weight())
-    }
-}
-
-impl<A: Skipping, B: Skipping> Skipping for Both<A, B> {
-    #[inline(always)]
-    fn may_skip(&self, note: &Note) -> bool {
-        self.a.may_skip(note) && self.b.may_skip(note)
     }
 }
 

@@ -6,7 +6,6 @@ ghost use Rattle.std.specs.Prelude.{◌≡◌, ◌&&◌, ◌||◌, not, is_none,
 ghost use Rattle.mq_rules.specs.Words.{is_some_and};
 ghost use Rattle.mq_rules.specs.Notes.{resumed_by, qos_number as number_of, bare_fields, note_of_bare};
 ghost use Rattle.mq_rules.specs.Keeping.{may_go_on, size_bound, qos_bound, send_bounds, is_harmless as harmless, is_harmless_in as harmless_in};
-ghost use Rattle.mq_rules.specs.declared.role.Role.{Role as TheRole};
 ghost use Rattle.mq_rules.specs.declared.role.Role.TheVariants as roles;
 ghost use Rattle.mq_trace.specs.declared.kind.Direction.TheVariants as directions;
 
@@ -135,16 +134,18 @@ pub fn is_bare_harmless(bounds: SendBounds, bare: Bare<'_>) -> bool
 {
     match bare.direction {
         Direction::Sent => {
-            u64::from(bare.size) < bounds.size && is_up_to(bounds.qos, bare.fields)
+            u64::from(bare.size) < bounds.size
+                && is_sent_freely(bounds.role, bounds.qos, bare.fields)
         }
         Direction::Recv => 0 < bounds.size,
     }
 }
 
-// Whether it acknowledges a PUBLISH, or is one up to this QoS.
+// Whether it is a PUBLISH up to this QoS, acknowledges a PUBLISH, or is a ping that this end may
+// send.
 #[inline(always)]
-fn is_up_to(most: u8, fields: BareFields<'_>) -> bool
-    ensures { (role : TheRole) → result ≡ harmless_in role most (bare_fields directions.Sent fields.entry) }
+fn is_sent_freely(role: Role, most: u8, fields: BareFields<'_>) -> bool
+    ensures { result ≡ harmless_in role most (bare_fields directions.Sent fields.entry) }
 {
     match fields {
         BareFields::Publish { qos, .. } => qos_number(qos) <= most,
@@ -152,6 +153,8 @@ fn is_up_to(most: u8, fields: BareFields<'_>) -> bool
         | BareFields::Pubrec { .. }
         | BareFields::Pubrel { .. }
         | BareFields::Pubcomp { .. } => true,
+        BareFields::Pingreq => matches!(role, Role::Client),
+        BareFields::Pingresp => matches!(role, Role::Server),
     }
 }
 

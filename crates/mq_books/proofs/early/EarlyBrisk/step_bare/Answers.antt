@@ -4,7 +4,7 @@ use Rattle.mq_rules.specs.Notes.{note_of_bare}
 use Rattle.mq_rules.specs.Under.{seen}
 use Rattle.mq_rules.proofs.Exports.{bare-closed, both_true, gains_same, on_err, within_same}
 use Rattle.mq_books.specs.Holding.{is_nothing, turns_session}
-use Rattle.mq_books.proofs.SkippedLaws.{at-once}
+use Rattle.mq_books.proofs.AtOnceLaws.{at-once}
 use Rattle.mq_books.proofs.early.EarlyBrisk.step_bare.Goals as goal
 
 pub returns-clause-agrees : goal.returns-clause-agrees

@@ -1,12 +1,13 @@
-use Rattle.std.proofs.Common.{ap, ◌∙◌, ◌∷◌, ◌&&◌, not, cond}
+use Rattle.std.proofs.Common.{◌≡◌, ap, sym, subst, ◌∙◌, ◌∷◌, ◌&&◌, not, cond, true}
 use Rattle.std.specs.BTreeSet.{contains}
 use Rattle.std.specs.Ordering.{nat_cmp}
 use Rattle.mq_rules.specs.Notes.{is_close}
 use Rattle.mq_rules.specs.Connections.{latest_fate}
 use Rattle.mq_rules.specs.Under.{seen}
-use Rattle.mq_rules.specs.Keeping.{is_found}
+use Rattle.mq_rules.specs.Keeping.{is_found, is_harmless}
 use Rattle.mq_rules.proofs.FaultKeyLaws.{on_err}
 use Rattle.mq_rules.proofs.GrowLaws.{within-all}
+use Rattle.mq_rules.proofs.HarmlessLaws.{harmless-skips}
 use Rattle.mq_rules.proofs.WatchLaws.{conn-next, conn-gains, conn-within, ConnWithin}
 use Rattle.mq_rules.proofs.conn.ConnWatch.step.Goals as goal
 
@@ -38,10 +39,14 @@ returns-in_err-consume-clause-memory c =
     (λ tested taken past follows on here. conn-within c.args.self.now tested taken e past c.args.faults.now c.judge.new.faults follows on here
     (within-all (is_found c.args.self.now.role c.args.self.now.state (contains nat_cmp c.args.self.now.aliases) c.args.note.now) e.place c.args.faults.now c.judge.new.faults c.in_ok-judge.ensures.ok))
 
-pub returns-then-may_skip-clause-agrees : goal.returns-then-may_skip-clause-agrees
-returns-then-may_skip-clause-agrees c = λ tested taken past follows on here.
-    (c.may_skip.ensures c.if-may_skip.true tested taken c.args.at past follows on here).stays
+pub returns-then-is_harmless-clause-agrees : goal.returns-then-is_harmless-clause-agrees
+returns-then-is_harmless-clause-agrees c = λ tested taken past follows on here.
+    let n = c.args.note.now in
+    (harmless-skips c.args.self.now tested taken (seen c.args.at n) past follows on
+    (subst (λ b. is_harmless b n ≡ true) here.same_bounds (sym c.is_harmless.ensures ∙ c.if-is_harmless.true)) here).stays
 
-pub returns-then-may_skip-clause-grows : goal.returns-then-may_skip-clause-grows
-returns-then-may_skip-clause-grows c = λ tested taken past follows on here.
-    (c.may_skip.ensures c.if-may_skip.true tested taken c.args.at past follows on here).shows c.args.faults.now
+pub returns-then-is_harmless-clause-grows : goal.returns-then-is_harmless-clause-grows
+returns-then-is_harmless-clause-grows c = λ tested taken past follows on here.
+    let n = c.args.note.now in
+    (harmless-skips c.args.self.now tested taken (seen c.args.at n) past follows on
+    (subst (λ b. is_harmless b n ≡ true) here.same_bounds (sym c.is_harmless.ensures ∙ c.if-is_harmless.true)) here).shows c.args.faults.now

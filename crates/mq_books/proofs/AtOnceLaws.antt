@@ -1,4 +1,4 @@
--- An event of a decided connection that is skipped, where nothing is held.
+-- An event of a decided connection, where nothing is held.
 use Rattle.std.proofs.Common.{◌≡◌, ℕ, ◌+◌, Bool, true, false, cond, not, ◌&&◌, List, [], ◌∷◌, ◌++◌, length, Option, Some, None, refl, ap, sym, subst, ◌∙◌}
 use Rattle.std.specs.Prelude.{is_some}
 use Rattle.std.specs.Option.{option_or}
@@ -10,15 +10,10 @@ use Rattle.mq_rules.specs.declared.note.Seen.{Seen}
 use Rattle.mq_rules.specs.Notes.{is_open, decides}
 use Rattle.mq_rules.specs.Connections.{latest_fate}
 use Rattle.mq_rules.specs.Under.{Follows, IsKnown, turns_known}
-use Rattle.mq_rules.specs.Skipping.{Skips}
-use Rattle.mq_rules.proofs.Exports.{gains_same, there}
+use Rattle.mq_rules.proofs.Exports.{there}
 use Rattle.mq_books.specs.Holding.{is_nothing, turns_session, Holds}
 use Rattle.mq_books.proofs.EarlyLaws.{passes}
 use Rattle.mq_books.proofs.StepLaws.{Ready, ready, holds-none}
-
-pub not_false : (b : Bool) → not b ≡ true → b ≡ false
-not_false true h = absurd (cc)
-not_false false h = refl
 
 -- what a step needs to know of an event of a decided connection, where nothing is held
 pub record AtOnce (agrees others : Option Fate → List Seen → Type 0) (judges : Rule → Bool) (adds : ℕ → Rule → Bool) (role : Role) (fate : Option Fate) (held : List Seen) (tested : Tested) (e : Seen) (past : List Seen) : Type 0 where
@@ -55,16 +50,3 @@ at-once agrees others judges adds role fate [] tested e past h follows decided n
     session k s =
         subst (λ log. (judges s && turns_known tested e log k s) ≡ (judges s && turns_session tested e log k s)) r.whole
         ((passes tested f e [] r.base r.can).adds_same judges k s ∙ ap (λ b. judges s && b) ((passes tested f e [] r.base r.can).same k s))
-
-pub early-skips : (agrees : Option Fate → List Seen → Type 0) (judges : Rule → Bool) (adds : ℕ → Rule → Bool) (role : Role) (fate : Option Fate) (held : List Seen) (tested : Tested) (e : Seen) (past : List Seen)
-    → Holds agrees role fate held tested past → Follows tested e past → is_some fate ≡ true → is_nothing held ≡ true → is_open e.note ≡ false
-    → ((k : ℕ) (r : Rule) → adds k r ≡ (judges r && turns_known tested e past k r))
-    → ((f : Fate) → IsKnown tested (Some f) e past → agrees (Some f) past → Skips agrees adds tested e past)
-    → Skips (λ taken log. Holds agrees role fate held tested log) (λ k r. judges r && turns_session tested e past k r) tested e past
-early-skips agrees judges adds role fate held tested e past h follows decided none closed same skips =
-    let o = at-once agrees agrees judges adds role fate held tested e past h follows decided none closed same in
-    let whole = skips o.given o.known o.before in
-    record {
-      stays = o.after whole.stays;
-      shows = λ m. gains_same adds (λ k s. judges s && turns_session tested e past k s) tested (e ∷ past) (length past + 1) m m o.same (whole.shows m);
-    }
