@@ -8,8 +8,8 @@ use Rattle.mq_rules.specs.declared.role.Tested.{Tested}
 use Rattle.mq_rules.specs.declared.fate.Fate.{Fate}
 use Rattle.mq_rules.specs.declared.rule.Rule.TheVariants.{S06}
 use Rattle.mq_rules.specs.declared.note.Seen.{Seen}
-use Rattle.mq_rules.specs.Notes.{is_open, closer_of, delivery_of, sent_as, received_as, subscribe_in, suback_in, unsubscribe_in, unsuback_in}
-use Rattle.mq_rules.specs.Connections.{latest_fate, ends_binding}
+use Rattle.mq_rules.specs.Notes.{is_open, is_close, is_boundary, closer_of, delivery_of, sent_as, received_as, subscribe_in, suback_in, unsubscribe_in, unsuback_in}
+use Rattle.mq_rules.specs.Connections.{is_connected, IsOnConnection, latest_fate, ends_binding}
 use Rattle.mq_rules.specs.Rules.{same_rule}
 use Rattle.mq_rules.specs.FaultKeys.{FaultMap}
 use Rattle.mq_rules.proofs.Exports.{gains_either, some-next}
@@ -23,11 +23,11 @@ use Rattle.mq_books.specs.Opened.{entry_next}
 use Rattle.mq_books.specs.Resending.{bounds_next, excuses, settles, told, IsResent}
 use Rattle.mq_books.specs.Using.{in_delivery, delivering, stray_next, ArePublished, waits_next, void_next, resent_next, breaks, judged_all, is_at_once, is_inflight, IsUsing}
 use Rattle.mq_books.proofs.DueLaws.{opened-within}
-use Rattle.mq_books.proofs.StrayLaws.{delivering-next, published-next}
+use Rattle.mq_books.proofs.StrayLaws.{delivering-next, listed-connected, published-next}
 use Rattle.mq_books.proofs.QuotaLaws.{peer-next, flown-next, flying-most}
 use Rattle.mq_books.proofs.VoidLaws.{void_sent-next}
 use Rattle.mq_books.proofs.OpenedLaws.{entry-under}
-use Rattle.mq_books.proofs.UsingLaws.{waiting, resent-next, using-gains}
+use Rattle.mq_books.proofs.UsingLaws.{waiting, delivering-waits, sent-none, resent-next, using-gains}
 use Rattle.mq_books.proofs.ResendsLaws.{bounds-next, resends-gains}
 
 pub inflight-gains : (tested : Tested) (s : Inflight) (f : Fate) (at : ℕ) (e : Seen) (past : List Seen) (m : FaultMap) (b : Broken) (rests excused : Bool) → IsUnder tested f at e past → IsUsing s tested (fate_before tested f e past) past
@@ -43,8 +43,8 @@ pub inflight-next : (tested : Tested) (s t : Inflight) (f : Fate) (at : ℕ) (e 
     → ((i : ℕ) → get nat_eq t.entries i ≡ entry_next f e.note e.place i (get nat_eq s.entries i))
     → ((i : ℕ) → contains nat_eq t.stray i ≡ stray_next f e.note (get nat_eq t.entries) i (contains nat_eq s.stray i))
     → ((i : ℕ) → contains nat_eq t.void i ≡ void_next f e.note i (contains nat_eq s.void i))
-    → ((i : ℕ) → contains nat_eq t.subscribing i ≡ waits_next (sent_as subscribe_in e.note) (received_as suback_in e.note) (is_open e.note) i (contains nat_eq s.subscribing i))
-    → ((i : ℕ) → contains nat_eq t.unsubscribing i ≡ waits_next (sent_as unsubscribe_in e.note) (received_as unsuback_in e.note) (is_open e.note) i (contains nat_eq s.unsubscribing i))
+    → ((i : ℕ) → contains nat_eq t.subscribing i ≡ waits_next (sent_as subscribe_in e.note) (received_as suback_in e.note) (is_boundary e.note) i (contains nat_eq s.subscribing i))
+    → ((i : ℕ) → contains nat_eq t.unsubscribing i ≡ waits_next (sent_as unsubscribe_in e.note) (received_as unsuback_in e.note) (is_boundary e.note) i (contains nat_eq s.unsubscribing i))
     → t.resent ≡ resent_next e.note (get nat_eq s.entries) s.resent → t.ended ≡ (ends_by e.note || (not (is_open e.note) && s.ended)) → t.opened ≡ cond (is_open e.note) e.place.position s.opened
     → t.peer ≡ option_or (cond (is_open e.note) None s.peer) (announced s.role e.note) → (s.in_flight < e.place.position → t.in_flight ≡ flown (may_count s.role s.peer) e.note s.in_flight)
     → t.bounds ≡ bounds_next s.role e.note s.bounds → IsResent t.opened (get nat_eq t.entries) (contains nat_eq t.confirmed) t.again → IsUsing t tested (Some f) (e ∷ past)
@@ -54,12 +54,13 @@ inflight-next tested s t f at e past under u role fate ordered distinct entries 
   is_ordered = ordered ∙ u.is_ordered;
   distinct = distinct;
   entries_are = λ i. entries i ∙ entry-under tested f i (get nat_eq s.entries i) e past (u.entries_are i);
-  delivering_are = waiting delivery_of closer_of (delivering s) (delivering t) e past u.delivering_are delivered;
+  delivering_are = delivering-waits (delivering s) (delivering t) e past on u.delivering_are delivered;
+  stray_are = λ i there. listed-connected f e.note (get nat_eq t.entries) i (contains nat_eq s.stray i) (is_connected past) on (u.stray_are i) (sym (stray i) ∙ there);
   published_are = subst (λ g. ArePublished g t.opened (get nat_eq t.entries) (e ∷ past)) (sym fate)
       (subst (λ o. ArePublished f o (get nat_eq t.entries) (e ∷ past)) (sym opened) (published-next f s.fate e s.opened (get nat_eq s.entries) (get nat_eq t.entries) past under.follows.placed.0 u.published_are same entries));
   void_are = λ i. void i ∙ ap (void_next f e.note i) (u.void_are i) ∙ sym (void_sent-next tested i f e past);
-  subscribing_are = waiting (sent_as subscribe_in) (received_as suback_in) (contains nat_eq s.subscribing) (contains nat_eq t.subscribing) e past u.subscribing_are subscribing;
-  unsubscribing_are = waiting (sent_as unsubscribe_in) (received_as unsuback_in) (contains nat_eq s.unsubscribing) (contains nat_eq t.unsubscribing) e past u.unsubscribing_are unsubscribing;
+  subscribing_are = waiting (sent_as subscribe_in) (received_as suback_in) (contains nat_eq s.subscribing) (contains nat_eq t.subscribing) e past (sent-none subscribe_in e.note) on u.subscribing_are subscribing;
+  unsubscribing_are = waiting (sent_as unsubscribe_in) (received_as unsuback_in) (contains nat_eq s.unsubscribing) (contains nat_eq t.unsubscribing) e past (sent-none unsubscribe_in e.note) on u.unsubscribing_are unsubscribing;
   resent_is = resent ∙ resent-next tested s f e past u;
   is_ended = ended ∙ ap (λ b. ends_by e.note || (not (is_open e.note) && b)) u.is_ended ∙ sym (some-next ends_binding e past);
   opened_is = opened ∙ ap (λ n. cond (is_open e.note) n s.opened) under.follows.placed.0 ∙ ap (cond (is_open e.note) (length past + 1)) u.opened_is;
@@ -71,14 +72,17 @@ inflight-next tested s t f at e past under u role fate ordered distinct entries 
   resent_are = again;
 }
   where
+    on : IsOnConnection e past
+    on = under.follows.on_connections.0
+
     same : is_open e.note ≡ false → s.fate ≡ f
     same closed = let h : Some s.fate ≡ Some f = sym u.same_fate ∙ ap (λ b. cond b (latest_fate tested.role past) (Some f)) closed in cc
 
-    delivered : (i : ℕ) → delivering t i ≡ waits_next (delivery_of e.note) (closer_of e.note) (is_open e.note) i (delivering s i)
-    delivered i =
+    delivered : is_close e.note ≡ false → (i : ℕ) → delivering t i ≡ waits_next (delivery_of e.note) (closer_of e.note) (is_open e.note) i (delivering s i)
+    delivered unclosed i =
         ap (λ o. in_delivery o (get nat_eq t.entries) (contains nat_eq t.stray) i) opened
         ∙ delivering-next f s.fate e.note e.place s.opened (get nat_eq s.entries) (get nat_eq t.entries) (contains nat_eq s.stray) (contains nat_eq t.stray) past under.follows.placed.0
-        (let a = u.opened_is in let b = opened-within past in let c = under.follows.placed.0 in omega arith) u.published_are same entries stray i
+        (let a = u.opened_is in let b = opened-within past in let c = under.follows.placed.0 in omega arith) u.published_are same entries stray unclosed i
 
     below : s.in_flight < e.place.position
     below = let a = flying-most tested.role past in let b = u.flying in let c = under.follows.placed.0 in omega arith

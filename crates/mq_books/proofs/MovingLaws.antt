@@ -21,7 +21,7 @@ use Rattle.mq_rules.specs.declared.role.Role.{Role}
 use Rattle.mq_rules.specs.declared.role.Role.TheVariants.{Client, Server}
 use Rattle.mq_rules.specs.Identifiers.{taken_by}
 use Rattle.mq_rules.specs.Words.{is_some_and, is_id, only}
-use Rattle.mq_rules.specs.Notes.{bare_note, bare_publish_note, bare_fields, kept_topic, note_of_bare, is_acknowledged, is_exactly_once, refuses, is_open, is_rest, sent_as, received_as, delivery_of, closer_of, opener_of, resend_of, pubrel_in, accepting_pubrec_in, subscribe_in, suback_in, unsubscribe_in, unsuback_in}
+use Rattle.mq_rules.specs.Notes.{bare_note, bare_publish_note, bare_fields, kept_topic, note_of_bare, is_acknowledged, is_exactly_once, refuses, is_open, is_boundary, is_rest, sent_as, received_as, delivery_of, closer_of, opener_of, resend_of, pubrel_in, accepting_pubrec_in, subscribe_in, suback_in, unsubscribe_in, unsuback_in}
 use Rattle.mq_rules.specs.Connections.{latest_fate, accepts, begins, resumes}
 use Rattle.mq_rules.specs.FaultKeys.{FaultMap}
 use Rattle.mq_rules.specs.Under.{Follows, IsUnder, IsKnown, fate_before, turns_with, turns_known}
@@ -105,8 +105,8 @@ moved-next tested s t f at e past opener x closer pubrel pubrec under u m accept
     (λ i. w.stray i ∙ sym (stray-moves i))
     (λ i. ap (λ v. contains nat_eq v i) w.others.void
     ∙ sym (ap (λ b. (is_id i (delivery_of n) && not b) || contains nat_eq s.void i) accepted ∙ ap (λ b. b || contains nat_eq s.void i) (and_false (is_id i (delivery_of n)))))
-    (λ i. ap (λ v. contains nat_eq v i) w.others.subscribing ∙ sym (wait-stays (sent_as subscribe_in n) (received_as suback_in n) (is_open n) i (contains nat_eq s.subscribing i) m.subscribe m.suback m.closed))
-    (λ i. ap (λ v. contains nat_eq v i) w.others.unsubscribing ∙ sym (wait-stays (sent_as unsubscribe_in n) (received_as unsuback_in n) (is_open n) i (contains nat_eq s.unsubscribing i) m.unsubscribe m.unsuback m.closed))
+    (λ i. ap (λ v. contains nat_eq v i) w.others.subscribing ∙ sym (wait-stays (sent_as subscribe_in n) (received_as suback_in n) (is_boundary n) i (contains nat_eq s.subscribing i) m.subscribe m.suback m.inside))
+    (λ i. ap (λ v. contains nat_eq v i) w.others.unsubscribing ∙ sym (wait-stays (sent_as unsubscribe_in n) (received_as unsuback_in n) (is_boundary n) i (contains nat_eq s.unsubscribing i) m.unsubscribe m.unsuback m.inside))
     (w.others.resent ∙ sym (resent-stays n (get nat_eq s.entries) s.resent m.closed m.resends))
     (w.others.ended ∙ sym (ap (λ b. b || (not (is_open n) && s.ended)) m.unended ∙ ap (λ b. not b && s.ended) m.closed))
     (w.others.opened ∙ sym (ap (λ b. cond b e.place.position s.opened) m.closed))
@@ -127,7 +127,7 @@ moved-next tested s t f at e past opener x closer pubrel pubrec under u m accept
 
     stray-moves : (i : ℕ) → stray_next f n (get nat_eq t.entries) i (contains nat_eq s.stray i) ≡ (not (is_id i closer) && contains nat_eq s.stray i)
     stray-moves i =
-        ap (λ b. cond b false ((is_id i (delivery_of n) && not (accepts f && is_some (get nat_eq t.entries i))) || (not (is_id i (closer_of n)) && contains nat_eq s.stray i))) m.closed
+        ap (λ b. cond b false ((is_id i (delivery_of n) && not (accepts f && is_some (get nat_eq t.entries i))) || (not (is_id i (closer_of n)) && contains nat_eq s.stray i))) m.inside
         ∙ ap (λ o. (is_id i o && not (accepts f && is_some (get nat_eq t.entries i))) || (not (is_id i (closer_of n)) && contains nat_eq s.stray i)) m.delivers
         ∙ ap (λ b. (is_id i opener && not (b && is_some (get nat_eq t.entries i))) || (not (is_id i (closer_of n)) && contains nat_eq s.stray i)) accepted
         ∙ ap (λ z. (is_id i opener && not (true && is_some z)) || (not (is_id i (closer_of n)) && contains nat_eq s.stray i)) (w.entries i)
@@ -192,6 +192,7 @@ moves-publish : (size : ℕ) (o : Option ℕ) (q : Qos) (d : Bool) (t : List ℕ
 moves-publish size o q true t i h = absurd (cc)
 moves-publish size o q false t i h = record {
   closed = refl;
+  inside = refl;
   awake = refl;
   unended = refl;
   delivers = h;
@@ -235,6 +236,7 @@ publish-moves b o q d topic i way is h =
 moves-puback : (size i code : ℕ) → Moves (bare_note Recv size (Puback i code)) None false (Some i) None None
 moves-puback size i code = record {
   closed = refl;
+  inside = refl;
   awake = refl;
   unended = refl;
   delivers = refl;
@@ -277,6 +279,7 @@ puback-moves b i code way is =
 moves-pubcomp : (size i code : ℕ) → Moves (bare_note Recv size (Pubcomp i code)) None false (Some i) None None
 moves-pubcomp size i code = record {
   closed = refl;
+  inside = refl;
   awake = refl;
   unended = refl;
   delivers = refl;
@@ -319,6 +322,7 @@ pubcomp-moves b i code way is =
 moves-pubrel : (size i code : ℕ) → Moves (bare_note Sent size (Pubrel i code)) None false None (Some i) None
 moves-pubrel size i code = record {
   closed = refl;
+  inside = refl;
   awake = refl;
   unended = refl;
   delivers = refl;
@@ -361,6 +365,7 @@ pubrel-moves b i code way is =
 moves-pubrec : (size i code : ℕ) → Moves (bare_note Recv size (Pubrec i code)) None false (only (refuses code) (Some i)) None (only (not (refuses code)) (Some i))
 moves-pubrec size i code = record {
   closed = refl;
+  inside = refl;
   awake = refl;
   unended = refl;
   delivers = refl;

@@ -395,8 +395,7 @@ identifiers-received roles.Server releases size a b Auth h = refl
 
 pub identifiers-unconcerned : (role : Role) (releases : Bool) (n : Note) → may_concern_identifiers n ≡ false → concerns_flight (record { role = role; releases = releases }) n ≡ false
 identifiers-unconcerned role releases notes.Open h = absurd (cc)
-identifiers-unconcerned roles.Client releases notes.Close h = refl
-identifiers-unconcerned roles.Server releases notes.Close h = refl
+identifiers-unconcerned role releases notes.Close h = absurd (cc)
 identifiers-unconcerned role releases notes.Rest h = absurd (cc)
 identifiers-unconcerned roles.Client releases (notes.Release i) h = refl
 identifiers-unconcerned roles.Server releases (notes.Release i) h = refl

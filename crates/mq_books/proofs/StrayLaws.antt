@@ -9,8 +9,8 @@ use Rattle.mq_rules.specs.declared.note.Note.{Note}
 use Rattle.mq_rules.specs.declared.note.Note.TheVariants as notes
 use Rattle.mq_rules.specs.declared.note.Seen.{Seen}
 use Rattle.mq_rules.specs.Words.{is_some_and, is_id}
-use Rattle.mq_rules.specs.Notes.{is_open, delivery_of, closer_of, opener_of, sent_as, received_as, pubrel_in, accepting_pubrec_in}
-use Rattle.mq_rules.specs.Connections.{accepts, begins}
+use Rattle.mq_rules.specs.Notes.{is_open, is_close, is_boundary, delivery_of, closer_of, opener_of, sent_as, received_as, pubrel_in, accepting_pubrec_in}
+use Rattle.mq_rules.specs.Connections.{needs_connection, accepts, begins}
 use Rattle.mq_rules.proofs.Exports.{not_true, or_false}
 use Rattle.mq_books.specs.declared.inflight.entry.Entry.{Entry}
 use Rattle.mq_books.specs.Opened.{entry_after, entry_next, opened_if, closed_if, confirmed_if, released_if, sent_if, sends_exactly_once}
@@ -34,6 +34,10 @@ not-since n (Some o) h = grind (arith, nat_tests, h)
 open-quiet : (n : Note) (i : ℕ) → is_open n ≡ true → (is_id i (delivery_of n) ≡ false) × (is_id i (closer_of n) ≡ false)
 open-quiet notes.Open i h = (refl, refl)
 open-quiet _ i h = absurd (cc)
+
+-- what doesn't end a connection is at a boundary only where it begins one
+pub boundary-opens : (n : Note) → is_close n ≡ false → is_boundary n ≡ is_open n
+boundary-opens n h = ap (λ b. is_open n || b) h ∙ or_false (is_open n)
 
 -- what is sent isn't received
 apart : (n : Note) (i : ℕ) → is_id i (delivery_of n) ≡ true → is_id i (closer_of n) ≡ false
@@ -82,10 +86,12 @@ delivering-after false false p r false x s place opened (Some e) od dc le = refl
 
 -- ---- what is kept
 
+-- an event that ends no connection
 pub delivering-next : (f g : Fate) (n : Note) (place : Place3) (opened : ℕ) (entry new : ℕ → Option Entry) (stray listed : ℕ → Bool) (past : List Seen) → place.position ≡ length past + 1 → opened ≤ place.position → ArePublished g opened entry past
     → (is_open n ≡ false → g ≡ f) → ((i : ℕ) → new i ≡ entry_next f n place i (entry i)) → ((i : ℕ) → listed i ≡ stray_next f n new i (stray i))
-    → (i : ℕ) → in_delivery (cond (is_open n) place.position opened) new listed i ≡ waits_next (delivery_of n) (closer_of n) (is_open n) i (in_delivery opened entry stray i)
-delivering-next f g n place opened entry new stray listed past at le is same grown kept i = go (is_open n) refl (grown i) (kept i)
+    → is_close n ≡ false → (i : ℕ) → in_delivery (cond (is_open n) place.position opened) new listed i ≡ waits_next (delivery_of n) (closer_of n) (is_open n) i (in_delivery opened entry stray i)
+delivering-next f g n place opened entry new stray listed past at le is same grown kept unclosed i =
+    go (is_open n) refl (grown i) (kept i ∙ ap (λ b. cond b false ((d && not (accepts f && is_some (new i))) || (not c && stray i))) (boundary-opens n unclosed))
   where
     d : Bool
     d = is_id i (delivery_of n)
@@ -127,6 +133,16 @@ delivering-next f g n place opened entry new stray listed past at le is same gro
         begun false = not-since (length past) (entry i) (is.within i)
     go false h grown kept = accepting (accepts f) refl h grown kept
 
+-- what is listed was listed or sent while a connection was open, which is still so
+pub listed-connected : (f : Fate) (n : Note) (entry : ℕ → Option Entry) (i : ℕ) (old connected : Bool) → (needs_connection n ≡ true → connected ≡ true) → (old ≡ true → connected ≡ true) → stray_next f n entry i old ≡ true
+    → (is_open n || (not (is_close n) && connected)) ≡ true
+listed-connected f notes.Open entry i old connected on was h = refl
+listed-connected f notes.Close entry i old connected on was h = absurd (cc)
+listed-connected f notes.Rest entry i old connected on was h = on refl
+listed-connected f (notes.Release identifier) entry i old connected on was h = was h
+listed-connected f (notes.Sent item) entry i old connected on was h = on refl
+listed-connected f (notes.Recv item) entry i old connected on was h = on refl
+
 pub published-next : (f g : Fate) (e : Seen) (opened : ℕ) (entry new : ℕ → Option Entry) (past : List Seen) → e.place.position ≡ length past + 1 → ArePublished g opened entry past → (is_open e.note ≡ false → g ≡ f)
     → ((i : ℕ) → new i ≡ entry_next f e.note e.place i (entry i)) → ArePublished f (cond (is_open e.note) e.place.position opened) new (e ∷ past)
 published-next f g e opened entry new past at is same grown = record {
@@ -166,7 +182,7 @@ published-next f g e opened entry new past at is same grown = record {
 
 -- ---- events that say nothing of it
 
-pub stray-stays : (f : Fate) (n : Note) (entry : ℕ → Option Entry) (i : ℕ) (old : Bool) → is_open n ≡ false → delivery_of n ≡ None → closer_of n ≡ None → stray_next f n entry i old ≡ old
+pub stray-stays : (f : Fate) (n : Note) (entry : ℕ → Option Entry) (i : ℕ) (old : Bool) → is_boundary n ≡ false → delivery_of n ≡ None → closer_of n ≡ None → stray_next f n entry i old ≡ old
 stray-stays f n entry i old a b c =
     ap (λ t. cond t false ((is_id i (delivery_of n) && not (accepts f && is_some (entry i))) || (not (is_id i (closer_of n)) && old))) a
     ∙ ap (λ o. (is_id i o && not (accepts f && is_some (entry i))) || (not (is_id i (closer_of n)) && old)) b

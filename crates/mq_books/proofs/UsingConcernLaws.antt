@@ -14,7 +14,7 @@ use Rattle.mq_rules.specs.declared.fate.Fate.{Fate}
 use Rattle.mq_rules.specs.declared.note.Note.{Note}
 use Rattle.mq_rules.specs.declared.note.Seen.{Seen}
 use Rattle.mq_rules.specs.Words.{is_some_and, is_id}
-use Rattle.mq_rules.specs.Notes.{is_open, is_rest, sent_as, received_as, delivery_of, closer_of, opener_of, resend_of, pubrel_in, accepting_pubrec_in, subscribe_in, suback_in, unsubscribe_in, unsuback_in}
+use Rattle.mq_rules.specs.Notes.{is_open, is_close, is_boundary, is_rest, sent_as, received_as, delivery_of, closer_of, opener_of, resend_of, pubrel_in, accepting_pubrec_in, subscribe_in, suback_in, unsubscribe_in, unsuback_in}
 use Rattle.mq_rules.specs.Connections.{accepts, begins, resumes}
 use Rattle.mq_rules.specs.Identifiers.{taken_by}
 use Rattle.mq_rules.specs.FaultKeys.{FaultMap}
@@ -37,6 +37,7 @@ use Rattle.mq_books.proofs.InflightLaws.{inflight-next, inflight-gains}
 -- nothing of these is there
 record Quiet (tested : Tested) (n : Note) : Type 0 where
   closed : is_open n ≡ false
+  inside : is_boundary n ≡ false
   awake : is_rest n ≡ false
   unended : ends_by n ≡ false
   delivery : delivery_of n ≡ None
@@ -54,7 +55,7 @@ record Quiet (tested : Tested) (n : Note) : Type 0 where
 
 quiet : (tested : Tested) (n : Note) → concerns_flight tested n ≡ false → Quiet tested n
 quiet tested n h =
-    let h1 = neither (is_open n) (is_rest n || (ends_by n || (moves_identifiers n || (is_some (announced tested.role n) || is_some (bounds_by tested.role n))))) h in
+    let h1 = neither (is_boundary n) (is_rest n || (ends_by n || (moves_identifiers n || (is_some (announced tested.role n) || is_some (bounds_by tested.role n))))) h in
     let h2 = neither (is_rest n) (ends_by n || (moves_identifiers n || (is_some (announced tested.role n) || is_some (bounds_by tested.role n)))) h1.1 in
     let h3 = neither (ends_by n) (moves_identifiers n || (is_some (announced tested.role n) || is_some (bounds_by tested.role n))) h2.1 in
     let h4 = neither (moves_identifiers n) (is_some (announced tested.role n) || is_some (bounds_by tested.role n)) h3.1 in
@@ -73,7 +74,8 @@ quiet tested n h =
     let c1 = neither (is_some (sent_as subscribe_in n)) (is_some (received_as suback_in n)) m3.0 in
     let d1 = neither (is_some (sent_as unsubscribe_in n)) (is_some (received_as unsuback_in n)) m3.1 in
     record {
-      closed = h1.0;
+      closed = (neither (is_open n) (is_close n) h1.0).0;
+      inside = h1.0;
       awake = h2.0;
       unended = h3.0;
       delivery = nothing (delivery_of n) a1.0;
@@ -111,8 +113,8 @@ entry-stays tested f n place i old q =
         ∙ ap (λ o. opened_if (is_id i None) (sends_exactly_once n) place (closed_if (is_id i None) (confirmed_if (is_id i None) (released_if (is_id i None) place.position (sent_if (is_id i o) place.position old))))) q.delivery
         ∙ same-entry i place.position (sends_exactly_once n) place old
 
-pub wait-stays : (starts ends : Option ℕ) (opens : Bool) (i : ℕ) (old : Bool) → starts ≡ None → ends ≡ None → opens ≡ false → waits_next starts ends opens i old ≡ old
-wait-stays starts ends opens i old a b c = ap (λ o. waits_next o ends opens i old) a ∙ ap (λ o. waits_next None o opens i old) b ∙ ap (λ t. waits_next None None t i old) c
+pub wait-stays : (starts ends : Option ℕ) (boundary : Bool) (i : ℕ) (old : Bool) → starts ≡ None → ends ≡ None → boundary ≡ false → waits_next starts ends boundary i old ≡ old
+wait-stays starts ends boundary i old a b c = ap (λ o. waits_next o ends boundary i old) a ∙ ap (λ o. waits_next None o boundary i old) b ∙ ap (λ t. waits_next None None t i old) c
 
 greater-stays : (old : ℕ) → greater 0 old ≡ old
 greater-stays old = go (nat_lt old 0) refl
@@ -164,10 +166,10 @@ inflight-passes tested s f at e past h under before =
     let bounds : bounds_by s.role n ≡ None = ap (λ r. bounds_by r n) u.same_role ∙ q.bounds in (
       inflight-next tested s s f at e past under before refl (sym (some-same f s.fate u.same_fate)) refl u.distinct
           (λ i. sym (entry-stays tested f n e.place i (get nat_eq s.entries i) q))
-          (λ i. sym (stray-stays f n (get nat_eq s.entries) i (contains nat_eq s.stray i) q.closed q.delivery q.closer))
+          (λ i. sym (stray-stays f n (get nat_eq s.entries) i (contains nat_eq s.stray i) q.inside q.delivery q.closer))
           (λ i. sym (ap (λ o. (is_id i o && not (accepts f)) || contains nat_eq s.void i) q.delivery))
-          (λ i. sym (wait-stays (sent_as subscribe_in n) (received_as suback_in n) (is_open n) i (contains nat_eq s.subscribing i) q.subscribe q.suback q.closed))
-          (λ i. sym (wait-stays (sent_as unsubscribe_in n) (received_as unsuback_in n) (is_open n) i (contains nat_eq s.unsubscribing i) q.unsubscribe q.unsuback q.closed))
+          (λ i. sym (wait-stays (sent_as subscribe_in n) (received_as suback_in n) (is_boundary n) i (contains nat_eq s.subscribing i) q.subscribe q.suback q.inside))
+          (λ i. sym (wait-stays (sent_as unsubscribe_in n) (received_as unsuback_in n) (is_boundary n) i (contains nat_eq s.unsubscribing i) q.unsubscribe q.unsuback q.inside))
           (sym (resent-stays n (get nat_eq s.entries) s.resent q.closed q.resend))
           (sym (ap (λ b. b || (not (is_open n) && s.ended)) q.unended ∙ ap (λ b. not b && s.ended) q.closed))
           (sym (ap (λ b. cond b e.place.position s.opened) q.closed))

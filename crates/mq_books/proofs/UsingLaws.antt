@@ -10,18 +10,19 @@ use Rattle.mq_rules.specs.declared.role.Tested.{Tested}
 use Rattle.mq_rules.specs.declared.fate.Fate.{Fate}
 use Rattle.mq_rules.specs.declared.rule.Rule.{Rule}
 use Rattle.mq_rules.specs.declared.rule.Rule.TheVariants.{S01, S02, S03, S04, S05}
+use Rattle.mq_rules.specs.declared.packet_note.PacketFields.{PacketFields}
 use Rattle.mq_rules.specs.declared.note.Note.{Note}
 use Rattle.mq_rules.specs.declared.note.Note.TheVariants as notes
 use Rattle.mq_rules.specs.declared.note.Seen.{Seen}
 use Rattle.mq_rules.specs.Words.{is_some_and, is_id}
-use Rattle.mq_rules.specs.Notes.{is_open, resend_of}
+use Rattle.mq_rules.specs.Notes.{is_open, is_close, is_boundary, delivery_of, closer_of, resend_of, sent_as, received_as, subscribe_in, suback_in, unsubscribe_in, unsuback_in}
 use Rattle.mq_rules.specs.Moments.{Moment, newest, note, position, some, since, latest, is_next, IsPlaced, IsDescending}
-use Rattle.mq_rules.specs.Connections.{connection, latest_fate, accepts, session}
+use Rattle.mq_rules.specs.Connections.{is_connected, connection, needs_connection, IsOnConnection, latest_fate, accepts, session}
 use Rattle.mq_rules.specs.Identifiers.{opens_id, closes_id, delivers, is_open_at, latest_opener, awaits_suback, is_busy_at, taken_by, was_sent_on_void, opens_exactly_once, sends_pubrel, comes_after, breaks_S01, breaks_S02, breaks_S03, breaks_S04, breaks_S05}
 use Rattle.mq_rules.specs.Rules.{binds, found_line, line_of, lines}
 use Rattle.mq_rules.specs.Statements.{in_session, statement}
 use Rattle.mq_rules.specs.FaultKeys.{FaultMap}
-use Rattle.mq_rules.proofs.Exports.{among-moment, connection-newest as connection-next, moment-placed, not_true, or_false, or_left, or_parts, or_right, same_test, session-descend, session-members, some-next}
+use Rattle.mq_rules.proofs.Exports.{among-moment, and_false, has_item, moment-placed, not_true, on_open-connected, on_open-fold, or_false, or_left, or_parts, or_right, same_test, session-descend, session-members, some-next}
 use Rattle.mq_books.specs.declared.inflight.Inflight.{Inflight}
 use Rattle.mq_books.specs.declared.inflight.broken.Broken.{Broken}
 use Rattle.mq_books.specs.declared.inflight.entry.Entry.{Entry}
@@ -31,6 +32,7 @@ use Rattle.mq_books.specs.Opened.{sends_exactly_once, entry_in}
 use Rattle.mq_books.specs.Using.{delivering, waits, waits_next, place_or_zero, resent_by, greater, resent_next, resent_in, unopened, past_pubrel, out_of_order, breaks, judged_all, is_at_once, IsUsing}
 use Rattle.mq_books.proofs.JudgeLaws.{session-turns_with}
 use Rattle.mq_books.proofs.OpenedLaws.{entry-there, entry-is, IsEntry}
+use Rattle.mq_books.proofs.StrayLaws.{boundary-opens}
 use Rattle.mq_books.proofs.VoidLaws.{void_sent-read}
 use Rattle.mq_books.proofs.BrokenLaws.{all-gains}
 
@@ -56,20 +58,61 @@ unfolding line_of found_line lines
 binds-S04 Client releases = refl
 binds-S04 Server releases = refl
 
--- ---- an OPEN is no packet
+-- ---- what is neither sent nor received is no packet
 
-taken-none : (role : Role) (n : Note) → is_open n ≡ true → taken_by role n ≡ None
+taken-none : (role : Role) (n : Note) → has_item n ≡ false → taken_by role n ≡ None
 taken-none Client notes.Open h = refl
 taken-none Server notes.Open h = refl
-taken-none role notes.Close h = absurd (cc)
-taken-none role notes.Rest h = absurd (cc)
-taken-none role (notes.Release identifier) h = absurd (cc)
+taken-none Client notes.Close h = refl
+taken-none Server notes.Close h = refl
+taken-none Client notes.Rest h = refl
+taken-none Server notes.Rest h = refl
+taken-none Client (notes.Release identifier) h = refl
+taken-none Server (notes.Release identifier) h = refl
 taken-none role (notes.Sent item) h = absurd (cc)
 taken-none role (notes.Recv item) h = absurd (cc)
 
-resend-none : (n : Note) → is_open n ≡ true → resend_of n ≡ None
+resend-none : (n : Note) → has_item n ≡ false → resend_of n ≡ None
 resend-none notes.Open h = refl
-resend-none _ h = absurd (cc)
+resend-none notes.Close h = refl
+resend-none notes.Rest h = refl
+resend-none (notes.Release identifier) h = refl
+resend-none (notes.Sent item) h = absurd (cc)
+resend-none (notes.Recv item) h = absurd (cc)
+
+pub sent-none : (found : PacketFields → Option ℕ) (n : Note) → has_item n ≡ false → sent_as found n ≡ None
+sent-none found notes.Open h = refl
+sent-none found notes.Close h = refl
+sent-none found notes.Rest h = refl
+sent-none found (notes.Release identifier) h = refl
+sent-none found (notes.Sent item) h = absurd (cc)
+sent-none found (notes.Recv item) h = absurd (cc)
+
+delivery-none : (n : Note) → has_item n ≡ false → delivery_of n ≡ None
+delivery-none notes.Open h = refl
+delivery-none notes.Close h = refl
+delivery-none notes.Rest h = refl
+delivery-none (notes.Release identifier) h = refl
+delivery-none (notes.Sent item) h = absurd (cc)
+delivery-none (notes.Recv item) h = absurd (cc)
+
+open-itemless : (n : Note) → is_open n ≡ true → has_item n ≡ false
+open-itemless notes.Open h = refl
+open-itemless _ h = absurd (cc)
+
+item-closed : (n : Note) → has_item n ≡ true → is_open n ≡ false
+item-closed (notes.Sent item) h = refl
+item-closed (notes.Recv item) h = refl
+item-closed _ h = absurd (cc)
+
+item-needs : (n : Note) → has_item n ≡ true → needs_connection n ≡ true
+item-needs (notes.Sent item) h = refl
+item-needs (notes.Recv item) h = refl
+item-needs _ h = absurd (cc)
+
+-- where a connection is open, what waits on it is what waits on the latest one
+waits-connected : (starts ends : Note → Option ℕ) (i : ℕ) (past : List Seen) → is_connected past ≡ true → waits starts ends i past ≡ since (λ m. is_id i (starts (note m))) (λ m. is_id i (ends (note m))) (connection past)
+waits-connected starts ends i past h = ap (since (λ m. is_id i (starts (note m))) (λ m. is_id i (ends (note m)))) (on_open-connected past h)
 
 -- at another event the state is one under the fate of its connection
 now : (s : Inflight) (tested : Tested) (f : Fate) (e : Seen) (past : List Seen) → is_open e.note ≡ false → IsUsing s tested (fate_before tested f e past) past → IsUsing s tested (Some f) past
@@ -131,7 +174,7 @@ resent-later role f p (e ∷ past) placed = go (is_open e.note) refl (resent-lat
     go : (b : Bool) → is_open e.note ≡ b → nat_lt p (resent_in role (Some f) past) ≡ some (resent_past role f p) (connection past)
         → nat_lt p (cond b 0 (greater (resent_by (resend_of e.note) entry) (resent_in role (Some f) past))) ≡ (resent_past role f p (newest e past) || (not b && some (resent_past role f p) (connection past)))
     go true h rest =
-        zero-after p ∙ sym (or_false (resent_past role f p (newest e past)) ∙ ap (is_some_and (λ o. is_open_at role f o (newest e past) && is_some_and (λ m. nat_lt p (position m)) (latest_opener role f o (newest e past)))) (resend-none e.note h))
+        zero-after p ∙ sym (or_false (resent_past role f p (newest e past)) ∙ ap (is_some_and (λ o. is_open_at role f o (newest e past) && is_some_and (λ m. nat_lt p (position m)) (latest_opener role f o (newest e past)))) (resend-none e.note (open-itemless e.note h)))
     go false h rest =
         greater-after p (resent_by (resend_of e.note) entry) (resent_in role (Some f) past)
         ∙ ap (λ b. b || nat_lt p (resent_in role (Some f) past)) (here (resend_of e.note)) ∙ ap (λ b. resent_past role f p (newest e past) || b) rest
@@ -175,57 +218,58 @@ out_of_order-is role f i e past placed = go (entry_in i ms) refl
 
 -- ---- the pairs
 
-S01-turns : (tested : Tested) (s : Inflight) (f : Fate) (e : Seen) (past : List Seen) → IsUsing s tested (fate_before tested f e past) past → (k : ℕ) → turns_with tested f e past k S01 ≡ (is_next past k && (breaks s f e.note).takes_busy)
+S01-turns : (tested : Tested) (s : Inflight) (f : Fate) (e : Seen) (past : List Seen) → IsOnConnection e past → IsUsing s tested (fate_before tested f e past) past → (k : ℕ) → turns_with tested f e past k S01 ≡ (is_next past k && (breaks s f e.note).takes_busy)
 unfolding breaks_S01
-S01-turns tested s f e past u k =
+S01-turns tested s f e past on u k =
     session-turns_with tested S01 (breaks_S01 tested.role) refl f e past k
     ∙ ap (λ b. is_next past k && (b && (accepts f && breaks_S01 tested.role f (newest e past)))) (binds-S01 tested.role tested.releases)
-    ∙ ap (λ b. is_next past k && (accepts f && b)) (sym (go (is_open e.note) refl))
+    ∙ ap (λ b. is_next past k && (accepts f && b)) (sym (go (has_item e.note) refl))
     ∙ ap (λ r. is_next past k && (accepts f && is_some_and busy (taken_by r e.note))) (sym u.same_role)
   where
     busy : ℕ → Bool
     busy i = is_some (get nat_eq s.entries i) || (contains nat_eq s.subscribing i || contains nat_eq s.unsubscribing i)
 
-    go : (b : Bool) → is_open e.note ≡ b → is_some_and busy (taken_by tested.role e.note) ≡ is_some_and (λ i. is_busy_at tested.role f i (newest e past)) (taken_by tested.role e.note)
-    go true h =
+    go : (b : Bool) → has_item e.note ≡ b → is_some_and busy (taken_by tested.role e.note) ≡ is_some_and (λ i. is_busy_at tested.role f i (newest e past)) (taken_by tested.role e.note)
+    go false h =
         let none = taken-none tested.role e.note h in
         ap (is_some_and busy) none ∙ sym (ap (is_some_and (λ i. is_busy_at tested.role f i (newest e past))) none)
-    go false h = same_some busy (λ i. is_busy_at tested.role f i (newest e past)) (taken_by tested.role e.note) (λ i.
-        ap (λ x. is_some x || (contains nat_eq s.subscribing i || contains nat_eq s.unsubscribing i)) ((now s tested f e past h u).entries_are i)
+    go true h = same_some busy (λ i. is_busy_at tested.role f i (newest e past)) (taken_by tested.role e.note) (λ i.
+        ap (λ x. is_some x || (contains nat_eq s.subscribing i || contains nat_eq s.unsubscribing i)) ((now s tested f e past (item-closed e.note h) u).entries_are i)
         ∙ ap (λ b. b || (contains nat_eq s.subscribing i || contains nat_eq s.unsubscribing i)) (entry-there i (session tested.role (Some f) past))
-        ∙ ap (λ b. is_open_at tested.role f i (newest e past) || (b || contains nat_eq s.unsubscribing i)) (u.subscribing_are i)
-        ∙ ap (λ b. is_open_at tested.role f i (newest e past) || (awaits_suback i (newest e past) || b)) (u.unsubscribing_are i))
+        ∙ ap (λ b. is_open_at tested.role f i (newest e past) || (b || contains nat_eq s.unsubscribing i)) (u.subscribing_are i ∙ waits-connected (sent_as subscribe_in) (received_as suback_in) i past (on (item-needs e.note h)))
+        ∙ ap (λ b. is_open_at tested.role f i (newest e past) || (awaits_suback i (newest e past) || b)) (u.unsubscribing_are i ∙ waits-connected (sent_as unsubscribe_in) (received_as unsuback_in) i past (on (item-needs e.note h))))
 
 -- a statement on a PUBLISH that is sent again
 resend-turns : (tested : Tested) (rule : Rule) (breaks : Fate → Moment → Bool) → statement tested.role rule ≡ in_session breaks → (bound : Bool) → binds rule tested ≡ bound → (f : Fate) (e : Seen) (past : List Seen) (p q : ℕ → Bool)
-    → breaks f (newest e past) ≡ is_some_and p (resend_of e.note) → (is_open e.note ≡ false → accepts f ≡ true → (i : ℕ) → q i ≡ p i)
+    → breaks f (newest e past) ≡ is_some_and p (resend_of e.note) → (has_item e.note ≡ true → accepts f ≡ true → (i : ℕ) → q i ≡ p i)
     → (k : ℕ) → turns_with tested f e past k rule ≡ (is_next past k && (bound && (accepts f && is_some_and q (resend_of e.note))))
 resend-turns tested rule breaks says bound b f e past p q is same k =
     session-turns_with tested rule breaks says f e past k
     ∙ ap (λ t. is_next past k && (t && (accepts f && breaks f (newest e past)))) b
     ∙ ap (λ t. is_next past k && (bound && (accepts f && t))) is
-    ∙ ap (λ t. is_next past k && (bound && t)) (go (accepts f) refl (is_open e.note) refl)
+    ∙ ap (λ t. is_next past k && (bound && t)) (go (accepts f) refl (has_item e.note) refl)
   where
-    go : (a : Bool) → accepts f ≡ a → (c : Bool) → is_open e.note ≡ c → (a && is_some_and p (resend_of e.note)) ≡ (a && is_some_and q (resend_of e.note))
+    go : (a : Bool) → accepts f ≡ a → (c : Bool) → has_item e.note ≡ c → (a && is_some_and p (resend_of e.note)) ≡ (a && is_some_and q (resend_of e.note))
     go false t c h = refl
-    go true t true h = ap (is_some_and p) (resend-none e.note h) ∙ sym (ap (is_some_and q) (resend-none e.note h))
-    go true t false h = sym (same_some q p (resend_of e.note) (same h t))
+    go true t false h = ap (is_some_and p) (resend-none e.note h) ∙ sym (ap (is_some_and q) (resend-none e.note h))
+    go true t true h = sym (same_some q p (resend_of e.note) (same h t))
 
 S02-turns : (tested : Tested) (s : Inflight) (f : Fate) (at : ℕ) (e : Seen) (past : List Seen) → IsUnder tested f at e past → IsUsing s tested (fate_before tested f e past) past → (k : ℕ) → turns_with tested f e past k S02 ≡ (is_next past k && (breaks s f e.note).unopened)
 unfolding breaks_S02
 S02-turns tested s f at e past under u =
     resend-turns tested S02 (breaks_S02 tested.role) refl true (binds-S02 tested.role tested.releases) f e past (λ i. not (is_open_at tested.role f i (newest e past) || was_sent_on_void tested.role i (newest e past)))
     (unopened (get nat_eq s.entries) (contains nat_eq s.void)) refl
-    (λ closed accepted i.
-    let n = now s tested f e past closed u in
+    (λ item accepted i.
+    let n = now s tested f e past (item-closed e.note item) u in
     ap (λ x. not (is_some x || contains nat_eq s.void i)) (n.entries_are i)
     ∙ ap (λ b. not (b || contains nat_eq s.void i)) (entry-there i (session tested.role (Some f) past))
-    ∙ ap (λ b. not (is_open_at tested.role f i (newest e past) || b)) (n.void_are i ∙ sym (void_sent-read tested i f at e past under closed accepted)))
+    ∙ ap (λ b. not (is_open_at tested.role f i (newest e past) || b)) (n.void_are i ∙ sym (void_sent-read tested i f at e past under (item-closed e.note item) accepted)))
 
-S03-turns : (tested : Tested) (s : Inflight) (f : Fate) (e : Seen) (past : List Seen) → IsUsing s tested (fate_before tested f e past) past → (k : ℕ) → turns_with tested f e past k S03 ≡ (is_next past k && (breaks s f e.note).twice)
+S03-turns : (tested : Tested) (s : Inflight) (f : Fate) (e : Seen) (past : List Seen) → IsOnConnection e past → IsUsing s tested (fate_before tested f e past) past → (k : ℕ) → turns_with tested f e past k S03 ≡ (is_next past k && (breaks s f e.note).twice)
 unfolding breaks_S03
-S03-turns tested s f e past u =
-    resend-turns tested S03 (λ f. breaks_S03) refl true (binds-S03 tested.role tested.releases) f e past (λ i. since (delivers i) (closes_id i) (connection past)) (delivering s) refl (λ closed accepted i. u.delivering_are i)
+S03-turns tested s f e past on u =
+    resend-turns tested S03 (λ f. breaks_S03) refl true (binds-S03 tested.role tested.releases) f e past (λ i. since (delivers i) (closes_id i) (connection past)) (delivering s) refl
+    (λ item accepted i. let open_now = on (item-needs e.note item) in u.delivering_are open_now i ∙ waits-connected delivery_of closer_of i past open_now)
 
 S04-turns : (tested : Tested) (s : Inflight) (f : Fate) (e : Seen) (past : List Seen) → IsUsing s tested (fate_before tested f e past) past → (k : ℕ) → turns_with tested f e past k S04 ≡ (is_next past k && (breaks s f e.note).past_pubrel)
 unfolding breaks_S04
@@ -233,7 +277,7 @@ S04-turns tested s f e past u =
     resend-turns tested S04 (breaks_S04 tested.role) refl true (binds-S04 tested.role tested.releases) f e past
     (λ i. is_open_at tested.role f i (newest e past) && (is_some_and (opens_exactly_once i) (latest_opener tested.role f i (newest e past)) && since (sends_pubrel i) (opens_id i) (session tested.role (Some f) past)))
     (past_pubrel (get nat_eq s.entries)) refl
-    (λ closed accepted i. ap (is_some_and (λ (o : Entry). o.exactly_once && o.released)) ((now s tested f e past closed u).entries_are i) ∙ past_pubrel-is i (session tested.role (Some f) past) (session-descend tested.role (Some f) past))
+    (λ item accepted i. ap (is_some_and (λ (o : Entry). o.exactly_once && o.released)) ((now s tested f e past (item-closed e.note item) u).entries_are i) ∙ past_pubrel-is i (session tested.role (Some f) past) (session-descend tested.role (Some f) past))
 
 S05-turns : (tested : Tested) (s : Inflight) (f : Fate) (at : ℕ) (e : Seen) (past : List Seen) → IsUnder tested f at e past → IsUsing s tested (fate_before tested f e past) past → (k : ℕ) → turns_with tested f e past k S05 ≡ (is_next past k && (breaks s f e.note).out_of_order)
 unfolding breaks_S05
@@ -241,8 +285,8 @@ S05-turns tested s f at e past under u =
     resend-turns tested S05 (breaks_S05 tested.role) refl s.ordered (sym u.is_ordered) f e past
     (λ i. is_open_at tested.role f i (newest e past) && some (λ j. is_some_and (λ o. is_open_at tested.role f o j && comes_after (latest_opener tested.role f o j) (latest_opener tested.role f i (newest e past))) (resend_of (note j))) (connection past))
     (out_of_order (get nat_eq s.entries) s.resent) refl
-    (λ closed accepted i.
-    let n = now s tested f e past closed u in
+    (λ item accepted i.
+    let n = now s tested f e past (item-closed e.note item) u in
     ap (λ p. is_some_and (λ (o : Entry). nat_lt o.place.position p) (get nat_eq s.entries i)) n.resent_is
     ∙ ap (is_some_and (λ (o : Entry). nat_lt o.place.position (resent_in tested.role (Some f) past))) (n.entries_are i)
     ∙ out_of_order-is tested.role f i e past under.follows.placed.1)
@@ -251,22 +295,54 @@ pub using-gains : (tested : Tested) (s : Inflight) (f : Fate) (at : ℕ) (e : Se
     → Gains (λ k r. is_at_once r && turns_with tested f e past k r) tested (e ∷ past) at m (judged_all b e.place at m)
 using-gains tested s f at e past m b under u is =
     subst (λ (b : Broken). Gains (λ k r. is_at_once r && turns_with tested f e past k r) tested (e ∷ past) at m (judged_all b e.place at m)) (sym is)
-    (all-gains tested f e past at m (breaks s f e.note) under.follows.placed.0 (S01-turns tested s f e past u) (S02-turns tested s f at e past under u) (S03-turns tested s f e past u) (S04-turns tested s f e past u) (S05-turns tested s f at e past under u))
+    (all-gains tested f e past at m (breaks s f e.note) under.follows.placed.0 (S01-turns tested s f e past under.follows.on_connections.0 u) (S02-turns tested s f at e past under u) (S03-turns tested s f e past under.follows.on_connections.0 u) (S04-turns tested s f e past u) (S05-turns tested s f at e past under u))
 
 -- ---- the state, with one event more
 
-waits-under : (starts ends : Note → Option ℕ) (i : ℕ) (e : Seen) (past : List Seen) → waits starts ends i (e ∷ past) ≡ waits_next (starts e.note) (ends e.note) (is_open e.note) i (waits starts ends i past)
-waits-under starts ends i e past = ap (since (λ m. is_id i (starts (note m))) (λ m. is_id i (ends (note m)))) (connection-next e past) ∙ go (is_open e.note)
+waits-under : (starts ends : Note → Option ℕ) (i : ℕ) (e : Seen) (past : List Seen) → (has_item e.note ≡ false → starts e.note ≡ None) → IsOnConnection e past
+    → waits starts ends i (e ∷ past) ≡ waits_next (starts e.note) (ends e.note) (is_boundary e.note) i (waits starts ends i past)
+waits-under starts ends i e past itemless on = on_open-fold found more e past (λ ms. refl) idle on ∙ go (is_boundary e.note)
   where
-    go : (b : Bool) → (is_id i (starts e.note) || (not (is_id i (ends e.note)) && since (λ m. is_id i (starts (note m))) (λ m. is_id i (ends (note m))) (cond b [] (connection past))))
-        ≡ (is_id i (starts e.note) || (not (is_id i (ends e.note)) && (not b && waits starts ends i past)))
+    found : List Moment → Bool
+    found ms = since (λ m. is_id i (starts (note m))) (λ m. is_id i (ends (note m))) ms
+
+    more : Bool → Bool
+    more b = is_id i (starts e.note) || (not (is_id i (ends e.note)) && b)
+
+    idle : has_item e.note ≡ false → more false ≡ false
+    idle h = ap (λ o. is_id i o || (not (is_id i (ends e.note)) && false)) (itemless h) ∙ and_false (not (is_id i (ends e.note)))
+
+    go : (b : Bool) → more (cond b false (waits starts ends i past)) ≡ waits_next (starts e.note) (ends e.note) b i (waits starts ends i past)
     go true = refl
     go false = refl
 
 -- what waits after an event is what is kept
-pub waiting : (starts ends : Note → Option ℕ) (old new : ℕ → Bool) (e : Seen) (past : List Seen) → ((i : ℕ) → old i ≡ waits starts ends i past) → ((i : ℕ) → new i ≡ waits_next (starts e.note) (ends e.note) (is_open e.note) i (old i))
-    → (i : ℕ) → new i ≡ waits starts ends i (e ∷ past)
-waiting starts ends old new e past h is i = is i ∙ ap (waits_next (starts e.note) (ends e.note) (is_open e.note) i) (h i) ∙ sym (waits-under starts ends i e past)
+pub waiting : (starts ends : Note → Option ℕ) (old new : ℕ → Bool) (e : Seen) (past : List Seen) → (has_item e.note ≡ false → starts e.note ≡ None) → IsOnConnection e past → ((i : ℕ) → old i ≡ waits starts ends i past)
+    → ((i : ℕ) → new i ≡ waits_next (starts e.note) (ends e.note) (is_boundary e.note) i (old i)) → (i : ℕ) → new i ≡ waits starts ends i (e ∷ past)
+waiting starts ends old new e past itemless on h is i = is i ∙ ap (waits_next (starts e.note) (ends e.note) (is_boundary e.note) i) (h i) ∙ sym (waits-under starts ends i e past itemless on)
+
+-- a connection is open after an event: it began with it, or it didn't end with it
+goes-on : (n : Note) (connected : Bool) → (is_open n || (not (is_close n) && connected)) ≡ true → (is_close n ≡ false) × (is_open n ≡ false → connected ≡ true)
+goes-on notes.Open connected h = (refl, λ closed. absurd (cc))
+goes-on notes.Close connected h = absurd (cc)
+goes-on notes.Rest connected h = (refl, λ closed. h)
+goes-on (notes.Release identifier) connected h = (refl, λ closed. h)
+goes-on (notes.Sent item) connected h = (refl, λ closed. h)
+goes-on (notes.Recv item) connected h = (refl, λ closed. h)
+
+-- what is in delivery where a connection is open
+pub delivering-waits : (old new : ℕ → Bool) (e : Seen) (past : List Seen) → IsOnConnection e past → (is_connected past ≡ true → (i : ℕ) → old i ≡ waits delivery_of closer_of i past)
+    → (is_close e.note ≡ false → (i : ℕ) → new i ≡ waits_next (delivery_of e.note) (closer_of e.note) (is_open e.note) i (old i)) → is_connected (e ∷ past) ≡ true → (i : ℕ) → new i ≡ waits delivery_of closer_of i (e ∷ past)
+delivering-waits old new e past on was is connected i =
+    let parts = goes-on e.note (is_connected past) connected in
+    is parts.0 i
+    ∙ go (is_open e.note) parts.1
+    ∙ ap (λ b. waits_next (delivery_of e.note) (closer_of e.note) b i (waits delivery_of closer_of i past)) (sym (boundary-opens e.note parts.0))
+    ∙ sym (waits-under delivery_of closer_of i e past (delivery-none e.note) on)
+  where
+    go : (b : Bool) → (b ≡ false → is_connected past ≡ true) → waits_next (delivery_of e.note) (closer_of e.note) b i (old i) ≡ waits_next (delivery_of e.note) (closer_of e.note) b i (waits delivery_of closer_of i past)
+    go true h = refl
+    go false h = ap (waits_next (delivery_of e.note) (closer_of e.note) false i) (was (h refl) i)
 
 resent_by-same : (o : Option ℕ) (p q : ℕ → Option Entry) → ((i : ℕ) → p i ≡ q i) → resent_by o p ≡ resent_by o q
 resent_by-same None p q h = refl

@@ -10,7 +10,7 @@ use Rattle.mq_rules.specs.Words.{is_id}
 use Rattle.mq_rules.specs.Notes.{received_subscription, sent_as, received_as, subscribe_in, suback_in, unsubscribe_in, unsuback_in}
 use Rattle.mq_rules.specs.Moments.{Moment, note, moments, some, since}
 use Rattle.mq_rules.specs.Burden.{aliases_sent}
-use Rattle.mq_rules.specs.Connections.{number, connection, latest_fate, voided, fate_under, session}
+use Rattle.mq_rules.specs.Connections.{number, connection, on_open, latest_fate, voided, fate_under, session}
 use Rattle.mq_rules.specs.Identifiers.{opens_id, closes_id, delivers}
 use Rattle.mq_rules.specs.Exchanges.{Exchange, causes, answers, publish_puback, publish_pubrec, pubrec_pubrel, pubrel_pubcomp, subscribe_suback, unsubscribe_unsuback}
 use Rattle.mq_rules.specs.Releases.{brings, releases_message, ends}
@@ -35,20 +35,20 @@ ids_where test = count_below test 65536
 unfoldable pub open_ids : Role → Option Fate → List Seen → ℕ
 open_ids role taken log = ids_where (λ i. since (opens_id i) (closes_id i) (session role taken log))
 
--- how many have a PUBLISH of QoS above 0 sent on the latest connection, and no closer after it there
+-- how many have a PUBLISH of QoS above 0 sent on the connection that is open, and no closer after it
 unfoldable pub delivering_ids : List Seen → ℕ
-delivering_ids log = ids_where (λ i. since (delivers i) (closes_id i) (connection log))
+delivering_ids log = ids_where (λ i. since (delivers i) (closes_id i) (on_open log))
 
 -- how many had a PUBLISH of QoS above 0 sent on a void connection
 unfoldable pub void_ids : Role → Option Fate → List Seen → ℕ
 void_ids role taken log = ids_where (λ i. some (λ m. delivers i m && voided (fate_under role taken log (number m))) (moments log))
 
--- how many have a SUBSCRIBE sent on the latest connection, and no SUBACK received after it there; the same for UNSUBSCRIBE and UNSUBACK
+-- how many have a SUBSCRIBE sent on the connection that is open, and no SUBACK received after it; the same for UNSUBSCRIBE and UNSUBACK
 unfoldable pub subscribing_ids : List Seen → ℕ
-subscribing_ids log = ids_where (λ i. since (λ m. is_id i (sent_as subscribe_in (note m))) (λ m. is_id i (received_as suback_in (note m))) (connection log))
+subscribing_ids log = ids_where (λ i. since (λ m. is_id i (sent_as subscribe_in (note m))) (λ m. is_id i (received_as suback_in (note m))) (on_open log))
 
 unfoldable pub unsubscribing_ids : List Seen → ℕ
-unsubscribing_ids log = ids_where (λ i. since (λ m. is_id i (sent_as unsubscribe_in (note m))) (λ m. is_id i (received_as unsuback_in (note m))) (connection log))
+unsubscribing_ids log = ids_where (λ i. since (λ m. is_id i (sent_as unsubscribe_in (note m))) (λ m. is_id i (received_as unsuback_in (note m))) (on_open log))
 
 -- ---- what is received (MQTT 5.0, sections 3.8.4, 3.10.4 and 4.3)
 

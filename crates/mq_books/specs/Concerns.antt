@@ -6,7 +6,7 @@ use Rattle.mq_rules.specs.declared.rule.Rule.{Rule}
 use Rattle.mq_rules.specs.declared.rule.Rule.TheVariants.{B01}
 use Rattle.mq_rules.specs.declared.note.Note.{Note}
 use Rattle.mq_rules.specs.declared.note.Seen.{Seen}
-use Rattle.mq_rules.specs.Notes.{is_open, is_rest, is_release, released_id, received_exactly_once, sent_as, received_as, ended_in, unmatched_pubrec_in, success_pubcomp_in, received_subscription, sent_grant, sent_publish, delivery_of, closer_of, opener_of, resend_of, pubrel_in, accepting_pubrec_in, subscribe_in, suback_in, unsubscribe_in, unsuback_in, is_received_pingreq, is_sent_pingresp}
+use Rattle.mq_rules.specs.Notes.{is_open, is_boundary, is_rest, is_release, released_id, received_exactly_once, sent_as, received_as, ended_in, unmatched_pubrec_in, success_pubcomp_in, received_subscription, sent_grant, sent_publish, delivery_of, closer_of, opener_of, resend_of, pubrel_in, accepting_pubrec_in, subscribe_in, suback_in, unsubscribe_in, unsuback_in, is_received_pingreq, is_sent_pingresp}
 use Rattle.mq_rules.specs.Pasts.{set_alias}
 use Rattle.mq_rules.specs.Exchanges.{Exchange}
 use Rattle.mq_rules.specs.Rules.{binds}
@@ -58,4 +58,4 @@ moves_identifiers n =
     || ((is_some (sent_as subscribe_in n) || is_some (received_as suback_in n)) || (is_some (sent_as unsubscribe_in n) || is_some (received_as unsuback_in n))))
 
 abbrev pub concerns_flight : Tested → Note → Bool
-concerns_flight tested n = is_open n || (is_rest n || (ends_by n || (moves_identifiers n || (is_some (announced tested.role n) || is_some (bounds_by tested.role n)))))
+concerns_flight tested n = is_boundary n || (is_rest n || (ends_by n || (moves_identifiers n || (is_some (announced tested.role n) || is_some (bounds_by tested.role n)))))

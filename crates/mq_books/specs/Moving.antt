@@ -8,7 +8,7 @@ use Rattle.mq_rules.specs.declared.role.Tested.{Tested}
 use Rattle.mq_rules.specs.declared.note.Note.{Note}
 use Rattle.mq_rules.specs.declared.note.Seen.{Seen}
 use Rattle.mq_rules.specs.Words.{is_some_and, is_id}
-use Rattle.mq_rules.specs.Notes.{is_open, is_rest, closer_of, delivery_of, opener_of, resend_of, sent_as, received_as, pubrel_in, accepting_pubrec_in, subscribe_in, suback_in, unsubscribe_in, unsuback_in}
+use Rattle.mq_rules.specs.Notes.{is_open, is_boundary, is_rest, closer_of, delivery_of, opener_of, resend_of, sent_as, received_as, pubrel_in, accepting_pubrec_in, subscribe_in, suback_in, unsubscribe_in, unsuback_in}
 use Rattle.mq_rules.specs.Connections.{latest_fate}
 use Rattle.mq_rules.specs.Identifiers.{taken_by}
 use Rattle.mq_rules.specs.FaultKeys.{FaultMap}
@@ -26,6 +26,7 @@ use Rattle.mq_books.specs.Using.{is_inflight, IsUsing}
 -- the last.
 pub record Moves (n : Note) (opener : Option ℕ) (exactly_once : Bool) (closer pubrel pubrec : Option ℕ) : Type 0 where
   pub closed : is_open n ≡ false
+  pub inside : is_boundary n ≡ false
   pub awake : is_rest n ≡ false
   pub unended : ends_by n ≡ false
   pub delivers : delivery_of n ≡ opener

@@ -108,7 +108,7 @@ frees_identifier (Disconnect note) = true
 frees_identifier _ = false
 
 abbrev pub may_concern_identifiers : Note → Bool
-may_concern_identifiers = selects uses_identifier frees_identifier false true false true
+may_concern_identifiers = selects uses_identifier frees_identifier true true false true
 
 -- ---- the send quota (MQTT 5.0, section 4.9)
 

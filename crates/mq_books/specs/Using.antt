@@ -1,5 +1,5 @@
 -- What the book of identifiers in use keeps.
-use Rattle.std.specs.Prelude.{ℕ, ◌≡◌, nat_eq, nat_le, nat_lt, length, Bool, false, ◌&&◌, ◌||◌, not, cond, List, [], ◌∷◌, Option, Some, None, is_some}
+use Rattle.std.specs.Prelude.{ℕ, ◌≡◌, nat_eq, nat_le, nat_lt, length, Bool, true, false, ◌&&◌, ◌||◌, not, cond, List, [], ◌∷◌, Option, Some, None, is_some}
 use Rattle.indexmap.specs.IndexMap.{get, IsUnique}
 use Rattle.indexmap.specs.IndexSet.{contains}
 use Rattle.mq_trace.specs.declared.place.Place3.{Place3}
@@ -11,9 +11,9 @@ use Rattle.mq_rules.specs.declared.rule.Rule.TheVariants.{S01, S02, S03, S04, S0
 use Rattle.mq_rules.specs.declared.note.Note.{Note}
 use Rattle.mq_rules.specs.declared.note.Seen.{Seen}
 use Rattle.mq_rules.specs.Words.{is_some_and, is_id}
-use Rattle.mq_rules.specs.Notes.{is_open, closer_of, delivery_of, resend_of, sent_as, received_as, subscribe_in, suback_in, unsubscribe_in, unsuback_in}
+use Rattle.mq_rules.specs.Notes.{is_open, is_boundary, closer_of, delivery_of, resend_of, sent_as, received_as, subscribe_in, suback_in, unsubscribe_in, unsuback_in}
 use Rattle.mq_rules.specs.Moments.{note, moments, some, since, those}
-use Rattle.mq_rules.specs.Connections.{number, connection, accepts, voided, fate_under, session, ends_binding}
+use Rattle.mq_rules.specs.Connections.{number, is_connected, connection, on_open, accepts, voided, fate_under, session, ends_binding}
 use Rattle.mq_rules.specs.Identifiers.{delivers, taken_by, counts}
 use Rattle.mq_rules.specs.Counter.{in_flight}
 use Rattle.mq_rules.specs.Rules.{same_rule, binds}
@@ -25,23 +25,24 @@ use Rattle.mq_books.specs.Quotas.{judged_by, peer_room}
 use Rattle.mq_books.specs.Opened.{entry_in}
 use Rattle.mq_books.specs.Resending.{opened_at, peer_bounds, IsResent}
 
--- on the latest connection, something was begun under i by the first, and not ended by the second since
+-- on the connection that is open, something was begun under i by the first, and not ended by the second since
 abbrev pub waits : (Note → Option ℕ) → (Note → Option ℕ) → ℕ → List Seen → Bool
-waits starts ends i past = since (λ m. is_id i (starts (note m))) (λ m. is_id i (ends (note m))) (connection past)
+waits starts ends i past = since (λ m. is_id i (starts (note m))) (λ m. is_id i (ends (note m))) (on_open past)
 
+-- whether it is so after an event, where nothing waits over the beginning and the end of a connection
 abbrev pub waits_next : Option ℕ → Option ℕ → Bool → ℕ → Bool → Bool
-waits_next starts ends opens i old = is_id i starts || (not (is_id i ends) && (not opens && old))
+waits_next starts ends boundary i old = is_id i starts || (not (is_id i ends) && (not boundary && old))
 
--- a PUBLISH was sent under i on the latest connection, whose OPEN is at this position, and not acknowledged there since: what is open says so itself, and the others are listed
+-- a PUBLISH was sent under i on the connection that is open, whose OPEN is at this position, and not acknowledged there since: what is open in the session says so itself, and the others are listed
 abbrev pub in_delivery : ℕ → (ℕ → Option Entry) → (ℕ → Bool) → ℕ → Bool
 in_delivery opened entry stray i = stray i || is_some_and (λ o. nat_le opened o.published) (entry i)
 
 abbrev pub delivering : Inflight → ℕ → Bool
 delivering s = in_delivery s.opened (get nat_eq s.entries) (contains nat_eq s.stray)
 
--- whether it is listed after an event of a connection with this fate, where this is then kept of what is open
+-- whether it is listed after an event of a connection with this fate, where this is then kept of what is open; none is when a connection begins or ends
 abbrev pub stray_next : Fate → Note → (ℕ → Option Entry) → ℕ → Bool → Bool
-stray_next f n entry i old = cond (is_open n) false ((is_id i (delivery_of n) && not (accepts f && is_some (entry i))) || (not (is_id i (closer_of n)) && old))
+stray_next f n entry i old = cond (is_boundary n) false ((is_id i (delivery_of n) && not (accepts f && is_some (entry i))) || (not (is_id i (closer_of n)) && old))
 
 -- No PUBLISH is later than these events, and none of what is open was sent on a connection that isn't accepted.
 pub record ArePublished (f : Fate) (opened : ℕ) (entry : ℕ → Option Entry) (past : List Seen) : Type 0 where
@@ -121,7 +122,8 @@ pub record IsUsing (s : Inflight) (tested : Tested) (taken : Option Fate) (past 
   pub is_ordered : s.ordered ≡ binds S05 tested
   pub distinct : IsUnique nat_eq s.entries
   pub entries_are : (i : ℕ) → get nat_eq s.entries i ≡ entry_in i (session tested.role taken past)
-  pub delivering_are : (i : ℕ) → delivering s i ≡ waits delivery_of closer_of i past
+  pub delivering_are : is_connected past ≡ true → (i : ℕ) → delivering s i ≡ waits delivery_of closer_of i past
+  pub stray_are : (i : ℕ) → contains nat_eq s.stray i ≡ true → is_connected past ≡ true
   pub published_are : ArePublished s.fate s.opened (get nat_eq s.entries) past
   pub void_are : (i : ℕ) → contains nat_eq s.void i ≡ void_sent tested.role i taken past
   pub subscribing_are : (i : ℕ) → contains nat_eq s.subscribing i ≡ waits (sent_as subscribe_in) (received_as suback_in) i past

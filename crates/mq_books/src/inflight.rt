@@ -5,7 +5,7 @@ ghost use Rattle.std.specs.Option.{option_or};
 ghost use Rattle.indexmap.specs.IndexMap.{get, IsUnique};
 ghost use Rattle.indexmap.specs.IndexSet.{contains};
 ghost use Rattle.mq_rules.specs.declared.fate.Fate.TheVariants.{Void};
-ghost use Rattle.mq_rules.specs.Notes.{sent_as, received_as, subscribe_in, suback_in, unsubscribe_in, unsuback_in, is_open as opens};
+ghost use Rattle.mq_rules.specs.Notes.{sent_as, received_as, subscribe_in, suback_in, unsubscribe_in, unsuback_in, is_open as opens, is_boundary};
 ghost use Rattle.mq_rules.specs.Under.{IsKnown, turns_known};
 ghost use Rattle.mq_books.specs.Burden.{open_ids, delivering_ids, void_ids, subscribing_ids, unsubscribing_ids};
 ghost use Rattle.mq_books.specs.Pingings.{ends_by};
@@ -57,14 +57,14 @@ pub struct Inflight {
     confirmed: IndexSet<u16>,
     /// What is known to have been sent again on the connection.
     again: Resent,
-    /// Those of PUBLISH packets that were sent on the connection, and not acknowledged there since,
-    /// but for those whose PUBLISH is in its entry.
+    /// Those of PUBLISH packets that were sent on the connection that is open, and not acknowledged
+    /// there since, but for those whose PUBLISH is in its entry.
     stray: IndexSet<u16>,
     /// Those of PUBLISH packets that were sent on void connections.
     void: IndexSet<u16>,
-    /// Those of SUBSCRIBE packets that were sent on the connection, and not answered.
+    /// Those of SUBSCRIBE packets that were sent on the connection that is open, and not answered.
     subscribing: IndexSet<u16>,
-    /// Those of UNSUBSCRIBE packets that were sent on the connection, and not answered.
+    /// Those of UNSUBSCRIBE packets that were sent on the connection that is open, and not answered.
     unsubscribing: IndexSet<u16>,
     /// The greatest position of an opener whose PUBLISH was sent again on the connection.
     resent: u32,
@@ -80,17 +80,17 @@ pub struct Inflight {
     bounds: Option<bool>,
 }
 
-// Puts in what is begun, after what is ended is out. An OPEN ends all.
+// Puts in what is begun, after what is ended is out. An OPEN and a CLOSE end all.
 fn await_answer(
     waiting: &mut IndexSet<u16>,
     alloc: Global,
-    opens: bool,
+    boundary: bool,
     begun: Option<u16>,
     ended: Option<u16>,
 ) -> Result<(), Memory>
-    ensures { OnOk result ((i : ℕ) → contains nat_eq waiting.new i ≡ waits_next begun ended opens i (contains nat_eq waiting.old i)) }
+    ensures { OnOk result ((i : ℕ) → contains nat_eq waiting.new i ≡ waits_next begun ended boundary i (contains nat_eq waiting.old i)) }
 {
-    if opens {
+    if boundary {
         // A large set that is cleared costs its size each time.
         *waiting = IndexSet::new(alloc);
     }
@@ -127,13 +127,9 @@ fn take_stray(
 ) -> Result<(), Memory>
     ensures { OnOk result ((i : ℕ) → contains nat_eq stray.new i ≡ stray_next fate note.now (get nat_eq entries.now) i (contains nat_eq stray.old i)) }
 {
-    await_answer(
-        stray,
-        alloc,
-        note.is_open(),
-        unkept(entries, fate, note.delivery()),
-        note.closer(),
-    )?;
+    let begun = unkept(entries, fate, note.delivery());
+    let ended = note.closer();
+    await_answer(stray, alloc, note.is_boundary(), begun, ended)?;
     Ok(())
 }
 
@@ -158,15 +154,11 @@ fn take_subscribing(
     alloc: Global,
     note: &Note,
 ) -> Result<(), Memory>
-    ensures { OnOk result ((i : ℕ) → contains nat_eq subscribing.new i ≡ waits_next (sent_as subscribe_in note.now) (received_as suback_in note.now) (opens note.now) i (contains nat_eq subscribing.old i)) }
+    ensures { OnOk result ((i : ℕ) → contains nat_eq subscribing.new i ≡ waits_next (sent_as subscribe_in note.now) (received_as suback_in note.now) (is_boundary note.now) i (contains nat_eq subscribing.old i)) }
 {
-    await_answer(
-        subscribing,
-        alloc,
-        note.is_open(),
-        note.sent_subscribe(),
-        note.received_suback(),
-    )?;
+    let begun = note.sent_subscribe();
+    let ended = note.received_suback();
+    await_answer(subscribing, alloc, note.is_boundary(), begun, ended)?;
     Ok(())
 }
 
@@ -176,15 +168,11 @@ fn take_unsubscribing(
     alloc: Global,
     note: &Note,
 ) -> Result<(), Memory>
-    ensures { OnOk result ((i : ℕ) → contains nat_eq unsubscribing.new i ≡ waits_next (sent_as unsubscribe_in note.now) (received_as unsuback_in note.now) (opens note.now) i (contains nat_eq unsubscribing.old i)) }
+    ensures { OnOk result ((i : ℕ) → contains nat_eq unsubscribing.new i ≡ waits_next (sent_as unsubscribe_in note.now) (received_as unsuback_in note.now) (is_boundary note.now) i (contains nat_eq unsubscribing.old i)) }
 {
-    await_answer(
-        unsubscribing,
-        alloc,
-        note.is_open(),
-        note.sent_unsubscribe(),
-        note.received_unsuback(),
-    )?;
+    let begun = note.sent_unsubscribe();
+    let ended = note.received_unsuback();
+    await_answer(unsubscribing, alloc, note.is_boundary(), begun, ended)?;
     Ok(())
 }
 
@@ -246,8 +234,8 @@ impl Inflight {
         ensures entries { OnOk result ((i : ℕ) → get nat_eq self.new.entries i ≡ entry_next fate note.now at i (get nat_eq self.old.entries i)) }
         ensures stray { OnOk result ((i : ℕ) → contains nat_eq self.new.stray i ≡ stray_next fate note.now (get nat_eq self.new.entries) i (contains nat_eq self.old.stray i)) }
         ensures void { OnOk result ((i : ℕ) → contains nat_eq self.new.void i ≡ void_next fate note.now i (contains nat_eq self.old.void i)) }
-        ensures subscribing { OnOk result ((i : ℕ) → contains nat_eq self.new.subscribing i ≡ waits_next (sent_as subscribe_in note.now) (received_as suback_in note.now) (opens note.now) i (contains nat_eq self.old.subscribing i)) }
-        ensures unsubscribing { OnOk result ((i : ℕ) → contains nat_eq self.new.unsubscribing i ≡ waits_next (sent_as unsubscribe_in note.now) (received_as unsuback_in note.now) (opens note.now) i (contains nat_eq self.old.unsubscribing i)) }
+        ensures subscribing { OnOk result ((i : ℕ) → contains nat_eq self.new.subscribing i ≡ waits_next (sent_as subscribe_in note.now) (received_as suback_in note.now) (is_boundary note.now) i (contains nat_eq self.old.subscribing i)) }
+        ensures unsubscribing { OnOk result ((i : ℕ) → contains nat_eq self.new.unsubscribing i ≡ waits_next (sent_as unsubscribe_in note.now) (received_as unsuback_in note.now) (is_boundary note.now) i (contains nat_eq self.old.unsubscribing i)) }
         ensures resent { OnOk result (self.new.resent ≡ resent_next note.now (get nat_eq self.old.entries) self.old.resent) }
         ensures ended { OnOk result (self.new.ended ≡ (ends_by note.now || (not (opens note.now) && self.old.ended))) }
         ensures opened { OnOk result (self.new.opened ≡ cond (opens note.now) at.position self.old.opened) }
@@ -362,8 +350,8 @@ fn may_concern_identifiers(note: &Note) -> bool
     ensures { result ≡ selecting.may_concern_identifiers note.now }
 {
     match note {
-        Note::Open | Note::Rest => true,
-        Note::Close | Note::Release(_) => false,
+        Note::Open | Note::Close | Note::Rest => true,
+        Note::Release(_) => false,
         Note::Sent(ItemNote::Packet(packet)) => uses_identifier(&packet.fields),
         Note::Recv(ItemNote::Packet(packet)) => frees_identifier(&packet.fields),
         Note::Sent(_) | Note::Recv(_) => true,
