@@ -32,6 +32,7 @@ pub mod StandingLaws
 pub mod DeliveryLaws
 pub mod KeepLaws
 pub mod ConcernLaws
+pub mod RequestLaws
 pub mod UsingConcernLaws
 pub mod MovingLaws
 pub mod SelectingLaws
@@ -44,3 +45,4 @@ pub mod AwaitedLaws
 pub mod StandLaws
 pub mod StandingSizeLaws
 pub mod AskingSizeLaws
+pub mod BurdenLaws

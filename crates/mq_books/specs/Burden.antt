@@ -5,6 +5,8 @@ use Rattle.std.specs.Str.{bytes_eq}
 use Rattle.mq_rules.specs.declared.role.Role.{Role}
 use Rattle.mq_rules.specs.declared.role.Tested.{Tested}
 use Rattle.mq_rules.specs.declared.fate.Fate.{Fate}
+use Rattle.mq_rules.specs.declared.rule.Rule.{Rule}
+use Rattle.mq_rules.specs.declared.rule.Rule.TheVariants.{E1R, E2R, E3R, E4R, E5R, E6R}
 use Rattle.mq_rules.specs.declared.note.Seen.{Seen}
 use Rattle.mq_rules.specs.Words.{is_id}
 use Rattle.mq_rules.specs.Notes.{received_subscription, sent_as, received_as, subscribe_in, suback_in, unsubscribe_in, unsuback_in}
@@ -12,6 +14,7 @@ use Rattle.mq_rules.specs.Moments.{Moment, note, moments, some, since}
 use Rattle.mq_rules.specs.Burden.{aliases_sent}
 use Rattle.mq_rules.specs.Connections.{number, connection, on_open, latest_fate, voided, fate_under, session}
 use Rattle.mq_rules.specs.Identifiers.{opens_id, closes_id, delivers}
+use Rattle.mq_rules.specs.Rules.{binds_end}
 use Rattle.mq_rules.specs.Exchanges.{Exchange, causes, answers, publish_puback, publish_pubrec, pubrec_pubrel, pubrel_pubcomp, subscribe_suback, unsubscribe_unsuback}
 use Rattle.mq_rules.specs.Releases.{brings, releases_message, ends}
 use Rattle.mq_rules.specs.Subscriptions.{Standing, last_set}
@@ -55,6 +58,10 @@ unsubscribing_ids log = ids_where (λ i. since (λ m. is_id i (sent_as unsubscri
 -- how many have a cause of the exchange in the session
 unfoldable pub caused_ids : Exchange → Role → Option Fate → List Seen → ℕ
 caused_ids x role taken log = ids_where (λ i. some (causes x i) (session role taken log))
+
+-- the same, if the exchange binds the tested end by its statement on a REST; 0 if it doesn't
+abbrev pub owing_ids : Rule → Exchange → Role → Option Fate → List Seen → ℕ
+owing_ids settled x role taken log = cond (binds_end settled role) (caused_ids x role taken log) 0
 
 -- how many have a cause of the exchange on the latest connection, and no answer after it there
 unfoldable pub unanswered_ids : Exchange → List Seen → ℕ
@@ -102,8 +109,8 @@ sending_burden role taken log = open_ids role taken log + delivering_ids log + v
 
 abbrev pub exchange_burden : Role → Option Fate → List Seen → ℕ
 exchange_burden role taken log =
-    caused_ids publish_puback role taken log + caused_ids publish_pubrec role taken log + caused_ids pubrec_pubrel role taken log
-    + caused_ids pubrel_pubcomp role taken log + caused_ids subscribe_suback role taken log + caused_ids unsubscribe_unsuback role taken log
+    owing_ids E1R publish_puback role taken log + owing_ids E2R publish_pubrec role taken log + owing_ids E3R pubrec_pubrel role taken log
+    + owing_ids E4R pubrel_pubcomp role taken log + owing_ids E5R subscribe_suback role taken log + owing_ids E6R unsubscribe_unsuback role taken log
 
 abbrev pub release_burden : Role → Option Fate → List Seen → ℕ
 release_burden role taken log = brought_ids role taken log + released_ids role taken log

@@ -14,6 +14,7 @@ pub mod Releasing
 pub mod Countings
 pub mod Standings
 pub mod Grouping
+pub mod Requesting
 pub mod Concerns
 pub mod Selecting
 pub mod Burden

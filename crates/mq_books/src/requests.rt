@@ -1,10 +1,11 @@
 //! Requests to subscribe and to unsubscribe, and their answers: E5A to E6R (MQTT 5.0, sections
 //! 3.8.4 and 3.10.4).
-ghost use Rattle.std.specs.Prelude.{◌≡◌, [], Some};
+ghost use Rattle.std.specs.Prelude.{◌≡◌, cond, [], Some};
 ghost use Rattle.mq_rules.specs.declared.fate.Fate.TheVariants.{Void};
 ghost use Rattle.mq_rules.specs.Under.{turns_known};
 ghost use Rattle.mq_books.specs.Grouping.{of_requests, by_requests, requests_add};
 ghost use Rattle.mq_rules.specs.Notes.{note_of_bare};
+ghost use Rattle.mq_books.specs.Requesting.{binds_requests, AgreesIfBound};
 ghost use Rattle.mq_books.specs.Selecting as selecting;
 
 use crate::debts::Debts;
@@ -12,15 +13,16 @@ use crate::exchange::{E5, E6};
 use crate::fated::Fated;
 use crate::selective::Selective;
 use mq_rules::{
-    Bare, Both, Brisk, Fate, Faults, ItemNote, Memory, Note, PacketFields, Tested, Watch,
+    Bare, Both, Brisk, Fate, Faults, ItemNote, Memory, Note, PacketFields, Rule, Tested, Watch,
     step_apart,
 };
 use mq_trace::Place3;
 use std::alloc::Global;
 
-/// Watches what a server owes for each SUBSCRIBE and UNSUBSCRIBE: E5A to E6R.
+/// Watches what a server owes for each SUBSCRIBE and UNSUBSCRIBE: E5A to E6R. They bind no client:
+/// for one it keeps nothing.
 pub struct Requests {
-    watchers: Both<Debts<E5>, Debts<E6>>,
+    watchers: Option<Both<Debts<E5>, Debts<E6>>>,
 }
 
 // As a derived one, but a call of its own.
@@ -38,28 +40,37 @@ impl Requests {
     pub fn new(alloc: Global, tested: Tested) -> Self
         ensures { ⟦<Requests as Watch>⟧.agrees result tested (Some Void) [] }
     {
+        if !Rule::E5R.binds(tested.role) {
+            return Requests { watchers: None };
+        }
         Requests {
-            watchers: Both::new(Debts::new(alloc, tested), Debts::new(alloc, tested)),
+            watchers: Some(Both::new(Debts::new(alloc, tested), Debts::new(alloc, tested))),
         }
     }
 }
 
 impl Watch for Requests {
-    ghost agrees = { λ s. ⟦<Both<Debts<E5>, Debts<E6>> as Watch>⟧.agrees s.watchers };
+    ghost agrees = { λ s. AgreesIfBound ⟦<Both<Debts<E5>, Debts<E6>> as Watch>⟧.agrees s.watchers };
 
     ghost takes = { ⟦<Both<Debts<E5>, Debts<E6>> as Watch>⟧.takes };
 
     ghost adds = { λ tested e past k r. by_requests r (turns_known tested e past k r) };
 
-    ghost bound = { ⟦<Both<Debts<E5>, Debts<E6>> as Watch>⟧.bound };
+    ghost bound = { λ tested taken past. cond (binds_requests tested.role) (⟦<Both<Debts<E5>, Debts<E6>> as Watch>⟧.bound tested taken past) 0 };
 
     fn step(&mut self, at: Place3, note: &Note, faults: &mut Faults) -> Result<(), Memory> {
-        self.watchers.step(at, note, faults)?;
+        let Some(watchers) = &mut self.watchers else {
+            return Ok(());
+        };
+        watchers.step(at, note, faults)?;
         Ok(())
     }
 
     fn weight(&self) -> usize {
-        self.watchers.weight()
+        match &self.watchers {
+            Some(watchers) => watchers.weight(),
+            None => 0,
+        }
     }
 }
 
@@ -74,7 +85,10 @@ impl Fated for Requests {
         note: &Note,
         faults: &mut Faults,
     ) -> Result<(), Memory> {
-        self.watchers.fated(at, decided, fate, note, faults)?;
+        let Some(watchers) = &mut self.watchers else {
+            return Ok(());
+        };
+        watchers.fated(at, decided, fate, note, faults)?;
         Ok(())
     }
 
@@ -95,7 +109,10 @@ impl Selective for Requests {
     ghost concerns = { ⟦<Both<Debts<E5>, Debts<E6>> as Selective>⟧.concerns };
 
     fn passes(&self) {
-        self.watchers.passes();
+        match &self.watchers {
+            Some(watchers) => watchers.passes(),
+            None => {}
+        }
     }
 
     #[inline(always)]

@@ -1,0 +1,48 @@
+-- No statement on requests is judged for an end that they don't bind.
+use Rattle.std.proofs.Common.{◌≡◌, ℕ, Bool, true, false, ◌&&◌, List, ◌∷◌, Option, Some, None, refl, ap, ◌∙◌}
+use Rattle.mq_rules.specs.declared.role.Role.{Role}
+use Rattle.mq_rules.specs.declared.role.Role.TheVariants.{Client, Server}
+use Rattle.mq_rules.specs.declared.role.Tested.{Tested}
+use Rattle.mq_rules.specs.declared.fate.Fate.{Fate}
+use Rattle.mq_rules.specs.declared.rule.Rule.{Rule}
+use Rattle.mq_rules.specs.declared.rule.Rule.TheVariants.{W01}
+use Rattle.mq_rules.specs.declared.note.Seen.{Seen}
+use Rattle.mq_rules.specs.Words.{is_some_and}
+use Rattle.mq_rules.specs.Connections.{latest_fate}
+use Rattle.mq_rules.specs.Statements.{statement}
+use Rattle.mq_rules.specs.Rules.{line_of, found_line, lines, binds}
+use Rattle.mq_rules.specs.FaultKeys.{FaultMap}
+use Rattle.mq_rules.specs.Under.{shows_with, turns_with, turns_known}
+use Rattle.mq_rules.specs.Growing.{Gains}
+use Rattle.mq_rules.proofs.Exports.{and_false, gains_nothing}
+use Rattle.mq_books.specs.Grouping.{of_requests, by_requests, requests_add}
+use Rattle.mq_books.specs.Requesting.{binds_requests}
+
+unbound : (role : Role) (releases : Bool) (r : Rule) → binds_requests role ≡ false → (of_requests r && binds r (record { role = role; releases = releases })) ≡ false
+unfolding line_of found_line lines
+unbound Client releases W01 h = refl
+unbound Client releases _ h = refl
+unbound Server releases r h = absurd (cc)
+
+first_two : (a b c : Bool) → (a && b) ≡ false → (a && (b && c)) ≡ false
+first_two false b c h = refl
+first_two true b c h = ap (λ t. t && c) h
+
+turns-none : (tested : Tested) → binds_requests tested.role ≡ false → (f : Fate) (e : Seen) (past : List Seen) (k : ℕ) (r : Rule) → (of_requests r && turns_with tested f e past k r) ≡ false
+unfolding turns_with
+turns-none tested h f e past k r = first_two (of_requests r) (binds r tested) (shows_with tested.role f (statement tested.role r) e past k) (unbound tested.role tested.releases r h)
+
+known-none : (tested : Tested) → binds_requests tested.role ≡ false → (e : Seen) (past : List Seen) (k : ℕ) (r : Rule) → (of_requests r && turns_known tested e past k r) ≡ false
+known-none tested h e past k r = go (latest_fate tested.role (e ∷ past))
+  where
+    go : (o : Option Fate) → (of_requests r && is_some_and (λ f. turns_with tested f e past k r) o) ≡ false
+    go None = and_false (of_requests r)
+    go (Some f) = turns-none tested h f e past k r
+
+-- nothing is added, whatever the fate of the connection
+pub unbound-gains : (tested : Tested) → binds_requests tested.role ≡ false → (f : Fate) (e : Seen) (past : List Seen) (at : ℕ) (m : FaultMap) → Gains (λ k r. of_requests r && turns_with tested f e past k r) tested (e ∷ past) at m m
+unbound-gains tested h f e past at m = gains_nothing (λ k r. of_requests r && turns_with tested f e past k r) tested (e ∷ past) at m (turns-none tested h f e past)
+
+pub unbound-adds : (tested : Tested) → binds_requests tested.role ≡ false → (e : Seen) (past : List Seen) (at : ℕ) (m : FaultMap) → Gains (λ k r. by_requests r (turns_known tested e past k r)) tested (e ∷ past) at m m
+unbound-adds tested h e past at m =
+    gains_nothing (λ k r. by_requests r (turns_known tested e past k r)) tested (e ∷ past) at m (λ k r. requests_add r (turns_known tested e past k r) ∙ known-none tested h e past k r)
