@@ -143,6 +143,27 @@ requests-unconcerned (notes.Recv (items.Packet p)) h = requests-received p.size 
 requests-unconcerned (notes.Recv (items.Bad first rule at)) h = absurd (cc)
 requests-unconcerned (notes.Recv items.Lost) h = absurd (cc)
 
+-- a packet without properties is no request, and answers none
+requests-bare : (direction : Direction) (size : ℕ) (fields : BareFields) → may_concern_requests (bare_note direction size (bare_fields direction fields)) ≡ false
+requests-bare Sent size (bares.Publish identifier qos duplicate topic) = refl
+requests-bare Sent size (bares.Puback identifier code) = refl
+requests-bare Sent size (bares.Pubrec identifier code) = refl
+requests-bare Sent size (bares.Pubrel identifier code) = refl
+requests-bare Sent size (bares.Pubcomp identifier code) = refl
+requests-bare Sent size bares.Pingreq = refl
+requests-bare Sent size bares.Pingresp = refl
+requests-bare Recv size (bares.Publish identifier qos duplicate topic) = refl
+requests-bare Recv size (bares.Puback identifier code) = refl
+requests-bare Recv size (bares.Pubrec identifier code) = refl
+requests-bare Recv size (bares.Pubrel identifier code) = refl
+requests-bare Recv size (bares.Pubcomp identifier code) = refl
+requests-bare Recv size bares.Pingreq = refl
+requests-bare Recv size bares.Pingresp = refl
+
+pub requests-unconcerned_bare : (b : Bare) → (exchange_concerns subscribe_suback (note_of_bare b) || exchange_concerns unsubscribe_unsuback (note_of_bare b)) ≡ false
+unfolding note_of_bare
+requests-unconcerned_bare b = requests-unconcerned (bare_note b.direction b.size (bare_fields b.direction b.fields)) (requests-bare b.direction b.size b.fields)
+
 -- ---- releases
 
 releases-sent : (size : ℕ) (a b : Bool) (fields : PacketFields) → ends_release fields ≡ false → concerns_releases (sent size a b fields) ≡ false
