@@ -12,7 +12,7 @@ use Rattle.mq_rules.specs.declared.note.Seen.{Seen}
 use Rattle.mq_rules.specs.Words.{is_id, only}
 use Rattle.mq_rules.specs.Notes.{is_open, Subscription, Grant, received_subscription, sent_grant}
 use Rattle.mq_rules.specs.Moments.{Moment, newest, note, moments, position, is_after, since, those, Among, HoldsSince}
-use Rattle.mq_rules.specs.Connections.{begun, number, of_connection, connection, latest_fate, begins, has_session, with_first, session}
+use Rattle.mq_rules.specs.Connections.{begun, number, of_connection, is_connected, connection, on_open, latest_fate, begins, has_session, with_first, session}
 use Rattle.mq_rules.specs.Exchanges.{causes, answers, subscribe_suback}
 use Rattle.mq_rules.specs.Subscriptions.{codes_under}
 use Rattle.mq_rules.proofs.Exports.{moments-descend, those-among, those-descend, since-stands, none-first_found}
@@ -166,9 +166,18 @@ waits-unanswered i log h =
         ∙ ap (waiting_by true (codes_in log s.at)) r.1
         ∙ ap (λ c. only (is_none {T = List ℕ} c) (Some (asked r.0))) (ap (codes_in log s.at) (sym (eqb-true i r.0.identifier r.2)) ∙ no-codes)
 
+-- what has no answer yet on the open connection has none on the latest one
+open-latest : (starts ends : Moment → Bool) (log : List Seen) → since starts ends (on_open log) ≡ true → since starts ends (connection log) ≡ true
+open-latest starts ends log = go (is_connected log)
+  where
+    go : (b : Bool) → since starts ends (cond b (connection log) []) ≡ true → since starts ends (connection log) ≡ true
+    go true h = h
+    go false h = absurd (cc)
+
 pub unanswered-within : (log : List Seen) → unanswered_ids subscribe_suback log ≤ asked_filters log
 unfolding unanswered_ids asked_filters
 unanswered-within log =
-    let listed = ids-listed (λ i. since (causes subscribe_suback i) (answers subscribe_suback i) (connection log)) (named log (connection log)) (λ i h. waits-unanswered i log h) in
+    let listed = ids-listed (λ i. since (causes subscribe_suback i) (answers subscribe_suback i) (on_open log)) (named log (connection log))
+    (λ i h. waits-unanswered i log (open-latest (causes subscribe_suback i) (answers subscribe_suback i) log h)) in
     let long = named-length log (connection log) in
     omega (arith, listed, long)

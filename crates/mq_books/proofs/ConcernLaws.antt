@@ -17,7 +17,7 @@ use Rattle.mq_rules.specs.declared.packet_note.PublishNote.{PublishNote}
 use Rattle.mq_rules.specs.declared.note.Note.{Note}
 use Rattle.mq_rules.specs.declared.note.Seen.{Seen}
 use Rattle.mq_rules.specs.Words.{is_some_and, is_id, only}
-use Rattle.mq_rules.specs.Notes.{is_open, is_rest, is_release, released_id, received_exactly_once, sent_as, received_as, ended_in, unmatched_pubrec_in, success_pubcomp_in, received_subscription, sent_grant, sent_publish, delivery_of, closer_of, is_received_pingreq, is_sent_pingresp}
+use Rattle.mq_rules.specs.Notes.{is_open, is_close, is_boundary, is_rest, is_release, released_id, received_exactly_once, sent_as, received_as, ended_in, unmatched_pubrec_in, success_pubcomp_in, received_subscription, sent_grant, sent_publish, delivery_of, closer_of, is_received_pingreq, is_sent_pingresp}
 use Rattle.mq_rules.specs.Moments.{Moment}
 use Rattle.mq_rules.specs.Connections.{latest_fate, accepts, begins}
 use Rattle.mq_rules.specs.Pasts.{set_alias}
@@ -97,12 +97,13 @@ pub counted-passes : (tested : Tested) (rule : Rule) (c : Counting) (breaks : Mo
     → IsCounted c fate counts (Some f) (e ∷ past) × ((m : FaultMap) → Gains (λ k r. same_rule r rule && turns_with tested f e past k r) tested (e ∷ past) at m m)
 counted-passes tested rule c breaks is says plain fate f counts at e past bound h under judged was =
     let n = e.note in
-    let h1 = neither (is_open n) (is_some (c.request n) || is_some (c.reply n)) h in
+    let h1 = neither (is_boundary n) (is_some (c.request n) || is_some (c.reply n)) h in
     let h2 = neither (is_some (c.request n)) (is_some (c.reply n)) h1.1 in
-    let o : IsCounted c fate counts (Some f) past = subst (λ (t : Option Fate). IsCounted c fate counts t past) (sym (closed-before tested f e past h1.0)) was in
+    let h3 = neither (is_open n) (is_close n) h1.0 in
+    let o : IsCounted c fate counts (Some f) past = subst (λ (t : Option Fate). IsCounted c fate counts t past) (sym (closed-before tested f e past h3.0)) was in
     let asks : c.request n ≡ None = nothing (c.request n) h2.0 in
     let gives : c.reply n ≡ None = nothing (c.reply n) h2.1 in
-    let next : IsCounted c f counts (Some f) (e ∷ past) = counted-next c breaks is fate f counts counts (Some f) e past o (λ i. sym (
+    let next : IsCounted c f counts (Some f) (e ∷ past) = counted-next c breaks is fate f counts counts (Some f) e past under.follows.on_connections.0 o (λ i. sym (
     ap (λ b. counted_next b (c.request n) (c.reply n) i (counts i)) h1.0
     ∙ ap (λ q. counted_next false q (c.reply n) i (counts i)) asks
     ∙ ap (λ q. counted_next false None q i (counts i)) gives

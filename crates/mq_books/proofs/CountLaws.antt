@@ -6,17 +6,18 @@ use Rattle.mq_rules.specs.declared.role.Tested.{Tested}
 use Rattle.mq_rules.specs.declared.fate.Fate.{Fate}
 use Rattle.mq_rules.specs.declared.rule.Rule.{Rule}
 use Rattle.mq_rules.specs.declared.note.Note.{Note}
+use Rattle.mq_rules.specs.declared.note.Note.TheVariants as notes
 use Rattle.mq_rules.specs.declared.note.Seen.{Seen}
 use Rattle.mq_rules.specs.Words.{is_some_and, is_id}
-use Rattle.mq_rules.specs.Notes.{is_open}
+use Rattle.mq_rules.specs.Notes.{is_boundary, sent_fields, received_fields}
 use Rattle.mq_rules.specs.Moments.{Moment, newest, note, is_next, earliest_since}
-use Rattle.mq_rules.specs.Connections.{connection, accepts}
+use Rattle.mq_rules.specs.Connections.{is_connected, on_open, accepts, needs_connection, IsOnConnection}
 use Rattle.mq_rules.specs.Exchanges.{causes, answers, first_unanswered}
 use Rattle.mq_rules.specs.Statements.{statement, in_session}
 use Rattle.mq_rules.specs.Rules.{binds, same_rule}
 use Rattle.mq_rules.specs.Faults.{offset_of}
 use Rattle.mq_rules.specs.FaultKeys.{FaultMap}
-use Rattle.mq_rules.proofs.Exports.{connection-newest as connection-next}
+use Rattle.mq_rules.proofs.Exports.{has_item, not_true, on_open-connected, on_open-fold}
 use Rattle.mq_books.specs.declared.counts.Counted.{Counted}
 use Rattle.mq_rules.specs.Under.{IsUnder, turns_with}
 use Rattle.mq_rules.specs.Growing.{Gains}
@@ -42,19 +43,49 @@ named-counted : (i : ℕ) (o : Option Counted) → names i o ≡ true → (n : �
 named-counted i None h = absurd (cc)
 named-counted i (Some c) h = (c.count, refl)
 
-first-next : (c : Counting) (breaks : Moment → Bool) → IsCounting c breaks → (i : ℕ) (e : Seen) (past : List Seen)
-    → first_count c i (e ∷ past) ≡ counted_next (is_open e.note) (c.request e.note) (c.reply e.note) i (first_count c i past)
-first-next c breaks is i e past =
-    ap (λ ms. option_and_then counts (earliest_since (causes c.exchange i) (answers c.exchange i) ms)) (connection-next e past)
-    ∙ go (is_open e.note)
-    ∙ ap (λ b. option_or (cond b None (cond (is_open e.note) None (first_count c i past))) (cond (is_id i (c.exchange.cause e.note)) (count_in (c.request e.note)) None)) (is.answers_are e.note i)
-    ∙ ap (λ b. option_or (cond (names i (c.reply e.note)) None (cond (is_open e.note) None (first_count c i past))) (cond b (count_in (c.request e.note)) None)) (is.causes_are e.note i)
+-- what is neither sent nor received has no packet
+none-received : (n : Note) → has_item n ≡ false → received_fields n ≡ None
+none-received notes.Open h = refl
+none-received notes.Close h = refl
+none-received notes.Rest h = refl
+none-received (notes.Release identifier) h = refl
+none-received (notes.Sent item) h = absurd (cc)
+none-received (notes.Recv item) h = absurd (cc)
+
+none-sent : (n : Note) → needs_connection n ≡ false → sent_fields n ≡ None
+none-sent notes.Open h = refl
+none-sent notes.Close h = absurd (cc)
+none-sent notes.Rest h = absurd (cc)
+none-sent (notes.Release identifier) h = refl
+none-sent (notes.Sent item) h = absurd (cc)
+none-sent (notes.Recv item) h = absurd (cc)
+
+first-next : (c : Counting) (breaks : Moment → Bool) → IsCounting c breaks → (i : ℕ) (e : Seen) (past : List Seen) → IsOnConnection e past
+    → first_count c i (e ∷ past) ≡ counted_next (is_boundary e.note) (c.request e.note) (c.reply e.note) i (first_count c i past)
+first-next c breaks is i e past on =
+    ap (option_and_then counts) (on_open-fold (earliest_since (causes c.exchange i) (answers c.exchange i)) more e past (λ ms. refl) idle on)
+    ∙ part (is_id i (c.exchange.answer e.note)) (is_boundary e.note) (is_id i (c.exchange.cause e.note))
+    ∙ ap (λ b. option_or (cond b None (cond (is_boundary e.note) None (first_count c i past))) (cond (is_id i (c.exchange.cause e.note)) (count_in (c.request e.note)) None)) (is.answers_are e.note i)
+    ∙ ap (λ b. option_or (cond (names i (c.reply e.note)) None (cond (is_boundary e.note) None (first_count c i past))) (cond b (count_in (c.request e.note)) None)) (is.causes_are e.note i)
   where
     counts : Moment → Option ℕ
     counts m = count_in (c.request (note m))
 
     old : Option Moment
-    old = earliest_since (causes c.exchange i) (answers c.exchange i) (connection past)
+    old = earliest_since (causes c.exchange i) (answers c.exchange i) (on_open past)
+
+    -- what is found with the event, by what is found before it
+    more : Option Moment → Option Moment
+    more o = option_or (cond (is_id i (c.exchange.answer e.note)) None o) (cond (is_id i (c.exchange.cause e.note)) (Some (newest e past)) None)
+
+    never : (b : Bool) → cond {A = Option Moment} b None None ≡ None
+    never true = refl
+    never false = refl
+
+    idle : has_item e.note ≡ false → more None ≡ None
+    idle h =
+        ap (λ o. option_or o (cond (is_id i (c.exchange.cause e.note)) (Some (newest e past)) None)) (never (is_id i (c.exchange.answer e.note)))
+        ∙ ap (λ b. cond b (Some (newest e past)) None) (is.causes_are e.note i ∙ ap (names i) (is.is_received e.note (none-received e.note h)))
 
     put : (a : Option Moment) (s : Bool) → ((j : Moment) → a ≡ Some j → (n : ℕ) × (counts j ≡ Some n)) → option_and_then counts (option_or a (cond s (Some (newest e past)) None)) ≡ option_or (option_and_then counts a) (cond s (counts (newest e past)) None)
     put None true h = refl
@@ -62,28 +93,23 @@ first-next c breaks is i e past =
     put (Some j) s h = let there = h j refl in there.1 ∙ sym (ap (λ o. option_or o (cond s (counts (newest e past)) None)) there.1)
 
     has : (j : Moment) → old ≡ Some j → (n : ℕ) × (counts j ≡ Some n)
-    has j p = named-counted i (c.request (note j)) (sym (is.causes_are (note j) i) ∙ found-passes (causes c.exchange i) (answers c.exchange i) (connection past) j p)
+    has j p = named-counted i (c.request (note j)) (sym (is.causes_are (note j) i) ∙ found-passes (causes c.exchange i) (answers c.exchange i) (on_open past) j p)
 
     part : (b a : Bool) → (s : Bool) → option_and_then counts (option_or (cond b None (cond a None old)) (cond s (Some (newest e past)) None)) ≡ option_or (cond b None (cond a None (option_and_then counts old))) (cond s (counts (newest e past)) None)
     part true a s = put None s (λ j p. absurd (cc))
     part false true s = put None s (λ j p. absurd (cc))
     part false false s = put old s has
 
-    go : (b : Bool) → option_and_then counts (option_or (cond (is_id i (c.exchange.answer e.note)) None (earliest_since (causes c.exchange i) (answers c.exchange i) (cond b [] (connection past)))) (cond (is_id i (c.exchange.cause e.note)) (Some (newest e past)) None))
-        ≡ option_or (cond (is_id i (c.exchange.answer e.note)) None (cond b None (first_count c i past))) (cond (is_id i (c.exchange.cause e.note)) (count_in (c.request e.note)) None)
-    go true = part (is_id i (c.exchange.answer e.note)) true (is_id i (c.exchange.cause e.note))
-    go false = part (is_id i (c.exchange.answer e.note)) false (is_id i (c.exchange.cause e.note))
-
-pub counted-next : (c : Counting) (breaks : Moment → Bool) → IsCounting c breaks → (fate f : Fate) (counts next : ℕ → Option ℕ) (taken : Option Fate) (e : Seen) (past : List Seen) → IsCounted c fate counts taken past
-    → ((i : ℕ) → next i ≡ counted_next (is_open e.note) (c.request e.note) (c.reply e.note) i (counts i)) → IsCounted c f next (Some f) (e ∷ past)
-counted-next c breaks is fate f counts next taken e past o grown = record {
+pub counted-next : (c : Counting) (breaks : Moment → Bool) → IsCounting c breaks → (fate f : Fate) (counts next : ℕ → Option ℕ) (taken : Option Fate) (e : Seen) (past : List Seen) → IsOnConnection e past → IsCounted c fate counts taken past
+    → ((i : ℕ) → next i ≡ counted_next (is_boundary e.note) (c.request e.note) (c.reply e.note) i (counts i)) → IsCounted c f next (Some f) (e ∷ past)
+counted-next c breaks is fate f counts next taken e past on o grown = record {
   same_fate = refl;
-  counts_are = λ i. grown i ∙ ap (counted_next (is_open e.note) (c.request e.note) (c.reply e.note) i) (o.counts_are i) ∙ sym (first-next c breaks is i e past);
+  counts_are = λ i. grown i ∙ ap (counted_next (is_boundary e.note) (c.request e.note) (c.reply e.note) i) (o.counts_are i) ∙ sym (first-next c breaks is i e past on);
 }
 
 -- what is compared is the count that is kept
-differs-is : (c : Counting) (counts : ℕ → Option ℕ) (e : Seen) (past : List Seen) → ((i : ℕ) → counts i ≡ first_count c i past) → differs counts (c.reply e.note) ≡ miscounts c (newest e past)
-differs-is c counts e past are = go (c.reply e.note)
+differs-is : (c : Counting) (breaks : Moment → Bool) → IsCounting c breaks → (counts : ℕ → Option ℕ) (e : Seen) (past : List Seen) → IsOnConnection e past → ((i : ℕ) → counts i ≡ first_count c i past) → differs counts (c.reply e.note) ≡ miscounts c (newest e past)
+differs-is c breaks is counts e past on are = by_connection (is_connected past) refl
   where
     within : (n : ℕ) (o : Option Counted) → is_some_and (λ count. not (count == n)) (count_in o) ≡ is_some_and (λ q. not (q.count == n)) o
     within n None = refl
@@ -93,9 +119,23 @@ differs-is c counts e past are = go (c.reply e.note)
     at n None = refl
     at n (Some j) = within n (c.request (note j))
 
-    go : (o : Option Counted) → differs counts o ≡ is_some_and (λ r. is_some_and (λ j. is_some_and (λ q. not (q.count == r.count)) (c.request (note j))) (first_unanswered c.exchange r.identifier (newest e past))) o
-    go None = refl
-    go (Some r) = ap (is_some_and (λ count. not (count == r.count))) (are r.identifier) ∙ at r.count (first_unanswered c.exchange r.identifier (newest e past))
+    given : Option Counted → Bool
+    given o = is_some_and (λ r. is_some_and (λ j. is_some_and (λ q. not (q.count == r.count)) (c.request (note j))) (first_unanswered c.exchange r.identifier (newest e past))) o
+
+    go : is_connected past ≡ true → (o : Option Counted) → differs counts o ≡ given o
+    go k None = refl
+    go k (Some r) =
+        ap (is_some_and (λ count. not (count == r.count))) (are r.identifier
+        ∙ ap (λ ms. option_and_then (λ m. count_in (c.request (note m))) (earliest_since (causes c.exchange r.identifier) (answers c.exchange r.identifier) ms)) (on_open-connected past k))
+        ∙ at r.count (first_unanswered c.exchange r.identifier (newest e past))
+
+    -- where none is open, nothing is sent
+    by_connection : (b : Bool) → is_connected past ≡ b → differs counts (c.reply e.note) ≡ given (c.reply e.note)
+    by_connection true k = go k (c.reply e.note)
+    by_connection false k =
+        let closed : needs_connection e.note ≡ false = not_true (needs_connection e.note) (λ t. let there : is_connected past ≡ true = on t in absurd (cc)) in
+        let none : c.reply e.note ≡ None = is.is_sent e.note (none-sent e.note closed) in
+        ap (differs counts) none ∙ sym (ap given none)
 
 pub counted-gains : (tested : Tested) (rule : Rule) (c : Counting) (breaks : Moment → Bool) → IsCounting c breaks → ((role : Role) → statement role rule ≡ in_session (λ f. breaks)) → ((role : Role) (m : Option Moment) → offset_of (statement role rule) m ≡ None)
     → (fate f : Fate) (counts : ℕ → Option ℕ) (taken : Option Fate) (at : ℕ) (e : Seen) (past : List Seen) (m : FaultMap) (bound b : Bool) → IsUnder tested f at e past → IsCounted c fate counts taken past
@@ -104,5 +144,5 @@ pub counted-gains : (tested : Tested) (rule : Rule) (c : Counting) (breaks : Mom
 counted-gains tested rule c breaks is says plain fate f counts taken at e past m bound b under o judged broken =
     gains_judged tested rule f e past at m b (plain tested.role) under.follows.placed.0 (λ k.
     session-turns_with tested rule (λ f. breaks) (says tested.role) f e past k
-    ∙ ap (λ t. is_next past k && t) (ap (λ t. binds rule tested && (accepts f && t)) (is.breaks_are (newest e past) ∙ sym (differs-is c counts e past o.counts_are))
+    ∙ ap (λ t. is_next past k && t) (ap (λ t. binds rule tested && (accepts f && t)) (is.breaks_are (newest e past) ∙ sym (differs-is c breaks is counts e past under.follows.on_connections.0 o.counts_are))
     ∙ ap (λ t. t && (accepts f && differs counts (c.reply e.note))) (sym judged) ∙ sym broken))

@@ -472,7 +472,7 @@ subscriptions-received tested bound is size a b Auth h = refl
 
 pub subscriptions-unconcerned : (tested : Tested) (bound : Bool) → bound ≡ binds B01 tested → (n : Note) → may_concern_subscriptions bound n ≡ false → (concerns_deliveries tested n || (concerns_count subscribes n || concerns_count unsubscribes n)) ≡ false
 subscriptions-unconcerned tested bound is notes.Open h = absurd (cc)
-subscriptions-unconcerned tested bound is notes.Close h = refl
+subscriptions-unconcerned tested bound is notes.Close h = absurd (cc)
 subscriptions-unconcerned tested bound is notes.Rest h = refl
 subscriptions-unconcerned tested bound is (notes.Release i) h = refl
 subscriptions-unconcerned tested bound is (notes.Sent (items.Packet p)) h = subscriptions-sent tested bound is p.size p.has_reason_string p.has_user_property p.fields h

@@ -12,7 +12,7 @@ use Rattle.mq_rules.specs.declared.fate.Fate.{Fate}
 use Rattle.mq_rules.specs.declared.note.Seen.{Seen}
 use Rattle.mq_rules.specs.Words.{is_some_and}
 use Rattle.mq_rules.specs.Moments.{Moment, note, is_same, some, since, earliest_since}
-use Rattle.mq_rules.specs.Connections.{connection, session}
+use Rattle.mq_rules.specs.Connections.{on_open, session}
 use Rattle.mq_rules.specs.Exchanges.{Exchange, causes, answers}
 use Rattle.mq_rules.specs.Releases.{brings, ends}
 use Rattle.mq_rules.proofs.Exports.{earliest_since-there}
@@ -134,8 +134,8 @@ needed-brought i ms h =
     ∙ some-there (λ first. not (expires (note first) || not (since (is_same first) (is_unmatched i) ms))) (earliest_since (brings i) (ends i) ms) h
 
 -- a packet whose count is kept is unanswered
-pub counted-unanswered : (c : Counting) (i : ℕ) (log : List Seen) → is_some (first_count c i log) ≡ true → since (causes c.exchange i) (answers c.exchange i) (connection log) ≡ true
-counted-unanswered c i log h = sym (earliest_since-there (causes c.exchange i) (answers c.exchange i) (connection log)) ∙ go (earliest_since (causes c.exchange i) (answers c.exchange i) (connection log)) h
+pub counted-unanswered : (c : Counting) (i : ℕ) (log : List Seen) → is_some (first_count c i log) ≡ true → since (causes c.exchange i) (answers c.exchange i) (on_open log) ≡ true
+counted-unanswered c i log h = sym (earliest_since-there (causes c.exchange i) (answers c.exchange i) (on_open log)) ∙ go (earliest_since (causes c.exchange i) (answers c.exchange i) (on_open log)) h
   where
     go : (o : Option Moment) → is_some (option_and_then (λ m. count_in (c.request (note m))) o) ≡ true → is_some o ≡ true
     go None h = absurd (cc)

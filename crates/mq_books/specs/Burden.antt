@@ -63,9 +63,9 @@ caused_ids x role taken log = ids_where (λ i. some (causes x i) (session role t
 abbrev pub owing_ids : Rule → Exchange → Role → Option Fate → List Seen → ℕ
 owing_ids settled x role taken log = cond (binds_end settled role) (caused_ids x role taken log) 0
 
--- how many have a cause of the exchange on the latest connection, and no answer after it there
+-- how many have a cause of the exchange on the open connection, and no answer after it there
 unfoldable pub unanswered_ids : Exchange → List Seen → ℕ
-unanswered_ids x log = ids_where (λ i. since (causes x i) (answers x i) (connection log))
+unanswered_ids x log = ids_where (λ i. since (causes x i) (answers x i) (on_open log))
 
 -- how many have a QoS 2 PUBLISH received in the session, and no end of its exchange after it; how many have a RELEASE, and no such end after it
 unfoldable pub brought_ids : Role → Option Fate → List Seen → ℕ

@@ -26,7 +26,7 @@ pub record Passes (agrees : List Seen → Type 0) (judges : Rule → Bool) (test
 -- ---- what concerns each book
 
 abbrev pub concerns_count : Counting → Note → Bool
-concerns_count c n = is_open n || (is_some (c.request n) || is_some (c.reply n))
+concerns_count c n = is_boundary n || (is_some (c.request n) || is_some (c.reply n))
 
 -- whether answers were asked for
 abbrev pub concerns_asked : Exchange → Note → Bool

@@ -10,7 +10,7 @@ use Rattle.mq_rules.specs.declared.packet_note.PacketFields.TheVariants.{Subscri
 use Rattle.mq_rules.specs.Words.{is_some_and, is_id}
 use Rattle.mq_rules.specs.Notes.{Subscription, Grant, Number, received_fields, sent_fields, subscribe_in, suback_in, unsubscribe_in, unsuback_in, subscription_in, grant_in, unsubscription_in, unsuback_count_in, received_subscription, sent_grant, received_unsubscription, sent_unsuback}
 use Rattle.mq_rules.specs.Moments.{Moment, note, earliest_since}
-use Rattle.mq_rules.specs.Connections.{connection}
+use Rattle.mq_rules.specs.Connections.{on_open}
 use Rattle.mq_rules.specs.Exchanges.{Exchange, causes, answers, first_unanswered, subscribe_suback, unsubscribe_unsuback}
 use Rattle.mq_rules.specs.Subscriptions.{breaks_B03, breaks_B04}
 use Rattle.mq_books.specs.declared.counts.Counted.{Counted}
@@ -34,21 +34,23 @@ pub record Counting : Type 0 where
 abbrev pub miscounts : Counting → Moment → Bool
 miscounts c k = is_some_and (λ r. is_some_and (λ j. is_some_and (λ q. not (q.count == r.count)) (c.request (note j))) (first_unanswered c.exchange r.identifier k)) (c.reply (note k))
 
--- The counts are of the causes and the answers, and this says that they differ.
+-- The counts are of the causes, which are received, and of the answers, which are sent, and this says that they differ.
 pub record IsCounting (c : Counting) (breaks : Moment → Bool) : Type 0 where
+  pub is_received : (n : Note) → received_fields n ≡ None → c.request n ≡ None
+  pub is_sent : (n : Note) → sent_fields n ≡ None → c.reply n ≡ None
   pub causes_are : (n : Note) (i : ℕ) → is_id i (c.exchange.cause n) ≡ names i (c.request n)
   pub answers_are : (n : Note) (i : ℕ) → is_id i (c.exchange.answer n) ≡ names i (c.reply n)
   pub breaks_are : (m : Moment) → breaks m ≡ miscounts c m
 
 -- ---- what is kept
 
--- the count of the first unanswered cause of i on the latest connection
+-- the count of the first unanswered cause of i on the open connection
 abbrev pub first_count : Counting → ℕ → List Seen → Option ℕ
-first_count c i past = option_and_then (λ m. count_in (c.request (note m))) (earliest_since (causes c.exchange i) (answers c.exchange i) (connection past))
+first_count c i past = option_and_then (λ m. count_in (c.request (note m))) (earliest_since (causes c.exchange i) (answers c.exchange i) (on_open past))
 
--- what is kept after an event
+-- what is kept after an event, with which a connection begins or ends, or not
 abbrev pub counted_next : Bool → Option Counted → Option Counted → ℕ → Option ℕ → Option ℕ
-counted_next opens request reply i old = option_or (cond (names i reply) None (cond opens None old)) (cond (names i request) (count_in request) None)
+counted_next boundary request reply i old = option_or (cond (names i reply) None (cond boundary None old)) (cond (names i request) (count_in request) None)
 
 -- an answer whose count isn't the one that is kept
 abbrev pub differs : (ℕ → Option ℕ) → Option Counted → Bool
@@ -139,7 +141,7 @@ B04-says k = mapped number_count
     (λ j. mapped number_count (λ u. not (u.count == a.count)) (λ q. not (q.count == a.count)) (received_unsubscription (note j)) (λ u. refl)))
 
 pub subscribes_so : IsCounting subscribes breaks_B03
-subscribes_so = record { causes_are = λ n i. subscribe-names (received_fields n) i; answers_are = λ n i. suback-names (sent_fields n) i; breaks_are = B03-says }
+subscribes_so = record { is_received = λ n h. ap (λ o. option_map subscription_count (option_and_then subscription_in o)) h; is_sent = λ n h. ap (λ o. option_map grant_count (option_and_then grant_in o)) h; causes_are = λ n i. subscribe-names (received_fields n) i; answers_are = λ n i. suback-names (sent_fields n) i; breaks_are = B03-says }
 
 pub unsubscribes_so : IsCounting unsubscribes breaks_B04
-unsubscribes_so = record { causes_are = λ n i. unsubscribe-names (received_fields n) i; answers_are = λ n i. unsuback-names (sent_fields n) i; breaks_are = B04-says }
+unsubscribes_so = record { is_received = λ n h. ap (λ o. option_map number_count (option_and_then unsubscription_in o)) h; is_sent = λ n h. ap (λ o. option_map number_count (option_and_then unsuback_count_in o)) h; causes_are = λ n i. unsubscribe-names (received_fields n) i; answers_are = λ n i. unsuback-names (sent_fields n) i; breaks_are = B04-says }

@@ -84,7 +84,7 @@ subscribes_or_not (Unsubscribe identifier count) = true
 subscribes_or_not _ = false
 
 abbrev pub may_concern_subscriptions : Bool → Note → Bool
-may_concern_subscriptions bound = selects (delivers_or_grants bound) subscribes_or_not false false false false
+may_concern_subscriptions bound = selects (delivers_or_grants bound) subscribes_or_not true false false false
 
 -- ---- Packet Identifiers in use (MQTT 5.0, section 2.2.1)
 

@@ -66,17 +66,18 @@ pub trait Replies {
     ghost compares: { IsCounting counting breaks };
 }
 
-// Keeps the count of the first packet of an identifier that isn't answered.
+// Keeps the count of the first packet of an identifier that isn't answered. All are forgotten where
+// a connection begins and where it ends, since a packet is answered on its own connection.
 fn keep_count(
     counts: &mut IndexMap<u16, usize>,
     alloc: Global,
-    opens: bool,
+    boundary: bool,
     request: Option<Counted>,
     reply: Option<Counted>,
 ) -> Result<(), Memory>
-    ensures { OnOk result ((i : ℕ) → get nat_eq counts.new i ≡ counted_next opens request reply i (get nat_eq counts.old i)) }
+    ensures { OnOk result ((i : ℕ) → get nat_eq counts.new i ≡ counted_next boundary request reply i (get nat_eq counts.old i)) }
 {
-    if opens {
+    if boundary {
         // A large map that is cleared costs its size each time.
         *counts = IndexMap::new(alloc);
     }
@@ -175,7 +176,7 @@ impl<R: Replies> Fated for Counts<R> {
         keep_count(
             &mut self.counts,
             alloc,
-            note.is_open(),
+            note.is_boundary(),
             R::request(note),
             reply,
         )?;

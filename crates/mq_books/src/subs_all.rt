@@ -119,8 +119,8 @@ fn may_concern_subscriptions(bound: bool, note: &Note) -> bool
     ensures { result ≡ selecting.may_concern_subscriptions bound note.now }
 {
     match note {
-        Note::Open => true,
-        Note::Close | Note::Rest | Note::Release(_) => false,
+        Note::Open | Note::Close => true,
+        Note::Rest | Note::Release(_) => false,
         Note::Sent(ItemNote::Packet(packet)) => delivers_or_grants(bound, &packet.fields),
         Note::Recv(ItemNote::Packet(packet)) => matches!(
             packet.fields,

@@ -1,7 +1,7 @@
-use Rattle.std.proofs.Common.{◌≡◌, ◌&&◌, ◌∷◌, nat_eq, subst, sym, ap, ◌∙◌}
+use Rattle.std.proofs.Common.{◌&&◌, ◌∷◌, nat_eq, subst, sym, ap, ◌∙◌}
 use Rattle.indexmap.specs.IndexMap.{get}
 use Rattle.mq_rules.specs.Rules.{same_rule}
-use Rattle.mq_rules.specs.Notes.{is_open}
+use Rattle.mq_rules.specs.Notes.{is_boundary}
 use Rattle.mq_rules.specs.Connections.{accepts}
 use Rattle.mq_rules.specs.FaultKeys.{FaultMap}
 use Rattle.mq_rules.specs.Under.{seen, fate_before, turns_with}
@@ -17,11 +17,11 @@ returns-clause-agrees g c = λ tested past under q.
     let n = c.args.note.now in
     let e = seen c.args.at n in (
       q.0,
-      counted-next g.R.Replies.counting g.R.Replies.breaks g.met.R.Replies.compares s.fate c.args.fate (get nat_eq s.counts) (get nat_eq c.keep_count.new.counts) (fate_before tested c.args.fate e past) e past q.1
+      counted-next g.R.Replies.counting g.R.Replies.breaks g.met.R.Replies.compares s.fate c.args.fate (get nat_eq s.counts) (get nat_eq c.keep_count.new.counts) (fate_before tested c.args.fate e past) e past under.follows.on_connections.0 q.1
           (λ i. c.in_ok-keep_count.ensures i
-          ∙ ap (λ b. counted_next b c.request.result c.reply-reply.result i (get nat_eq s.counts i)) c.is_open.ensures
-          ∙ ap (λ o. counted_next (is_open n) o c.reply-reply.result i (get nat_eq s.counts i)) c.request.ensures
-          ∙ ap (λ o. counted_next (is_open n) (g.R.Replies.counting.request n) o i (get nat_eq s.counts i)) c.reply-reply.ensures),
+          ∙ ap (λ b. counted_next b c.request.result c.reply-reply.result i (get nat_eq s.counts i)) c.is_boundary.ensures
+          ∙ ap (λ o. counted_next (is_boundary n) o c.reply-reply.result i (get nat_eq s.counts i)) c.request.ensures
+          ∙ ap (λ o. counted_next (is_boundary n) (g.R.Replies.counting.request n) o i (get nat_eq s.counts i)) c.reply-reply.ensures),
     )
 
 pub returns-clause-grows : goal.returns-clause-grows

@@ -1,7 +1,7 @@
 use Rattle.std.proofs.Common.{ap, sym, ◌∙◌}
 use Rattle.std.specs.Prelude.{is_some}
 use Rattle.mq_rules.specs.Moments.{since}
-use Rattle.mq_rules.specs.Connections.{connection}
+use Rattle.mq_rules.specs.Connections.{on_open}
 use Rattle.mq_rules.specs.Exchanges.{causes, answers}
 use Rattle.mq_books.specs.Burden.{unanswered_ids}
 use Rattle.mq_books.proofs.SizeLaws.{counted-unanswered}
@@ -11,4 +11,4 @@ pub returns : goal.returns
 unfolding unanswered_ids
 returns g c = λ tested taken past q.
     let x = g.R.Replies.counting.exchange in
-    c.map_size.ensures.bounded (λ i. since (causes x i) (answers x i) (connection past)) (λ i here. counted-unanswered g.R.Replies.counting i past (ap is_some (sym (q.1.counts_are i)) ∙ here))
+    c.map_size.ensures.bounded (λ i. since (causes x i) (answers x i) (on_open past)) (λ i here. counted-unanswered g.R.Replies.counting i past (ap is_some (sym (q.1.counts_are i)) ∙ here))
