@@ -1,5 +1,5 @@
 -- How many SUBSCRIBEs wait for their SUBACK, and how many filters they have.
-use Rattle.std.proofs.Common.{◌≡◌, ℕ, zero, suc, ◌+◌, ◌*◌, ◌<◌, ◌≤◌, ◌==◌, arith, nat_eq, Bool, true, false, cond, ◌||◌, List, [], ◌∷◌, length, Option, Some, None, refl, ap, sym, ◌∙◌, subst, inl, inr}
+use Rattle.std.proofs.Common.{◌≡◌, ℕ, zero, suc, ◌+◌, ◌*◌, ◌<◌, ◌≤◌, ◌==◌, arith, nat_eq, Bool, true, false, cond, ◌&&◌, ◌||◌, List, [], ◌∷◌, length, Option, Some, None, refl, ap, sym, ◌∙◌, subst, inl, inr}
 use Rattle.std.specs.Prelude.{is_none, option_map}
 use Rattle.std.specs.Option.{option_and_then}
 use Rattle.std.specs.List.{list_any}
@@ -12,10 +12,10 @@ use Rattle.mq_rules.specs.declared.note.Seen.{Seen}
 use Rattle.mq_rules.specs.Words.{is_id, only}
 use Rattle.mq_rules.specs.Notes.{is_open, Subscription, Grant, received_subscription, sent_grant}
 use Rattle.mq_rules.specs.Moments.{Moment, newest, note, moments, position, is_after, since, those, Among, HoldsSince}
-use Rattle.mq_rules.specs.Connections.{begun, number, of_connection, is_connected, connection, on_open, latest_fate, begins, has_session, with_first, session}
+use Rattle.mq_rules.specs.Connections.{begun, number, is_connected, of_connection, connection, on_open, latest_fate, begins, has_session, with_first, session}
 use Rattle.mq_rules.specs.Exchanges.{causes, answers, subscribe_suback}
 use Rattle.mq_rules.specs.Subscriptions.{codes_under}
-use Rattle.mq_rules.proofs.Exports.{moments-descend, those-among, those-descend, since-stands, none-first_found}
+use Rattle.mq_rules.proofs.Exports.{and_false, moments-descend, those-among, those-descend, since-stands, none-first_found}
 use Rattle.mq_books.specs.Countings.{names, subscription_count, grant_count, subscribes_so}
 use Rattle.mq_books.specs.Standings.{Waits, asked, codes_in, waiting_by, waiting_from, waits_weight, weighed, total}
 use Rattle.mq_books.specs.Burden.{at_least_one, unanswered_ids, asked_filters}
@@ -50,11 +50,11 @@ session-within role number_of c none taken (e ∷ past) =
         put false true is le = omega (arith, le)
         put false false is le = le
 
--- what waits is on the latest connection
+-- what waits is on the latest connection, which is open
 elsewhere : (weigh : Waits → ℕ) (log : List Seen) (m : Moment) → (number m == begun log) ≡ false → weighed weigh (waiting_from log m) ≡ 0
 elsewhere weigh log m is =
     let other : (begun log == number m) ≡ false = grind (arith, nat_tests) in
-    ap (λ b. weighed weigh (waiting_by b (codes_in log m) (received_subscription (note m)))) other
+    ap (λ b. weighed weigh (waiting_by b (codes_in log m) (received_subscription (note m)))) (ap (λ b. is_connected log && b) other ∙ and_false (is_connected log))
 
 -- itself and its filters are at most twice its filters
 at-most-twice : (n : ℕ) → 1 + n ≤ 2 * at_least_one n
@@ -131,8 +131,8 @@ unanswered-by i n h = go (sent_grant n) (sym (subscribes_so.answers_are n i) ∙
         let other : (a.identifier == i) ≡ false = grind (arith, nat_tests) in
         ap (λ b. option_map (λ (a : Grant). a.codes) (only b (Some a))) other
 
-waits-unanswered : (i : ℕ) (log : List Seen) → since (causes subscribe_suback i) (answers subscribe_suback i) (connection log) ≡ true → list_any (nat_eq i) (named log (connection log)) ≡ true
-waits-unanswered i log h =
+waits-connected : (i : ℕ) (log : List Seen) → is_connected log ≡ true → since (causes subscribe_suback i) (answers subscribe_suback i) (connection log) ≡ true → list_any (nat_eq i) (named log (connection log)) ≡ true
+waits-connected i log connected h =
     named-there log i (connection log) s.at (asked r.0) s.there waits r.2
   where
     here : Moment → Bool
@@ -162,22 +162,20 @@ waits-unanswered i log h =
 
     waits : waiting_from log s.at ≡ Some (asked r.0)
     waits =
-        ap (λ b. waiting_by b (codes_in log s.at) (received_subscription (note s.at))) (eq-eqb (begun log) (number s.at) (sym same))
+        ap (λ b. waiting_by b (codes_in log s.at) (received_subscription (note s.at))) (ap (λ b. b && (begun log == number s.at)) connected ∙ eq-eqb (begun log) (number s.at) (sym same))
         ∙ ap (waiting_by true (codes_in log s.at)) r.1
         ∙ ap (λ c. only (is_none {T = List ℕ} c) (Some (asked r.0))) (ap (codes_in log s.at) (sym (eqb-true i r.0.identifier r.2)) ∙ no-codes)
 
--- what has no answer yet on the open connection has none on the latest one
-open-latest : (starts ends : Moment → Bool) (log : List Seen) → since starts ends (on_open log) ≡ true → since starts ends (connection log) ≡ true
-open-latest starts ends log = go (is_connected log)
+waits-unanswered : (i : ℕ) (log : List Seen) → since (causes subscribe_suback i) (answers subscribe_suback i) (on_open log) ≡ true → list_any (nat_eq i) (named log (connection log)) ≡ true
+waits-unanswered i log h = go (is_connected log) refl h
   where
-    go : (b : Bool) → since starts ends (cond b (connection log) []) ≡ true → since starts ends (connection log) ≡ true
-    go true h = h
-    go false h = absurd (cc)
+    go : (b : Bool) → is_connected log ≡ b → since (causes subscribe_suback i) (answers subscribe_suback i) (cond b (connection log) []) ≡ true → list_any (nat_eq i) (named log (connection log)) ≡ true
+    go true connected h = waits-connected i log connected h
+    go false closed h = absurd (cc)
 
 pub unanswered-within : (log : List Seen) → unanswered_ids subscribe_suback log ≤ asked_filters log
 unfolding unanswered_ids asked_filters
 unanswered-within log =
-    let listed = ids-listed (λ i. since (causes subscribe_suback i) (answers subscribe_suback i) (on_open log)) (named log (connection log))
-    (λ i h. waits-unanswered i log (open-latest (causes subscribe_suback i) (answers subscribe_suback i) log h)) in
+    let listed = ids-listed (λ i. since (causes subscribe_suback i) (answers subscribe_suback i) (on_open log)) (named log (connection log)) (λ i h. waits-unanswered i log h) in
     let long = named-length log (connection log) in
     omega (arith, listed, long)

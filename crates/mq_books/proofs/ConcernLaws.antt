@@ -301,7 +301,7 @@ pub standing-passes : (tested : Tested) (fate f : Fate) (settled : List Standing
     × ((m : FaultMap) → Gains (λ k r. (same_rule r B01 || same_rule r B02) && turns_with tested f e past k r) tested (e ∷ past) at m m)
 standing-passes tested fate f settled waiting sharing topics at e past bound h under judged before =
     let n = e.note in
-    let h1 = neither (is_open n) (is_some (received_subscription n) || (is_some (sent_grant n) || (is_some (set_alias n) || (is_some (sent_publish n) && binds B01 tested)))) h in
+    let h1 = neither (is_boundary n) (is_some (received_subscription n) || (is_some (sent_grant n) || (is_some (set_alias n) || (is_some (sent_publish n) && binds B01 tested)))) h in
     let h2 = neither (is_some (received_subscription n)) (is_some (sent_grant n) || (is_some (set_alias n) || (is_some (sent_publish n) && binds B01 tested))) h1.1 in
     let h3 = neither (is_some (sent_grant n)) (is_some (set_alias n) || (is_some (sent_publish n) && binds B01 tested)) h2.1 in
     let h4 = neither (is_some (set_alias n)) (is_some (sent_publish n) && binds B01 tested) h3.1 in
@@ -309,10 +309,11 @@ standing-passes tested fate f settled waiting sharing topics at e past bound h u
     let grants : sent_grant n ≡ None = nothing (sent_grant n) h3.0 in
     let sets : set_alias n ≡ None = nothing (set_alias n) h4.0 in
     let silent : (is_some (sent_publish n) && bound) ≡ false = ap (λ b. is_some (sent_publish n) && b) judged ∙ h4.1 in
+    let unopened : is_open n ≡ false = (neither (is_open n) (is_close n) h1.0).0 in
     let s : IsStanding fate settled waiting sharing topics tested (Some f) past =
-    subst (λ (t : Option Fate). IsStanding fate settled waiting sharing topics tested t past) (sym (closed-before tested f e past h1.0)) before in
+    subst (λ (t : Option Fate). IsStanding fate settled waiting sharing topics tested t past) (sym (closed-before tested f e past unopened)) before in
     let next : IsStanding f settled waiting sharing topics tested (Some f) (e ∷ past) =
-    standing-next tested fate f settled settled waiting waiting sharing sharing topics topics e past before
+    standing-next tested fate f settled settled waiting waiting sharing sharing topics topics e past under.follows.on_connections.0 before
     (λ among qos. sym (
     ap (λ b. cond b (goes_on f n && (list_any (allows among qos) settled || list_any (λ w. list_any (allows among qos) w.filters) waiting)) (list_any (allows among qos) settled || grants_some (allows among qos) (sent_grant n) (λ p. list_any p waiting))) h1.0
     ∙ ap (λ o. list_any (allows among qos) settled || grants_some (allows among qos) o (λ p. list_any p waiting)) grants
@@ -331,9 +332,9 @@ standing-passes tested fate f settled waiting sharing topics at e past bound h u
     (sym (
     ap (λ o. (accepts f && is_some_and (λ s. list_any is_shared s.filters) o) || (goes_on f n && sharing)) asks
     ∙ ap (λ b. b || (goes_on f n && sharing)) (and_false (accepts f))
-    ∙ ap (λ b. not (b && begins (Some f)) && sharing) h1.0))
+    ∙ ap (λ b. not (b && begins (Some f)) && sharing) unopened))
     (λ alias. sym (
-    ap (λ o. option_or (only (is_id alias o) (option_map (λ p. p.topic) (sent_publish n))) (cond (is_open n) None (topics alias))) sets
+    ap (λ o. option_or (only (is_id alias o) (option_map (λ p. p.topic) (sent_publish n))) (cond (is_boundary n) None (topics alias))) sets
     ∙ ap (λ b. cond b None (topics alias)) h1.0)) in (
       subst (λ (g : Fate). IsStanding g settled waiting sharing topics tested (Some f) (e ∷ past)) (some-same f fate s.same_fate) next,
       λ m. gains_either (λ r. same_rule r B01) (λ r. same_rule r B02) (λ k r. turns_with tested f e past k r) tested (e ∷ past) at m m m

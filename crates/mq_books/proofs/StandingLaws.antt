@@ -13,13 +13,13 @@ use Rattle.mq_rules.specs.declared.note.Note.TheVariants as notes
 use Rattle.mq_rules.specs.declared.note.Seen.{Seen}
 use Rattle.mq_rules.specs.declared.text.NotedFilter.{NotedFilter}
 use Rattle.mq_rules.specs.Words.{is_some_and, only}
-use Rattle.mq_rules.specs.Notes.{is_open, is_release, refuses, Subscription, Grant, received_subscription, sent_grant}
+use Rattle.mq_rules.specs.Notes.{is_open, is_close, is_boundary, is_release, refuses, Subscription, Grant, received_subscription, sent_grant}
 use Rattle.mq_rules.specs.Moments.{Moment, newest, note, moments, position, is_after, some, those, first_found, Among}
-use Rattle.mq_rules.specs.Connections.{begun, number, of_connection, connection, latest_fate, accepts, begins, voided, any_accepted, has_session, with_first, session}
+use Rattle.mq_rules.specs.Connections.{begun, number, is_connected, of_connection, on_open, latest_fate, accepts, begins, voided, any_accepted, has_session, with_first, session, needs_connection, IsOnConnection}
 use Rattle.mq_rules.specs.Subscriptions.{Standing, granted, codes_under, standing_from, standing_of, asks_to_share, is_shared, topic_set, last_set}
-use Rattle.mq_rules.proofs.Exports.{among-within, and_false, begun-least, begun-open, begun-same, connection-newest as connection-next, none-first_found, option_or-none, or_false, session-members, those-among}
+use Rattle.mq_rules.proofs.Exports.{among-within, and_false, begun-least, begun-open, begun-same, has_item, none-first_found, on_open-fold, option_or-none, or_false, session-members, those-among}
 use Rattle.mq_rules.specs.Under.{fate_before}
-use Rattle.mq_books.specs.Standings.{allows, Waits, asked, total, weighed, sum_next, codes_in, waits_by, standing_by, settled_by, waiting_by, settled_from, waiting_from, with_codes, goes_on, is_answered, grants_some, settled_next, waiting_next, sharing_next, topic_next, IsStanding, any_kept}
+use Rattle.mq_books.specs.Standings.{allows, Waits, asked, total, weighed, sum_next, is_on_open, codes_in, waits_by, standing_by, settled_by, waiting_by, settled_from, waiting_from, with_codes, goes_on, is_answered, grants_some, settled_next, waiting_next, sharing_next, topic_next, IsStanding, any_kept}
 
 -- ---- one SUBSCRIBE
 
@@ -102,7 +102,7 @@ sum-step weigh here codes more g (Some s) h = ap (λ c. weighed weigh (only (her
         at true = refl
         at false = refl
 
--- a SUBSCRIBE of an earlier connection waits no more
+-- a SUBSCRIBE waits no more once its connection isn't open
 settled-over : (t : Standing → Bool) (here : Bool) (codes more : ℕ → Option (List ℕ)) (o : Option Subscription) → ((i : ℕ) → more i ≡ codes i)
     → list_any t (settled_by false more o) ≡ (list_any t (settled_by here codes o) || is_some_and (λ w. list_any t w.filters) (waiting_by here codes o))
 settled-over t true codes more None h = refl
@@ -229,45 +229,74 @@ session-some tested f p e past idle =
     first false true false = refl
     first false false n = refl
 
--- a RELEASE and an OPEN are no SUBSCRIBE
+-- a RELEASE, an OPEN and a CLOSE are no SUBSCRIBE, and an OPEN and a CLOSE no SUBACK
 unsubscribed : (n : Note) → is_release n ≡ true → received_subscription n ≡ None
 unsubscribed (notes.Recv item) h = absurd (cc)
 unsubscribed _ h = refl
 
-opens-none : (n : Note) → is_open n ≡ true → (received_subscription n ≡ None) × (sent_grant n ≡ None)
-opens-none notes.Open h = (refl, refl)
-opens-none _ h = absurd (cc)
+boundary-none : (n : Note) → is_boundary n ≡ true → (received_subscription n ≡ None) × (sent_grant n ≡ None)
+boundary-none notes.Open h = (refl, refl)
+boundary-none notes.Close h = (refl, refl)
+boundary-none _ h = absurd (cc)
+
+-- ---- the connection that is open
+
+boundary-parts : (n : Note) → is_boundary n ≡ false → (is_open n ≡ false) × (is_close n ≡ false)
+boundary-parts n h = go (is_open n) (is_close n) h
+  where
+    go : (o c : Bool) → (o || c) ≡ false → (o ≡ false) × (c ≡ false)
+    go true c h = absurd (cc)
+    go false c h = (refl, h)
+
+-- where no connection begins or ends, it is the same
+connected-same : (e : Seen) (past : List Seen) → is_boundary e.note ≡ false → is_connected (e ∷ past) ≡ is_connected past
+connected-same e past h =
+    let p = boundary-parts e.note h in
+    ap (λ b. b || (not (is_close e.note) && is_connected past)) p.0 ∙ ap (λ b. not b && is_connected past) p.1
+
+-- a SUBSCRIBE is received, and a SUBACK sent, on it
+subscription-needs : (n : Note) (s : Subscription) → received_subscription n ≡ Some s → (needs_connection n ≡ true) × (is_boundary n ≡ false)
+subscription-needs (notes.Recv item) s h = (refl, refl)
+subscription-needs _ s h = absurd (cc)
+
+grant-needs : (n : Note) → needs_connection n ≡ false → sent_grant n ≡ None
+grant-needs (notes.Sent item) h = absurd (cc)
+grant-needs _ h = refl
 
 -- ---- what is kept, with one event more
 
-module _ (tested : Tested) (f : Fate) (e : Seen) (past : List Seen) where
+module _ (tested : Tested) (f : Fate) (e : Seen) (past : List Seen) (on : IsOnConnection e past) where
   abbrev before : List Moment
   before = session tested.role (fate_before tested f e past) past
 
   -- the newest event settles nothing, and waits if it is a SUBSCRIBE
-  newest-waits : (o : Option Subscription) → waits_by (begun (e ∷ past) == number (newest e past)) (codes_in (e ∷ past) (newest e past)) o ≡ is_some_and (λ s. true) o
-  newest-waits o = ap (λ b. waits_by b (codes_in (e ∷ past) (newest e past)) o) (eq-eqb (begun (e ∷ past)) (number (newest e past)) refl) ∙ go o
+  newest-waits : waits_by (is_on_open (e ∷ past) (newest e past)) (codes_in (e ∷ past) (newest e past)) (received_subscription e.note) ≡ is_some_and (λ s. true) (received_subscription e.note)
+  newest-waits = go (received_subscription e.note) refl
     where
-      go : (o : Option Subscription) → waits_by true (codes_in (e ∷ past) (newest e past)) o ≡ is_some_and (λ s. true) o
-      go None = refl
-      go (Some s) = ap is_none (codes-newest s.identifier e past)
+      go : (o : Option Subscription) → received_subscription e.note ≡ o → waits_by (is_on_open (e ∷ past) (newest e past)) (codes_in (e ∷ past) (newest e past)) o ≡ is_some_and (λ s. true) o
+      go None h = and_false (is_on_open (e ∷ past) (newest e past))
+      go (Some s) h =
+          let needs = subscription-needs e.note s h in
+          ap (λ b. (b && (begun (e ∷ past) == number (newest e past))) && is_none (codes_in (e ∷ past) (newest e past) s.identifier)) (connected-same e past needs.1 ∙ on needs.0)
+          ∙ ap (λ b. b && is_none (codes_in (e ∷ past) (newest e past) s.identifier)) (eq-eqb (begun (e ∷ past)) (number (newest e past)) refl)
+          ∙ ap is_none (codes-newest s.identifier e past)
 
   newest-settled : (t : Standing → Bool) → list_any t (settled_from (e ∷ past) (newest e past)) ≡ false
-  newest-settled t = ap (λ b. list_any t (cond b [] (standing_by (codes_in (e ∷ past) (newest e past)) (received_subscription e.note)))) (newest-waits (received_subscription e.note)) ∙ go (received_subscription e.note)
+  newest-settled t = ap (λ b. list_any t (cond b [] (standing_by (codes_in (e ∷ past) (newest e past)) (received_subscription e.note)))) newest-waits ∙ go (received_subscription e.note)
     where
       go : (o : Option Subscription) → list_any t (cond (is_some_and (λ s. true) o) [] (standing_by (codes_in (e ∷ past) (newest e past)) o)) ≡ false
       go None = refl
       go (Some s) = refl
 
   newest-waiting : (t : Waits → Bool) → is_some_and t (waiting_from (e ∷ past) (newest e past)) ≡ is_some_and t (option_map asked (received_subscription e.note))
-  newest-waiting t = ap (λ b. is_some_and t (only b (option_map asked (received_subscription e.note)))) (newest-waits (received_subscription e.note)) ∙ go (received_subscription e.note)
+  newest-waiting t = ap (λ b. is_some_and t (only b (option_map asked (received_subscription e.note)))) newest-waits ∙ go (received_subscription e.note)
     where
       go : (o : Option Subscription) → is_some_and t (only (is_some_and (λ s. true) o) (option_map asked o)) ≡ is_some_and t (option_map asked o)
       go None = refl
       go (Some s) = refl
 
   newest-weighed : (weigh : Waits → ℕ) → weighed weigh (waiting_from (e ∷ past) (newest e past)) ≡ weighed weigh (option_map asked (received_subscription e.note))
-  newest-weighed weigh = ap (λ b. weighed weigh (only b (option_map asked (received_subscription e.note)))) (newest-waits (received_subscription e.note)) ∙ go (received_subscription e.note)
+  newest-weighed weigh = ap (λ b. weighed weigh (only b (option_map asked (received_subscription e.note)))) newest-waits ∙ go (received_subscription e.note)
     where
       go : (o : Option Subscription) → weighed weigh (only (is_some_and (λ s. true) o) (option_map asked o)) ≡ weighed weigh (option_map asked o)
       go None = refl
@@ -278,15 +307,54 @@ module _ (tested : Tested) (f : Fate) (e : Seen) (past : List Seen) where
       let m = session-members tested.role (fate_before tested f e past) past j a in
       (among-within j past m.0, among-number j past m.0)
 
-  codes-same : is_open e.note ≡ false → (j : Moment) → Among j before → (i : ℕ) → codes_in (e ∷ past) j i ≡ option_or (codes_in past j i) (cond (begun past == number j) (codes_under i e.note) None)
-  codes-same closed j a i = codes-next i j e past (inside j a).0 ∙ ap (λ n. option_or (codes_in past j i) (cond (n == number j) (codes_under i e.note) None)) (begun-same e past closed)
+  -- where no connection begins or ends, the same moments are on the one that is open, and a SUBACK comes for these
+  here-same : is_boundary e.note ≡ false → (j : Moment) → is_on_open (e ∷ past) j ≡ is_on_open past j
+  here-same inner j =
+      ap (λ b. b && (begun (e ∷ past) == number j)) (connected-same e past inner)
+      ∙ ap (λ n. is_connected past && (n == number j)) (begun-same e past (boundary-parts e.note inner).0)
 
-  not-here : is_open e.note ≡ true → (j : Moment) → Among j before → (begun (e ∷ past) == number j) ≡ false
-  not-here opens j a = let le = (inside j a).1 in let more = begun-open e past opens in grind (arith, nat_tests)
+  codes-same : is_boundary e.note ≡ false → (j : Moment) → Among j before → (i : ℕ) → codes_in (e ∷ past) j i ≡ option_or (codes_in past j i) (cond (is_on_open past j) (codes_under i e.note) None)
+  unfolding codes_of
+  codes-same inner j a i =
+      codes-next i j e past (inside j a).0
+      ∙ ap (λ n. option_or (codes_in past j i) (cond (n == number j) (codes_under i e.note) None)) (begun-same e past (boundary-parts e.note inner).0)
+      ∙ ap (option_or (codes_in past j i)) (go (is_connected past) refl (begun past == number j))
+    where
+      unanswered : needs_connection e.note ≡ false → (b : Bool) → cond b (codes_under i e.note) None ≡ None
+      unanswered h true = ap (codes_of i) (grant-needs e.note h)
+      unanswered h false = refl
 
-  codes-open : is_open e.note ≡ true → (j : Moment) → Among j before → (i : ℕ) → codes_in (e ∷ past) j i ≡ codes_in past j i
-  codes-open opens j a i =
-      codes-next i j e past (inside j a).0 ∙ ap (λ b. option_or (codes_in past j i) (cond b (codes_under i e.note) None)) (not-here opens j a) ∙ option_or-none (codes_in past j i)
+      needless : (needs : Bool) → (needs ≡ true → is_connected past ≡ true) → is_connected past ≡ false → needs ≡ false
+      needless false on h = refl
+      needless true on h = absurd (let there : is_connected past ≡ true = on refl in cc)
+
+      go : (k : Bool) → is_connected past ≡ k → (b : Bool) → cond b (codes_under i e.note) None ≡ cond (k && b) (codes_under i e.note) None
+      go true h b = refl
+      go false h b = unanswered (needless (needs_connection e.note) on h) b
+
+  -- where one begins or ends, none of the earlier moments is on the one that is open, and no SUBACK comes
+  not-begun : is_open e.note ≡ true → (j : Moment) → Among j before → (begun (e ∷ past) == number j) ≡ false
+  not-begun opens j a = let le = (inside j a).1 in let more = begun-open e past opens in grind (arith, nat_tests)
+
+  not-here : is_boundary e.note ≡ true → (j : Moment) → Among j before → is_on_open (e ∷ past) j ≡ false
+  not-here outer j a = go (is_open e.note) refl (is_close e.note) refl outer
+    where
+      go : (o : Bool) → is_open e.note ≡ o → (c : Bool) → is_close e.note ≡ c → (o || c) ≡ true → is_on_open (e ∷ past) j ≡ false
+      go true opens c closes h = ap (λ b. is_connected (e ∷ past) && b) (not-begun opens j a) ∙ and_false (is_connected (e ∷ past))
+      go false opens true closes h =
+          ap (λ b. (b || (not (is_close e.note) && is_connected past)) && (begun (e ∷ past) == number j)) opens
+          ∙ ap (λ b. (not b && is_connected past) && (begun (e ∷ past) == number j)) closes
+      go false opens false closes h = absurd (cc)
+
+  codes-kept : is_boundary e.note ≡ true → (j : Moment) → Among j before → (i : ℕ) → codes_in (e ∷ past) j i ≡ codes_in past j i
+  unfolding codes_of
+  codes-kept outer j a i =
+      codes-next i j e past (inside j a).0 ∙ ap (λ o. option_or (codes_in past j i) (cond (begun (e ∷ past) == number j) o None)) (ap (codes_of i) (boundary-none e.note outer).1)
+      ∙ ap (option_or (codes_in past j i)) (none (begun (e ∷ past) == number j)) ∙ option_or-none (codes_in past j i)
+    where
+      none : (b : Bool) → cond {A = Option (List ℕ)} b None None ≡ None
+      none true = refl
+      none false = refl
 
   settled-is : (t : Standing → Bool) → some (λ j. list_any t (settled_from (e ∷ past) j)) (session tested.role (Some f) (e ∷ past))
       ≡ settled_next f e.note t (some (λ j. list_any t (settled_from past j)) before) (λ p. some (λ j. is_some_and p (waiting_from past j)) before)
@@ -295,7 +363,7 @@ module _ (tested : Tested) (f : Fate) (e : Seen) (past : List Seen) where
       session-some tested f (λ j. list_any t (settled_from (e ∷ past) j)) e past (λ r. newest-settled t)
       ∙ ap (λ b. (accepts f && b) || (goes_on f e.note && some (λ j. list_any t (settled_from (e ∷ past) j)) before)) (newest-settled t)
       ∙ ap (λ b. b || (goes_on f e.note && some (λ j. list_any t (settled_from (e ∷ past) j)) before)) (and_false (accepts f))
-      ∙ go (is_open e.note) refl
+      ∙ go (is_boundary e.note) refl
     where
       old : Bool
       old = some (λ j. list_any t (settled_from past j)) before
@@ -303,25 +371,25 @@ module _ (tested : Tested) (f : Fate) (e : Seen) (past : List Seen) where
       among : (Waits → Bool) → Bool
       among p = some (λ j. is_some_and p (waiting_from past j)) before
 
-      opened : is_open e.note ≡ true → some (λ j. list_any t (settled_from (e ∷ past) j)) before ≡ (old || among (λ w. list_any t w.filters))
-      opened h =
+      outside : is_boundary e.note ≡ true → some (λ j. list_any t (settled_from (e ∷ past) j)) before ≡ (old || among (λ w. list_any t w.filters))
+      outside h =
           some-alike (λ j. list_any t (settled_from (e ∷ past) j)) (λ j. list_any t (settled_from past j) || is_some_and (λ w. list_any t w.filters) (waiting_from past j)) before (λ j a.
           ap (λ b. list_any t (settled_by b (codes_in (e ∷ past) j) (received_subscription (note j)))) (not-here h j a)
-          ∙ settled-over t (begun past == number j) (codes_in past j) (codes_in (e ∷ past) j) (received_subscription (note j)) (λ i. codes-open h j a i))
+          ∙ settled-over t (is_on_open past j) (codes_in past j) (codes_in (e ∷ past) j) (received_subscription (note j)) (λ i. codes-kept h j a i))
           ∙ some-either (λ j. list_any t (settled_from past j)) (λ j. is_some_and (λ w. list_any t w.filters) (waiting_from past j)) before
 
-      closed : is_open e.note ≡ false → some (λ j. list_any t (settled_from (e ∷ past) j)) before ≡ (old || grants_some t (sent_grant e.note) among)
-      closed h =
+      within : is_boundary e.note ≡ false → some (λ j. list_any t (settled_from (e ∷ past) j)) before ≡ (old || grants_some t (sent_grant e.note) among)
+      within h =
           some-alike (λ j. list_any t (settled_from (e ∷ past) j)) (λ j. list_any t (settled_from past j) || grants_some t (sent_grant e.note) (λ p. is_some_and p (waiting_from past j))) before (λ j a.
-          ap (λ n. list_any t (settled_by (n == number j) (codes_in (e ∷ past) j) (received_subscription (note j)))) (begun-same e past h)
-          ∙ settled-step t (begun past == number j) (codes_in past j) (codes_in (e ∷ past) j) (sent_grant e.note) (received_subscription (note j)) (λ i. codes-same h j a i))
+          ap (λ b. list_any t (settled_by b (codes_in (e ∷ past) j) (received_subscription (note j)))) (here-same h j)
+          ∙ settled-step t (is_on_open past j) (codes_in past j) (codes_in (e ∷ past) j) (sent_grant e.note) (received_subscription (note j)) (λ i. codes-same h j a i))
           ∙ some-either (λ j. list_any t (settled_from past j)) (λ j. grants_some t (sent_grant e.note) (λ p. is_some_and p (waiting_from past j))) before
           ∙ ap (λ b. old || b) (some-grants t (sent_grant e.note) (waiting_from past) before)
 
-      go : (b : Bool) → is_open e.note ≡ b → (not (b && begins (Some f)) && some (λ j. list_any t (settled_from (e ∷ past) j)) before)
-          ≡ cond b (not (b && begins (Some f)) && (old || among (λ w. list_any t w.filters))) (old || grants_some t (sent_grant e.note) among)
-      go true h = ap (λ b. not (begins (Some f)) && b) (opened h)
-      go false h = closed h
+      go : (b : Bool) → is_boundary e.note ≡ b → (goes_on f e.note && some (λ j. list_any t (settled_from (e ∷ past) j)) before)
+          ≡ cond b (goes_on f e.note && (old || among (λ w. list_any t w.filters))) (old || grants_some t (sent_grant e.note) among)
+      go true h = ap (λ b. goes_on f e.note && b) (outside h)
+      go false h = ap (λ b. not (b && begins (Some f)) && some (λ j. list_any t (settled_from (e ∷ past) j)) before) (boundary-parts e.note h).0 ∙ within h
 
   waiting-is : (t : Waits → Bool) → some (λ j. is_some_and t (waiting_from (e ∷ past) j)) (session tested.role (Some f) (e ∷ past))
       ≡ waiting_next f e.note t (λ p. some (λ j. is_some_and p (waiting_from past j)) before)
@@ -329,23 +397,25 @@ module _ (tested : Tested) (f : Fate) (e : Seen) (past : List Seen) where
   waiting-is t =
       session-some tested f (λ j. is_some_and t (waiting_from (e ∷ past) j)) e past (λ r. newest-waiting t ∙ ap (λ o. is_some_and t (option_map asked o)) (unsubscribed e.note r))
       ∙ ap (λ b. (accepts f && b) || (goes_on f e.note && some (λ j. is_some_and t (waiting_from (e ∷ past) j)) before)) (newest-waiting t)
-      ∙ go (is_open e.note) refl
+      ∙ go (is_boundary e.note) refl
     where
-      none : is_open e.note ≡ true → some (λ j. is_some_and t (waiting_from (e ∷ past) j)) before ≡ false
+      none : is_boundary e.note ≡ true → some (λ j. is_some_and t (waiting_from (e ∷ past) j)) before ≡ false
       none h = some-alike (λ j. is_some_and t (waiting_from (e ∷ past) j)) (λ j. false) before (λ j a. ap (λ b. is_some_and t (waiting_by b (codes_in (e ∷ past) j) (received_subscription (note j)))) (not-here h j a)) ∙ some-none before
 
-      closed : is_open e.note ≡ false → some (λ j. is_some_and t (waiting_from (e ∷ past) j)) before ≡ some (λ j. is_some_and (λ w. not (is_answered (sent_grant e.note) w) && t w) (waiting_from past j)) before
-      closed h =
+      within : is_boundary e.note ≡ false → some (λ j. is_some_and t (waiting_from (e ∷ past) j)) before ≡ some (λ j. is_some_and (λ w. not (is_answered (sent_grant e.note) w) && t w) (waiting_from past j)) before
+      within h =
           some-alike (λ j. is_some_and t (waiting_from (e ∷ past) j)) (λ j. is_some_and (λ w. not (is_answered (sent_grant e.note) w) && t w) (waiting_from past j)) before (λ j a.
-          ap (λ n. is_some_and t (waiting_by (n == number j) (codes_in (e ∷ past) j) (received_subscription (note j)))) (begun-same e past h)
-          ∙ waiting-step t (begun past == number j) (codes_in past j) (codes_in (e ∷ past) j) (sent_grant e.note) (received_subscription (note j)) (λ i. codes-same h j a i))
+          ap (λ b. is_some_and t (waiting_by b (codes_in (e ∷ past) j) (received_subscription (note j)))) (here-same h j)
+          ∙ waiting-step t (is_on_open past j) (codes_in past j) (codes_in (e ∷ past) j) (sent_grant e.note) (received_subscription (note j)) (λ i. codes-same h j a i))
 
-      go : (b : Bool) → is_open e.note ≡ b → ((accepts f && is_some_and t (option_map asked (received_subscription e.note))) || (not (b && begins (Some f)) && some (λ j. is_some_and t (waiting_from (e ∷ past) j)) before))
+      go : (b : Bool) → is_boundary e.note ≡ b → ((accepts f && is_some_and t (option_map asked (received_subscription e.note))) || (goes_on f e.note && some (λ j. is_some_and t (waiting_from (e ∷ past) j)) before))
           ≡ cond b false ((accepts f && is_some_and t (option_map asked (received_subscription e.note))) || some (λ j. is_some_and (λ w. not (is_answered (sent_grant e.note) w) && t w) (waiting_from past j)) before)
       go true h =
-          ap (λ o. (accepts f && is_some_and t (option_map asked o)) || (not (begins (Some f)) && some (λ j. is_some_and t (waiting_from (e ∷ past) j)) before)) (opens-none e.note h).0
-          ∙ ap (λ b. (accepts f && false) || (not (begins (Some f)) && b)) (none h) ∙ ap (λ b. b || (not (begins (Some f)) && false)) (and_false (accepts f)) ∙ and_false (not (begins (Some f)))
-      go false h = ap (λ b. (accepts f && is_some_and t (option_map asked (received_subscription e.note))) || b) (closed h)
+          ap (λ o. (accepts f && is_some_and t (option_map asked o)) || (goes_on f e.note && some (λ j. is_some_and t (waiting_from (e ∷ past) j)) before)) (boundary-none e.note h).0
+          ∙ ap (λ b. (accepts f && false) || (goes_on f e.note && b)) (none h) ∙ ap (λ b. b || (goes_on f e.note && false)) (and_false (accepts f)) ∙ and_false (goes_on f e.note)
+      go false h =
+          ap (λ b. (accepts f && is_some_and t (option_map asked (received_subscription e.note))) || (not (b && begins (Some f)) && some (λ j. is_some_and t (waiting_from (e ∷ past) j)) before)) (boundary-parts e.note h).0
+          ∙ ap (λ b. (accepts f && is_some_and t (option_map asked (received_subscription e.note))) || b) (within h)
 
   sum-is : (weigh : Waits → ℕ) → total (λ j. weighed weigh (waiting_from (e ∷ past) j)) (session tested.role (Some f) (e ∷ past))
       ≡ sum_next f e.note weigh (λ g. total (λ j. weighed g (waiting_from past j)) before)
@@ -353,16 +423,16 @@ module _ (tested : Tested) (f : Fate) (e : Seen) (past : List Seen) where
   sum-is weigh =
       session-total tested f (λ j. weighed weigh (waiting_from (e ∷ past) j)) e past (λ r. newest-weighed weigh ∙ ap (λ o. weighed weigh (option_map asked o)) (unsubscribed e.note r))
       ∙ ap (λ n. cond (accepts f) n 0 + cond (goes_on f e.note) (total (λ j. weighed weigh (waiting_from (e ∷ past) j)) before) 0) (newest-weighed weigh)
-      ∙ go (is_open e.note) refl
+      ∙ go (is_boundary e.note) refl
     where
-      none : is_open e.note ≡ true → total (λ j. weighed weigh (waiting_from (e ∷ past) j)) before ≡ 0
+      none : is_boundary e.note ≡ true → total (λ j. weighed weigh (waiting_from (e ∷ past) j)) before ≡ 0
       none h = total-alike (λ j. weighed weigh (waiting_from (e ∷ past) j)) (λ j. 0) before (λ j a. ap (λ b. weighed weigh (waiting_by b (codes_in (e ∷ past) j) (received_subscription (note j)))) (not-here h j a)) ∙ total-none before
 
-      closed : is_open e.note ≡ false → total (λ j. weighed weigh (waiting_from (e ∷ past) j)) before ≡ total (λ j. weighed (λ w. cond (is_answered (sent_grant e.note) w) 0 (weigh w)) (waiting_from past j)) before
-      closed h =
+      within : is_boundary e.note ≡ false → total (λ j. weighed weigh (waiting_from (e ∷ past) j)) before ≡ total (λ j. weighed (λ w. cond (is_answered (sent_grant e.note) w) 0 (weigh w)) (waiting_from past j)) before
+      within h =
           total-alike (λ j. weighed weigh (waiting_from (e ∷ past) j)) (λ j. weighed (λ w. cond (is_answered (sent_grant e.note) w) 0 (weigh w)) (waiting_from past j)) before (λ j a.
-          ap (λ n. weighed weigh (waiting_by (n == number j) (codes_in (e ∷ past) j) (received_subscription (note j)))) (begun-same e past h)
-          ∙ sum-step weigh (begun past == number j) (codes_in past j) (codes_in (e ∷ past) j) (sent_grant e.note) (received_subscription (note j)) (λ i. codes-same h j a i))
+          ap (λ b. weighed weigh (waiting_by b (codes_in (e ∷ past) j) (received_subscription (note j)))) (here-same h j)
+          ∙ sum-step weigh (is_on_open past j) (codes_in past j) (codes_in (e ∷ past) j) (sent_grant e.note) (received_subscription (note j)) (λ i. codes-same h j a i))
 
       empty : (a b : Bool) → cond a 0 0 + cond b 0 0 ≡ 0
       empty true true = refl
@@ -370,28 +440,32 @@ module _ (tested : Tested) (f : Fate) (e : Seen) (past : List Seen) where
       empty false true = refl
       empty false false = refl
 
-      go : (b : Bool) → is_open e.note ≡ b → cond (accepts f) (weighed weigh (option_map asked (received_subscription e.note))) 0 + cond (not (b && begins (Some f))) (total (λ j. weighed weigh (waiting_from (e ∷ past) j)) before) 0
+      go : (b : Bool) → is_boundary e.note ≡ b → cond (accepts f) (weighed weigh (option_map asked (received_subscription e.note))) 0 + cond (goes_on f e.note) (total (λ j. weighed weigh (waiting_from (e ∷ past) j)) before) 0
           ≡ cond b 0 (cond (accepts f) (weighed weigh (option_map asked (received_subscription e.note))) 0 + total (λ j. weighed (λ w. cond (is_answered (sent_grant e.note) w) 0 (weigh w)) (waiting_from past j)) before)
       go true h =
-          ap (λ o. cond (accepts f) (weighed weigh (option_map asked o)) 0 + cond (not (begins (Some f))) (total (λ j. weighed weigh (waiting_from (e ∷ past) j)) before) 0) (opens-none e.note h).0
-          ∙ ap (λ n. cond (accepts f) 0 0 + cond (not (begins (Some f))) n 0) (none h) ∙ empty (accepts f) (not (begins (Some f)))
-      go false h = ap (λ n. cond (accepts f) (weighed weigh (option_map asked (received_subscription e.note))) 0 + n) (closed h)
+          ap (λ o. cond (accepts f) (weighed weigh (option_map asked o)) 0 + cond (goes_on f e.note) (total (λ j. weighed weigh (waiting_from (e ∷ past) j)) before) 0) (boundary-none e.note h).0
+          ∙ ap (λ n. cond (accepts f) 0 0 + cond (goes_on f e.note) n 0) (none h) ∙ empty (accepts f) (goes_on f e.note)
+      go false h =
+          ap (λ b. cond (accepts f) (weighed weigh (option_map asked (received_subscription e.note))) 0 + cond (not (b && begins (Some f))) (total (λ j. weighed weigh (waiting_from (e ∷ past) j)) before) 0) (boundary-parts e.note h).0
+          ∙ ap (λ n. cond (accepts f) (weighed weigh (option_map asked (received_subscription e.note))) 0 + n) (within h)
 
   sharing-is : some asks_to_share (session tested.role (Some f) (e ∷ past)) ≡ sharing_next f e.note (some asks_to_share before)
   sharing-is = session-some tested f asks_to_share e past (λ r. ap (is_some_and (λ s. list_any is_shared s.filters)) (unsubscribed e.note r))
 
+-- what is neither sent nor received sets no topic
+unset : (alias : ℕ) (n : Note) → has_item n ≡ false → option_or (topic_set alias n) None ≡ None
+unset alias (notes.Sent item) h = absurd (cc)
+unset alias (notes.Recv item) h = absurd (cc)
+unset alias _ h = refl
+
 -- the topic that was last set
-topic-is : (alias : ℕ) (e : Seen) (past : List Seen) → last_set alias (connection (e ∷ past)) ≡ topic_next e.note alias (last_set alias (connection past))
-topic-is alias e past = ap (last_set alias) (connection-next e past) ∙ ap (option_or (topic_set alias e.note)) (go (is_open e.note))
-  where
-    go : (b : Bool) → last_set alias (cond b [] (connection past)) ≡ cond b None (last_set alias (connection past))
-    go true = refl
-    go false = refl
+topic-is : (alias : ℕ) (e : Seen) (past : List Seen) → IsOnConnection e past → last_set alias (on_open (e ∷ past)) ≡ topic_next e.note alias (last_set alias (on_open past))
+topic-is alias e past on = on_open-fold (last_set alias) (option_or (topic_set alias e.note)) e past (λ ms. refl) (unset alias e.note) on
 
 -- what waits, by two tests that are alike
 same-settled : (f : Fate) (n : Note) (t : Standing → Bool) (a b : Bool) (p q : (Waits → Bool) → Bool) → a ≡ b → ((u : Waits → Bool) → p u ≡ q u) → settled_next f n t a p ≡ settled_next f n t b q
-same-settled f n t a b p q h same = ap (λ x. settled_next f n t x p) h ∙ ap (λ x. cond (is_open n) (goes_on f n && (b || x)) (b || grants_some t (sent_grant n) p)) (same (λ w. list_any t w.filters))
-    ∙ ap (λ x. cond (is_open n) (goes_on f n && (b || q (λ w. list_any t w.filters))) (b || x)) (go (sent_grant n))
+same-settled f n t a b p q h same = ap (λ x. settled_next f n t x p) h ∙ ap (λ x. cond (is_boundary n) (goes_on f n && (b || x)) (b || grants_some t (sent_grant n) p)) (same (λ w. list_any t w.filters))
+    ∙ ap (λ x. cond (is_boundary n) (goes_on f n && (b || q (λ w. list_any t w.filters))) (b || x)) (go (sent_grant n))
   where
     go : (g : Option Grant) → grants_some t g p ≡ grants_some t g q
     go None = refl
@@ -399,26 +473,26 @@ same-settled f n t a b p q h same = ap (λ x. settled_next f n t x p) h ∙ ap (
 
 -- the sum over what waits, by two sums that are alike
 same-sum : (f : Fate) (n : Note) (weigh : Waits → ℕ) (p q : (Waits → ℕ) → ℕ) → ((g : Waits → ℕ) → p g ≡ q g) → sum_next f n weigh p ≡ sum_next f n weigh q
-same-sum f n weigh p q same = ap (λ x. cond (is_open n) 0 (cond (accepts f) (weighed weigh (option_map asked (received_subscription n))) 0 + x)) (same (λ w. cond (is_answered (sent_grant n) w) 0 (weigh w)))
+same-sum f n weigh p q same = ap (λ x. cond (is_boundary n) 0 (cond (accepts f) (weighed weigh (option_map asked (received_subscription n))) 0 + x)) (same (λ w. cond (is_answered (sent_grant n) w) 0 (weigh w)))
 
 pub standing-next : (tested : Tested) (fate f : Fate) (settled more : List Standing) (waiting left : List Waits) (sharing shares : Bool) (topics known : ℕ → Option (List ℕ)) (e : Seen) (past : List Seen)
-    → IsStanding fate settled waiting sharing topics tested (fate_before tested f e past) past
+    → IsOnConnection e past → IsStanding fate settled waiting sharing topics tested (fate_before tested f e past) past
     → ((among : List ℕ → Bool) (qos : ℕ) → list_any (allows among qos) more ≡ settled_next f e.note (allows among qos) (list_any (allows among qos) settled) (λ p. list_any p waiting))
     → ((t : Waits → Bool) → list_any t left ≡ waiting_next f e.note t (λ p. list_any p waiting))
     → ((weigh : Waits → ℕ) → sum_by weigh left ≡ sum_next f e.note weigh (λ g. sum_by g waiting))
     → shares ≡ sharing_next f e.note sharing → ((alias : ℕ) → known alias ≡ topic_next e.note alias (topics alias))
     → IsStanding f more left shares known tested (Some f) (e ∷ past)
-standing-next tested fate f settled more waiting left sharing shares topics known e past s a b u c d = record {
+standing-next tested fate f settled more waiting left sharing shares topics known e past on s a b u c d = record {
   same_fate = refl;
   settled_are = λ among qos.
       a among qos
       ∙ same-settled f e.note (allows among qos) (list_any (allows among qos) settled) (some (λ j. list_any (allows among qos) (settled_from past j)) ms) (λ p. list_any p waiting) (λ p. some (λ j. is_some_and p (waiting_from past j)) ms) (s.settled_are among qos) s.waiting_are
-      ∙ sym (settled-is tested f e past (allows among qos));
+      ∙ sym (settled-is tested f e past on (allows among qos));
   waiting_sums = λ weigh.
-      u weigh ∙ same-sum f e.note weigh (λ g. sum_by g waiting) (λ g. total (λ j. weighed g (waiting_from past j)) ms) s.waiting_sums ∙ sym (sum-is tested f e past weigh);
-  waiting_are = λ t. b t ∙ ap (λ x. cond (is_open e.note) false ((accepts f && is_some_and t (option_map asked (received_subscription e.note))) || x)) (s.waiting_are (λ w. not (is_answered (sent_grant e.note) w) && t w)) ∙ sym (waiting-is tested f e past t);
-  is_sharing = c ∙ ap (sharing_next f e.note) s.is_sharing ∙ sym (sharing-is tested f e past);
-  topics_are = λ alias. d alias ∙ ap (topic_next e.note alias) (s.topics_are alias) ∙ sym (topic-is alias e past);
+      u weigh ∙ same-sum f e.note weigh (λ g. sum_by g waiting) (λ g. total (λ j. weighed g (waiting_from past j)) ms) s.waiting_sums ∙ sym (sum-is tested f e past on weigh);
+  waiting_are = λ t. b t ∙ ap (λ x. cond (is_boundary e.note) false ((accepts f && is_some_and t (option_map asked (received_subscription e.note))) || x)) (s.waiting_are (λ w. not (is_answered (sent_grant e.note) w) && t w)) ∙ sym (waiting-is tested f e past on t);
+  is_sharing = c ∙ ap (sharing_next f e.note) s.is_sharing ∙ sym (sharing-is tested f e past on);
+  topics_are = λ alias. d alias ∙ ap (topic_next e.note alias) (s.topics_are alias) ∙ sym (topic-is alias e past on);
 }
   where
     ms : List Moment
@@ -436,7 +510,7 @@ standing-parts-kept : (tested : Tested) (fate : Fate) (settled : List Standing) 
 standing-parts-kept tested fate settled waiting sharing topics taken e past t s are =
     standing-some t (newest e past) (session tested.role taken past)
     ∙ some-alike (λ j. list_any t (standing_from (newest e past) j)) (λ j. list_any t (settled_from past j) || is_some_and (λ w. list_any t w.filters) (waiting_from past j)) (session tested.role taken past)
-    (λ j a. standing-parts t (begun past == number j) (codes_in past j) (received_subscription (note j)))
+    (λ j a. standing-parts t (is_on_open past j) (codes_in past j) (received_subscription (note j)))
     ∙ some-either (λ j. list_any t (settled_from past j)) (λ j. is_some_and (λ w. list_any t w.filters) (waiting_from past j)) (session tested.role taken past)
     ∙ ap (λ b. b || some (λ j. is_some_and (λ w. list_any t w.filters) (waiting_from past j)) (session tested.role taken past)) (sym are)
     ∙ ap (λ b. list_any t settled || b) (sym (s.waiting_are (λ w. list_any t w.filters)))

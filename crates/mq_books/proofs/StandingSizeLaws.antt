@@ -8,9 +8,9 @@ use Rattle.mq_rules.specs.declared.fate.Fate.{Fate}
 use Rattle.mq_rules.specs.declared.note.Seen.{Seen}
 use Rattle.mq_rules.specs.Notes.{Subscription, received_subscription}
 use Rattle.mq_rules.specs.Moments.{Moment, note, some}
-use Rattle.mq_rules.specs.Connections.{begun, number, session}
+use Rattle.mq_rules.specs.Connections.{session}
 use Rattle.mq_rules.specs.Subscriptions.{Standing}
-use Rattle.mq_books.specs.Standings.{Waits, codes_in, waits_by, standing_by, settled_by, settled_from, IsStanding}
+use Rattle.mq_books.specs.Standings.{Waits, is_on_open, codes_in, waits_by, standing_by, settled_by, settled_from, IsStanding}
 use Rattle.mq_books.specs.Burden.{filters_of, standing_filters}
 use Rattle.mq_books.proofs.StandingLaws.{settled-named}
 
@@ -42,7 +42,7 @@ some-stand f log (j ∷ js) h =
     go : (b : Bool) → list_any (λ s. bytes_eq f s.filter) (settled_from log j) ≡ b → (b || some (λ j. list_any (λ s. bytes_eq f s.filter) (settled_from log j)) js) ≡ true
         → (some (λ j. list_any (λ s. bytes_eq f s.filter) (settled_from log j)) js ≡ true → list_any (bytes_eq f) (standing_filters log js) ≡ true)
         → (list_any (λ s. bytes_eq f s.filter) here || list_any (bytes_eq f) (standing_filters log js)) ≡ true
-    go true n h rest = ap (λ b. b || list_any (bytes_eq f) (standing_filters log js)) (settled-stands (λ s. bytes_eq f s.filter) (begun log == number j) (codes_in log j) (received_subscription (note j)) n)
+    go true n h rest = ap (λ b. b || list_any (bytes_eq f) (standing_filters log js)) (settled-stands (λ s. bytes_eq f s.filter) (is_on_open log j) (codes_in log j) (received_subscription (note j)) n)
     go false n h rest = ap (λ b. list_any (λ s. bytes_eq f s.filter) here || b) (rest h) ∙ right (list_any (λ s. bytes_eq f s.filter) here)
 
 pub settled-stand : (tested : Tested) (fate : Fate) (settled : List Standing) (waiting : List Waits) (sharing : Bool) (topics : ℕ → Option (List ℕ)) (taken : Option Fate) (past : List Seen) → IsStanding fate settled waiting sharing topics tested taken past

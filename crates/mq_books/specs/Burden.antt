@@ -93,13 +93,13 @@ abbrev pub at_least_one : ℕ → ℕ
 at_least_one zero = 1
 at_least_one (suc n) = suc n
 
--- how many filters the SUBSCRIBEs have, counted with repeats, that were received on the latest connection without a SUBACK after it there; each has at least one
+-- how many filters the SUBSCRIBEs have, counted with repeats, that were received on the open connection without a SUBACK after it there; each has at least one
 unfoldable pub asked_filters : List Seen → ℕ
 asked_filters log = total (λ j. weighed (λ w. at_least_one (length w.filters)) (waiting_from log j)) (connection log)
 
--- how many Topic Aliases have a topic that was sent on the latest connection
+-- how many Topic Aliases have a topic that was sent on the open connection
 unfoldable pub aliased_ids : List Seen → ℕ
-aliased_ids log = ids_where (λ alias. is_some (last_set alias (connection log)))
+aliased_ids log = ids_where (λ alias. is_some (last_set alias (on_open log)))
 
 -- ---- together
 

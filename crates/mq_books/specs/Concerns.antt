@@ -48,7 +48,7 @@ concerns_releases n =
     || (is_some (sent_as ended_in n) || (is_some (sent_as unmatched_pubrec_in n) || is_some (sent_as success_pubcomp_in n))))))
 
 abbrev pub concerns_deliveries : Tested → Note → Bool
-concerns_deliveries tested n = is_open n || (is_some (received_subscription n) || (is_some (sent_grant n) || (is_some (set_alias n) || (is_some (sent_publish n) && binds B01 tested))))
+concerns_deliveries tested n = is_boundary n || (is_some (received_subscription n) || (is_some (sent_grant n) || (is_some (set_alias n) || (is_some (sent_publish n) && binds B01 tested))))
 
 -- a PUBLISH of QoS above 0, or what opens, sets free or waits for an identifier
 abbrev pub moves_identifiers : Note → Bool

@@ -13,9 +13,9 @@ use Rattle.mq_rules.specs.declared.note.Note.{Note}
 use Rattle.mq_rules.specs.declared.note.Seen.{Seen}
 use Rattle.mq_rules.specs.declared.packet_note.PublishNote.{PublishNote}
 use Rattle.mq_rules.specs.Words.{is_some_and, only}
-use Rattle.mq_rules.specs.Notes.{is_open, Subscription, Grant, received_subscription, sent_grant, sent_publish, refuses, qos_number}
+use Rattle.mq_rules.specs.Notes.{is_open, is_boundary, Subscription, Grant, received_subscription, sent_grant, sent_publish, refuses, qos_number}
 use Rattle.mq_rules.specs.Moments.{Moment, note, is_after, some, those, first_found}
-use Rattle.mq_rules.specs.Connections.{begun, number, of_connection, connection, accepts, begins, session}
+use Rattle.mq_rules.specs.Connections.{begun, number, is_connected, of_connection, on_open, accepts, begins, session}
 use Rattle.mq_rules.specs.Subscriptions.{Standing, granted, codes_under, asks_to_share, is_shared, topic_set, last_set}
 
 -- ---- filters that stand
@@ -56,7 +56,11 @@ asked s = record { identifier = s.identifier; filters = granted s.filters [] }
 abbrev pub codes_in : List Seen → Moment → ℕ → Option (List ℕ)
 codes_in past j i = first_found (codes_under i) (those (λ m. is_after m j) (of_connection (number j) past))
 
--- a SUBSCRIBE waits if it is on the latest connection, and these say no Reason Codes for its identifier
+-- the moment is on the connection that is open after these events
+abbrev pub is_on_open : List Seen → Moment → Bool
+is_on_open past j = is_connected past && (begun past == number j)
+
+-- a SUBSCRIBE waits if it is on the connection that is open, and these say no Reason Codes for its identifier
 abbrev pub waits_by : Bool → (ℕ → Option (List ℕ)) → Option Subscription → Bool
 waits_by here codes o = here && is_some_and (λ s. is_none (codes s.identifier)) o
 
@@ -71,10 +75,10 @@ abbrev pub waiting_by : Bool → (ℕ → Option (List ℕ)) → Option Subscrip
 waiting_by here codes o = only (waits_by here codes o) (option_map asked o)
 
 abbrev pub settled_from : List Seen → Moment → List Standing
-settled_from past j = settled_by (begun past == number j) (codes_in past j) (received_subscription (note j))
+settled_from past j = settled_by (is_on_open past j) (codes_in past j) (received_subscription (note j))
 
 abbrev pub waiting_from : List Seen → Moment → Option Waits
-waiting_from past j = waiting_by (begun past == number j) (codes_in past j) (received_subscription (note j))
+waiting_from past j = waiting_by (is_on_open past j) (codes_in past j) (received_subscription (note j))
 
 -- SUBSCRIBEs with these filters under an identifier; those of a map from identifiers to them; those that were taken out of it
 abbrev pub under : ℕ → List (List Standing) → List Waits
@@ -137,21 +141,21 @@ grants_some t g among = is_some_and (λ a. among (λ w. (a.identifier == w.ident
 
 -- what is settled and what waits after an event, by a test
 abbrev pub settled_next : Fate → Note → (Standing → Bool) → Bool → ((Waits → Bool) → Bool) → Bool
-settled_next f n t old among = cond (is_open n) (goes_on f n && (old || among (λ w. list_any t w.filters))) (old || grants_some t (sent_grant n) among)
+settled_next f n t old among = cond (is_boundary n) (goes_on f n && (old || among (λ w. list_any t w.filters))) (old || grants_some t (sent_grant n) among)
 
 abbrev pub waiting_next : Fate → Note → (Waits → Bool) → ((Waits → Bool) → Bool) → Bool
-waiting_next f n t among = cond (is_open n) false ((accepts f && is_some_and t (option_map asked (received_subscription n))) || among (λ w. not (is_answered (sent_grant n) w) && t w))
+waiting_next f n t among = cond (is_boundary n) false ((accepts f && is_some_and t (option_map asked (received_subscription n))) || among (λ w. not (is_answered (sent_grant n) w) && t w))
 
 -- the sum of a number over what waits after an event
 abbrev pub sum_next : Fate → Note → (Waits → ℕ) → ((Waits → ℕ) → ℕ) → ℕ
 sum_next f n weigh among =
-    cond (is_open n) 0 (cond (accepts f) (weighed weigh (option_map asked (received_subscription n))) 0 + among (λ w. cond (is_answered (sent_grant n) w) 0 (weigh w)))
+    cond (is_boundary n) 0 (cond (accepts f) (weighed weigh (option_map asked (received_subscription n))) 0 + among (λ w. cond (is_answered (sent_grant n) w) 0 (weigh w)))
 
 abbrev pub sharing_next : Fate → Note → Bool → Bool
 sharing_next f n old = (accepts f && is_some_and (λ s. list_any is_shared s.filters) (received_subscription n)) || (goes_on f n && old)
 
 abbrev pub topic_next : Note → ℕ → Option (List ℕ) → Option (List ℕ)
-topic_next n alias old = option_or (topic_set alias n) (cond (is_open n) None old)
+topic_next n alias old = option_or (topic_set alias n) (cond (is_boundary n) None old)
 
 -- ---- what is kept
 
@@ -162,7 +166,7 @@ pub record IsStanding (fate : Fate) (settled : List Standing) (waiting : List Wa
   pub waiting_are : (t : Waits → Bool) → list_any t waiting ≡ some (λ j. is_some_and t (waiting_from past j)) (session tested.role taken past)
   pub waiting_sums : (weigh : Waits → ℕ) → sum_by weigh waiting ≡ total (λ j. weighed weigh (waiting_from past j)) (session tested.role taken past)
   pub is_sharing : sharing ≡ some asks_to_share (session tested.role taken past)
-  pub topics_are : (alias : ℕ) → topics alias ≡ last_set alias (connection past)
+  pub topics_are : (alias : ℕ) → topics alias ≡ last_set alias (on_open past)
 
 -- ---- deliveries
 
@@ -205,7 +209,7 @@ is_near (f ∷ filter) (b ∷ name) = cond (f == b) (is_near filter name) (cond 
 
 -- the event may change which filters stand or wait
 abbrev pub changes_filters : Note → Bool
-changes_filters n = is_open n || (is_some (sent_grant n) || is_some (received_subscription n))
+changes_filters n = is_boundary n || (is_some (sent_grant n) || is_some (received_subscription n))
 
 -- the QoS that is allowed for a topic
 abbrev pub allows_topic : List Standing → List Waits → List ℕ → ℕ → Bool

@@ -7,9 +7,8 @@ ghost use Rattle.std.specs.Set.{distinct_count};
 ghost use Rattle.indexmap.specs.IndexMap.{index_map_len};
 ghost use Rattle.mq_rules.specs.Words.{is_some_and};
 ghost use Rattle.mq_rules.specs.Notes.{received_subscription, sent_grant};
-ghost use Rattle.mq_rules.specs.Connections.{begins};
 ghost use Rattle.mq_rules.specs.Subscriptions.{Standing};
-ghost use Rattle.mq_books.specs.Standings.{allows, Waits, waits_weight, asked, weighed, sum_next, with_codes, is_answered, grants_some, settled_next, waiting_next, allows_topic, changes_filters, Remembers};
+ghost use Rattle.mq_books.specs.Standings.{goes_on as keeps_session, allows, Waits, waits_weight, asked, weighed, sum_next, with_codes, is_answered, grants_some, settled_next, waiting_next, allows_topic, changes_filters, Remembers};
 
 use crate::awaited::{Awaited, Request};
 use crate::ceilings::higher;
@@ -39,17 +38,25 @@ fn answer(
     }
 }
 
-// Takes in an OPEN of a connection that has this fate.
-fn open(
+/// Whether the session goes on with an event of a connection that has this fate.
+pub fn goes_on(fate: Fate, note: &Note) -> bool
+    ensures { result ≡ keeps_session fate note.now }
+{
+    !(note.is_open() && matches!(fate, Fate::New))
+}
+
+// Takes in an OPEN or a CLOSE, where the session is kept or a new one begins. For what waits no
+// SUBACK comes any more.
+fn take_boundary(
     alloc: Global,
     settled: &mut StandingFilters,
     waiting: &mut Awaited,
-    fate: Fate,
+    kept: bool,
 ) -> Result<(), Memory>
-    ensures settled { OnOk result ((among : List ℕ → Bool) (qos : ℕ) → list_any (allows among qos) settled.new ≡ (not (begins (Some fate)) && (list_any (allows among qos) settled.old || list_any (λ w. list_any (allows among qos) w.filters) waiting.old))) }
+    ensures settled { OnOk result ((among : List ℕ → Bool) (qos : ℕ) → list_any (allows among qos) settled.new ≡ (kept && (list_any (allows among qos) settled.old || list_any (λ w. list_any (allows among qos) w.filters) waiting.old))) }
     ensures none { OnOk result (waiting.new ≡ []) }
 {
-    if matches!(fate, Fate::New) {
+    if !kept {
         // A large map that is cleared costs its size each time.
         *settled = StandingFilters::new(alloc);
         *waiting = Awaited::new(alloc);
@@ -120,8 +127,8 @@ fn take_filters(
     ensures waiting { OnOk result ((t : Waits → Bool) → list_any t waiting.new ≡ waiting_next fate note.now t (λ p. list_any p waiting.old)) }
     ensures sums { OnOk result ((weigh : Waits → ℕ) → sum_by weigh waiting.new ≡ sum_next fate note.now weigh (λ g. sum_by g waiting.old)) }
 {
-    if note.is_open() {
-        open(alloc, settled, waiting, fate)?;
+    if note.is_boundary() {
+        take_boundary(alloc, settled, waiting, goes_on(fate, note))?;
         return Ok(());
     }
     take_grant(alloc, settled, waiting, note)?;
@@ -163,7 +170,7 @@ fn may_change(note: &Note) -> bool
     ensures { result ≡ changes_filters note.now }
 {
     match note {
-        Note::Open => true,
+        Note::Open | Note::Close => true,
         Note::Sent(ItemNote::Packet(packet)) => {
             matches!(packet.fields, PacketFields::Suback { .. })
         }

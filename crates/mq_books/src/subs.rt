@@ -14,12 +14,12 @@ ghost use Rattle.mq_rules.specs.Subscriptions.{is_shared as begins_shared};
 ghost use Rattle.mq_rules.specs.Rules.{same_rule, binds as is_bound};
 ghost use Rattle.mq_rules.specs.Under.{IsKnown, turns_known};
 ghost use Rattle.mq_books.specs.Burden.{standing_count, asked_filters, aliased_ids};
-ghost use Rattle.mq_books.specs.Standings.{goes_on as keeps_session, sharing_next, topic_next, IsStanding, topic_kept, delivers_so, judged_topic as topic_judged, is_unasked as unasked, is_above as above};
+ghost use Rattle.mq_books.specs.Standings.{sharing_next, topic_next, IsStanding, topic_kept, delivers_so, judged_topic as topic_judged, is_unasked as unasked, is_above as above};
 ghost use Rattle.mq_books.specs.Concerns.{concerns_deliveries};
 
 use crate::ceilings::is_within;
 use crate::fated::Fated;
-use crate::filters::Filters;
+use crate::filters::{Filters, goes_on};
 use crate::known::judge_by;
 use crate::selective::Selective;
 use crate::sizes::map_size;
@@ -67,13 +67,6 @@ fn asks_for_shared(note: &Note) -> bool
     }
 }
 
-// Whether the session goes on with an event of a connection that has this fate.
-fn goes_on(fate: Fate, note: &Note) -> bool
-    ensures { result ≡ keeps_session fate note.now }
-{
-    !(note.is_open() && matches!(fate, Fate::New))
-}
-
 // Whether the session has asked for a shared subscription after an event.
 fn shares(fate: Fate, note: &Note, old: bool) -> bool
     ensures { result ≡ sharing_next fate note.now old }
@@ -105,7 +98,7 @@ fn set_alias(
 fn take_topic(alloc: Global, topics: &mut IndexMap<u16, Text>, note: &Note) -> Result<(), Memory>
     ensures { OnOk result ((alias : ℕ) → get nat_eq topics.new alias ≡ topic_next note.now alias (get nat_eq topics.old alias)) }
 {
-    if note.is_open() {
+    if note.is_boundary() {
         // A large map that is cleared costs its size each time.
         *topics = IndexMap::new(alloc);
     }

@@ -158,8 +158,8 @@ fn bare_may_concern_subscriptions(bound: bool, bare: Bare<'_>) -> bool
             | BareFields::Pingresp => false,
         },
         Direction::Recv => match bare.fields {
-            BareFields::Publish { .. } => false,
-            BareFields::Puback { .. }
+            BareFields::Publish { .. }
+            | BareFields::Puback { .. }
             | BareFields::Pubrec { .. }
             | BareFields::Pubrel { .. }
             | BareFields::Pubcomp { .. }

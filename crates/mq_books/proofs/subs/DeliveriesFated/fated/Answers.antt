@@ -19,7 +19,7 @@ returns-clause-agrees c = λ tested past under q.
     let e = seen c.args.at c.args.note.now in
     let f = c.judge_event.new.filters in (
       q.0,
-      standing-next tested s.fate c.args.fate f.settled c.take_in.new.self.settled f.waiting c.take_in.new.self.waiting s.sharing c.shares-self.result (get nat_eq s.topics) (get nat_eq c.take_topic.new.topics) e past
+      standing-next tested s.fate c.args.fate f.settled c.take_in.new.self.settled f.waiting c.take_in.new.self.waiting s.sharing c.shares-self.result (get nat_eq s.topics) (get nat_eq c.take_topic.new.topics) e past under.follows.on_connections.0
           (subst (λ (g : SessionFilters). IsStanding s.fate g.settled g.waiting s.sharing (get nat_eq s.topics) tested (fate_before tested c.args.fate e past) past) (sym c.judge_event.ensures.unchanged) q.1)
           c.in_ok-take_in.ensures.settled c.in_ok-take_in.ensures.waiting c.in_ok-take_in.ensures.sums c.shares-self.ensures c.in_ok-take_topic.ensures,
     )
