@@ -295,6 +295,41 @@ undelivered false b n sharing topics test h = refl
 none-more : (n : ℕ) → 0 + n ≡ n
 none-more n = omega arith
 
+-- an event that neither begins nor ends a connection, and says nothing of filters or Topic Aliases
+pub standing-stays : (tested : Tested) (fate f : Fate) (settled : List Standing) (waiting : List Waits) (sharing : Bool) (topics : ℕ → Option (List ℕ)) (at : ℕ) (e : Seen) (past : List Seen)
+    → is_boundary e.note ≡ false → received_subscription e.note ≡ None → sent_grant e.note ≡ None → set_alias e.note ≡ None → IsUnder tested f at e past
+    → IsStanding fate settled waiting sharing topics tested (fate_before tested f e past) past → IsStanding fate settled waiting sharing topics tested (Some f) (e ∷ past)
+standing-stays tested fate f settled waiting sharing topics at e past inner asks grants sets under before =
+    let n = e.note in
+    let unopened : is_open n ≡ false = (neither (is_open n) (is_close n) inner).0 in
+    let s : IsStanding fate settled waiting sharing topics tested (Some f) past =
+    subst (λ (t : Option Fate). IsStanding fate settled waiting sharing topics tested t past) (sym (closed-before tested f e past unopened)) before in
+    let next : IsStanding f settled waiting sharing topics tested (Some f) (e ∷ past) =
+    standing-next tested fate f settled settled waiting waiting sharing sharing topics topics e past under.follows.on_connections.0 before
+    (λ among qos. sym (
+    ap (λ b. cond b (goes_on f n && (list_any (allows among qos) settled || list_any (λ w. list_any (allows among qos) w.filters) waiting)) (list_any (allows among qos) settled || grants_some (allows among qos) (sent_grant n) (λ p. list_any p waiting))) inner
+    ∙ ap (λ o. list_any (allows among qos) settled || grants_some (allows among qos) o (λ p. list_any p waiting)) grants
+    ∙ or_false (list_any (allows among qos) settled)))
+    (λ t. sym (
+    ap (λ b. cond b false ((accepts f && is_some_and t (option_map asked (received_subscription n))) || list_any (λ w. not (is_answered (sent_grant n) w) && t w) waiting)) inner
+    ∙ ap (λ o. (accepts f && is_some_and t (option_map asked o)) || list_any (λ w. not (is_answered (sent_grant n) w) && t w) waiting) asks
+    ∙ ap (λ b. b || list_any (λ w. not (is_answered (sent_grant n) w) && t w) waiting) (and_false (accepts f))
+    ∙ ap (λ o. list_any (λ w. not (is_answered o w) && t w) waiting) grants))
+    (λ weigh. sym (
+    ap (λ b. cond b 0 (cond (accepts f) (weighed weigh (option_map asked (received_subscription n))) 0 + sum_by (λ w. cond (is_answered (sent_grant n) w) 0 (weigh w)) waiting)) inner
+    ∙ ap (λ o. cond (accepts f) (weighed weigh (option_map asked o)) 0 + sum_by (λ w. cond (is_answered (sent_grant n) w) 0 (weigh w)) waiting) asks
+    ∙ ap (λ o. cond (accepts f) 0 0 + sum_by (λ w. cond (is_answered o w) 0 (weigh w)) waiting) grants
+    ∙ ap (λ k. k + sum_by weigh waiting) (same_cond (accepts f) 0)
+    ∙ none-more (sum_by weigh waiting)))
+    (sym (
+    ap (λ o. (accepts f && is_some_and (λ s. list_any is_shared s.filters) o) || (goes_on f n && sharing)) asks
+    ∙ ap (λ b. b || (goes_on f n && sharing)) (and_false (accepts f))
+    ∙ ap (λ b. not (b && begins (Some f)) && sharing) unopened))
+    (λ alias. sym (
+    ap (λ o. option_or (only (is_id alias o) (option_map (λ p. p.topic) (sent_publish n))) (cond (is_boundary n) None (topics alias))) sets
+    ∙ ap (λ b. cond b None (topics alias)) inner)) in
+    subst (λ (g : Fate). IsStanding g settled waiting sharing topics tested (Some f) (e ∷ past)) (some-same f fate s.same_fate) next
+
 pub standing-passes : (tested : Tested) (fate f : Fate) (settled : List Standing) (waiting : List Waits) (sharing : Bool) (topics : ℕ → Option (List ℕ)) (at : ℕ) (e : Seen) (past : List Seen) (bound : Bool)
     → concerns_deliveries tested e.note ≡ false → IsUnder tested f at e past → bound ≡ binds B01 tested → IsStanding fate settled waiting sharing topics tested (fate_before tested f e past) past
     → IsStanding fate settled waiting sharing topics tested (Some f) (e ∷ past)
@@ -308,36 +343,9 @@ standing-passes tested fate f settled waiting sharing topics at e past bound h u
     let asks : received_subscription n ≡ None = nothing (received_subscription n) h2.0 in
     let grants : sent_grant n ≡ None = nothing (sent_grant n) h3.0 in
     let sets : set_alias n ≡ None = nothing (set_alias n) h4.0 in
-    let silent : (is_some (sent_publish n) && bound) ≡ false = ap (λ b. is_some (sent_publish n) && b) judged ∙ h4.1 in
-    let unopened : is_open n ≡ false = (neither (is_open n) (is_close n) h1.0).0 in
-    let s : IsStanding fate settled waiting sharing topics tested (Some f) past =
-    subst (λ (t : Option Fate). IsStanding fate settled waiting sharing topics tested t past) (sym (closed-before tested f e past unopened)) before in
-    let next : IsStanding f settled waiting sharing topics tested (Some f) (e ∷ past) =
-    standing-next tested fate f settled settled waiting waiting sharing sharing topics topics e past under.follows.on_connections.0 before
-    (λ among qos. sym (
-    ap (λ b. cond b (goes_on f n && (list_any (allows among qos) settled || list_any (λ w. list_any (allows among qos) w.filters) waiting)) (list_any (allows among qos) settled || grants_some (allows among qos) (sent_grant n) (λ p. list_any p waiting))) h1.0
-    ∙ ap (λ o. list_any (allows among qos) settled || grants_some (allows among qos) o (λ p. list_any p waiting)) grants
-    ∙ or_false (list_any (allows among qos) settled)))
-    (λ t. sym (
-    ap (λ b. cond b false ((accepts f && is_some_and t (option_map asked (received_subscription n))) || list_any (λ w. not (is_answered (sent_grant n) w) && t w) waiting)) h1.0
-    ∙ ap (λ o. (accepts f && is_some_and t (option_map asked o)) || list_any (λ w. not (is_answered (sent_grant n) w) && t w) waiting) asks
-    ∙ ap (λ b. b || list_any (λ w. not (is_answered (sent_grant n) w) && t w) waiting) (and_false (accepts f))
-    ∙ ap (λ o. list_any (λ w. not (is_answered o w) && t w) waiting) grants))
-    (λ weigh. sym (
-    ap (λ b. cond b 0 (cond (accepts f) (weighed weigh (option_map asked (received_subscription n))) 0 + sum_by (λ w. cond (is_answered (sent_grant n) w) 0 (weigh w)) waiting)) h1.0
-    ∙ ap (λ o. cond (accepts f) (weighed weigh (option_map asked o)) 0 + sum_by (λ w. cond (is_answered (sent_grant n) w) 0 (weigh w)) waiting) asks
-    ∙ ap (λ o. cond (accepts f) 0 0 + sum_by (λ w. cond (is_answered o w) 0 (weigh w)) waiting) grants
-    ∙ ap (λ k. k + sum_by weigh waiting) (same_cond (accepts f) 0)
-    ∙ none-more (sum_by weigh waiting)))
-    (sym (
-    ap (λ o. (accepts f && is_some_and (λ s. list_any is_shared s.filters) o) || (goes_on f n && sharing)) asks
-    ∙ ap (λ b. b || (goes_on f n && sharing)) (and_false (accepts f))
-    ∙ ap (λ b. not (b && begins (Some f)) && sharing) unopened))
-    (λ alias. sym (
-    ap (λ o. option_or (only (is_id alias o) (option_map (λ p. p.topic) (sent_publish n))) (cond (is_boundary n) None (topics alias))) sets
-    ∙ ap (λ b. cond b None (topics alias)) h1.0)) in (
-      subst (λ (g : Fate). IsStanding g settled waiting sharing topics tested (Some f) (e ∷ past)) (some-same f fate s.same_fate) next,
+    let silent : (is_some (sent_publish n) && bound) ≡ false = ap (λ b. is_some (sent_publish n) && b) judged ∙ h4.1 in (
+      standing-stays tested fate f settled waiting sharing topics at e past h1.0 asks grants sets under before,
       λ m. gains_either (λ r. same_rule r B01) (λ r. same_rule r B02) (λ k r. turns_with tested f e past k r) tested (e ∷ past) at m m m
-          (B01-gains tested fate f settled waiting sharing topics at e past m bound false under before judged (sym (undelivered bound (accepts f) n sharing topics (unasked settled waiting) silent)))
-          (B02-gains tested fate f settled waiting sharing topics at e past m bound false under before judged (sym (undelivered bound (accepts f) n sharing topics (is_above settled waiting) silent))),
+          (B01-gains tested fate f settled waiting sharing topics at e past m bound false under before judged (sym (undelivered bound (accepts f) n sharing topics (λ p. unasked settled waiting) silent)))
+          (B02-gains tested fate f settled waiting sharing topics at e past m bound false under before judged (sym (undelivered bound (accepts f) n sharing topics (λ p. is_above settled waiting p.qos) silent))),
     )

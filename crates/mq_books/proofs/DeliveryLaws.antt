@@ -1,5 +1,5 @@
 -- B01 and B02.
-use Rattle.std.proofs.Common.{◌≡◌, ℕ, ◌==◌, nat_le, Bool, true, false, cond, ◌&&◌, not, List, ◌∷◌, length, Option, Some, None, refl, ap, sym, ◌∙◌}
+use Rattle.std.proofs.Common.{◌≡◌, ℕ, ◌==◌, nat_le, Bool, true, false, cond, ◌&&◌, ◌||◌, not, List, ◌∷◌, length, Option, Some, None, refl, ap, sym, ◌∙◌}
 use Rattle.std.specs.Option.{option_and_then}
 use Rattle.std.specs.List.{list_any}
 use Rattle.mq_topic.specs.Matching.{matches}
@@ -22,8 +22,8 @@ use Rattle.mq_rules.specs.Statements.{statement}
 use Rattle.mq_rules.specs.Faults.{offset_of}
 use Rattle.mq_rules.specs.FaultKeys.{FaultMap}
 use Rattle.mq_rules.specs.Under.{IsUnder, fate_before, turns_with}
-use Rattle.mq_rules.specs.Growing.{Gains}
-use Rattle.mq_rules.proofs.Exports.{on_open-connected}
+use Rattle.mq_rules.specs.Growing.{Gains, GainsWithin}
+use Rattle.mq_rules.proofs.Exports.{gains_either, on_open-connected, within_either_second, within_nothing}
 use Rattle.mq_books.specs.Quotas.{judged_by}
 use Rattle.mq_books.specs.Standings.{Waits, IsStanding, any_kept, topic_kept, judged_topic, delivers_so, is_unasked, is_above}
 use Rattle.mq_books.proofs.JudgeLaws.{session-turns_with, gains_judged}
@@ -85,20 +85,20 @@ delivered tested fate f settled waiting sharing topics e past t u on s same = go
     go false h s = closed s (sent_publish e.note) refl
 
 pub B01-gains : (tested : Tested) (fate f : Fate) (settled : List Standing) (waiting : List Waits) (sharing : Bool) (topics : ℕ → Option (List ℕ)) (at : ℕ) (e : Seen) (past : List Seen) (m : FaultMap) (bound b : Bool) → IsUnder tested f at e past
-    → IsStanding fate settled waiting sharing topics tested (fate_before tested f e past) past → bound ≡ binds B01 tested → b ≡ (bound && (accepts f && delivers_so e.note sharing topics (is_unasked settled waiting)))
+    → IsStanding fate settled waiting sharing topics tested (fate_before tested f e past) past → bound ≡ binds B01 tested → b ≡ (bound && (accepts f && delivers_so e.note sharing topics (λ p. is_unasked settled waiting)))
     → Gains (λ k r. same_rule r B01 && turns_with tested f e past k r) tested (e ∷ past) at m (judged_by b B01 e.place at m)
 unfolding breaks_B01
 B01-gains tested fate f settled waiting sharing topics at e past m bound b under s judged is =
     gains_judged tested B01 f e past at m b (no_offset-B01 tested) under.follows.placed.0 (λ k.
     session-turns_with tested B01 (breaks_B01 tested.role) refl f e past k
     ∙ ap (λ t. is_next past k && (binds B01 tested && (accepts f && t)))
-    (delivered tested fate f settled waiting sharing topics e past (λ p topic. not (list_any (λ s. matches s.filter topic) (standing_at tested.role f (newest e past)))) (is_unasked settled waiting) under.follows.on_connections.0 s
+    (delivered tested fate f settled waiting sharing topics e past (λ p topic. not (list_any (λ s. matches s.filter topic) (standing_at tested.role f (newest e past)))) (λ p. is_unasked settled waiting) under.follows.on_connections.0 s
     (λ same p topic. ap not (standing-named tested fate settled waiting sharing topics (Some f) e past (λ filter. matches filter topic) same)))
-    ∙ ap (λ t. is_next past k && (t && (accepts f && delivers_so e.note sharing topics (is_unasked settled waiting)))) (sym judged)
+    ∙ ap (λ t. is_next past k && (t && (accepts f && delivers_so e.note sharing topics (λ p. is_unasked settled waiting)))) (sym judged)
     ∙ ap (λ t. is_next past k && t) (sym is))
 
 pub B02-gains : (tested : Tested) (fate f : Fate) (settled : List Standing) (waiting : List Waits) (sharing : Bool) (topics : ℕ → Option (List ℕ)) (at : ℕ) (e : Seen) (past : List Seen) (m : FaultMap) (bound b : Bool) → IsUnder tested f at e past
-    → IsStanding fate settled waiting sharing topics tested (fate_before tested f e past) past → bound ≡ binds B01 tested → b ≡ (bound && (accepts f && delivers_so e.note sharing topics (is_above settled waiting)))
+    → IsStanding fate settled waiting sharing topics tested (fate_before tested f e past) past → bound ≡ binds B01 tested → b ≡ (bound && (accepts f && delivers_so e.note sharing topics (λ p. is_above settled waiting p.qos)))
     → Gains (λ k r. same_rule r B02 && turns_with tested f e past k r) tested (e ∷ past) at m (judged_by b B02 e.place at m)
 unfolding breaks_B02
 B02-gains tested fate f settled waiting sharing topics at e past m bound b under s judged is =
@@ -107,8 +107,29 @@ B02-gains tested fate f settled waiting sharing topics at e past m bound b under
     ∙ ap (λ t. is_next past k && (binds B02 tested && (accepts f && t)))
     (delivered tested fate f settled waiting sharing topics e past
     (λ p topic. list_any (λ s. matches s.filter topic) (standing_at tested.role f (newest e past)) && not (list_any (λ s. matches s.filter topic && nat_le (qos_number p.qos) s.ceiling) (standing_at tested.role f (newest e past))))
-    (is_above settled waiting) under.follows.on_connections.0 s
+    (λ p. is_above settled waiting p.qos) under.follows.on_connections.0 s
     (λ same p topic. ap (λ b. b && not (list_any (λ s. matches s.filter topic && nat_le (qos_number p.qos) s.ceiling) (standing_at tested.role f (newest e past)))) (standing-named tested fate settled waiting sharing topics (Some f) e past (λ filter. matches filter topic) same)
     ∙ ap (λ b. any_kept (λ s. matches s.filter topic) settled waiting && not b) (standing-kept tested fate settled waiting sharing topics (Some f) e past (λ filter. matches filter topic) (qos_number p.qos) same)))
-    ∙ ap (λ t. is_next past k && (t && (accepts f && delivers_so e.note sharing topics (is_above settled waiting)))) (binds-B02 tested.role tested.releases ∙ sym judged)
+    ∙ ap (λ t. is_next past k && (t && (accepts f && delivers_so e.note sharing topics (λ p. is_above settled waiting p.qos)))) (binds-B02 tested.role tested.releases ∙ sym judged)
     ∙ ap (λ t. is_next past k && t) (sym is))
+
+-- both, one after the other; and the first alone, where memory ran out at the second
+pub delivery-gains : (tested : Tested) (fate f : Fate) (settled : List Standing) (waiting : List Waits) (sharing : Bool) (topics : ℕ → Option (List ℕ)) (at : ℕ) (e : Seen) (past : List Seen) (m : FaultMap) (bound a b : Bool) → IsUnder tested f at e past
+    → IsStanding fate settled waiting sharing topics tested (fate_before tested f e past) past → bound ≡ binds B01 tested
+    → a ≡ (bound && (accepts f && delivers_so e.note sharing topics (λ p. is_unasked settled waiting))) → b ≡ (bound && (accepts f && delivers_so e.note sharing topics (λ p. is_above settled waiting p.qos)))
+    → Gains (λ k r. (same_rule r B01 || same_rule r B02) && turns_with tested f e past k r) tested (e ∷ past) at m (judged_by b B02 e.place at (judged_by a B01 e.place at m))
+delivery-gains tested fate f settled waiting sharing topics at e past m bound a b under s judged unasked above =
+    let first : FaultMap = judged_by a B01 e.place at m in
+    gains_either (λ r. same_rule r B01) (λ r. same_rule r B02) (λ k r. turns_with tested f e past k r) tested (e ∷ past) at m first (judged_by b B02 e.place at first)
+    (B01-gains tested fate f settled waiting sharing topics at e past m bound a under s judged unasked)
+    (B02-gains tested fate f settled waiting sharing topics at e past first bound b under s judged above)
+
+pub delivery-within : (tested : Tested) (fate f : Fate) (settled : List Standing) (waiting : List Waits) (sharing : Bool) (topics : ℕ → Option (List ℕ)) (at : ℕ) (e : Seen) (past : List Seen) (m : FaultMap) (bound a : Bool) → IsUnder tested f at e past
+    → IsStanding fate settled waiting sharing topics tested (fate_before tested f e past) past → bound ≡ binds B01 tested
+    → a ≡ (bound && (accepts f && delivers_so e.note sharing topics (λ p. is_unasked settled waiting)))
+    → GainsWithin (λ k r. (same_rule r B01 || same_rule r B02) && turns_with tested f e past k r) tested (e ∷ past) at m (judged_by a B01 e.place at m)
+delivery-within tested fate f settled waiting sharing topics at e past m bound a under s judged unasked =
+    let first : FaultMap = judged_by a B01 e.place at m in
+    within_either_second (λ r. same_rule r B01) (λ r. same_rule r B02) (λ k r. turns_with tested f e past k r) tested (e ∷ past) at m first first
+    (B01-gains tested fate f settled waiting sharing topics at e past m bound a under s judged unasked)
+    (within_nothing (λ k r. same_rule r B02 && turns_with tested f e past k r) tested (e ∷ past) at first first refl)

@@ -9,10 +9,10 @@ use Rattle.std.specs.Map.{lookup}
 use Rattle.std.proofs.lemmas.Slice.Eq.{bytes_eq-Decides}
 use Rattle.std.proofs.lemmas.Bool.Decides.{nat_tests}
 use Rattle.indexmap.specs.IndexMap.{insert_entry}
+use Rattle.mq_packet.specs.declared.packet.Qos.{Qos}
 use Rattle.mq_topic.specs.Levels.{is_name}
 use Rattle.mq_topic.specs.Matching.{matches}
-use Rattle.mq_rules.specs.declared.packet_note.PublishNote.{PublishNote}
-use Rattle.mq_rules.specs.Words.{is_some_and}
+use Rattle.mq_rules.specs.Words.{is_some_and, only}
 use Rattle.mq_rules.specs.Notes.{qos_number}
 use Rattle.mq_rules.specs.Subscriptions.{Standing}
 use Rattle.mq_books.specs.Standings.{Waits, standings, AllFilters, any_kept, is_unasked, is_above, allows_topic, Remembers}
@@ -81,22 +81,31 @@ found-named settled waiting topic o found =
     least None = refl
     least (Some c) = let l : nat_le 0 c ≡ true = grind (arith, nat_tests) in sym l
 
-pub found-unasked : (settled : List Standing) (waiting : List Waits) (p : PublishNote) (topic : List ℕ) (o : Option ℕ) → IsFound settled waiting topic o → is_none o ≡ is_unasked settled waiting p topic
-found-unasked settled waiting p topic o found = turned o ∙ ap not (found-named settled waiting topic o found)
+pub found-unasked : (settled : List Standing) (waiting : List Waits) (topic : List ℕ) (o : Option ℕ) → IsFound settled waiting topic o → is_none o ≡ is_unasked settled waiting topic
+found-unasked settled waiting topic o found = turned o ∙ ap not (found-named settled waiting topic o found)
   where
     turned : (o : Option ℕ) → is_none o ≡ not (is_some o)
     turned None = refl
     turned (Some c) = refl
 
-pub found-above : (settled : List Standing) (waiting : List Waits) (p : PublishNote) (topic : List ℕ) (o : Option ℕ) → IsFound settled waiting topic o → (is_some o && not (is_some_and (nat_le (qos_number p.qos)) o)) ≡ is_above settled waiting p topic
-found-above settled waiting p topic o found =
-    ap (λ b. b && not (is_some_and (nat_le (qos_number p.qos)) o)) (found-named settled waiting topic o found)
-    ∙ ap (λ b. any_kept (λ s. matches s.filter topic) settled waiting && not b) (found (qos_number p.qos))
+pub found-above : (settled : List Standing) (waiting : List Waits) (qos : Qos) (topic : List ℕ) (o : Option ℕ) → IsFound settled waiting topic o → (is_some o && not (is_some_and (nat_le (qos_number qos)) o)) ≡ is_above settled waiting qos topic
+found-above settled waiting qos topic o found =
+    ap (λ b. b && not (is_some_and (nat_le (qos_number qos)) o)) (found-named settled waiting topic o found)
+    ∙ ap (λ b. any_kept (λ s. matches s.filter topic) settled waiting && not b) (found (qos_number qos))
 
 -- in three parts
 pub judged-so : (broken judged bound accepted delivers : Bool) → broken ≡ (judged && delivers) → judged ≡ (bound && accepted) → broken ≡ (bound && (accepted && delivers))
 judged-so broken judged bound accepted delivers is both = is ∙ ap (λ b. b && delivers) both ∙ go bound
   where
     go : (b : Bool) → ((b && accepted) && delivers) ≡ (b && (accepted && delivers))
+    go true = refl
+    go false = refl
+
+-- a delivery with this topic, where it is judged
+pub judged-topic : (broken judged bound accepted delivers : Bool) (test : List ℕ → Bool) (topic named : Option (List ℕ)) → broken ≡ is_some_and test topic → topic ≡ only judged named → judged ≡ (bound && accepted) → delivers ≡ is_some_and test named → broken ≡ (bound && (accepted && delivers))
+judged-topic broken judged bound accepted delivers test topic named is same both d =
+    judged-so broken judged bound accepted delivers (is ∙ ap (is_some_and test) same ∙ go judged ∙ ap (λ b. judged && b) (sym d)) both
+  where
+    go : (j : Bool) → is_some_and test (only j named) ≡ (j && is_some_and test named)
     go true = refl
     go false = refl

@@ -5,6 +5,7 @@ use Rattle.std.specs.List.{list_any, sum_by, IsDistinct}
 use Rattle.std.specs.Map.{keys_of}
 use Rattle.std.specs.String.{string_bytes, string_eq}
 use Rattle.std.specs.declared.string.String.{String}
+use Rattle.mq_packet.specs.declared.packet.Qos.{Qos}
 use Rattle.mq_topic.specs.Levels.{is_name}
 use Rattle.mq_topic.specs.Matching.{matches, is_empty}
 use Rattle.mq_rules.specs.declared.role.Tested.{Tested}
@@ -185,12 +186,25 @@ judged_topic sharing topics p = only (not p.duplicate) (only (not sharing) (topi
 abbrev pub delivers_so : Note → Bool → (ℕ → Option (List ℕ)) → (PublishNote → List ℕ → Bool) → Bool
 delivers_so n sharing topics test = is_some_and (λ p. is_some_and (test p) (judged_topic sharing topics p)) (sent_publish n)
 
--- B01 and B02, of what is kept
-abbrev pub is_unasked : List Standing → List Waits → PublishNote → List ℕ → Bool
-is_unasked settled waiting p topic = not (any_kept (λ s. matches s.filter topic) settled waiting)
+-- A PUBLISH is sent with this Topic Name, QoS and DUP flag, and without a Topic Alias.
+pub record IsDelivery (n : Note) (topic : List ℕ) (qos : Qos) (duplicate : Bool) : Type 0 where
+  pub publish : PublishNote
+  pub is_sent : sent_publish n ≡ Some publish
+  pub same_topic : publish.topic ≡ topic
+  pub same_qos : publish.qos ≡ qos
+  pub same_dup : publish.duplicate ≡ duplicate
+  pub no_alias : publish.topic_alias ≡ None
 
-abbrev pub is_above : List Standing → List Waits → PublishNote → List ℕ → Bool
-is_above settled waiting p topic = any_kept (λ s. matches s.filter topic) settled waiting && not (any_kept (λ s. matches s.filter topic && nat_le (qos_number p.qos) s.ceiling) settled waiting)
+-- its topic with DUP 0, in a session without shared subscriptions
+abbrev pub named_topic : Bool → Bool → List ℕ → Option (List ℕ)
+named_topic sharing duplicate topic = only (not duplicate) (only (not sharing) (only (not (length topic == 0)) (Some topic)))
+
+-- B01 and B02, of what is kept
+abbrev pub is_unasked : List Standing → List Waits → List ℕ → Bool
+is_unasked settled waiting topic = not (any_kept (λ s. matches s.filter topic) settled waiting)
+
+abbrev pub is_above : List Standing → List Waits → Qos → List ℕ → Bool
+is_above settled waiting qos topic = any_kept (λ s. matches s.filter topic) settled waiting && not (any_kept (λ s. matches s.filter topic && nat_le (qos_number qos) s.ceiling) settled waiting)
 
 -- ---- filters that may match (MQTT 5.0, section 4.7); 35 is `#`, 43 is `+`, 47 is `/`
 

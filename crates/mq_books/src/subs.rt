@@ -1,20 +1,25 @@
 //! What a server may deliver: topics that were subscribed to, at no more than the QoS that was
 //! granted (MQTT 5.0, sections 3.3.1.2, 3.8.4 and 4.7).
 ghost use Rattle.std.specs.Prelude.{refl};
-ghost use Rattle.std.specs.Prelude.{◌≡◌, ◌+◌, ◌*◌, ◌&&◌, ◌||◌, ◌==◌, nat_le, ℕ, not, OnOk, IfOk, nat_eq, [], Some, length, option_map, is_none, is_some};
+ghost use Rattle.std.specs.Prelude.{◌≡◌, ◌∷◌, ◌+◌, ◌*◌, ◌&&◌, ◌||◌, ◌==◌, nat_le, ℕ, false, not, List, Option, OnOk, OnErr, IfOk, IfSome, nat_eq, [], Some, length, option_map, is_none, is_some};
 ghost use Rattle.std.specs.List.{list_any};
 ghost use Rattle.std.specs.Option.{option_or};
 ghost use Rattle.indexmap.specs.IndexMap.{get};
+ghost use Rattle.mq_rules.specs.declared.role.Tested.{Tested as TheTested};
+ghost use Rattle.mq_rules.specs.declared.fate.Fate.{Fate as TheFate};
 ghost use Rattle.mq_rules.specs.declared.fate.Fate.TheVariants.{Void};
+ghost use Rattle.mq_rules.specs.declared.note.Note.{Note as TheNote};
+ghost use Rattle.mq_rules.specs.declared.note.Seen.{Seen};
 ghost use Rattle.mq_rules.specs.declared.rule.Rule.TheVariants.{B01, B02};
 ghost use Rattle.mq_rules.specs.Words.{is_some_and, is_id, only};
-ghost use Rattle.mq_rules.specs.Notes.{received_subscription, qos_number as number_of, subscription_in};
-ghost use Rattle.mq_rules.specs.Connections.{accepts};
+ghost use Rattle.mq_rules.specs.Notes.{received_subscription, qos_number as number_of, subscription_in, kept_topic, note_of_bare};
+ghost use Rattle.mq_rules.specs.Connections.{accepts, latest_fate};
 ghost use Rattle.mq_rules.specs.Subscriptions.{is_shared as begins_shared};
 ghost use Rattle.mq_rules.specs.Rules.{same_rule, binds as is_bound};
-ghost use Rattle.mq_rules.specs.Under.{IsKnown, turns_known};
+ghost use Rattle.mq_rules.specs.Under.{seen, Follows, IsKnown, turns_known};
+ghost use Rattle.mq_rules.specs.Growing.{Gains, GainsWithin};
 ghost use Rattle.mq_books.specs.Burden.{standing_count, asked_filters, aliased_ids};
-ghost use Rattle.mq_books.specs.Standings.{sharing_next, topic_next, IsStanding, topic_kept, delivers_so, judged_topic as topic_judged, is_unasked as unasked, is_above as above};
+ghost use Rattle.mq_books.specs.Standings.{sharing_next, topic_next, IsStanding, topic_kept, delivers_so, judged_topic as topic_judged, named_topic as topic_named, IsDelivery, is_unasked as unasked, is_above as above};
 ghost use Rattle.mq_books.specs.Concerns.{concerns_deliveries};
 
 use crate::ceilings::is_within;
@@ -26,10 +31,10 @@ use crate::sizes::map_size;
 use indexmap::IndexMap;
 use mq_packet::Qos;
 use mq_rules::{
-    Bare, Brisk, Fate, Faults, Memory, Note, NotedFilter, PacketFields, PublishNote, Rule, Tested,
-    Text, Watch, qos_number, step_apart,
+    Bare, BareFields, Brisk, Fate, Faults, Memory, Note, NotedFilter, PacketFields, PublishNote,
+    Rule, Tested, Text, Watch, qos_number,
 };
-use mq_trace::Place3;
+use mq_trace::{Direction, Place3};
 use std::alloc::Global;
 
 // ---- shared subscriptions
@@ -165,22 +170,21 @@ fn broken_by(ceiling: Option<u8>, qos: Qos) -> Broken
     }
 }
 
-// What a PUBLISH that is sent breaks.
+// What a PUBLISH that is sent with this QoS breaks, if B01 and B02 look at a topic of it.
 fn judge(
     alloc: Global,
     filters: &mut Filters,
-    sharing: bool,
-    topics: &IndexMap<u16, Text>,
-    publish: &PublishNote,
+    topic: Option<&str>,
+    qos: Qos,
 ) -> Result<Broken, Memory>
     ensures unchanged { filters.new ≡ filters.old }
-    ensures unasked { IfOk result (λ broken. broken.unasked ≡ is_some_and (unasked filters.old.settled filters.old.waiting publish.now) (topic_judged sharing (get nat_eq topics.now) publish.now)) }
-    ensures above { IfOk result (λ broken. broken.above ≡ is_some_and (above filters.old.settled filters.old.waiting publish.now) (topic_judged sharing (get nat_eq topics.now) publish.now)) }
+    ensures unasked { IfOk result (λ broken. broken.unasked ≡ is_some_and (unasked filters.old.settled filters.old.waiting) (option_map (λ topic. topic.now) topic.entry)) }
+    ensures above { IfOk result (λ broken. broken.above ≡ is_some_and (above filters.old.settled filters.old.waiting qos) (option_map (λ topic. topic.now) topic.entry)) }
 {
-    match judged_topic(publish, sharing, topics) {
+    match topic {
         Some(topic) => {
             let ceiling = filters.ceiling_for(alloc, topic)?;
-            Ok(broken_by(ceiling, publish.qos))
+            Ok(broken_by(ceiling, qos))
         }
         None => Ok(NOTHING_BROKEN),
     }
@@ -203,16 +207,86 @@ fn judge_event(
     note: &Note,
 ) -> Result<Broken, Memory>
     ensures unchanged { filters.new ≡ filters.old }
-    ensures unasked { IfOk result (λ broken. broken.unasked ≡ (binds && delivers_so note.now sharing (get nat_eq topics.now) (unasked filters.old.settled filters.old.waiting))) }
-    ensures above { IfOk result (λ broken. broken.above ≡ (binds && delivers_so note.now sharing (get nat_eq topics.now) (above filters.old.settled filters.old.waiting))) }
+    ensures unasked { IfOk result (λ broken. broken.unasked ≡ (binds && delivers_so note.now sharing (get nat_eq topics.now) (λ p. unasked filters.old.settled filters.old.waiting))) }
+    ensures above { IfOk result (λ broken. broken.above ≡ (binds && delivers_so note.now sharing (get nat_eq topics.now) (λ p. above filters.old.settled filters.old.waiting p.qos))) }
 {
     if !binds {
         return Ok(NOTHING_BROKEN);
     }
     match note.sent_publish() {
-        Some(publish) => judge(alloc, filters, sharing, topics, publish),
+        Some(publish) => {
+            let topic = judged_topic(publish, sharing, topics);
+            judge(alloc, filters, topic, publish.qos)
+        }
         None => Ok(NOTHING_BROKEN),
     }
+}
+
+// ---- deliveries without properties
+
+// A PUBLISH that is sent without a Topic Alias.
+#[derive(Clone, Copy)]
+struct Delivery<'a> {
+    topic: &'a str,
+    qos: Qos,
+    duplicate: bool,
+}
+
+// The Topic Name of a PUBLISH as its note has it.
+#[inline(always)]
+fn noted_topic<'a>(topic: &'a str) -> &'a str
+    ensures { result.now ≡ kept_topic topic.now }
+{
+    if Text::is_short(topic) { topic } else { "" }
+}
+
+// What a packet without properties delivers, if it is a PUBLISH that is sent.
+#[inline(always)]
+#[tactic(auto, unfolding(mq_rules::specs::Notes::note_of_bare))]
+fn delivery_of<'a>(bare: Bare<'a>) -> Option<Delivery<'a>>
+    ensures some { IfSome result (λ delivery. IsDelivery (note_of_bare bare.entry) delivery.topic.now delivery.qos delivery.duplicate) }
+    ensures none { is_some result ≡ false → (tested : TheTested) → concerns_deliveries tested (note_of_bare bare.entry) ≡ false }
+{
+    match bare.direction {
+        Direction::Sent => match bare.fields {
+            BareFields::Publish {
+                qos,
+                duplicate,
+                topic,
+                ..
+            } => Some(Delivery {
+                topic: noted_topic(topic),
+                qos,
+                duplicate,
+            }),
+            BareFields::Puback { .. }
+            | BareFields::Pubrec { .. }
+            | BareFields::Pubrel { .. }
+            | BareFields::Pubcomp { .. }
+            | BareFields::Pingreq
+            | BareFields::Pingresp => None,
+        },
+        Direction::Recv => None,
+    }
+}
+
+// Its topic, if it is judged, and B01 and B02 look at it.
+fn named_topic<'a>(judged: bool, sharing: bool, delivery: Delivery<'a>) -> Option<&'a str>
+    ensures { option_map (λ topic. topic.now) result ≡ only judged (topic_named sharing delivery.entry.duplicate delivery.entry.topic.now) }
+{
+    if !judged {
+        return None;
+    }
+    if delivery.duplicate {
+        return None;
+    }
+    if sharing {
+        return None;
+    }
+    if delivery.topic.is_empty() {
+        return None;
+    }
+    Some(delivery.topic)
 }
 
 /// Watches B01 and B02.
@@ -306,10 +380,36 @@ impl Fated for Deliveries {
     ghost known_adds = { λ tested e past k r. refl };
 }
 
+impl Deliveries {
+    // Takes in a PUBLISH that is sent without a Topic Alias: it changes nothing that is kept.
+    #[inline(never)]
+    fn deliver(
+        &mut self,
+        at: Place3,
+        delivery: Delivery<'_>,
+        faults: &mut Faults,
+    ) -> Result<(), Memory>
+        ensures agrees { OnOk result ((n : TheNote) (tested : TheTested) (taken : Option TheFate) (past : List Seen) → IsDelivery n delivery.entry.topic.now delivery.entry.qos delivery.entry.duplicate → Follows tested (seen at n) past → IsKnown tested taken (seen at n) past → ⟦<Deliveries as Watch>⟧.agrees self.old tested taken past → ⟦<Deliveries as Watch>⟧.agrees self.new tested (latest_fate tested.role (seen at n ∷ past)) (seen at n ∷ past)) }
+        ensures grows { OnOk result ((n : TheNote) (tested : TheTested) (taken : Option TheFate) (past : List Seen) → IsDelivery n delivery.entry.topic.now delivery.entry.qos delivery.entry.duplicate → Follows tested (seen at n) past → IsKnown tested taken (seen at n) past → ⟦<Deliveries as Watch>⟧.agrees self.old tested taken past → Gains (⟦<Deliveries as Watch>⟧.adds tested (seen at n) past) tested (seen at n ∷ past) (length past + 1) faults.old faults.new) }
+        ensures memory { OnErr result ((n : TheNote) (tested : TheTested) (taken : Option TheFate) (past : List Seen) → IsDelivery n delivery.entry.topic.now delivery.entry.qos delivery.entry.duplicate → Follows tested (seen at n) past → IsKnown tested taken (seen at n) past → ⟦<Deliveries as Watch>⟧.agrees self.old tested taken past → GainsWithin (⟦<Deliveries as Watch>⟧.adds tested (seen at n) past) tested (seen at n ∷ past) (length past + 1) faults.old faults.new) }
+    {
+        let judged = is_judged(self.bound, self.fate);
+        let topic = named_topic(judged, self.sharing, delivery);
+        let broken = judge(self.alloc, &mut self.filters, topic, delivery.qos)?;
+        judge_by(Rule::B01, broken.unasked, at, at.position, faults)?;
+        judge_by(Rule::B02, broken.above, at, at.position, faults)?;
+        Ok(())
+    }
+}
+
 impl Brisk for Deliveries {
     #[inline(always)]
     fn step_bare(&mut self, at: Place3, bare: Bare<'_>, faults: &mut Faults) -> Result<(), Memory> {
-        step_apart(self, at, bare, faults)?;
+        let Some(delivery) = delivery_of(bare) else {
+            self.passes();
+            return Ok(());
+        };
+        self.deliver(at, delivery, faults)?;
         Ok(())
     }
 }

@@ -1,16 +1,17 @@
-use Rattle.std.proofs.Common.{◌&&◌, ◌∷◌, nat_eq, subst, sym}
+use Rattle.std.proofs.Common.{◌&&◌, ◌||◌, ◌∷◌, nat_eq, ap, subst, sym, ◌∙◌}
 use Rattle.indexmap.specs.IndexMap.{get}
 use Rattle.mq_rules.specs.declared.rule.Rule.TheVariants.{B01, B02}
 use Rattle.mq_rules.specs.Rules.{same_rule}
 use Rattle.mq_rules.specs.FaultKeys.{FaultMap}
-use Rattle.mq_rules.proofs.Exports.{gains_either, on_err, within_either_second, within_nothing}
+use Rattle.mq_rules.proofs.Exports.{on_err}
 use Rattle.mq_rules.specs.Connections.{accepts}
 use Rattle.mq_rules.specs.Under.{seen, turns_with, fate_before}
-use Rattle.mq_rules.specs.Growing.{Gains}
+use Rattle.mq_rules.specs.Growing.{Gains, GainsWithin}
+use Rattle.mq_books.specs.Quotas.{judged_by}
 use Rattle.mq_books.specs.Standings.{SessionFilters, IsStanding, delivers_so, is_unasked, is_above}
 use Rattle.mq_books.proofs.FilterLaws.{judged-so}
 use Rattle.mq_books.proofs.StandingLaws.{standing-next}
-use Rattle.mq_books.proofs.DeliveryLaws.{B01-gains, B02-gains}
+use Rattle.mq_books.proofs.DeliveryLaws.{delivery-gains, delivery-within}
 use Rattle.mq_books.proofs.subs.DeliveriesFated.fated.Goals as goal
 
 pub returns-clause-agrees : goal.returns-clause-agrees
@@ -28,18 +29,18 @@ pub returns-clause-grows : goal.returns-clause-grows
 returns-clause-grows c = λ tested past under q.
     let s = c.args.self.now in
     let e = seen c.args.at c.args.note.now in
-    gains_either (λ r. same_rule r B01) (λ r. same_rule r B02) (λ k r. turns_with tested c.args.fate e past k r) tested (e ∷ past) c.args.decided c.args.faults.now c.judge_by.new.faults c.judge_by-2.new.faults
-    (subst (λ (m : FaultMap). Gains (λ k r. same_rule r B01 && turns_with tested c.args.fate e past k r) tested (e ∷ past) c.args.decided c.args.faults.now m) (sym c.in_ok-judge_by.ensures.ok)
-    (B01-gains tested s.fate c.args.fate s.filters.settled s.filters.waiting s.sharing (get nat_eq s.topics) c.args.decided e past c.args.faults.now s.bound c.in_ok-broken.broken.unasked under q.1 q.0 (judged-so c.in_ok-broken.broken.unasked c.is_judged-binds.result s.bound (accepts c.args.fate) (delivers_so e.note s.sharing (get nat_eq s.topics) (is_unasked s.filters.settled s.filters.waiting)) c.in_ok-broken.ensures.unasked c.is_judged-binds.ensures)))
-    (subst (λ (m : FaultMap). Gains (λ k r. same_rule r B02 && turns_with tested c.args.fate e past k r) tested (e ∷ past) c.args.decided c.judge_by.new.faults m) (sym c.in_ok-judge_by-2.ensures.ok)
-    (B02-gains tested s.fate c.args.fate s.filters.settled s.filters.waiting s.sharing (get nat_eq s.topics) c.args.decided e past c.judge_by.new.faults s.bound c.in_ok-broken.broken.above under q.1 q.0 (judged-so c.in_ok-broken.broken.above c.is_judged-binds.result s.bound (accepts c.args.fate) (delivers_so e.note s.sharing (get nat_eq s.topics) (is_above s.filters.settled s.filters.waiting)) c.in_ok-broken.ensures.above c.is_judged-binds.ensures)))
+    subst (λ (m : FaultMap). Gains (λ k r. (same_rule r B01 || same_rule r B02) && turns_with tested c.args.fate e past k r) tested (e ∷ past) c.args.decided c.args.faults.now m)
+    (sym (c.in_ok-judge_by-2.ensures.ok ∙ ap (judged_by c.in_ok-broken.broken.above B02 c.args.at c.args.decided) c.in_ok-judge_by.ensures.ok))
+    (delivery-gains tested s.fate c.args.fate s.filters.settled s.filters.waiting s.sharing (get nat_eq s.topics) c.args.decided e past c.args.faults.now s.bound c.in_ok-broken.broken.unasked c.in_ok-broken.broken.above under q.1 q.0
+    (judged-so c.in_ok-broken.broken.unasked c.is_judged-binds.result s.bound (accepts c.args.fate) (delivers_so e.note s.sharing (get nat_eq s.topics) (λ p. is_unasked s.filters.settled s.filters.waiting)) c.in_ok-broken.ensures.unasked c.is_judged-binds.ensures)
+    (judged-so c.in_ok-broken.broken.above c.is_judged-binds.result s.bound (accepts c.args.fate) (delivers_so e.note s.sharing (get nat_eq s.topics) (λ p. is_above s.filters.settled s.filters.waiting p.qos)) c.in_ok-broken.ensures.above c.is_judged-binds.ensures))
 
 pub returns-in_err-judge_by-2-clause-memory : goal.returns-in_err-judge_by-2-clause-memory
 returns-in_err-judge_by-2-clause-memory c =
     on_err c.from_residual-in_err-judge_by-2.result _ (λ tested past under q.
     let s = c.args.self.now in
     let e = seen c.args.at c.args.note.now in
-    within_either_second (λ r. same_rule r B01) (λ r. same_rule r B02) (λ k r. turns_with tested c.args.fate e past k r) tested (e ∷ past) c.args.decided c.args.faults.now c.judge_by.new.faults c.judge_by-2.new.faults
-    (subst (λ (m : FaultMap). Gains (λ k r. same_rule r B01 && turns_with tested c.args.fate e past k r) tested (e ∷ past) c.args.decided c.args.faults.now m) (sym c.in_ok-judge_by.ensures.ok)
-    (B01-gains tested s.fate c.args.fate s.filters.settled s.filters.waiting s.sharing (get nat_eq s.topics) c.args.decided e past c.args.faults.now s.bound c.in_ok-broken.broken.unasked under q.1 q.0 (judged-so c.in_ok-broken.broken.unasked c.is_judged-binds.result s.bound (accepts c.args.fate) (delivers_so e.note s.sharing (get nat_eq s.topics) (is_unasked s.filters.settled s.filters.waiting)) c.in_ok-broken.ensures.unasked c.is_judged-binds.ensures)))
-    (within_nothing (λ k r. same_rule r B02 && turns_with tested c.args.fate e past k r) tested (e ∷ past) c.args.decided c.judge_by.new.faults c.judge_by-2.new.faults c.in_err-judge_by-2.ensures.unchanged))
+    subst (λ (m : FaultMap). GainsWithin (λ k r. (same_rule r B01 || same_rule r B02) && turns_with tested c.args.fate e past k r) tested (e ∷ past) c.args.decided c.args.faults.now m)
+    (sym (c.in_err-judge_by-2.ensures.unchanged ∙ c.in_ok-judge_by.ensures.ok))
+    (delivery-within tested s.fate c.args.fate s.filters.settled s.filters.waiting s.sharing (get nat_eq s.topics) c.args.decided e past c.args.faults.now s.bound c.in_ok-broken.broken.unasked under q.1 q.0
+    (judged-so c.in_ok-broken.broken.unasked c.is_judged-binds.result s.bound (accepts c.args.fate) (delivers_so e.note s.sharing (get nat_eq s.topics) (λ p. is_unasked s.filters.settled s.filters.waiting)) c.in_ok-broken.ensures.unasked c.is_judged-binds.ensures)))
