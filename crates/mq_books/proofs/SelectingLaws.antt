@@ -503,3 +503,18 @@ counts-unconcerned-note Recv size bares.Pingresp = refl
 pub counts-unconcerned : (b : Bare) → (concerns_count subscribes (note_of_bare b) || concerns_count unsubscribes (note_of_bare b)) ≡ false
 unfolding note_of_bare
 counts-unconcerned b = counts-unconcerned-note b.direction b.size b.fields
+
+-- ---- one that is received doesn't concern subscriptions
+
+unsubscribing-note : (bound : Bool) (size : ℕ) (fields : BareFields) → may_concern_subscriptions bound (bare_note Recv size (bare_fields Recv fields)) ≡ false
+unsubscribing-note bound size (bares.Publish identifier qos duplicate topic) = refl
+unsubscribing-note bound size (bares.Puback identifier code) = refl
+unsubscribing-note bound size (bares.Pubrec identifier code) = refl
+unsubscribing-note bound size (bares.Pubrel identifier code) = refl
+unsubscribing-note bound size (bares.Pubcomp identifier code) = refl
+unsubscribing-note bound size bares.Pingreq = refl
+unsubscribing-note bound size bares.Pingresp = refl
+
+pub received-unsubscribing : (bound : Bool) (b : Bare) → b.direction ≡ Recv → may_concern_subscriptions bound (note_of_bare b) ≡ false
+unfolding note_of_bare
+received-unsubscribing bound b way = ap (λ d. may_concern_subscriptions bound (bare_note d b.size (bare_fields d b.fields))) way ∙ unsubscribing-note bound b.size b.fields

@@ -157,14 +157,6 @@ fn bare_may_concern_subscriptions(bound: bool, bare: Bare<'_>) -> bool
             | BareFields::Pingreq
             | BareFields::Pingresp => false,
         },
-        Direction::Recv => match bare.fields {
-            BareFields::Publish { .. }
-            | BareFields::Puback { .. }
-            | BareFields::Pubrec { .. }
-            | BareFields::Pubrel { .. }
-            | BareFields::Pubcomp { .. }
-            | BareFields::Pingreq
-            | BareFields::Pingresp => false,
-        },
+        Direction::Recv => false,
     }
 }
