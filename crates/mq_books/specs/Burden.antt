@@ -1,4 +1,4 @@
--- How much a log gives the watchers of the statements on sessions to keep. Each item is about a log whose latest connection is taken to have a fate.
+-- How much a log gives its watchers to keep: the sum of these items. Where an item is about a session, the latest connection of the log is taken to have a fate.
 use Rattle.std.specs.Prelude.{ℕ, zero, suc, ◌+◌, Bool, ◌&&◌, cond, List, [], ◌∷◌, ◌++◌, length, Option, is_some}
 use Rattle.std.specs.Set.{distinct_count}
 use Rattle.std.specs.Str.{bytes_eq}
@@ -34,22 +34,23 @@ ids_where test = count_below test 65536
 
 -- ---- what is sent (MQTT 5.0, sections 2.2.1 and 4.3)
 
--- how many are open in the session
+-- how many Packet Identifiers are open in the session
 unfoldable pub open_ids : Role → Option Fate → List Seen → ℕ
 open_ids role taken log = ids_where (λ i. since (opens_id i) (closes_id i) (session role taken log))
 
--- how many have a PUBLISH of QoS above 0 sent on the connection that is open, and no closer after it
+-- how many have a PUBLISH of QoS above 0 sent on the open connection, and no closer after it
 unfoldable pub delivering_ids : List Seen → ℕ
 delivering_ids log = ids_where (λ i. since (delivers i) (closes_id i) (on_open log))
 
--- how many had a PUBLISH of QoS above 0 sent on a void connection
+-- how many have a PUBLISH of QoS above 0 sent on a void connection
 unfoldable pub void_ids : Role → Option Fate → List Seen → ℕ
 void_ids role taken log = ids_where (λ i. some (λ m. delivers i m && voided (fate_under role taken log (number m))) (moments log))
 
--- how many have a SUBSCRIBE sent on the connection that is open, and no SUBACK received after it; the same for UNSUBSCRIBE and UNSUBACK
+-- how many have a SUBSCRIBE sent on the open connection, and no SUBACK received after it there
 unfoldable pub subscribing_ids : List Seen → ℕ
 subscribing_ids log = ids_where (λ i. since (λ m. is_id i (sent_as subscribe_in (note m))) (λ m. is_id i (received_as suback_in (note m))) (on_open log))
 
+-- how many have an UNSUBSCRIBE sent on the open connection, and no UNSUBACK received after it there
 unfoldable pub unsubscribing_ids : List Seen → ℕ
 unsubscribing_ids log = ids_where (λ i. since (λ m. is_id i (sent_as unsubscribe_in (note m))) (λ m. is_id i (received_as unsuback_in (note m))) (on_open log))
 
@@ -67,10 +68,11 @@ owing_ids settled x role taken log = cond (binds_end settled role) (caused_ids x
 unfoldable pub unanswered_ids : Exchange → List Seen → ℕ
 unanswered_ids x log = ids_where (λ i. since (causes x i) (answers x i) (on_open log))
 
--- how many have a QoS 2 PUBLISH received in the session, and no end of its exchange after it; how many have a RELEASE, and no such end after it
+-- how many have a QoS 2 PUBLISH received in the session, and no end of its exchange after it
 unfoldable pub brought_ids : Role → Option Fate → List Seen → ℕ
 brought_ids role taken log = ids_where (λ i. since (brings i) (ends i) (session role taken log))
 
+-- how many have a RELEASE in the session, and no end of its exchange after it
 unfoldable pub released_ids : Role → Option Fate → List Seen → ℕ
 released_ids role taken log = ids_where (λ i. since (releases_message i) (ends i) (session role taken log))
 
@@ -97,33 +99,41 @@ at_least_one (suc n) = suc n
 unfoldable pub asked_filters : List Seen → ℕ
 asked_filters log = total (λ j. weighed (λ w. at_least_one (length w.filters)) (waiting_from log j)) (connection log)
 
--- how many Topic Aliases have a topic that was sent on the open connection
+-- how many Topic Aliases have a topic that was sent on the open connection: no more than `aliases_sent`, which counts the first PUBLISH that sets each
 unfoldable pub aliased_ids : List Seen → ℕ
 aliased_ids log = ids_where (λ alias. is_some (last_set alias (on_open log)))
 
 -- ---- together
 
--- what is sent under Packet Identifiers; the causes of each exchange; QoS 2 messages that are received; subscriptions and their answers
+-- what is sent under Packet Identifiers
 abbrev pub sending_burden : Role → Option Fate → List Seen → ℕ
 sending_burden role taken log = open_ids role taken log + delivering_ids log + void_ids role taken log + subscribing_ids log + unsubscribing_ids log
 
+-- the causes of the exchanges that bind the tested end
 abbrev pub exchange_burden : Role → Option Fate → List Seen → ℕ
 exchange_burden role taken log =
     owing_ids E1R publish_puback role taken log + owing_ids E2R publish_pubrec role taken log + owing_ids E3R pubrec_pubrel role taken log
     + owing_ids E4R pubrel_pubcomp role taken log + owing_ids E5R subscribe_suback role taken log + owing_ids E6R unsubscribe_unsuback role taken log
 
+-- QoS 2 messages that are received
 abbrev pub release_burden : Role → Option Fate → List Seen → ℕ
 release_burden role taken log = brought_ids role taken log + released_ids role taken log
 
+-- filters that stand or are asked for, UNSUBSCRIBEs without their answer, and Topic Aliases that are set on the open connection
 abbrev pub subscription_burden : Role → Option Fate → List Seen → ℕ
 subscription_burden role taken log =
-    standing_count role taken log + asked_filters log + unanswered_ids unsubscribe_unsuback log + aliased_ids log
+    standing_count role taken log + asked_filters log + unanswered_ids unsubscribe_unsuback log + aliases_sent log
 
 -- what these events give the statements on sessions to keep, where the latest connection is taken to have this fate
 abbrev pub session_burden : Role → Option Fate → List Seen → ℕ
 session_burden role taken log = sending_burden role taken log + exchange_burden role taken log + release_burden role taken log + subscription_burden role taken log
 
--- How much a log gives its watchers to keep: what the events up to the latest decided connection give the statements on sessions, the events of a connection that is
--- undecided, and the Topic Aliases that were set on the open connection.
+-- how many Topic Aliases have a topic that was sent on the open connection, while that is undecided
+abbrev pub aliases_undecided : Role → List Seen → ℕ
+aliases_undecided role log = cond (is_some (latest_fate role log)) 0 (aliases_sent log)
+
+-- How much a log gives its watchers to keep: what the events up to the latest decided connection give the statements on sessions, and of an undecided connection after
+-- them its events, with their filters and Reason Codes, and its Topic Aliases.
 unfoldable pub burden : Tested → List Seen → ℕ
-burden tested log = session_burden tested.role (latest_fate tested.role (settled tested.role log)) (settled tested.role log) + waiting tested.role log + aliases_sent log
+burden tested log =
+    session_burden tested.role (latest_fate tested.role (settled tested.role log)) (settled tested.role log) + waiting tested.role log + aliases_undecided tested.role log

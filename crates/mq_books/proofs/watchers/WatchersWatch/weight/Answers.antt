@@ -5,7 +5,7 @@ use Rattle.mq_rules.specs.Exchanges.{publish_puback, publish_pubrec, pubrec_pubr
 use Rattle.mq_books.specs.Holding.{settled}
 use Rattle.mq_books.specs.Burden.{caused_ids, burden}
 use Rattle.mq_books.proofs.AskingSizeLaws.{unanswered-within}
-use Rattle.mq_books.proofs.BurdenLaws.{bindings, bound-counted, requests-within}
+use Rattle.mq_books.proofs.BurdenLaws.{bindings, bound-counted, requests-within, aliased-within, aliases-once}
 use Rattle.mq_books.proofs.watchers.WatchersWatch.weight.Goals as goal
 
 pub returns : goal.returns
@@ -22,4 +22,6 @@ returns c = λ tested taken past h.
     let pubcomp = bound-counted E4R role (caused_ids pubrel_pubcomp role fate base) binds.pubcomp in
     let requests = requests-within role (caused_ids subscribe_suback role fate base) (caused_ids unsubscribe_unsuback role fate base) in
     let subscribes = unanswered-within base in
-    omega (arith, parts, puback, pubrec, pubrel, pubcomp, requests, subscribes)
+    let topics = aliased-within base in
+    let once = aliases-once role past in
+    omega (arith, parts, puback, pubrec, pubrel, pubcomp, requests, subscribes, topics, once)
