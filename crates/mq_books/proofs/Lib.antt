@@ -12,6 +12,7 @@ pub mod OwedLaws
 pub mod UnderLaws
 pub mod UsingLaws
 pub mod ReleaseLaws
+pub mod ReceivingLaws
 pub mod WaitLaws
 pub mod VoidLaws
 pub mod AskedLaws

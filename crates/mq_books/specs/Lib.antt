@@ -11,6 +11,7 @@ pub mod Moving
 pub mod Opened
 pub mod Resending
 pub mod Releasing
+pub mod Receiving
 pub mod Countings
 pub mod Standings
 pub mod Grouping

@@ -36,12 +36,19 @@ starts_over f n = is_open n && begins (Some f)
 abbrev pub kept_next : Bool → Bool → Option ℕ → Option ℕ → ℕ → Bool → Bool
 kept_next over inside starts stops i old = gained inside (is_id i starts) (is_id i stops) (not over && old)
 
--- the identifier of a QoS 2 PUBLISH that is the first under it, and can't expire
+-- the identifier of a QoS 2 PUBLISH, which may expire or not, if it is the first under it and can't
+abbrev pub lasting_of : Option ℕ → Bool → (ℕ → Bool) → Option ℕ
+lasting_of brings expiring brought = only (not (is_some_and brought brings) && not expiring) brings
+
 abbrev pub lasting : Note → (ℕ → Bool) → Option ℕ
-lasting n brought = only (not (is_some_and brought (received_exactly_once n)) && not (expires n)) (received_exactly_once n)
+lasting n brought = lasting_of (received_exactly_once n) (expires n) brought
+
+-- whether a RELEASE is needed after an event: what is unmatched needs none any more, and what lasts needs one
+abbrev pub due_by : Bool → Bool → Option ℕ → Option ℕ → Option ℕ → ℕ → Bool → Bool
+due_by over inside unmatched lasts stops i old = kept_next false inside lasts stops i (kept_next over inside None unmatched i old)
 
 abbrev pub due_next : Bool → Bool → Note → (ℕ → Bool) → ℕ → Bool → Bool
-due_next over inside n brought i old = kept_next false inside (lasting n brought) (sent_as ended_in n) i (kept_next over inside None (sent_as unmatched_pubrec_in n) i old)
+due_next over inside n brought i old = due_by over inside (sent_as unmatched_pubrec_in n) (lasting n brought) (sent_as ended_in n) i old
 
 -- what breaks L1, L2 and L3, by what is kept
 abbrev pub is_unreceived : Note → (ℕ → Bool) → Bool
@@ -50,8 +57,11 @@ is_unreceived n brought = is_some_and (λ i. not (brought i)) (released_id n)
 abbrev pub is_repeated : Note → (ℕ → Bool) → Bool
 is_repeated n released = is_some_and released (released_id n)
 
+abbrev pub completes_unreleased : Fate → Option ℕ → (ℕ → Bool) → (ℕ → Bool) → Bool
+completes_unreleased f completed released due = accepts f && is_some_and (λ i. not (released i) && due i) completed
+
 abbrev pub is_unreleased : Fate → Note → (ℕ → Bool) → (ℕ → Bool) → Bool
-is_unreleased f n released due = accepts f && is_some_and (λ i. not (released i) && due i) (sent_as success_pubcomp_in n)
+is_unreleased f n released due = completes_unreleased f (sent_as success_pubcomp_in n) released due
 
 -- These events lead to what is kept.
 pub record IsReleasing (role : Role) (releases : Bool) (fate : Fate) (any : Bool) (brought released due : ℕ → Bool) (tested : Tested) (taken : Option Fate) (past : List Seen) : Type 0 where

@@ -15,6 +15,8 @@ ghost use Rattle.mq_books.specs.Concerns.{concerns_releases};
 ghost use Rattle.mq_rules.specs.Notes.{note_of_bare};
 ghost use Rattle.mq_books.specs.Selecting as selecting;
 
+mod receiving;
+
 use crate::fated::Fated;
 use crate::known::judge_by;
 use crate::messages::is_acknowledged;
@@ -22,8 +24,7 @@ use crate::selective::Selective;
 use crate::sizes::set_size;
 use indexmap::IndexSet;
 use mq_rules::{
-    Bare, BareFields, Brisk, Fate, Faults, ItemNote, Memory, Note, PacketFields, Role, Rule,
-    Tested, Watch, step_apart,
+    Bare, BareFields, Fate, Faults, ItemNote, Memory, Note, PacketFields, Role, Rule, Tested, Watch,
 };
 use mq_trace::{Direction, Place3};
 use std::alloc::Global;
@@ -69,6 +70,7 @@ fn starts_over(fate: Fate, note: &Note) -> bool
 }
 
 // Takes out what is lost by an event of the session, and puts in what is gained.
+#[inline(always)]
 fn revise(
     set: &mut IndexSet<u16>,
     alloc: Global,
@@ -106,35 +108,32 @@ fn expires(note: &Note) -> bool
 }
 
 // The identifier of a QoS 2 PUBLISH that is the first under it, and can't expire.
-fn lasting(note: &Note, brought: &IndexSet<u16>) -> Option<u16>
-    ensures { result ≡ keeping.lasting note.now (contains nat_eq brought.now) }
+#[inline(always)]
+fn lasting(brings: Option<u16>, expires: bool, brought: &IndexSet<u16>) -> Option<u16>
+    ensures { result ≡ keeping.lasting_of brings expires (contains nat_eq brought.now) }
 {
-    match note.received_exactly_once() {
-        Some(i) if !brought.contains(&i) && !expires(note) => Some(i),
+    match brings {
+        Some(i) if !brought.contains(&i) && !expires => Some(i),
         _ => None,
     }
 }
 
-// Takes in an event for the messages that need a RELEASE.
+// Takes in an event for the messages that need a RELEASE: what is unmatched needs none any more,
+// and what lasts needs one.
+#[inline(always)]
 fn revise_due(
     due: &mut IndexSet<u16>,
     alloc: Global,
     over: bool,
     inside: bool,
-    note: &Note,
-    brought: &IndexSet<u16>,
+    unmatched: Option<u16>,
+    lasts: Option<u16>,
+    ender: Option<u16>,
 ) -> Result<(), Memory>
-    ensures { OnOk result ((i : ℕ) → contains nat_eq due.new i ≡ keeping.due_next over inside note.now (contains nat_eq brought.now) i (contains nat_eq due.old i)) }
+    ensures { OnOk result ((i : ℕ) → contains nat_eq due.new i ≡ keeping.due_by over inside unmatched lasts ender i (contains nat_eq due.old i)) }
 {
-    revise(due, alloc, over, inside, None, note.sent_unmatched_pubrec())?;
-    revise(
-        due,
-        alloc,
-        false,
-        inside,
-        lasting(note, brought),
-        note.ender(),
-    )?;
+    revise(due, alloc, over, inside, None, unmatched)?;
+    revise(due, alloc, false, inside, lasts, ender)?;
     Ok(())
 }
 
@@ -160,20 +159,20 @@ fn is_repeated(releases: bool, note: &Note, released: &IndexSet<u16>) -> bool
         }
 }
 
-// Whether an event completes an exchange with success, and the RELEASE that its message needs is
-// missing.
+// Whether an exchange is completed with success, and the RELEASE that its message needs is missing.
+#[inline(always)]
 fn is_unreleased(
     releases: bool,
     fate: Fate,
-    note: &Note,
+    completed: Option<u16>,
     released: &IndexSet<u16>,
     due: &IndexSet<u16>,
 ) -> bool
-    ensures { result ≡ (releases && keeping.is_unreleased fate note.now (contains nat_eq released.now) (contains nat_eq due.now)) }
+    ensures { result ≡ (releases && keeping.completes_unreleased fate completed (contains nat_eq released.now) (contains nat_eq due.now)) }
 {
     releases
         && fate.accepts()
-        && match note.sent_success_pubcomp() {
+        && match completed {
             Some(i) => !released.contains(&i) && due.contains(&i),
             None => false,
         }
@@ -233,27 +232,19 @@ impl Fated for Releases {
     ) -> Result<(), Memory> {
         let unreceived = is_unreceived(self.releases, note, &self.brought);
         let repeated = is_repeated(self.releases, note, &self.released);
-        let unreleased = is_unreleased(self.releases, fate, note, &self.released, &self.due);
+        let completed = note.sent_success_pubcomp();
+        let unreleased = is_unreleased(self.releases, fate, completed, &self.released, &self.due);
         let inside = is_inside(fate, note, self.has_accepted);
         let over = starts_over(fate, note);
         let alloc = self.alloc;
-        revise_due(&mut self.due, alloc, over, inside, note, &self.brought)?;
-        revise(
-            &mut self.brought,
-            alloc,
-            over,
-            inside,
-            note.received_exactly_once(),
-            note.ender(),
-        )?;
-        revise(
-            &mut self.released,
-            alloc,
-            over,
-            inside,
-            note.released_identifier(),
-            note.ender(),
-        )?;
+        let brings = note.received_exactly_once();
+        let unmatched = note.sent_unmatched_pubrec();
+        let ender = note.ender();
+        let frees = note.released_identifier();
+        let lasts = lasting(brings, expires(note), &self.brought);
+        revise_due(&mut self.due, alloc, over, inside, unmatched, lasts, ender)?;
+        revise(&mut self.brought, alloc, over, inside, brings, ender)?;
+        revise(&mut self.released, alloc, over, inside, frees, ender)?;
         self.has_accepted = has_accepted(fate, note, self.has_accepted);
         self.fate = fate;
         judge_by(Rule::L1, unreceived, at, decided, faults)?;
@@ -265,14 +256,6 @@ impl Fated for Releases {
     ghost known_taken = { λ tested taken e past known. known };
 
     ghost known_adds = { λ tested e past k r. refl };
-}
-
-impl Brisk for Releases {
-    #[inline(always)]
-    fn step_bare(&mut self, at: Place3, bare: Bare<'_>, faults: &mut Faults) -> Result<(), Memory> {
-        step_apart(self, at, bare, faults)?;
-        Ok(())
-    }
 }
 
 impl Selective for Releases {
