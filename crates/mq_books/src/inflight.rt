@@ -225,6 +225,42 @@ impl Inflight {
         }
     }
 
+    // Takes in what is known of the connection, by what was open before.
+    fn take_connection(&mut self, at: Place3, fate: Fate, note: &Note)
+        ensures state { self.new ≡ record self.old { fate = fate; resent = resent_next note.now (get nat_eq self.old.entries) self.old.resent; ended = ends_by note.now || (not (opens note.now) && self.old.ended); opened = cond (opens note.now) at.position self.old.opened; peer = option_or (cond (opens note.now) None self.old.peer) (announced self.old.role note.now); in_flight = self.new.in_flight; bounds = bounds_next self.old.role note.now self.old.bounds } }
+        ensures flying { self.old.in_flight < at.position → self.new.in_flight ≡ flown_by (counts_now self.old.role self.old.peer) note.now self.old.in_flight }
+    {
+        self.fate = fate;
+        self.resent = resent_after(self.resent, note, &self.entries);
+        self.ended = ended_after(self.ended, note);
+        self.opened = opened_after(self.opened, at.position, note);
+        self.in_flight = flown(
+            may_count(self.role, self.peer),
+            note,
+            self.in_flight,
+            at.position,
+        );
+        self.peer = peer_after(self.role, self.peer, note);
+        self.bounds = bounds_after(self.role, self.bounds, note);
+    }
+
+    // Takes in what was sent and waits for an answer, and what was sent on void connections. What
+    // is open was taken in before.
+    fn take_waiting(&mut self, fate: Fate, note: &Note) -> Result<(), Memory>
+        ensures same { OnOk result (self.new ≡ record self.old { stray = self.new.stray; void = self.new.void; subscribing = self.new.subscribing; unsubscribing = self.new.unsubscribing }) }
+        ensures stray { OnOk result ((i : ℕ) → contains nat_eq self.new.stray i ≡ stray_next fate note.now (get nat_eq self.old.entries) i (contains nat_eq self.old.stray i)) }
+        ensures void { OnOk result ((i : ℕ) → contains nat_eq self.new.void i ≡ void_next fate note.now i (contains nat_eq self.old.void i)) }
+        ensures subscribing { OnOk result ((i : ℕ) → contains nat_eq self.new.subscribing i ≡ waits_next (sent_as subscribe_in note.now) (received_as suback_in note.now) (is_boundary note.now) i (contains nat_eq self.old.subscribing i)) }
+        ensures unsubscribing { OnOk result ((i : ℕ) → contains nat_eq self.new.unsubscribing i ≡ waits_next (sent_as unsubscribe_in note.now) (received_as unsuback_in note.now) (is_boundary note.now) i (contains nat_eq self.old.unsubscribing i)) }
+    {
+        let alloc = self.alloc;
+        take_stray(&mut self.stray, alloc, &self.entries, fate, note)?;
+        take_void(&mut self.void, fate, note)?;
+        take_subscribing(&mut self.subscribing, alloc, note)?;
+        take_unsubscribing(&mut self.unsubscribing, alloc, note)?;
+        Ok(())
+    }
+
     // Takes in an event of a connection with this fate.
     fn take_in(&mut self, at: Place3, fate: Fate, note: &Note) -> Result<(), Memory>
         ensures role { OnOk result (self.new.role ≡ self.old.role) }
@@ -246,24 +282,10 @@ impl Inflight {
     {
         let alloc = self.alloc;
         self.again = resent_still(self.again, &self.entries, self.opened, note);
-        self.resent = resent_after(self.resent, note, &self.entries);
-        self.fate = fate;
-        self.ended = ended_after(self.ended, note);
-        self.opened = opened_after(self.opened, at.position, note);
-        self.in_flight = flown(
-            may_count(self.role, self.peer),
-            note,
-            self.in_flight,
-            at.position,
-        );
-        self.peer = peer_after(self.role, self.peer, note);
-        self.bounds = bounds_after(self.role, self.bounds, note);
+        self.take_connection(at, fate, note);
         take_confirmed(&mut self.confirmed, alloc, &self.entries, fate, note)?;
         take_entries(&mut self.entries, alloc, at, fate, note)?;
-        take_stray(&mut self.stray, alloc, &self.entries, fate, note)?;
-        take_void(&mut self.void, fate, note)?;
-        take_subscribing(&mut self.subscribing, alloc, note)?;
-        take_unsubscribing(&mut self.unsubscribing, alloc, note)?;
+        self.take_waiting(fate, note)?;
         Ok(())
     }
 }

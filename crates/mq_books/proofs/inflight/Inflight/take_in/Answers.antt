@@ -1,11 +1,73 @@
-use Rattle.std.proofs.Common.{nat_eq, cond, subst, sym}
-use Rattle.indexmap.specs.IndexMap.{get}
+use Rattle.std.proofs.Common.{nat_eq, cond, subst, sym, ap, ◌∙◌}
+use Rattle.indexmap.specs.IndexMap.{get, IsUnique}
 use Rattle.indexmap.specs.IndexSet.{contains}
-use Rattle.mq_rules.specs.Notes.{is_open}
+use Rattle.mq_rules.specs.Notes.{is_open, is_boundary, sent_as, received_as, subscribe_in, suback_in, unsubscribe_in, unsuback_in}
+use Rattle.mq_books.specs.declared.inflight.Inflight.{Inflight}
 use Rattle.mq_books.specs.declared.inflight.resends.Resent.{Resent}
-use Rattle.mq_books.specs.Resending.{IsResent}
+use Rattle.mq_books.specs.Opened.{entry_next}
+use Rattle.mq_books.specs.Resending.{IsResent, confirmed_next}
+use Rattle.mq_books.specs.Using.{waits_next, stray_next, void_next}
 use Rattle.mq_books.proofs.AgainLaws.{again-next}
 use Rattle.mq_books.proofs.inflight.Inflight.take_in.Goals as goal
+
+pub returns-clause-role : goal.returns-clause-role
+returns-clause-role c = ap (λ (s : Inflight). s.role) c.in_ok-take_waiting.ensures.same ∙ ap (λ (s : Inflight). s.role) c.take_connection.ensures.state
+
+pub returns-clause-fate : goal.returns-clause-fate
+returns-clause-fate c = ap (λ (s : Inflight). s.fate) c.in_ok-take_waiting.ensures.same ∙ ap (λ (s : Inflight). s.fate) c.take_connection.ensures.state
+
+pub returns-clause-ordered : goal.returns-clause-ordered
+returns-clause-ordered c = ap (λ (s : Inflight). s.ordered) c.in_ok-take_waiting.ensures.same ∙ ap (λ (s : Inflight). s.ordered) c.take_connection.ensures.state
+
+pub returns-clause-distinct : goal.returns-clause-distinct
+returns-clause-distinct c = λ unique.
+    subst (λ (s : Inflight). IsUnique nat_eq s.entries) (sym c.in_ok-take_waiting.ensures.same)
+    (c.in_ok-take_entries.ensures.unique (subst (λ (s : Inflight). IsUnique nat_eq s.entries) (sym c.take_connection.ensures.state) unique))
+
+pub returns-clause-entries : goal.returns-clause-entries
+returns-clause-entries c = λ i.
+    ap (λ (s : Inflight). get nat_eq s.entries i) c.in_ok-take_waiting.ensures.same
+    ∙ c.in_ok-take_entries.ensures.entries i
+    ∙ ap (λ (s : Inflight). entry_next c.args.fate c.args.note.now c.args.at i (get nat_eq s.entries i)) c.take_connection.ensures.state
+
+pub returns-clause-stray : goal.returns-clause-stray
+returns-clause-stray c = λ i.
+    c.in_ok-take_waiting.ensures.stray i
+    ∙ ap (λ (s : Inflight). stray_next c.args.fate c.args.note.now (get nat_eq s.entries) i (contains nat_eq c.take_connection.new.self.stray i)) (sym c.in_ok-take_waiting.ensures.same)
+    ∙ ap (λ (s : Inflight). stray_next c.args.fate c.args.note.now (get nat_eq c.take_waiting.new.self.entries) i (contains nat_eq s.stray i)) c.take_connection.ensures.state
+
+pub returns-clause-void : goal.returns-clause-void
+returns-clause-void c = λ i. c.in_ok-take_waiting.ensures.void i ∙ ap (λ (s : Inflight). void_next c.args.fate c.args.note.now i (contains nat_eq s.void i)) c.take_connection.ensures.state
+
+pub returns-clause-subscribing : goal.returns-clause-subscribing
+returns-clause-subscribing c = λ i.
+    let n = c.args.note.now in
+    c.in_ok-take_waiting.ensures.subscribing i
+    ∙ ap (λ (s : Inflight). waits_next (sent_as subscribe_in n) (received_as suback_in n) (is_boundary n) i (contains nat_eq s.subscribing i)) c.take_connection.ensures.state
+
+pub returns-clause-unsubscribing : goal.returns-clause-unsubscribing
+returns-clause-unsubscribing c = λ i.
+    let n = c.args.note.now in
+    c.in_ok-take_waiting.ensures.unsubscribing i
+    ∙ ap (λ (s : Inflight). waits_next (sent_as unsubscribe_in n) (received_as unsuback_in n) (is_boundary n) i (contains nat_eq s.unsubscribing i)) c.take_connection.ensures.state
+
+pub returns-clause-resent : goal.returns-clause-resent
+returns-clause-resent c = ap (λ (s : Inflight). s.resent) c.in_ok-take_waiting.ensures.same ∙ ap (λ (s : Inflight). s.resent) c.take_connection.ensures.state
+
+pub returns-clause-ended : goal.returns-clause-ended
+returns-clause-ended c = ap (λ (s : Inflight). s.ended) c.in_ok-take_waiting.ensures.same ∙ ap (λ (s : Inflight). s.ended) c.take_connection.ensures.state
+
+pub returns-clause-opened : goal.returns-clause-opened
+returns-clause-opened c = ap (λ (s : Inflight). s.opened) c.in_ok-take_waiting.ensures.same ∙ ap (λ (s : Inflight). s.opened) c.take_connection.ensures.state
+
+pub returns-clause-peer : goal.returns-clause-peer
+returns-clause-peer c = ap (λ (s : Inflight). s.peer) c.in_ok-take_waiting.ensures.same ∙ ap (λ (s : Inflight). s.peer) c.take_connection.ensures.state
+
+pub returns-clause-flying : goal.returns-clause-flying
+returns-clause-flying c = λ below. ap (λ (s : Inflight). s.in_flight) c.in_ok-take_waiting.ensures.same ∙ c.take_connection.ensures.flying below
+
+pub returns-clause-bounds : goal.returns-clause-bounds
+returns-clause-bounds c = ap (λ (s : Inflight). s.bounds) c.in_ok-take_waiting.ensures.same ∙ ap (λ (s : Inflight). s.bounds) c.take_connection.ensures.state
 
 pub returns-clause-again : goal.returns-clause-again
 returns-clause-again c = λ le is.
@@ -13,6 +75,10 @@ returns-clause-again c = λ le is.
     let n = c.args.note.now in
     let entries = c.take_entries.new.entries in
     let confirmed = c.take_confirmed.new.confirmed in
-    subst (λ o. IsResent o (get nat_eq entries) (contains nat_eq confirmed) c.resent_still-self.result) (sym c.opened_after-self.ensures)
+    subst (λ (x : Inflight). IsResent x.opened (get nat_eq x.entries) (contains nat_eq x.confirmed) x.again) (sym c.in_ok-take_waiting.ensures.same)
+    (subst (λ (x : Inflight). IsResent x.opened (get nat_eq entries) (contains nat_eq confirmed) x.again) (sym c.take_connection.ensures.state)
     (subst (λ (r : Resent). IsResent (cond (is_open n) c.args.at.position s.opened) (get nat_eq entries) (contains nat_eq confirmed) r) (sym c.resent_still-self.ensures)
-    (again-next c.args.fate n c.args.at s.opened (get nat_eq s.entries) (get nat_eq entries) (contains nat_eq s.confirmed) (contains nat_eq confirmed) s.again le c.in_ok-take_entries.ensures.entries c.in_ok-take_confirmed.ensures is))
+    (again-next c.args.fate n c.args.at s.opened (get nat_eq s.entries) (get nat_eq entries) (contains nat_eq s.confirmed) (contains nat_eq confirmed) s.again le
+    (λ i. c.in_ok-take_entries.ensures.entries i ∙ ap (λ (x : Inflight). entry_next c.args.fate n c.args.at i (get nat_eq x.entries i)) c.take_connection.ensures.state)
+    (λ i. c.in_ok-take_confirmed.ensures i ∙ ap (λ (x : Inflight). confirmed_next c.args.fate n (get nat_eq x.entries) i (contains nat_eq x.confirmed i)) c.take_connection.ensures.state)
+    is)))
