@@ -240,6 +240,15 @@ R-turns : (tested : Tested) (rule : Rule) (x : Exchange) → statement tested.ro
 unfolding turns_with
 R-turns tested rule x says f e past k = ap (λ s. binds rule tested && shows_with tested.role f s e past k) says
 
+-- what is blamed at the place of a moment that is shown
+blamed-there : (tested : Tested) (rule : Rule) (at : ℕ) (p : Place3) (d : Moment) (o : Option Moment) (shown : Bool) → offset_of (statement tested.role rule) (Some d) ≡ None → p ≡ d.event.place → o ≡ Some d → shown ≡ true
+    → Some (record { decided = at; record_no = p.record_no; offset = None }) ≡ cond shown (Some (reported tested.role o rule at)) None
+blamed-there tested rule at p d o shown none same found is =
+    ap (λ (y : Place3). Some (record { decided = at; record_no = y.record_no; offset = None })) same
+    ∙ ap (λ q. Some (record { decided = at; record_no = d.event.place.record_no; offset = q })) (sym none)
+    ∙ ap (λ q. Some (reported tested.role q rule at)) (sym found)
+    ∙ ap (λ b. cond b (Some (reported tested.role o rule at)) None) (sym is)
+
 due-blamed : (tested : Tested) (rule : Rule) (x : Exchange) → IsApart x → statement tested.role rule ≡ at_rest (shows_R x) → (f : Fate) (at : ℕ) (e : Seen) (past : List Seen) (es : List (ℕ × Place3))
     → IsPlaced past → IsDistinct nat_eq (keys_of es) → ((i : ℕ) → lookup (nat_eq i) es ≡ place_of (due_of x i past)) → binds rule tested ≡ true → is_binding tested.role (newest e past) ≡ true
     → (k : ℕ) → blame_of at (place_at k (values_of es)) ≡ cond (turns_with tested f e past k rule) (Some (reported tested.role (moment (e ∷ past) k) rule at)) None
@@ -261,12 +270,8 @@ due-blamed tested rule x apart says f at e past es placed distinct due bound bin
         let here : moment past (position d) ≡ Some d = due-moment x i past d q in
         let same : p ≡ d.event.place = cc in
         let there : k ≡ position d = spot ∙ ap (λ (y : Place3). y.position) same ∙ moment-placed past (position d) d placed here in
-        let found : moment (e ∷ past) k ≡ Some d = moment-stays e past k d (ap (moment past) there ∙ here) in
-        let yes : shown ≡ true = ap (λ n. is_some_and (shows_R x (newest e past)) (moment past n)) there ∙ due-shown x apart e past i d q in
-        ap (λ (y : Place3). Some (record { decided = at; record_no = y.record_no; offset = None })) same
-        ∙ ap (λ o. Some (record { decided = at; record_no = d.event.place.record_no; offset = o })) (sym (offset_none (Some d)))
-        ∙ ap (λ o. Some (reported tested.role o rule at)) (sym found)
-        ∙ ap (λ b. cond b (Some (reported tested.role (moment (e ∷ past) k) rule at)) None) (sym yes)
+        blamed-there tested rule at p d (moment (e ∷ past) k) shown (offset_none (Some d)) same (moment-stays e past k d (ap (moment past) there ∙ here))
+        (ap (λ n. is_some_and (shows_R x (newest e past)) (moment past n)) there ∙ due-shown x apart e past i d q)
 
     go : (o : Option Place3) → place_at k (values_of es) ≡ o → blame_of at o ≡ cond shown (Some (reported tested.role (moment (e ∷ past) k) rule at)) None
     go None h = ap (λ b. cond b (Some (reported tested.role (moment (e ∷ past) k) rule at)) None) (sym (not_true shown (λ t.
