@@ -1,5 +1,5 @@
 -- The faults of several statements that an event breaks.
-use Rattle.std.proofs.Common.{◌≡◌, ℕ, ◌+◌, Bool, true, false, ◌&&◌, ◌||◌, List, ◌∷◌, length, None, refl}
+use Rattle.std.proofs.Common.{◌≡◌, ℕ, ◌+◌, Bool, true, false, ◌&&◌, ◌||◌, List, [], ◌∷◌, length, None, refl}
 use Rattle.mq_trace.specs.declared.place.Place3.{Place3}
 use Rattle.mq_rules.specs.declared.role.Tested.{Tested}
 use Rattle.mq_rules.specs.declared.fate.Fate.{Fate}
@@ -22,6 +22,15 @@ use Rattle.mq_books.proofs.JudgeLaws.{gains_judged}
 pub keeps_judged : (old mid : FaultMap) (broken : Bool) (rule : Rule) (place : Place3) (at : ℕ) → Keeps old mid → Keeps old (judged_by broken rule place at mid)
 keeps_judged old mid true rule place at h = keeps_with_fault old mid (record { position = place.position; rule = rule }) (record { decided = at; record_no = place.record_no; offset = None }) h
 keeps_judged old mid false rule place at h = h
+
+-- the faults with those of these statements that are broken
+abbrev pub judged_these : Place3 → ℕ → List (Bool × Rule) → FaultMap → FaultMap
+judged_these place at [] m = m
+judged_these place at (x ∷ xs) m = judged_these place at xs (judged_by x.0 x.1 place at m)
+
+pub keeps_these : (place : Place3) (at : ℕ) (xs : List (Bool × Rule)) (old mid : FaultMap) → Keeps old mid → Keeps old (judged_these place at xs mid)
+keeps_these place at [] old mid h = h
+keeps_these place at (x ∷ xs) old mid h = keeps_these place at xs old (judged_by x.0 x.1 place at mid) (keeps_judged old mid x.0 x.1 place at h)
 
 pub all-gains : (tested : Tested) (f : Fate) (e : Seen) (past : List Seen) (at : ℕ) (m : FaultMap) (b : Broken) → e.place.position ≡ length past + 1
     → ((k : ℕ) → turns_with tested f e past k S01 ≡ (is_next past k && b.takes_busy)) → ((k : ℕ) → turns_with tested f e past k S02 ≡ (is_next past k && b.unopened))

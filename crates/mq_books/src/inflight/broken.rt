@@ -167,7 +167,6 @@ pub fn resent_after(resent: u32, note: &Note, entries: &IndexMap<u16, Entry>) ->
 }
 
 /// Adds the faults of the statements that an event breaks.
-#[tactic(auto, using(crate::proofs::BlameLaws::keeps_same, crate::proofs::BrokenLaws::keeps_judged))]
 pub fn judge_all(
     broken: &Broken,
     at: Place3,
