@@ -300,7 +300,10 @@ impl<K: End> Sink for Judging<K> {
         size: u32,
         publish: Publish<'_>,
     ) -> Result<(), Refusal> {
-        match self.watching.receive_publish(place, direction, size, publish) {
+        match self
+            .watching
+            .receive_publish(place, direction, size, publish)
+        {
             Ok(()) => Ok(()),
             Err(Memory) => Err(Refusal::Memory(0)),
         }

@@ -207,6 +207,23 @@ fn weighs_what_is_open(rt: HostRuntime) -> Result<(), Fail> {
     Ok(())
 }
 
+// What waits for its answer on a connection weighs nothing from its CLOSE on.
+#[test]
+fn weighs_nothing_that_ended_with_its_connection(rt: HostRuntime) -> Result<(), Fail> {
+    assert_eq!(rt;
+        weight_after(rt.alloc(), "client OPEN >CONNECT <CONNACK >SUBSCRIBE:1")?,
+        Some(1)
+    );
+    assert_eq!(rt;
+        weight_after(
+            rt.alloc(),
+            "client OPEN >CONNECT <CONNACK >SUBSCRIBE:1 CLOSE"
+        )?,
+        Some(0)
+    );
+    Ok(())
+}
+
 #[test]
 fn judges_worked_logs(rt: HostRuntime) -> Result<(), Fail> {
     assert_eq!(rt; first_wrong(rt.alloc(), worked::ROWS)?, None);
