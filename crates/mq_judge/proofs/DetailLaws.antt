@@ -1,8 +1,8 @@
 -- Details that are put one after another.
 use Rattle.std.proofs.Common.{◌≡◌, Bool, true, false, ◌<◌, ◌≤◌, ◌+◌, ◌/◌, arith, List, [], ◌∷◌, ◌++◌, length, take, get_or, codes, decimal, ℕ, Option, refl, sym, ap, subst, ◌∙◌, append_assoc, append-nil, if◌then◌else◌}
-use mir.Val.{bool_byte}
 use Rattle.std.proofs.lemmas.Grind.{take_at_read, flat_map-append}
 use Rattle.std.specs.List.{flat_map}
+use mir.Val.{bool_byte}
 use Rattle.mq_props.specs.Values.{Property}
 use Rattle.mq_packet.specs.Entries.{ConnectFields, WillFields}
 use Rattle.mq_rules.specs.Notes.{qos_number}
