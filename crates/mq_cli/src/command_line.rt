@@ -231,22 +231,24 @@ fn matches_of<'a, S: AsStr>(alloc: Global, words: &'a [S]) -> Result<ArgMatches<
 fn command_line<'a>(alloc: Global) -> Result<Command<'a>, AllocError>
     ensures { IfOk result (λ command. app_of command ≡ mqjudge) }
 {
-    let check = check_command(alloc)?;
-    let show = show_command(alloc)?;
-    let packet = packet_command(alloc)?;
-    let rules = rules_command(alloc)?;
-    let explain = explain_command(alloc)?;
-    let convert = convert_command(alloc)?;
-    let with_check = Command::new(alloc, "mqjudge")
+    // Each subcommand is added as soon as it is made: one that waited would be dropped at each exit
+    // in between, and a command is much to drop.
+    let top = Command::new(alloc, "mqjudge")
         .about("Judges the log of one end of an MQTT 5.0 session")
         .version("0.1.0 (reads log versions 1 and 2, judges 74 statements)")
         .after_help(HELP)
-        .subcommand_required(true)
-        .subcommand(check)?;
+        .subcommand_required(true);
+    let check = check_command(alloc)?;
+    let with_check = top.subcommand(check)?;
+    let show = show_command(alloc)?;
     let with_show = with_check.subcommand(show)?;
+    let packet = packet_command(alloc)?;
     let with_packet = with_show.subcommand(packet)?;
+    let rules = rules_command(alloc)?;
     let with_rules = with_packet.subcommand(rules)?;
+    let explain = explain_command(alloc)?;
     let with_explain = with_rules.subcommand(explain)?;
+    let convert = convert_command(alloc)?;
     with_explain.subcommand(convert)
 }
 

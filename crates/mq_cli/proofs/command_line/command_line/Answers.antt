@@ -16,7 +16,7 @@ returns c =
     let about_is : app_of c.about.result ≡ new_app (codes "mqjudge") = ap app_of_fields c.about.ensures ∙ c.new.ensures.app in
     let version_is : app_of c.version.result ≡ on_top versioned (app_of c.about.result) = ap app_of_fields c.version.ensures in
     let helped_is : app_of c.after_help.result ≡ app_of c.version.result = ap app_of_fields c.after_help.ensures in
-    let required_is : app_of c.subcommand_required.result ≡ on_top required (app_of c.version.result) = ap app_of_fields c.subcommand_required.ensures ∙ ap (on_top required) helped_is in
+    let required_is : app_of c.subcommand_required-top.result ≡ on_top required (app_of c.version.result) = ap app_of_fields c.subcommand_required-top.ensures ∙ ap (on_top required) helped_is in
     let top_is = required_is ∙ ap (on_top required) (version_is ∙ ap (on_top versioned) about_is) in
     let with_check : app_of c.in_ok-with_check.with_check ≡ with_subcommand (on_top required (on_top versioned (new_app (codes "mqjudge")))) check_command.top =
     c.in_ok-with_check.ensures.shape c.in_ok-check.ensures.local ∙ ap₂ with_subcommand top_is (ap (λ (a : App). a.top) c.in_ok-check.ensures.app) in
