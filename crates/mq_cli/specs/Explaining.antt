@@ -1,61 +1,87 @@
 -- The text that explains each statement.
-use Rattle.std.specs.Prelude.{ℕ, List, [], ◌++◌, map, Option, option_map, unwrap_or}
-use Rattle.std.specs.Borrow.{Bor}
-use Rattle.std.specs.List.{find}
-use Rattle.std.specs.Option.{option_or}
+use Rattle.std.specs.Prelude.{ℕ, List}
 use Rattle.mq_rules.specs.declared.rule.Rule.{Rule}
-use Rattle.mq_rules.specs.Rules.{same_rule}
-use Rattle.mq_cli.specs.declared.explanations.TheConstants.{PACKETS, CONNECTIONS, SESSIONS, EXCHANGES, RELEASES, DELIVERIES}
-
--- a statement, and the text that explains it
-pub record Explained : Type 0 where
-  pub rule : Rule
-  pub text : List ℕ
-
--- a row as the source has it
-abbrev pub explained_view : Rule × Bor (List ℕ) → Explained
-explained_view row = record { rule = row.0; text = row.1.now }
-
-abbrev pub explained_in : List (Rule × Bor (List ℕ)) → List Explained
-explained_in rows = map explained_view rows
-
--- the texts of the statements on the bytes of a packet, in the order of reports
-unfoldable pub packets : List Explained
-packets = map (λ row. record { rule = row.0; text = row.1.now }) PACKETS
-
--- the texts of the statements on the past of a connection, in the order of reports
-unfoldable pub connections : List Explained
-connections = map (λ row. record { rule = row.0; text = row.1.now }) CONNECTIONS
-
--- the texts of the statements on Packet Identifiers, resends and the send quota, in the order of reports
-unfoldable pub sessions : List Explained
-sessions = map (λ row. record { rule = row.0; text = row.1.now }) SESSIONS
-
--- the texts of the statements on exchanges, in the order of reports
-unfoldable pub exchanges : List Explained
-exchanges = map (λ row. record { rule = row.0; text = row.1.now }) EXCHANGES
-
--- the texts of the statements on releases of QoS 2 messages, in the order of reports
-unfoldable pub releases : List Explained
-releases = map (λ row. record { rule = row.0; text = row.1.now }) RELEASES
-
--- the texts of the statements on subscriptions, in the order of reports
-unfoldable pub deliveries : List Explained
-deliveries = map (λ row. record { rule = row.0; text = row.1.now }) DELIVERIES
-
--- the texts of all statements, in the order of reports
-unfoldable pub explanations : List Explained
-explanations = packets ++ (connections ++ (sessions ++ (exchanges ++ (releases ++ deliveries))))
-
--- the text of a statement among these
-abbrev pub found_among : List Explained → Rule → Option Explained
-found_among rows rule = find (λ explained. same_rule explained.rule rule) rows
-
--- the one in one of the tables
-unfoldable pub found_explanation : Rule → Option Explained
-found_explanation rule = option_or (found_among packets rule) (option_or (found_among connections rule) (option_or (found_among sessions rule)
-    (option_or (found_among exchanges rule) (option_or (found_among releases rule) (found_among deliveries rule)))))
+use Rattle.mq_rules.specs.declared.rule.Rule.TheVariants.{W01, W02, W03, W04, W05, W06, W07, W08, W09, W10, W11, W12, W13, W14, W15, W16, W17, W18, W19, W20, W21, C01, C02, C03, C04, C05, C06, C07, C08, C09, C10, C11, C12, C13, C14, C15, C16, C17, C18, C19, C20, C21, C22, C23, S01, S02, S03, S04, S05, S06, S07, E1A, E1R, E1O, E2A, E2R, E2O, E3A, E3R, E3O, E4A, E4R, E5A, E5R, E6A, E6R, E7R, L1, L2, L3, B01, B02, B03, B04}
+use Rattle.mq_cli.specs.declared.explanations.packets.TheConstants as packets
+use Rattle.mq_cli.specs.declared.explanations.connections.TheConstants as connections
+use Rattle.mq_cli.specs.declared.explanations.sessions.TheConstants as sessions
+use Rattle.mq_cli.specs.declared.explanations.exchanges.TheConstants as exchanges
+use Rattle.mq_cli.specs.declared.explanations.releases.TheConstants as releases
+use Rattle.mq_cli.specs.declared.explanations.deliveries.TheConstants as deliveries
 
 -- the text that explains a statement
 unfoldable pub explanation_of : Rule → List ℕ
-explanation_of rule = unwrap_or (option_map (λ explained. explained.text) (found_explanation rule)) []
+explanation_of W01 = packets.W01.now
+explanation_of W02 = packets.W02.now
+explanation_of W03 = packets.W03.now
+explanation_of W04 = packets.W04.now
+explanation_of W05 = packets.W05.now
+explanation_of W06 = packets.W06.now
+explanation_of W07 = packets.W07.now
+explanation_of W08 = packets.W08.now
+explanation_of W09 = packets.W09.now
+explanation_of W10 = packets.W10.now
+explanation_of W11 = packets.W11.now
+explanation_of W12 = packets.W12.now
+explanation_of W13 = packets.W13.now
+explanation_of W14 = packets.W14.now
+explanation_of W15 = packets.W15.now
+explanation_of W16 = packets.W16.now
+explanation_of W17 = packets.W17.now
+explanation_of W18 = packets.W18.now
+explanation_of W19 = packets.W19.now
+explanation_of W20 = packets.W20.now
+explanation_of W21 = packets.W21.now
+explanation_of C01 = connections.C01.now
+explanation_of C02 = connections.C02.now
+explanation_of C03 = connections.C03.now
+explanation_of C04 = connections.C04.now
+explanation_of C05 = connections.C05.now
+explanation_of C06 = connections.C06.now
+explanation_of C07 = connections.C07.now
+explanation_of C08 = connections.C08.now
+explanation_of C09 = connections.C09.now
+explanation_of C10 = connections.C10.now
+explanation_of C11 = connections.C11.now
+explanation_of C12 = connections.C12.now
+explanation_of C13 = connections.C13.now
+explanation_of C14 = connections.C14.now
+explanation_of C15 = connections.C15.now
+explanation_of C16 = connections.C16.now
+explanation_of C17 = connections.C17.now
+explanation_of C18 = connections.C18.now
+explanation_of C19 = connections.C19.now
+explanation_of C20 = connections.C20.now
+explanation_of C21 = connections.C21.now
+explanation_of C22 = connections.C22.now
+explanation_of C23 = connections.C23.now
+explanation_of S01 = sessions.S01.now
+explanation_of S02 = sessions.S02.now
+explanation_of S03 = sessions.S03.now
+explanation_of S04 = sessions.S04.now
+explanation_of S05 = sessions.S05.now
+explanation_of S06 = sessions.S06.now
+explanation_of S07 = sessions.S07.now
+explanation_of E1A = exchanges.E1A.now
+explanation_of E1R = exchanges.E1R.now
+explanation_of E1O = exchanges.E1O.now
+explanation_of E2A = exchanges.E2A.now
+explanation_of E2R = exchanges.E2R.now
+explanation_of E2O = exchanges.E2O.now
+explanation_of E3A = exchanges.E3A.now
+explanation_of E3R = exchanges.E3R.now
+explanation_of E3O = exchanges.E3O.now
+explanation_of E4A = exchanges.E4A.now
+explanation_of E4R = exchanges.E4R.now
+explanation_of E5A = exchanges.E5A.now
+explanation_of E5R = exchanges.E5R.now
+explanation_of E6A = exchanges.E6A.now
+explanation_of E6R = exchanges.E6R.now
+explanation_of E7R = exchanges.E7R.now
+explanation_of L1 = releases.L1.now
+explanation_of L2 = releases.L2.now
+explanation_of L3 = releases.L3.now
+explanation_of B01 = deliveries.B01.now
+explanation_of B02 = deliveries.B02.now
+explanation_of B03 = deliveries.B03.now
+explanation_of B04 = deliveries.B04.now

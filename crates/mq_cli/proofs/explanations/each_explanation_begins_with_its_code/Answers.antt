@@ -1,5 +1,5 @@
-use Rattle.mq_cli.proofs.ExplainingLemmas.{codes_begin}
+use Rattle.mq_cli.proofs.ExplainingLemmas.{begins_with_its_code}
 use Rattle.mq_cli.proofs.explanations.each_explanation_begins_with_its_code.Goals as goal
 
 pub returns : goal.returns
-returns c = codes_begin
+returns c = begins_with_its_code
