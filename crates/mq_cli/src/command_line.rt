@@ -1,6 +1,6 @@
 //! Parsing the words of a command line into a task.
 ghost use Rattle.std.specs.Prelude.{◌≡◌, [], Some, codes, false, IfOk, IfErr, map, option_map, string_bytes, unwrap_or};
-ghost use Rattle.clap.specs.Words.{HasKind, Kinds, app_of, new_rule, rule_of, subcommand_of, subcommand_rows_of};
+ghost use Rattle.clap.specs.Words.{HasKind, Kinds, app_of, new_rule, rule_of, subcommand_of, subcommand_rows_of, with_subcommand};
 ghost use Rattle.clap.specs.declared.builder.command.Command.TheViews.{out-Command};
 ghost use Rattle.mq_cli.specs.CommandLine.{ReadsAsAsked, StopsFor, around_option, check_command, check_request, convert_command, convert_request, explain_command};
 ghost use Rattle.mq_cli.specs.CommandLine.{explain_request, word_faults, flag, is_true, mqjudge, packet_command, packet_request};
@@ -231,21 +231,42 @@ fn matches_of<'a, S: AsStr>(alloc: Global, words: &'a [S]) -> Result<ArgMatches<
 fn command_line<'a>(alloc: Global) -> Result<Command<'a>, AllocError>
     ensures { IfOk result (λ command. app_of command ≡ mqjudge) }
 {
-    // Each subcommand is added as soon as it is made: one that waited would be dropped at each exit
-    // in between, and a command is much to drop.
     let top = Command::new(alloc, "mqjudge")
         .about("Judges the log of one end of an MQTT 5.0 session")
         .version("0.1.0 (reads log versions 1 and 2, judges 74 statements)")
         .after_help(HELP)
         .subcommand_required(true);
+    let with_some = with_check_show_and_packet(alloc, top)?;
+    with_rules_explain_and_convert(alloc, with_some)
+}
+
+// Adds `check`, `show` and `packet`. Each is added as soon as it is made: one that waited would be
+// dropped at each exit in between, and a command is much to drop.
+fn with_check_show_and_packet<'a>(
+    alloc: Global,
+    top: Command<'a>,
+) -> Result<Command<'a>, AllocError>
+    ensures { IfOk result (λ command. app_of command
+        ≡ with_subcommand (with_subcommand (with_subcommand (app_of top.entry) check_command.top) show_command.top) packet_command.top) }
+{
     let check = check_command(alloc)?;
     let with_check = top.subcommand(check)?;
     let show = show_command(alloc)?;
     let with_show = with_check.subcommand(show)?;
     let packet = packet_command(alloc)?;
-    let with_packet = with_show.subcommand(packet)?;
+    with_show.subcommand(packet)
+}
+
+// Adds `rules`, `explain` and `convert`.
+fn with_rules_explain_and_convert<'a>(
+    alloc: Global,
+    top: Command<'a>,
+) -> Result<Command<'a>, AllocError>
+    ensures { IfOk result (λ command. app_of command
+        ≡ with_subcommand (with_subcommand (with_subcommand (app_of top.entry) rules_command.top) explain_command.top) convert_command.top) }
+{
     let rules = rules_command(alloc)?;
-    let with_rules = with_packet.subcommand(rules)?;
+    let with_rules = top.subcommand(rules)?;
     let explain = explain_command(alloc)?;
     let with_explain = with_rules.subcommand(explain)?;
     let convert = convert_command(alloc)?;
@@ -257,22 +278,20 @@ fn check_command<'a>(alloc: Global) -> Result<Command<'a>, AllocError>
     ensures app { IfOk result (λ command. app_of command ≡ check_command) }
     ensures local { IfOk result (λ command. (out-Command command).has_globals ≡ false) }
 {
-    let json = flag(
-        alloc,
-        "json",
-        "Report as one line of JSON, also with --summary",
-    );
-    let summary = flag(
-        alloc,
-        "summary",
-        "Report a line for each statement that has faults",
-    );
     Command::new(alloc, "check")
         .about("Judges a log and reports each fault")
         .after_help(CHECK_HELP)
         .arg(log_operand(alloc))?
-        .arg(json)?
-        .arg(summary)
+        .arg(flag(
+            alloc,
+            "json",
+            "Report as one line of JSON, also with --summary",
+        ))?
+        .arg(flag(
+            alloc,
+            "summary",
+            "Report a line for each statement that has faults",
+        ))
 }
 
 // The definition of `show`.
@@ -280,22 +299,20 @@ fn show_command<'a>(alloc: Global) -> Result<Command<'a>, AllocError>
     ensures app { IfOk result (λ command. app_of command ≡ show_command) }
     ensures local { IfOk result (λ command. (out-Command command).has_globals ≡ false) }
 {
-    let long = flag(
-        alloc,
-        "long",
-        "Show the other fields and the properties of each packet",
-    );
-    let faults = flag(
-        alloc,
-        "faults",
-        "Show the faults under their events; reads FILE twice",
-    );
     Command::new(alloc, "show")
         .about("Shows each event of a log")
         .after_help(SHOW_HELP)
         .arg(log_operand(alloc))?
-        .arg(long)?
-        .arg(faults)?
+        .arg(flag(
+            alloc,
+            "long",
+            "Show the other fields and the properties of each packet",
+        ))?
+        .arg(flag(
+            alloc,
+            "faults",
+            "Show the faults under their events; reads FILE twice",
+        ))?
         .arg(around_option(alloc))
 }
 
@@ -376,21 +393,19 @@ fn convert_command<'a>(alloc: Global) -> Result<Command<'a>, AllocError>
     ensures app { IfOk result (λ command. app_of command ≡ convert_command) }
     ensures local { IfOk result (λ command. (out-Command command).has_globals ≡ false) }
 {
-    let input = required_operand(
-        alloc,
-        "IN",
-        "The log of version 1; standard input if it is `-`",
-    );
-    let output = required_operand(
-        alloc,
-        "OUT",
-        "The file that is made, or emptied and written; another one than IN",
-    );
     Command::new(alloc, "convert")
         .about("Converts a log of version 1 into one of version 2")
         .after_help(CONVERT_HELP)
-        .arg(input)?
-        .arg(output)
+        .arg(required_operand(
+            alloc,
+            "IN",
+            "The log of version 1; standard input if it is `-`",
+        ))?
+        .arg(required_operand(
+            alloc,
+            "OUT",
+            "The file that is made, or emptied and written; another one than IN",
+        ))
 }
 
 // An operand of this name that has to be given.
