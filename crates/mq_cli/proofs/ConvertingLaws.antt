@@ -1,5 +1,5 @@
 -- What a status tells of a log that was converted.
-use Rattle.std.proofs.Common.{◌≡◌, ◌∙◌, ◌⊎◌, inl, inr, Bool, true, ℕ, List, [], ◌∷◌, ◌++◌, append-nil, cond, is_some, length, reverse, Option, Some, None, Result, Ok, Err, IfErr, IfOk, IfSome, OnOk, ap, refl, subst, sym}
+use Rattle.std.proofs.Common.{◌≡◌, ◌∙◌, ◌⊎◌, inl, inr, Bool, ℕ, List, [], ◌∷◌, ◌++◌, append-nil, cond, is_some, reverse, Option, Some, None, Result, Ok, Err, IfErr, IfOk, IfSome, OnOk, ap, refl, subst, sym}
 use Rattle.std.proofs.lemmas.List.{reverse-append}
 use Rattle.std.proofs.KnownBytes.{Appends-kept, Keeps-refl}
 use Rattle.std.specs.Io.KnownBytes.{Appends, Consumes, IsAtEnd, Keeps}
@@ -10,7 +10,6 @@ use Rattle.mq_judge.specs.declared.Refusal.{Refusal}
 use Rattle.mq_judge.specs.declared.Refusal.TheVariants as refusals
 use Rattle.mq_judge.specs.Report.{refused_line}
 use Rattle.mq_trace.specs.Converting.{Converts, IsUnconverted, converted, copied, copied_back, timed, unconverted, unconverted_at, unconverted_back}
-use Rattle.mq_trace.specs.Refusals.{is_cut_short}
 use Rattle.mq_trace.specs.declared.converting.ConvertFault.TheVariants as faults
 use Rattle.mq_cli.specs.declared.failure.Failure.{Failure}
 use Rattle.mq_cli.specs.declared.failure.Failure.TheVariants as failures
@@ -19,7 +18,7 @@ use Rattle.mq_cli.specs.Converting.{FailsConverting, IsConverted, IsInconvertibl
 use Rattle.mq_cli.specs.Given.{Given, bytes_at}
 use Rattle.mq_cli.specs.Messages.{BeginsRefusal, IsOfLog, LacksJsonMemory, failure_of}
 use Rattle.mq_cli.specs.Program.{FailsSource, IsHinted, RefusesSource}
-use Rattle.mq_cli.specs.Streams.{AppendsPart, Stream}
+use Rattle.mq_cli.specs.Streams.{Stream}
 use Rattle.mq_cli.specs.Troubles.{Tells, failure_in, place_of}
 use Rattle.mq_cli.proofs.BeginningLaws.{hinted_of_kept}
 use Rattle.mq_cli.proofs.MessageLaws.{part-kept}

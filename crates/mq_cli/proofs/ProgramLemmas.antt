@@ -13,7 +13,7 @@ use Rattle.mq_judge.specs.Display.{is_timed}
 use Rattle.mq_cli.specs.CommandLine.{path_of, reads_log}
 use Rattle.mq_cli.specs.Converting.{Files, files_of}
 use Rattle.mq_cli.specs.Given.{Given, bytes_at}
-use Rattle.mq_cli.specs.Messages.{FailsMisnamed, StopsCheck, StopsShow, StopsTask, form_of, text_for}
+use Rattle.mq_cli.specs.Messages.{FailsMisnamed, HasFailed, HasPassed, IsRefusedOn, IsReportedOn, StopsCheck, StopsShow, StopsTask, form_of, text_for}
 use Rattle.mq_cli.specs.Program.{FailsLog, FailsRead, FailsTaskOn, IsHinted, Refuses, RefusesSource, RefusesWork, input_of}
 use Rattle.mq_cli.specs.Reviewing.{Plan, RefusesPlan, plan_of}
 use Rattle.mq_cli.specs.Streams.{IsTold, Stream, failure_line}
@@ -52,7 +52,7 @@ stops_kept failure (Packet hex) log read left old new k h = h
 stops_kept failure (Rules role) log read left old new k h = h
 stops_kept failure (Explain code) log read left old new k h = h
 
-fails_kept : (task : Task) (place : Text) (log read old new : Option (List ℕ)) (is_closed : Bool) (error : Stream) → Keeps log read
+pub fails_kept : (task : Task) (place : Text) (log read old new : Option (List ℕ)) (is_closed : Bool) (error : Stream) → Keeps log read
     → FailsTaskOn task place read is_closed old new error → FailsTaskOn task place log is_closed old new error
 fails_kept task place log read old new is_closed error k (inl fails) = inl (record {
   left = fails.left;
@@ -62,12 +62,54 @@ fails_kept task place log read old new is_closed error k (inl fails) = inl (reco
 })
 fails_kept task place log read old new is_closed error k (inr misnamed) = inr misnamed
 
-log_fails_kept : (task : Task) (place : Text) (log read old new : Option (List ℕ)) (is_closed : Bool) (error : Stream) → Keeps log read
+pub log_fails_kept : (task : Task) (place : Text) (log read old new : Option (List ℕ)) (is_closed : Bool) (error : Stream) → Keeps log read
     → FailsLog task place read is_closed old new error → FailsLog task place log is_closed old new error
 log_fails_kept task place log read old new is_closed error k (inl unbegun) = inl unbegun
 log_fails_kept task place log read old new is_closed error k (inr fails) = inr (fails_kept task place log read old new is_closed error k fails)
 
+-- what holds of what was read of a log holds of the log
+abbrev pub IsKept : (Option (List ℕ) → Type 0) → Type 0
+IsKept P = (log read : Option (List ℕ)) → Keeps log read → P read → P log
+
+pub passed_kept : (task : Task) → IsKept (HasPassed task)
+passed_kept (Check file json summary) log read k h = known_kept log read _ k h
+passed_kept (Show file long) log read k h = known_kept log read _ k h
+passed_kept (Packet hex) log read k h = h
+passed_kept (Rules role) log read k h = h
+passed_kept (Explain code) log read k h = h
+
+pub failed_kept : (task : Task) → IsKept (HasFailed task)
+failed_kept (Check file json summary) log read k h = known_kept log read _ k h
+failed_kept (Show file long) log read k h = h
+failed_kept (Packet hex) log read k h = h
+failed_kept (Rules role) log read k h = h
+failed_kept (Explain code) log read k h = h
+
+pub reported_kept : (task : Task) (old new : Option (List ℕ)) → IsKept (λ log. IsReportedOn task log old new)
+reported_kept (Check file json summary) old new log read k h = known_kept log read _ k h
+reported_kept (Show file long) old new log read k h = known_kept log read _ k h
+reported_kept (Packet hex) old new log read k h = h
+reported_kept (Rules role) old new log read k h = h
+reported_kept (Explain code) old new log read k h = h
+
+pub refused_kept : (task : Task) (old new : Option (List ℕ)) → IsKept (λ log. IsRefusedOn task log old new)
+refused_kept (Check file json summary) old new log read k h = known_kept log read _ k h
+refused_kept (Show file long) old new log read k h = known_kept log read _ k h
+refused_kept (Packet hex) old new log read k h = h
+refused_kept (Rules role) old new log read k h = h
+refused_kept (Explain code) old new log read k h = h
+
 -- ---- the log that a task names
+
+-- what holds of what was read of a file holds of the log that the task names
+pub file_keeps : (P : Option (List ℕ) → Type 0) → IsKept P → (given : Given) (task : Task) (path : Text) (read : Option (List ℕ)) → Some path ≡ path_of task
+    → Keeps (given.file path) read → P read → P (input_of given task)
+file_keeps P kept given task path read named k h = subst (λ (p : Option Text). P (bytes_at given p)) named (kept (given.file path) read k h)
+
+-- and of standard input
+pub input_keeps : (P : Option (List ℕ) → Type 0) → IsKept P → (given : Given) (task : Task) (read : Option (List ℕ)) → None ≡ path_of task
+    → Keeps given.standard read → P read → P (input_of given task)
+input_keeps P kept given task read named k h = subst (λ (p : Option Text). P (bytes_at given p)) named (kept given.standard read k h)
 
 -- what was said of a file is said of what it names
 pub file_hinted : (given : Given) (task : Task) (path : Text) (read : Option (List ℕ)) (error : Stream) → Some path ≡ path_of task → Keeps (given.file path) read

@@ -194,3 +194,13 @@ rejoin_both None judged shown R k h = tt
 rejoin_both (Some log) None shown R k h = absurd k
 rejoin_both (Some log) (Some first) None R k h = tt
 rejoin_both (Some log) (Some first) (Some second) R k h = subst (λ x. R x second) k h
+
+pub stops_rejoined : (plan : Plan) (log judged shown old new : Option (List ℕ)) (is_closed : Bool) (error : Stream) → Keeps log judged
+    → StopsReaders plan judged shown is_closed old new error → StopsReaders plan log shown is_closed old new error
+stops_rejoined plan log judged shown old new is_closed error k stops = record {
+  judged_left = stops.judged_left;
+  shown_left = stops.shown_left;
+  trouble = stops.trouble;
+  stops = rejoin_both log judged shown (λ first second. StopsPlan plan (failure_in stops.trouble) first second stops.judged_left stops.shown_left old new) k stops.stops;
+  told = stops.told;
+}

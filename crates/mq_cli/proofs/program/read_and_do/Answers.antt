@@ -1,6 +1,7 @@
-use Rattle.std.proofs.Common.{sym}
+use Rattle.std.proofs.Common.{List, Option, sym, ℕ}
+use Rattle.mq_cli.specs.Messages.{HasFailed, HasPassed, IsRefusedOn, IsReportedOn}
 use Rattle.mq_cli.specs.Streams.{stream}
-use Rattle.mq_cli.proofs.ProgramLemmas.{file_fails, file_hinted, input_fails}
+use Rattle.mq_cli.proofs.ProgramLemmas.{failed_kept, file_fails, file_hinted, file_keeps, input_fails, input_keeps, passed_kept, refused_kept, reported_kept}
 use Rattle.mq_cli.proofs.program.read_and_do.Goals as goal
 
 pub returns-in-Ok-clause-hinted : goal.returns-in-Ok-clause-hinted
@@ -21,3 +22,51 @@ returns-then-reads_log-clause-failed g c = λ e.
     (g.W.Write.contents c.args.output.now) (g.W.Write.contents c.do_on-then-reads_log.new.output) (g.W.Output.is_closed c.do_on-then-reads_log.new.output)
     (stream g.E.ErrorStream.contents g.E.ErrorStream.has_failed c.args.error.now c.do_on-then-reads_log.new.error)
     c.in-None.ensures (sym c.if-reads_log.ensures) c.input.ensures.bytes (c.do_on-then-reads_log.ensures.failed e)
+
+pub returns-in-Ok-clause-passed : goal.returns-in-Ok-clause-passed
+returns-in-Ok-clause-passed g c = λ e.
+    file_keeps (HasPassed c.args.task.now) (passed_kept c.args.task.now) (g.H.Host.gives c.args.host.now) c.args.task.now c.in-Some.path.now (g.H.File.Read.remaining c.in-Ok.file)
+    c.in-Some.ensures c.in-Ok.ensures.bytes (c.do_on.ensures.passed e)
+
+pub returns-then-reads_log-clause-passed : goal.returns-then-reads_log-clause-passed
+returns-then-reads_log-clause-passed g c = λ e.
+    input_keeps (HasPassed c.args.task.now) (passed_kept c.args.task.now) (g.H.Host.gives c.args.host.now) c.args.task.now (g.H.Stdin.Read.remaining c.input.result)
+    c.in-None.ensures c.input.ensures.bytes (c.do_on-then-reads_log.ensures.passed e)
+
+pub returns-in-Ok-clause-faulty : goal.returns-in-Ok-clause-faulty
+returns-in-Ok-clause-faulty g c = λ e.
+    file_keeps (HasFailed c.args.task.now) (failed_kept c.args.task.now) (g.H.Host.gives c.args.host.now) c.args.task.now c.in-Some.path.now (g.H.File.Read.remaining c.in-Ok.file)
+    c.in-Some.ensures c.in-Ok.ensures.bytes (c.do_on.ensures.faulty e)
+
+pub returns-then-reads_log-clause-faulty : goal.returns-then-reads_log-clause-faulty
+returns-then-reads_log-clause-faulty g c = λ e.
+    input_keeps (HasFailed c.args.task.now) (failed_kept c.args.task.now) (g.H.Host.gives c.args.host.now) c.args.task.now (g.H.Stdin.Read.remaining c.input.result)
+    c.in-None.ensures c.input.ensures.bytes (c.do_on-then-reads_log.ensures.faulty e)
+
+pub returns-in-Ok-clause-reported : goal.returns-in-Ok-clause-reported
+returns-in-Ok-clause-reported g c = λ e.
+    let old = g.W.Write.contents c.args.output.now in
+    let new = g.W.Write.contents c.do_on.new.output in
+    file_keeps (λ (log : Option (List ℕ)). IsReportedOn c.args.task.now log old new) (reported_kept c.args.task.now old new) (g.H.Host.gives c.args.host.now) c.args.task.now c.in-Some.path.now
+    (g.H.File.Read.remaining c.in-Ok.file) c.in-Some.ensures c.in-Ok.ensures.bytes (c.do_on.ensures.reported e)
+
+pub returns-then-reads_log-clause-reported : goal.returns-then-reads_log-clause-reported
+returns-then-reads_log-clause-reported g c = λ e.
+    let old = g.W.Write.contents c.args.output.now in
+    let new = g.W.Write.contents c.do_on-then-reads_log.new.output in
+    input_keeps (λ (log : Option (List ℕ)). IsReportedOn c.args.task.now log old new) (reported_kept c.args.task.now old new) (g.H.Host.gives c.args.host.now) c.args.task.now
+    (g.H.Stdin.Read.remaining c.input.result) c.in-None.ensures c.input.ensures.bytes (c.do_on-then-reads_log.ensures.reported e)
+
+pub returns-in-Ok-clause-refused : goal.returns-in-Ok-clause-refused
+returns-in-Ok-clause-refused g c = λ e.
+    let old = g.W.Write.contents c.args.output.now in
+    let new = g.W.Write.contents c.do_on.new.output in
+    file_keeps (λ (log : Option (List ℕ)). IsRefusedOn c.args.task.now log old new) (refused_kept c.args.task.now old new) (g.H.Host.gives c.args.host.now) c.args.task.now c.in-Some.path.now
+    (g.H.File.Read.remaining c.in-Ok.file) c.in-Some.ensures c.in-Ok.ensures.bytes (c.do_on.ensures.refused e)
+
+pub returns-then-reads_log-clause-refused : goal.returns-then-reads_log-clause-refused
+returns-then-reads_log-clause-refused g c = λ e.
+    let old = g.W.Write.contents c.args.output.now in
+    let new = g.W.Write.contents c.do_on-then-reads_log.new.output in
+    input_keeps (λ (log : Option (List ℕ)). IsRefusedOn c.args.task.now log old new) (refused_kept c.args.task.now old new) (g.H.Host.gives c.args.host.now) c.args.task.now
+    (g.H.Stdin.Read.remaining c.input.result) c.in-None.ensures c.input.ensures.bytes (c.do_on-then-reads_log.ensures.refused e)

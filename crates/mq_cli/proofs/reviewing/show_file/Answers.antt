@@ -1,5 +1,5 @@
 use Rattle.std.proofs.Common.{inr}
-use Rattle.mq_cli.specs.Reviewing.{RefusesPlan, plan_view}
+use Rattle.mq_cli.specs.Reviewing.{IsReviewed, RefusesPlan, plan_view}
 use Rattle.mq_cli.specs.Streams.{stream}
 use Rattle.mq_cli.proofs.BeginningLaws.{hinted_of_kept}
 use Rattle.mq_cli.proofs.ReviewingLemmas.{file_stops, for_file}
@@ -23,3 +23,9 @@ returns-in-Ok-open-clause-failed g c = λ e.
     (g.W.Write.contents c.args.output.now) (g.W.Write.contents c.show_readers.new.output) (g.W.Output.is_closed c.show_readers.new.output)
     (stream g.E.ErrorStream.contents g.E.ErrorStream.has_failed c.args.error.now c.show_readers.new.error)
     c.in-Ok.ensures.bytes c.in-Ok-open.ensures.bytes (c.show_readers.ensures.failed e))
+
+pub returns-in-Ok-open-clause-passed : goal.returns-in-Ok-open-clause-passed
+returns-in-Ok-open-clause-passed g c = λ e.
+    for_file ((g.H.Host.gives c.args.host.now).file c.args.plan.path.now) (g.H.File.Read.remaining c.in-Ok.judged) (g.H.File.Read.remaining c.in-Ok-open.shown)
+    (λ first second. IsReviewed (plan_view c.args.plan) first second (g.W.Write.contents c.args.output.now) (g.W.Write.contents c.show_readers.new.output))
+    c.in-Ok.ensures.bytes c.in-Ok-open.ensures.bytes (c.show_readers.ensures.passed e)
