@@ -149,6 +149,13 @@ fn judges_logs_whole_and_byte_by_byte(rt: HostRuntime) -> Result<(), Fail> {
     Ok(())
 }
 
+// How many events a log has that is judged with this limit on packets.
+fn events_of(alloc: Global, limit: u32, log: &[u8]) -> Result<u32, Refusal> {
+    let mut judge = Judge::new(alloc, Options { limit });
+    judge.feed(log)?;
+    judge.finish().map(|verdict| verdict.events)
+}
+
 #[test]
 fn reads_packets_up_to_the_limit(rt: HostRuntime) -> Result<(), Fail> {
     let log = joined(
@@ -156,21 +163,13 @@ fn reads_packets_up_to_the_limit(rt: HostRuntime) -> Result<(), Fail> {
         &[HEADER, OPEN, SENT_CONNECT, RECV_CONNACK, SENT_LARGEST],
     )?;
     let rows = [
-        (268_435_460, Ok(())),
+        (268_435_460, Ok(3)),
         (268_435_459, Err(Refusal::TooLarge(52))),
         (15, Err(Refusal::TooLarge(52))),
         (14, Err(Refusal::TooLarge(19))),
     ];
     for (limit, answer) in rows {
-        let mut judge = Judge::new(rt.alloc(), Options { limit });
-        assert_eq!(rt; judge.feed(log.as_slice()), answer);
-        match judge.finish() {
-            Ok(verdict) => {
-                assert!(rt; answer.is_ok() && verdict.faults.is_empty());
-                assert_eq!(rt; verdict.events, 3);
-            }
-            Err(refusal) => assert_eq!(rt; Err(refusal), answer),
-        }
+        assert_eq!(rt; events_of(rt.alloc(), limit, &log), answer);
     }
     Ok(())
 }
@@ -180,9 +179,7 @@ fn reports_a_failed_read(rt: HostRuntime) -> Result<(), Fail> {
     for fails_after in [0, 3, 8] {
         let mut input = Trickle::of(HEADER, Some(fails_after));
         let printed = printed_by(rt.alloc(), &CHECK, &mut input)?;
-        assert_eq!(rt; printed.status, FAILED);
-        assert_eq!(rt; printed.error.as_slice(), &b"mqjudge: read failed\n"[..]);
-        assert!(rt; printed.output.is_empty());
+        assert!(rt; printed.complains(FAILED, "mqjudge: read failed\n"));
     }
     Ok(())
 }
@@ -269,8 +266,16 @@ fn reads_the_words_of_a_check(rt: HostRuntime) -> Result<(), Fail> {
     Ok(())
 }
 
+// Whether these words ask for help or the version, and it has this part.
+fn is_help(alloc: Global, words: &[&str], part: &str) -> bool {
+    match parse(alloc, words) {
+        Err(EarlyExit::Help(text)) => text.as_str().contains(part),
+        _ => false,
+    }
+}
+
 #[test]
-fn shows_help_and_the_version(rt: HostRuntime) -> Result<(), Fail> {
+fn shows_help_and_the_version(rt: HostRuntime) {
     let requests: [(&[&str], &str); 11] = [
         (&["mqjudge", "--help"], "Usage: mqjudge <COMMAND>"),
         (&["mqjudge", "-h"], "Usage: mqjudge <COMMAND>"),
@@ -300,19 +305,7 @@ fn shows_help_and_the_version(rt: HostRuntime) -> Result<(), Fail> {
         (&["mqjudge", "-V"], VERSION),
     ];
     for (words, part) in requests {
-        let Err(EarlyExit::Help(text)) = parse(rt.alloc(), words) else {
-            return Err("no help".into());
-        };
-        assert!(rt; text.as_str().contains(part), "{words:?} shows {text}");
-    }
-    Ok(())
-}
-
-// Whether these words ask for help, and it has this part.
-fn is_help(alloc: Global, words: &[&str], part: &str) -> bool {
-    match parse(alloc, words) {
-        Err(EarlyExit::Help(text)) => text.as_str().contains(part),
-        _ => false,
+        assert!(rt; is_help(rt.alloc(), words, part), "{words:?}");
     }
 }
 
@@ -397,11 +390,20 @@ fn reports_why_there_is_no_task(rt: HostRuntime) -> Result<(), Fail> {
     assert!(rt; is_stopped(rt.alloc(), &help, PASSED, text, ""));
     assert!(rt; is_stopped(rt.alloc(), &usage, MISUSED, "", text));
     assert!(rt; is_stopped(rt.alloc(), &EarlyExit::Memory, FAILED, "", memory));
+    Ok(())
+}
+
+// Whether a stop fails that is written to an output with this little room, and has this message.
+fn fails_to_stop(alloc: Global, why: &EarlyExit, output: Narrow, said: &str) -> bool {
+    let mut error = Vec::new(alloc);
+    stop(why, &mut Outlet::new(output), &mut error) == FAILED && error.as_slice() == said.as_bytes()
+}
+
+#[test]
+fn reports_a_failed_write_of_help(rt: HostRuntime) -> Result<(), Fail> {
+    let help = EarlyExit::Help(String::from_str(rt.alloc(), "mqjudge 0.1.0\n")?);
     for (room, stays, said) in [(5, false, "mqjudge: write failed\n"), (100, true, "")] {
-        let mut error = Vec::new(rt.alloc());
-        let mut output = Outlet::new(Narrow { room, stays });
-        assert_eq!(rt; stop(&help, &mut output, &mut error), FAILED);
-        assert!(rt; error.as_slice() == said.as_bytes());
+        assert!(rt; fails_to_stop(rt.alloc(), &help, Narrow { room, stays }, said));
     }
     Ok(())
 }

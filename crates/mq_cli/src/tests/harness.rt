@@ -121,6 +121,13 @@ impl Printed {
             && self.output.as_slice() == output.as_bytes()
             && self.error.is_empty()
     }
+
+    /// Whether it ended with this status and message, and without output.
+    pub fn complains(&self, status: u8, message: &str) -> bool {
+        self.status == status
+            && self.output.is_empty()
+            && self.error.as_slice() == message.as_bytes()
+    }
 }
 
 /// The task that these words ask for, on one reading of a log or on none.

@@ -280,9 +280,7 @@ fn refuses_digits_that_are_none(rt: HostRuntime) -> Result<(), Fail> {
         "4", "400", "4g", "4 00", "4 0", "40 020", "40\t02", "0x40", "é",
     ] {
         let printed = printed_of_packet(rt.alloc(), hex)?;
-        assert_eq!(rt; printed.status, MISUSED);
-        assert_eq!(rt; printed.error.as_slice(), &b"mqjudge: not hex\n"[..]);
-        assert!(rt; printed.output.is_empty());
+        assert!(rt; printed.complains(MISUSED, "mqjudge: not hex\n"), "{hex}");
     }
     Ok(())
 }
@@ -332,12 +330,17 @@ fn reports_a_packet_without_memory(rt: HostRuntime) {
     assert!(rt; is_written(&output, line) && is_written(&error, complaint));
 }
 
+// Whether these words ask for the packet that these digits spell.
+fn is_packet_of(alloc: Global, words: &[&str], digits: &str) -> Result<bool, EarlyExit> {
+    match task_of(alloc, words)? {
+        Task::Packet { hex } => Ok(hex.as_str() == digits),
+        _ => Ok(false),
+    }
+}
+
 #[test]
 fn reads_the_words_of_a_packet(rt: HostRuntime) -> Result<(), Fail> {
-    let Task::Packet { hex } = task_of(rt.alloc(), &["mqjudge", "packet", "c000"])? else {
-        return Err("no packet".into());
-    };
-    assert!(rt; hex.as_str() == "c000");
+    assert!(rt; is_packet_of(rt.alloc(), &["mqjudge", "packet", "c000"], "c000")?);
     let misuses: [(&[&str], &str); 2] = [
         (&["mqjudge", "packet"], "<HEX>"),
         (

@@ -4,7 +4,7 @@ use crate::command_line::EarlyExit;
 use crate::explanations::explanation;
 use crate::failure::{MISUSED, PASSED};
 use mq_rules::{Role, Rule};
-use std::alloc::Global;
+use std::alloc::{AllocError, Global};
 use std::io;
 use std::test::Fail;
 
@@ -57,15 +57,7 @@ fn explains_resends_on_a_connection_and_after_a_pubrel(rt: HostRuntime) {
 #[test]
 fn explains_a_code_in_any_case(rt: HostRuntime) -> Result<(), Fail> {
     for code in ["S01", "s01"] {
-        let words = ["mqjudge", "explain", code];
-        let printed = printed_by(rt.alloc(), &words, &mut io::empty())?;
-        assert_eq!(rt; printed.status, PASSED);
-        assert!(rt;
-            printed
-                .output
-                .as_slice()
-                .starts_with(b"S01 both MQTT-2.2.1-3;MQTT-2.2.1-4\n")
-        );
+        assert!(rt; is_explained_by(rt.alloc(), code, &["S01"])?, "{code}");
     }
     Ok(())
 }
@@ -92,28 +84,23 @@ fn lists_the_statements(rt: HostRuntime) -> Result<(), Fail> {
     Ok(())
 }
 
-// The codes of the statements that a word explains, in this order, with an empty line between two
-// texts.
-fn is_explained_by(alloc: Global, word: &str, codes: &[&str]) -> Result<bool, EarlyExit> {
-    let printed = printed_by(alloc, &["mqjudge", "explain", word], &mut io::empty())?;
-    let mut rest = printed.output.as_slice();
-    for (at, code) in codes.iter().enumerate() {
-        let Some(rule) = Rule::of_code(code) else {
-            return Ok(false);
-        };
-        let text = explanation(rule).as_bytes();
-        if at > 0 {
-            rest = match rest {
-                [b'\n', after @ ..] => after,
-                _ => return Ok(false),
-            };
+// The texts of the statements with these codes, with an empty line between two.
+fn texts_of(alloc: Global, codes: &[&str]) -> Result<String, AllocError> {
+    let mut texts = String::new(alloc);
+    for code in codes {
+        if !texts.is_empty() {
+            texts.push('\n')?;
         }
-        if !rest.starts_with(text) {
-            return Ok(false);
-        }
-        rest = &rest[text.len()..];
+        texts.push_str(Rule::of_code(code).map_or("", explanation))?;
     }
-    Ok(printed.status == PASSED && rest.is_empty())
+    Ok(texts)
+}
+
+// Whether a word explains the statements with these codes, in this order.
+fn is_explained_by(alloc: Global, word: &str, codes: &[&str]) -> Result<bool, Fail> {
+    let texts = texts_of(alloc, codes)?;
+    let printed = printed_by(alloc, &["mqjudge", "explain", word], &mut io::empty())?;
+    Ok(printed.says(PASSED, texts.as_str()))
 }
 
 #[test]
@@ -135,6 +122,12 @@ fn explains_all_statements_with_a_citation(rt: HostRuntime) -> Result<(), Fail> 
     Ok(())
 }
 
+// Whether this word explains nothing.
+fn is_unknown(alloc: Global, word: &str) -> Result<bool, EarlyExit> {
+    let printed = printed_by(alloc, &["mqjudge", "explain", word], &mut io::empty())?;
+    Ok(printed.status == MISUSED && printed.output.is_empty() && !printed.error.is_empty())
+}
+
 // With each word: the beginning of a citation, or separators alone.
 #[test]
 fn explains_no_other_word(rt: HostRuntime) -> Result<(), Fail> {
@@ -148,12 +141,7 @@ fn explains_no_other_word(rt: HostRuntime) -> Result<(), Fail> {
         "S0",
         "MQTT-4.4.0-1,S06",
     ] {
-        let printed = printed_by(rt.alloc(), &["mqjudge", "explain", word], &mut io::empty())?;
-        assert_eq!(rt; printed.status, MISUSED);
-        assert!(rt;
-            printed.output.is_empty() && !printed.error.is_empty(),
-            "{word}"
-        );
+        assert!(rt; is_unknown(rt.alloc(), word)?, "{word}");
     }
     Ok(())
 }

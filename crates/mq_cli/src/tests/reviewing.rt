@@ -1,9 +1,9 @@
 //! `show --faults`.
 use super::harness::{CONNECTED, CONNECTED_LINES, NESTED, Narrow, Trickle, add_record};
-use crate::command_line::{Work, parse};
+use crate::command_line::{EarlyExit, Review, Work, parse};
 use crate::failure::{Failure, PASSED, REFUSED};
 use crate::reviewing::{Plan, show_twice};
-use std::alloc::Global;
+use std::alloc::{AllocError, Global};
 use std::fmt::Write as _;
 use std::io::Cursor;
 use std::test::Fail;
@@ -207,37 +207,78 @@ fn reports_a_review_without_memory(rt: HostRuntime) {
     }
 }
 
+// Whether these words ask for a review of this file with its faults, near to them by this number of
+// positions, with long lines or not.
+fn is_review_of(
+    alloc: Global,
+    words: &[&str],
+    path: Option<&str>,
+    number: Option<&str>,
+    is_long: bool,
+) -> Result<bool, EarlyExit> {
+    let Work::Twice(
+        Review {
+            file,
+            faults,
+            around,
+            long,
+        },
+    ) = parse(alloc, words)?
+    else {
+        return Ok(false);
+    };
+    let file = file.as_ref().map(|path| path.as_str());
+    let around = around.as_ref().map(|number| number.as_str());
+    Ok(faults && long == is_long && file == path && around == number)
+}
+
 #[test]
 fn reads_the_words_of_a_review(rt: HostRuntime) -> Result<(), Fail> {
     let words = ["mqjudge", "show", "--around", "3", "--faults", "a.log"];
-    let Work::Twice(asked) = parse(rt.alloc(), &words)? else {
-        return Err("read once".into());
-    };
-    let path = asked.file.ok_or("no file")?;
-    let around = asked.around.ok_or("no number")?;
-    assert!(rt; path.as_str() == "a.log" && around.as_str() == "3");
-    assert!(rt; asked.faults && !asked.long);
-    let Work::Twice(asked) = parse(rt.alloc(), &["mqjudge", "show", "--faults", "--long"])? else {
-        return Err("read once".into());
-    };
-    assert!(rt; asked.file.is_none() && asked.around.is_none() && asked.faults && asked.long);
+    assert!(rt; is_review_of(rt.alloc(), &words, Some("a.log"), Some("3"), false)?);
+    let words = ["mqjudge", "show", "--faults", "--long"];
+    assert!(rt; is_review_of(rt.alloc(), &words, None, None, true)?);
     Ok(())
+}
+
+// A log of 3,000 packets whose Packet Identifier is 0.
+fn log_of_faults(alloc: Global) -> Result<Vec<u8>, AllocError> {
+    let mut log = Vec::new(alloc);
+    log.extend_from_slice(CONNECTED)?;
+    for _packet in 0..3_000 {
+        add_record(&mut log, 2, b"\x32\x07\x00\x01a\x00\x00\x00x")?;
+    }
+    Ok(log)
+}
+
+// What is shown of it.
+fn lines_of_faults(alloc: Global) -> Result<String, Fail> {
+    let mut text = String::new(alloc);
+    text.push_str("..\n")?;
+    for position in 4..3_004_u32 {
+        write!(
+            text,
+            "{position} record {position} SENT BAD W09 offset 5 \
+            type PUBLISH bytes 32 07 00 01 61 [00] 00 00 78\n\
+            \x20 fault W09 sec-2.2.1 A Packet Identifier isn't 0. (offset 5)\n"
+        )?;
+    }
+    Ok(text)
 }
 
 #[test]
 fn shows_3000_faults(rt: HostRuntime) -> Result<(), Fail> {
-    let alloc = rt.alloc();
-    let mut log = Vec::new(alloc);
-    log.extend_from_slice(CONNECTED)?;
-    let mut text = String::new(alloc);
-    text.push_str("..\n")?;
-    for position in 4..3004_u32 {
-        add_record(&mut log, 2, b"\x32\x07\x00\x01a\x00\x00\x00x")?;
-        write!(text, "{position} record {position} SENT BAD W09 offset 5")?;
-        text.push_str(" type PUBLISH bytes 32 07 00 01 61 [00] 00 00 78\n")?;
-        text.push_str("  fault W09 sec-2.2.1 A Packet Identifier isn't 0. (offset 5)\n")?;
-    }
+    let log = log_of_faults(rt.alloc())?;
+    let text = lines_of_faults(rt.alloc())?;
     let logs = [log.as_slice(), log.as_slice()];
-    assert!(rt; is_shown(alloc, plan(Some(0), false), logs, PASSED, text.as_str()));
+    assert!(rt;
+        is_shown(
+            rt.alloc(),
+            plan(Some(0), false),
+            logs,
+            PASSED,
+            text.as_str()
+        )
+    );
     Ok(())
 }

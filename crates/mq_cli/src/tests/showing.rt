@@ -3,8 +3,9 @@ use super::harness::{
     NESTED, Narrow, Trickle, WHOLE_LOG, is_failed_write, is_misuse, is_written, printed_by,
     status_by, task_of,
 };
-use crate::command_line::Task;
+use crate::command_line::{EarlyExit, Task};
 use crate::failure::{FAILED, PASSED, REFUSED};
+use std::alloc::Global;
 use std::io::Cursor;
 use std::test::Fail;
 
@@ -98,14 +99,17 @@ const LONG_LINES: &str = "1 record 1 OPEN\n\
     6 record 6 REST\n\
     7 record 7 CLOSE\n";
 
+// Whether a log that is shown, read at once and then byte by byte, has this status and these lines.
+fn is_shown(alloc: Global, log: &[u8], status: u8, lines: &str) -> Result<bool, EarlyExit> {
+    let whole = printed_by(alloc, &SHOW, &mut &log[..])?;
+    let cut = printed_by(alloc, &SHOW, &mut Trickle::of(log, None))?;
+    Ok(whole.says(status, lines) && cut.says(status, lines))
+}
+
 #[test]
 fn shows_logs_whole_and_byte_by_byte(rt: HostRuntime) -> Result<(), Fail> {
     for (log, lines, status) in ROWS {
-        let whole = printed_by(rt.alloc(), &SHOW, &mut &log[..])?;
-        let cut = printed_by(rt.alloc(), &SHOW, &mut Trickle::of(log, None))?;
-        for printed in [whole, cut] {
-            assert!(rt; printed.says(status, lines), "{lines}");
-        }
+        assert!(rt; is_shown(rt.alloc(), log, status, lines)?, "{lines}");
     }
     Ok(())
 }
@@ -121,20 +125,25 @@ fn shows_long_lines(rt: HostRuntime) -> Result<(), Fail> {
     Ok(())
 }
 
-// The events up to there are shown.
+// Whether a log whose reader fails after so many bytes is shown up to there, in so many lines.
+fn is_cut_short(alloc: Global, fails_after: usize, lines: usize) -> Result<bool, EarlyExit> {
+    let mut input = Trickle::of(WHOLE_LOG, Some(fails_after));
+    let printed = printed_by(alloc, &SHOW, &mut input)?;
+    let shown = printed.output.as_slice();
+    Ok(
+        printed.status == FAILED
+            && printed.error.as_slice() == b"mqjudge: read failed\n".as_slice()
+            && shown.iter().filter(|byte| **byte == b'\n').count() == lines
+            && WHOLE_LINES.as_bytes().starts_with(shown),
+    )
+}
+
 #[test]
 fn reports_a_failed_read(rt: HostRuntime) -> Result<(), Fail> {
     for (fails_after, lines) in [(0, 0), (7, 0), (13, 1), (42, 2), (43, 3), (76, 7)] {
-        let mut input = Trickle::of(WHOLE_LOG, Some(fails_after));
-        let printed = printed_by(rt.alloc(), &SHOW, &mut input)?;
-        assert_eq!(rt; printed.status, FAILED);
-        assert_eq!(rt; printed.error.as_slice(), &b"mqjudge: read failed\n"[..]);
-        let ends = printed.output.iter().filter(|byte| **byte == b'\n').count();
-        assert_eq!(rt; ends, lines, "{fails_after} bytes");
         assert!(rt;
-            WHOLE_LINES
-                .as_bytes()
-                .starts_with(printed.output.as_slice())
+            is_cut_short(rt.alloc(), fails_after, lines)?,
+            "{fails_after} bytes"
         );
     }
     Ok(())
@@ -182,18 +191,28 @@ fn reports_a_show_without_memory(rt: HostRuntime) {
     assert!(rt; is_written(&error, complaint));
 }
 
+// Whether these words ask for the events of this file, or of the input.
+fn is_show_of(alloc: Global, words: &[&str], wanted: Option<&str>) -> Result<bool, EarlyExit> {
+    match task_of(alloc, words)? {
+        Task::Show { file, .. } => Ok(file.as_ref().map(|path| path.as_str()) == wanted),
+        _ => Ok(false),
+    }
+}
+
 #[test]
 fn reads_the_words_of_a_show(rt: HostRuntime) -> Result<(), Fail> {
-    let Task::Show { file, .. } = task_of(rt.alloc(), &SHOW)? else {
-        return Err("no show".into());
-    };
-    assert!(rt; file.is_none());
-    let Task::Show { file, .. } = task_of(rt.alloc(), &["mqjudge", "show", "a.log"])? else {
-        return Err("no show".into());
-    };
-    let path = file.ok_or("no file")?;
-    assert!(rt; path.as_str() == "a.log");
-    let two = ["mqjudge", "show", "a", "b"];
-    assert!(rt; is_misuse(rt.alloc(), &two, "unexpected argument 'b' found"));
+    let rows: [(&[&str], Option<&str>); 2] = [
+        (&["mqjudge", "show"], None),
+        (&["mqjudge", "show", "a.log"], Some("a.log")),
+    ];
+    for (words, wanted) in rows {
+        assert!(rt; is_show_of(rt.alloc(), words, wanted)?, "{words:?}");
+    }
     Ok(())
+}
+
+#[test]
+fn refuses_to_show_two_files(rt: HostRuntime) {
+    let words = ["mqjudge", "show", "a", "b"];
+    assert!(rt; is_misuse(rt.alloc(), &words, "unexpected argument 'b' found"));
 }

@@ -118,7 +118,7 @@ static OTHER_FILES: [(&[&str], &[u8], &str, &str); 13] = [
 
 #[test]
 fn says_what_to_do_with_other_files(rt: HostRuntime) {
-    for (words, bytes, written, said) in OTHER_FILES {
+    for (words, bytes, written, said) in &OTHER_FILES {
         let desk = Desk::of(rt.alloc(), words, bytes, bytes);
         assert!(rt; does(&desk, 2, written, said), "{words:?} {written}");
     }
@@ -206,6 +206,20 @@ static UNREAD: [(&[&str], usize, &str, &str); 7] = [
     (&["mqjudge", "show", "--faults", "a.log"], 20, "a.log", ""),
 ];
 
+// A host with these words and a good log, whose readers fail after so many bytes, with an error of
+// this kind.
+fn failing_desk(
+    alloc: Global,
+    words: &'static [&'static str],
+    fails_after: usize,
+    kind: ErrorKind,
+) -> Desk {
+    let mut desk = Desk::of(alloc, words, GOOD, GOOD);
+    desk.fails_after = Some(fails_after);
+    desk.kind = kind;
+    desk
+}
+
 #[test]
 fn says_why_a_reading_failed(rt: HostRuntime) -> Result<(), Fail> {
     let reasons = [
@@ -219,9 +233,7 @@ fn says_why_a_reading_failed(rt: HostRuntime) -> Result<(), Fail> {
     for (words, fails_after, place, written) in UNREAD {
         for (kind, text) in reasons {
             let lines = format!(in rt.alloc(); "mqjudge: read failed\nmqjudge: {place}: {text}\n")?;
-            let mut desk = Desk::of(rt.alloc(), words, GOOD, GOOD);
-            desk.fails_after = Some(fails_after);
-            desk.kind = kind;
+            let desk = failing_desk(rt.alloc(), words, fails_after, kind);
             assert!(rt; does(&desk, 4, written, lines.as_str()), "{words:?} {text}");
         }
     }
