@@ -3,8 +3,8 @@
 README.md and docs/STATEMENTS.md is the number of its rows.
 
 The rows are those of `TABLE` in crates/mq_rules/src/table.rt, and what each statement says is its doc comment in
-crates/mq_rules/src/rule.rt, which is also its sentence in `SENTENCES` of crates/mq_rules/src/naming.rt. In the document
-the table is between the lines `<!-- rules -->` and `<!-- /rules -->`. If it differs, the first line that does is
+crates/mq_rules/src/rule.rt, which is also its sentence in `Rule::sentence` of crates/mq_rules/src/naming.rt. In the
+document the table is between the lines `<!-- rules -->` and `<!-- /rules -->`. If it differs, the first line that does is
 printed, and the status is 1; with --write the table is written instead. The two pages are the only ones that say how many
 statements there are: each has to say it, and nowhere another number, or the status is 1, with --write too.
 
@@ -23,7 +23,7 @@ SOURCES = TOP / "crates" / "mq_rules" / "src"
 BEGIN, END = "<!-- rules -->\n", "<!-- /rules -->\n"
 HEAD = ["| Code | A statement of the tested end | Citation for a client | For a server |", "|---|---|---|---|"]
 ROW = re.compile(r'\(\s*(\w+),\s*"(\w+)",\s*(\w+),\s*"([^"]*)",\s*"([^"]*)",\s*(true|false),?\s*\)')
-SENTENCE = re.compile(r'\(\s*Rule::(\w+),\s*"([^"]*)",?\s*\)')
+SENTENCE = re.compile(r'Rule::(\w+) =>\s*"([^"]*)",')
 VALUE = re.compile(r"((?:^ +///.*\n)+)^ +(\w+),$", re.MULTILINE)
 SECTION = re.compile(r" \(MQTT 5\.0, sections? [^()]*\)\.$")
 

@@ -2,9 +2,7 @@
 //! statements, or compared with evaluators that look back.
 
 mod annotated;
-mod debts;
 mod details;
-mod early;
 mod examples;
 mod harness;
 mod hostile;
@@ -12,10 +10,9 @@ mod logs;
 mod long_logs;
 mod memory;
 mod moments;
+mod notes;
 mod plain;
 mod reports;
-mod rules;
 mod runs;
 mod statements;
 mod suite;
-mod summaries;

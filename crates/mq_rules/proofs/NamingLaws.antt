@@ -1,4 +1,4 @@
--- The sentences and codes of the statements: a row that is found in the source is found in its view, and each statement has its own.
+-- The sentences and codes of the statements: a row that is found by its code in the source is found in its view, and each statement has its own.
 use Rattle.std.proofs.Common.{◌≡◌, ℕ, Bool, true, false, ◌&&◌, not, cond, List, [], ◌∷◌, Option, Some, Bor, map, refl}
 use Rattle.std.specs.Prelude.{T, bytes_eq}
 use Rattle.std.specs.Option.{option_map}
@@ -8,27 +8,18 @@ use Rattle.std.specs.Str.{str_eq_ignore_ascii_case}
 use Rattle.mq_rules.specs.declared.rule.Rule.{Rule}
 use Rattle.mq_rules.specs.declared.table.Ends.{Ends}
 use Rattle.mq_rules.specs.declared.rule.Rule.TheVariants.{W01}
-use Rattle.mq_rules.specs.Naming.{Said, coded_line, coded_rule, saying_view, sayings_of, sentences}
-use Rattle.mq_rules.specs.Rules.{StatementLine, all_rules, code_of, found_line, line_of, line_view, lines, lines_of, same_rule}
+use Rattle.mq_rules.specs.Naming.{coded_line, coded_rule, sentence_of}
+use Rattle.mq_rules.specs.Rules.{StatementLine, all_rules, code_of, found_line, line_of, line_view, lines, lines_of}
 
 cond-map : {A B : Type 0} (view : A → B) (b : Bool) (x : A) (o : Option A) (q : Option B) → option_map view o ≡ q → option_map view (cond b (Some x) o) ≡ cond b (Some (view x)) q
 cond-map view true x o q h = refl
 cond-map view false x o q h = h
-
-pub find-saying : (rule : Rule) (rows : List (Rule × Bor (List ℕ)))
-    → option_map saying_view (find (λ row. same_rule row.0 rule) rows) ≡ find (λ (said : Said). same_rule said.rule rule) (sayings_of rows)
-find-saying rule [] = refl
-find-saying rule (row ∷ rows) = cond-map saying_view (same_rule row.0 rule) row (find (λ r. same_rule r.0 rule) rows) (find (λ (s : Said). same_rule s.rule rule) (sayings_of rows)) (find-saying rule rows)
 
 pub find-coded : (code : List ℕ) (rows : List (Rule × Bor (List ℕ) × Ends × Bor (List ℕ) × Bor (List ℕ) × Bool))
     → option_map line_view (find (λ row. str_eq_ignore_ascii_case row.1.now code) rows) ≡ find (λ (line : StatementLine). str_eq_ignore_ascii_case line.code code) (lines_of rows)
 find-coded code [] = refl
 find-coded code (row ∷ rows) = cond-map line_view (str_eq_ignore_ascii_case row.1.now code) row (find (λ r. str_eq_ignore_ascii_case r.1.now code) rows)
     (find (λ (l : StatementLine). str_eq_ignore_ascii_case l.code code) (lines_of rows)) (find-coded code rows)
-
-pub sentences_said : map (λ said. said.rule) sentences ≡ all_rules
-unfolding sentences lines
-sentences_said = refl
 
 pub codes_named : (rule : Rule) → coded_rule (code_of rule) ≡ Some rule
 unfolding coded_rule coded_line line_of found_line lines
@@ -72,9 +63,9 @@ unfolding IsDistinct
 distinct [] h = tt
 distinct (text ∷ texts) h = (differs_from text texts (first _ _ h), distinct texts (second _ _ h))
 
-sentences_apart : T (all_differ (map (λ said. said.sentence) sentences))
-unfolding sentences
+sentences_apart : T (all_differ (map sentence_of all_rules))
+unfolding sentence_of lines
 sentences_apart = tt
 
-pub sentences_differ : IsDistinct bytes_eq (map (λ said. said.sentence) sentences)
-sentences_differ = distinct (map (λ said. said.sentence) sentences) sentences_apart
+pub sentences_differ : IsDistinct bytes_eq (map sentence_of all_rules)
+sentences_differ = distinct (map sentence_of all_rules) sentences_apart

@@ -1,34 +1,87 @@
 -- What each statement says, and which one a code names.
-use Rattle.std.specs.Prelude.{ℕ, List, [], map, Option, option_map, unwrap_or}
-use Rattle.std.specs.Borrow.{Bor}
+use Rattle.std.specs.Prelude.{ℕ, List, codes, Option, option_map}
 use Rattle.std.specs.List.{find}
 use Rattle.std.specs.Str.{str_eq_ignore_ascii_case}
 use Rattle.mq_rules.specs.declared.rule.Rule.{Rule}
-use Rattle.mq_rules.specs.declared.naming.TheConstants.{SENTENCES}
-use Rattle.mq_rules.specs.Rules.{StatementLine, lines, same_rule}
+use Rattle.mq_rules.specs.declared.rule.Rule.TheVariants.{W01, W02, W03, W04, W05, W06, W07, W08, W09, W10, W11, W12, W13, W14, W15, W16, W17, W18, W19, W20, W21, C01, C02, C03, C04, C05, C06, C07, C08, C09, C10, C11, C12, C13, C14, C15, C16, C17, C18, C19, C20, C21, C22, C23, S01, S02, S03, S04, S05, S06, S07, E1A, E1R, E1O, E2A, E2R, E2O, E3A, E3R, E3O, E4A, E4R, E5A, E5R, E6A, E6R, E7R, L1, L2, L3, B01, B02, B03, B04}
+use Rattle.mq_rules.specs.Rules.{StatementLine, lines}
 
--- a statement, and what it says
-pub record Said : Type 0 where
-  pub rule : Rule
-  pub sentence : List ℕ
-
--- a row as the source has it
-abbrev pub saying_view : Rule × Bor (List ℕ) → Said
-saying_view row = record { rule = row.0; sentence = row.1.now }
-
-abbrev pub sayings_of : List (Rule × Bor (List ℕ)) → List Said
-sayings_of rows = map saying_view rows
-
--- what the statements say, in the order of reports
-unfoldable pub sentences : List Said
-sentences = map (λ row. record { rule = row.0; sentence = row.1.now }) SENTENCES
-
-unfoldable pub found_sentence : Rule → Option Said
-found_sentence rule = find (λ said. same_rule said.rule rule) sentences
-
--- what a statement says
+-- what a statement says of the tested end
 unfoldable pub sentence_of : Rule → List ℕ
-sentence_of rule = unwrap_or (option_map (λ said. said.sentence) (found_sentence rule)) []
+sentence_of W01 = codes "The flags of a packet other than PUBLISH are those of its type."
+sentence_of W02 = codes "The type isn't 0."
+sentence_of W03 = codes "A Variable Byte Integer has at most four bytes, and no more than it needs."
+sentence_of W04 = codes "A text is well-formed UTF-8."
+sentence_of W05 = codes "A text doesn't contain U+0000."
+sentence_of W06 = codes "Each field ends within its packet or list, and no bytes are left over."
+sentence_of W07 = codes "The QoS of a PUBLISH isn't 3."
+sentence_of W08 = codes "DUP is 0 in a PUBLISH of QoS 0."
+sentence_of W09 = codes "A Packet Identifier isn't 0."
+sentence_of W10 = codes "A property is known, and allowed in its list."
+sentence_of W11 = codes "No property is repeated in a list, except those that may be."
+sentence_of W12 = codes "The value of a property is in its range."
+sentence_of W13 = codes "A Reason Code is one that its packet may have."
+sentence_of W14 = codes "A Topic Name, and the Response Topic of a PUBLISH, has no wildcard."
+sentence_of W15 = codes "A Topic Filter is valid."
+sentence_of W16 = codes "A SUBSCRIBE or UNSUBSCRIBE has at least one filter."
+sentence_of W17 = codes "The Subscription Options have neither Maximum QoS 3 nor Retain Handling 3, and no reserved bit is set."
+sentence_of W18 = codes "The Protocol Name is `MQTT`."
+sentence_of W19 = codes "The Connect Flags have no reserved bit set, no Will QoS 3, and no Will QoS or Will Retain without a Will."
+sentence_of W20 = codes "The Connect Acknowledge Flags have no reserved bit set."
+sentence_of W21 = codes "A PUBLISH has a Topic Name or a Topic Alias."
+sentence_of C01 = codes "A packet has a type that this end may send."
+sentence_of C02 = codes "The first packet that a client sends on a connection is a CONNECT."
+sentence_of C03 = codes "A client sends only one CONNECT on a connection."
+sentence_of C04 = codes "A server sends a CONNACK only after a CONNECT was received."
+sentence_of C05 = codes "A server sends a CONNACK before any packet other than AUTH."
+sentence_of C06 = codes "A server sends only one CONNACK on a connection."
+sentence_of C07 = codes "Session Present is 0 if Clean Start was 1."
+sentence_of C08 = codes "Session Present is 1 only if the server has a session."
+sentence_of C09 = codes "Session Present is 0 in a CONNACK that refuses."
+sentence_of C10 = codes "A client whose Client Identifier was empty is assigned one."
+sentence_of C11 = codes "After a DISCONNECT no packet is sent, and no bytes that break a rule."
+sentence_of C12 = codes "After a CONNACK that refuses a server sends no packet, and no bytes that break a rule."
+sentence_of C13 = codes "A client without a session doesn't resume one: after Session Present 1 it sends only a DISCONNECT."
+sentence_of C14 = codes "A packet isn't larger than the peer's Maximum Packet Size."
+sentence_of C15 = codes "A Topic Alias isn't above the peer's Topic Alias Maximum."
+sentence_of C16 = codes "A Topic Alias that stands for a Topic Name was set on this connection."
+sentence_of C17 = codes "A PUBLISH isn't sent at a QoS above the server's Maximum QoS."
+sentence_of C18 = codes "A client sends no Subscription Identifier in a PUBLISH."
+sentence_of C19 = codes "A server sends no Session Expiry Interval in a DISCONNECT."
+sentence_of C20 = codes "A DISCONNECT doesn't change a Session Expiry Interval of 0."
+sentence_of C21 = codes "No Reason String and no User Property is sent if the client asked for none."
+sentence_of C22 = codes "Response Information is sent only if the client asked for it."
+sentence_of C23 = codes "An end that sent a DISCONNECT, or a CONNACK that refuses, closes the connection."
+sentence_of S01 = codes "A new PUBLISH, SUBSCRIBE or UNSUBSCRIBE takes no Packet Identifier that is in use."
+sentence_of S02 = codes "A PUBLISH with DUP 1 was sent before with DUP 0."
+sentence_of S03 = codes "A PUBLISH isn't sent again on the same connection."
+sentence_of S04 = codes "A PUBLISH isn't sent again once its PUBREL was sent."
+sentence_of S05 = codes "A client sends PUBLISHes again in their original order."
+sentence_of S06 = codes "Unacknowledged packets are sent again when a session is resumed."
+sentence_of S07 = codes "No more PUBLISHes are in flight than the peer's Receive Maximum."
+sentence_of E1A = codes "A PUBACK answers a PUBLISH of QoS 1."
+sentence_of E1R = codes "A PUBLISH of QoS 1 is answered by a PUBACK."
+sentence_of E1O = codes "A client sends PUBACKs in the order of the PUBLISHes."
+sentence_of E2A = codes "A PUBREC answers a PUBLISH of QoS 2."
+sentence_of E2R = codes "A PUBLISH of QoS 2 is answered by a PUBREC."
+sentence_of E2O = codes "A client sends PUBRECs in the order of the PUBLISHes."
+sentence_of E3A = codes "A PUBREL answers a PUBREC that accepts."
+sentence_of E3R = codes "A PUBREC that accepts is answered by a PUBREL."
+sentence_of E3O = codes "A client sends PUBRELs in the order of the PUBRECs."
+sentence_of E4A = codes "A PUBCOMP answers a PUBREL."
+sentence_of E4R = codes "A PUBREL is answered by a PUBCOMP."
+sentence_of E5A = codes "A SUBACK answers a SUBSCRIBE."
+sentence_of E5R = codes "A SUBSCRIBE is answered by a SUBACK."
+sentence_of E6A = codes "An UNSUBACK answers an UNSUBSCRIBE."
+sentence_of E6R = codes "An UNSUBSCRIBE is answered by an UNSUBACK."
+sentence_of E7R = codes "A PINGREQ is answered by a PINGRESP."
+sentence_of L1 = codes "Only a QoS 2 message that was received, and whose exchange isn't over, is released."
+sentence_of L2 = codes "A QoS 2 message is released once."
+sentence_of L3 = codes "A QoS 2 message is released before its PUBCOMP."
+sentence_of B01 = codes "A PUBLISH from the server matches a subscription."
+sentence_of B02 = codes "A PUBLISH from the server isn't at a QoS above what was granted."
+sentence_of B03 = codes "A SUBACK has a Reason Code for each filter."
+sentence_of B04 = codes "An UNSUBACK has a Reason Code for each filter."
 
 -- the line of the table whose code is the text, in capital or small letters
 unfoldable pub coded_line : List ℕ → Option StatementLine

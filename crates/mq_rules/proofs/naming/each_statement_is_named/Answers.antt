@@ -1,8 +1,5 @@
-use Rattle.mq_rules.proofs.NamingLaws.{sentences_said, sentences_differ, codes_named, small_codes_named}
+use Rattle.mq_rules.proofs.NamingLaws.{sentences_differ, codes_named, small_codes_named}
 use Rattle.mq_rules.proofs.naming.each_statement_is_named.Goals as goal
-
-pub returns-clause-said : goal.returns-clause-said
-returns-clause-said c = sentences_said
 
 pub returns-clause-differ : goal.returns-clause-differ
 returns-clause-differ c = sentences_differ

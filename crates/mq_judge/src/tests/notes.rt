@@ -1,0 +1,72 @@
+//! What no clause can say: that there is memory for the notes of the largest packets.
+
+use mq_packet::decode;
+use mq_rules::{ItemNote, Note, PacketFields};
+use mq_trace::Direction;
+use std::alloc::{AllocError, Global};
+use std::test::Fail;
+
+/// The most bytes of a body in these tests.
+const MAX_BODY: usize = 100_000;
+
+// A body of these first bytes, and of this one up to this size.
+fn filled(alloc: Global, start: &[u8], filler: u8, size: usize) -> Result<Vec<u8>, AllocError> {
+    let mut body = Vec::new(alloc);
+    body.extend_from_slice(start)?;
+    body.resize(size, filler)?;
+    Ok(body)
+}
+
+// The length of a PUBLISH's Topic Name and the Topic Alias, by its note.
+fn topic_of(note: &Note) -> Option<(usize, Option<u16>)> {
+    match note {
+        Note::Sent(ItemNote::Packet(packet)) => match &packet.fields {
+            PacketFields::Publish(publish) => Some((publish.topic.len(), publish.topic_alias)),
+            _ => None,
+        },
+        _ => None,
+    }
+}
+
+// Whether the note of the packet with this body is made.
+fn is_noted(
+    alloc: Global,
+    direction: Direction,
+    first: u8,
+    body: &[u8],
+    size: u32,
+) -> Result<bool, Fail> {
+    let packet = decode(first, body)?;
+    Ok(Note::of_packet(alloc, direction, size, &packet).is_ok())
+}
+
+// The longest Topic Name, with the largest Topic Alias, of a PUBLISH that was sent.
+#[test]
+fn notes_the_longest_topic(rt: HostRuntime) -> Result<(), Fail> {
+    let mut body = filled(rt.alloc(), &[0xff, 0xff], b'a', 65_537)?;
+    body.extend_from_slice(&[3, 0x23, 0xff, 0xff])?;
+    assert!(rt; body.len() <= MAX_BODY);
+    let packet = decode(0x30, &body)?;
+    let note = Note::of_packet(rt.alloc(), Direction::Sent, 65_545, &packet)?;
+    assert_eq!(rt; topic_of(&note), Some((65_535, Some(65_535))));
+    Ok(())
+}
+
+// The longest Topic Filter of a SUBSCRIBE that was received.
+#[test]
+fn notes_the_longest_filter(rt: HostRuntime) -> Result<(), Fail> {
+    let mut body = filled(rt.alloc(), &[0, 1, 0, 0xff, 0xff], b'a', 65_540)?;
+    body.push(2)?;
+    assert!(rt; body.len() <= MAX_BODY);
+    assert!(rt; is_noted(rt.alloc(), Direction::Recv, 0x82, &body, 65_545)?);
+    Ok(())
+}
+
+// A SUBACK of very many Reason Codes that was sent.
+#[test]
+fn notes_many_codes(rt: HostRuntime) -> Result<(), Fail> {
+    let body = filled(rt.alloc(), &[0, 1, 0], 2, MAX_BODY)?;
+    assert!(rt; body.len() <= MAX_BODY);
+    assert!(rt; is_noted(rt.alloc(), Direction::Sent, 0x90, &body, 100_004)?);
+    Ok(())
+}
