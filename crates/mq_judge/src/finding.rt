@@ -19,7 +19,7 @@ use std::fmt::Write as _;
 use std::io::Write;
 
 /// What bytes are that should be one packet.
-#[derive(Clone, Copy, Debug, PartialEq, Eq)]
+#[derive(Clone, Copy)]
 enum Finding {
     /// They are the beginning of a frame.
     NeedMore,

@@ -166,12 +166,24 @@ impl Judge {
         ensures for_ever { IfSome self.tracer.refusal (λ refusal. result ≡ Err refusal) }
     {
         let mut judge = self;
-        judge.tracer.finish()?;
-        let Some(header) = judge.tracer.header() else {
-            return Err(Refusal::Cut(judge.tracer.byte_count()));
+        judge.take_verdict()
+    }
+
+    // Ends the log, and takes the faults out. A function that owns a judge has to drop it at each of
+    // its exits, which is much: so this one borrows it.
+    //
+    // Errors: As `finish`.
+    fn take_verdict(&mut self) -> Result<(Verdict, Role), Refusal>
+        ensures verdict { (log : List ℕ) → Follows self.old log → Finishes (λ answer. answer.0.events) (λ answer. answer.0.faults) log result }
+        ensures role { (log : List ℕ) → Follows self.old log → IfOk result (λ answer. answer.1 ≡ (tested_by log).role) }
+        ensures for_ever { IfSome self.old.tracer.refusal (λ refusal. result ≡ Err refusal) }
+    {
+        self.tracer.finish()?;
+        let Some(header) = self.tracer.header() else {
+            return Err(Refusal::Cut(self.tracer.byte_count()));
         };
         let role = Tested::of(header).role;
-        let watching = &mut judge.judging.watching;
+        let watching = &mut self.judging.watching;
         let verdict = Verdict {
             events: watching.events,
             faults: watching.take_faults(),

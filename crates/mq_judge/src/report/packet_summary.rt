@@ -6,7 +6,7 @@ ghost use Rattle.mq_judge.specs.Summaries.{packet_summary};
 use mq_packet::{Packet, Qos};
 
 /// What a line says of a packet, besides its size.
-#[derive(Clone, Copy, Debug, PartialEq, Eq)]
+#[derive(Clone, Copy)]
 pub enum PacketSummary {
     /// CONNECT.
     Connect,

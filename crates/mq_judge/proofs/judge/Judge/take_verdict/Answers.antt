@@ -6,7 +6,7 @@ use Rattle.mq_rules.specs.declared.role.Tested.{Tested}
 use Rattle.mq_rules.specs.Notes.{tested_as}
 use Rattle.mq_judge.specs.Judging.{AreFaultsOf}
 use Rattle.mq_judge.proofs.JudgeLaws.{cut_unnamed, named_by, not-refused}
-use Rattle.mq_judge.proofs.judge.Judge.finish_with_role.Goals as goal
+use Rattle.mq_judge.proofs.judge.Judge.take_verdict.Goals as goal
 
 pub returns-in_err-finish-clause-verdict : goal.returns-in_err-finish-clause-verdict
 returns-in_err-finish-clause-verdict c = λ log k.
@@ -28,7 +28,7 @@ returns-clause-role c = λ log k.
     ap (λ (t : Tested). t.role) (c.of-role.ensures ∙ ap tested_as (named_by log c.in-Some.header (sym c.in-Some.is ∙ c.header.ensures.follows log traced)))
 
 pub returns-in_default-clause-for_ever : goal.returns-in_default-clause-for_ever
-returns-in_default-clause-for_ever c = not-refused c.args.self.tracer.refusal tt (λ refusal. c.finish.new.self ≡ c.args.self.tracer) _ c.in_ok-finish.ensures.for_ever
+returns-in_default-clause-for_ever c = not-refused c.args.self.now.tracer.refusal tt (λ refusal. c.finish.new.self ≡ c.args.self.now.tracer) _ c.in_ok-finish.ensures.for_ever
 
 pub returns-clause-for_ever : goal.returns-clause-for_ever
-returns-clause-for_ever c = not-refused c.args.self.tracer.refusal tt (λ refusal. c.finish.new.self ≡ c.args.self.tracer) _ c.in_ok-finish.ensures.for_ever
+returns-clause-for_ever c = not-refused c.args.self.now.tracer.refusal tt (λ refusal. c.finish.new.self ≡ c.args.self.now.tracer) _ c.in_ok-finish.ensures.for_ever
