@@ -8,8 +8,9 @@ use crate::display::{show_faults, show_long};
 use crate::report::RunFault;
 use crate::runner::judge_reader;
 use mq_trace::Refusal;
-use std::alloc::Global;
+use std::alloc::{AllocError, Global};
 use std::fmt::Write as _;
+use std::ops::Range;
 use std::test::Fail;
 
 // A client that sends a PUBLISH of QoS 1 and, with the same Packet Identifier, another one.
@@ -101,19 +102,36 @@ fn shows_faults_under_their_events(rt: HostRuntime) -> Result<(), Fail> {
     Ok(())
 }
 
-#[test]
-fn shows_3000_faults(rt: HostRuntime) -> Result<(), Fail> {
-    let alloc = rt.alloc();
+// The positions of the packets whose identifier is 0.
+const FAULTY: Range<u32> = 4..3004;
+
+fn log_of_faults(alloc: Global) -> Result<Vec<u8>, AllocError> {
     let mut log = log_of(alloc, CLIENT, &[Open, Sent(CONNECT), Recv(CONNACK)])?;
+    for _position in FAULTY {
+        add_record(&mut log, 2, PUBLISH_UNIDENTIFIED)?;
+    }
+    Ok(log)
+}
+
+fn lines_of_faults(alloc: Global) -> Result<String, Fail> {
     let mut text = String::new(alloc);
     text.push_str("..\n")?;
-    for position in 4..3004_u32 {
-        add_record(&mut log, 2, PUBLISH_UNIDENTIFIED)?;
-        write!(text, "{position} record {position} SENT BAD W09 offset 5")?;
-        text.push_str(" type PUBLISH bytes 32 07 00 01 61 [00] 00 00 78\n")?;
-        text.push_str("  fault W09 sec-2.2.1 A Packet Identifier isn't 0. (offset 5)\n")?;
+    for position in FAULTY {
+        write!(
+            text,
+            "{position} record {position} SENT BAD W09 offset 5 \
+            type PUBLISH bytes 32 07 00 01 61 [00] 00 00 78\n\
+            \x20 fault W09 sec-2.2.1 A Packet Identifier isn't 0. (offset 5)\n"
+        )?;
     }
-    assert!(rt; is_shown(alloc, log.as_slice(), Some(0), text.as_bytes())?);
+    Ok(text)
+}
+
+#[test]
+fn shows_3000_faults(rt: HostRuntime) -> Result<(), Fail> {
+    let log = log_of_faults(rt.alloc())?;
+    let text = lines_of_faults(rt.alloc())?;
+    assert!(rt; is_shown(rt.alloc(), log.as_slice(), Some(0), text.as_bytes())?);
     Ok(())
 }
 

@@ -1,4 +1,5 @@
 //! What the tests share: logs, a reader that gives a log in pieces, and a writer that fails.
+use crate::judge::{Judge, Options};
 use crate::report::{Form, Outcome, RunFault, write_refused};
 use crate::runner::run;
 use std::alloc::{AllocError, Global};
@@ -210,6 +211,15 @@ impl Write for Failing {
 
     fn flush(&mut self) -> io::Result<()> {
         Ok(())
+    }
+}
+
+/// What a judge weighs that has taken in this log, if it isn't refused.
+pub fn weight_of(alloc: Global, log: &[u8]) -> Option<usize> {
+    let mut judge = Judge::new(alloc, Options::default());
+    match judge.feed(log) {
+        Ok(()) => Some(judge.weight()),
+        Err(_) => None,
     }
 }
 

@@ -3,10 +3,9 @@
 use super::harness::Part::{Close, Open, Recv, Rest, Sent};
 use super::harness::{
     CLIENT, CONNACK, CONNECT, FAULTY, PASSED, PUBACK, PUBLISH_ONCE, Part, REFUSED, add_record,
-    is_reported, log_of, reports,
+    is_reported, log_of, reports, weight_of,
 };
 use super::plain::are_faults_alike;
-use crate::judge::{Judge, Options};
 use crate::report::Form;
 use std::alloc::{AllocError, Global};
 use std::io;
@@ -103,11 +102,15 @@ fn full_log(alloc: Global) -> Result<Vec<u8>, AllocError> {
 
 #[test]
 fn keeps_65535_identifiers_in_flight(rt: HostRuntime) -> Result<(), Fail> {
-    let mut log = full_log(rt.alloc())?;
-    let mut judge = Judge::new(rt.alloc(), Options::default());
-    judge.feed(&log)?;
-    assert!(rt; judge.weight() <= 524_280);
+    let log = full_log(rt.alloc())?;
+    assert!(rt; weight_of(rt.alloc(), &log).is_some_and(|weight| weight <= 524_280));
     assert!(rt; is_reported(rt.alloc(), &log, PASSED, "pass 65538 events\n")?);
+    Ok(())
+}
+
+#[test]
+fn finds_no_identifier_for_one_message_more(rt: HostRuntime) -> Result<(), Fail> {
+    let mut log = full_log(rt.alloc())?;
     add_record(&mut log, 2, PUBLISH_ONCE)?;
     let report = "fault 65539 S01 MQTT-2.2.1-3 decided 65539 record 65539 offset -\n\
         fault 65539 S07 MQTT-4.9.0-2 decided 65539 record 65539 offset -\nfail 2 faults 65539 events\n";

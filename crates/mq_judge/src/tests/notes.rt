@@ -28,7 +28,7 @@ fn topic_of(note: &Note) -> Option<(usize, Option<u16>)> {
     }
 }
 
-// Whether the note of the packet with this body is made.
+// Whether the note of the packet with this body, if that isn't too long, is made.
 fn is_noted(
     alloc: Global,
     direction: Direction,
@@ -36,6 +36,9 @@ fn is_noted(
     body: &[u8],
     size: u32,
 ) -> Result<bool, Fail> {
+    if body.len() > MAX_BODY {
+        return Ok(false);
+    }
     let packet = decode(first, body)?;
     Ok(Note::of_packet(alloc, direction, size, &packet).is_ok())
 }
@@ -57,7 +60,6 @@ fn notes_the_longest_topic(rt: HostRuntime) -> Result<(), Fail> {
 fn notes_the_longest_filter(rt: HostRuntime) -> Result<(), Fail> {
     let mut body = filled(rt.alloc(), &[0, 1, 0, 0xff, 0xff], b'a', 65_540)?;
     body.push(2)?;
-    assert!(rt; body.len() <= MAX_BODY);
     assert!(rt; is_noted(rt.alloc(), Direction::Recv, 0x82, &body, 65_545)?);
     Ok(())
 }
@@ -66,7 +68,6 @@ fn notes_the_longest_filter(rt: HostRuntime) -> Result<(), Fail> {
 #[test]
 fn notes_many_codes(rt: HostRuntime) -> Result<(), Fail> {
     let body = filled(rt.alloc(), &[0, 1, 0], 2, MAX_BODY)?;
-    assert!(rt; body.len() <= MAX_BODY);
     assert!(rt; is_noted(rt.alloc(), Direction::Sent, 0x90, &body, 100_004)?);
     Ok(())
 }

@@ -1,5 +1,6 @@
 //! The judge finds the same faults as the plain evaluators, which look back over all events.
 use crate::judge::{Judge, Options};
+use mq_books::watch_sessions;
 use mq_plain::{plain_lb, plain_se, plain_sessions};
 use mq_rules::{Faults, Memory, Note, Seen, Tested, plain_c, plain_connections, plain_w};
 use mq_trace::{Event, Place3, Refusal, Sink, Tracer};
@@ -48,33 +49,54 @@ fn plain_faults_at_once(alloc: Global, tested: Tested, seen: &[Seen]) -> Result<
     Ok(faults)
 }
 
-/// The faults that the plain evaluators find in a log; `None` if it is refused, if its header isn't
-/// whole, or if those that go through it once find others.
-///
-/// # Errors
-///
-/// `Memory` if there is none.
-pub fn plain_faults_in(alloc: Global, log: &[u8]) -> Result<Option<Faults>, Memory> {
+// The faults with those on sessions by the watchers, which take in each event once.
+fn watched_faults(alloc: Global, tested: Tested, seen: &[Seen]) -> Result<Faults, Memory> {
+    let mut faults = Faults::new(alloc);
+    plain_connections(alloc, tested, seen, &mut faults)?;
+    watch_sessions(alloc, tested, seen, &mut faults)?;
+    Ok(faults)
+}
+
+// The tested end and the events of a log; `None` if it is refused, or its header isn't whole.
+fn noted(alloc: Global, log: &[u8]) -> Result<Option<(Tested, Vec<Seen>)>, Memory> {
     let mut tracer = Tracer::new(alloc, Options::default().limit);
     let mut notes = Notes {
         alloc,
         seen: Vec::new(alloc),
     };
     match tracer.feed(log, &mut notes) {
-        Ok(()) => (),
-        Err(Refusal::Memory(_)) => return Err(Memory),
-        Err(_) => return Ok(None),
+        Ok(()) => match tracer.header() {
+            Some(header) => Ok(Some((Tested::of(header), notes.seen))),
+            None => Ok(None),
+        },
+        Err(Refusal::Memory(_)) => Err(Memory),
+        Err(_) => Ok(None),
     }
-    let Some(header) = tracer.header() else {
-        return Ok(None);
-    };
-    let tested = Tested::of(header);
-    let faults = plain_faults(alloc, tested, notes.seen.as_slice())?;
-    let at_once = plain_faults_at_once(alloc, tested, notes.seen.as_slice())?;
-    if are_same(&faults, &at_once) {
+}
+
+// The faults by the four plain evaluators; `None` if those that go through the events once, or the
+// watchers, find others.
+fn agreed_faults(alloc: Global, tested: Tested, seen: &[Seen]) -> Result<Option<Faults>, Memory> {
+    let faults = plain_faults(alloc, tested, seen)?;
+    let at_once = plain_faults_at_once(alloc, tested, seen)?;
+    let watched = watched_faults(alloc, tested, seen)?;
+    if are_same(&faults, &at_once) && are_same(&faults, &watched) {
         Ok(Some(faults))
     } else {
         Ok(None)
+    }
+}
+
+/// The faults that the plain evaluators find in a log; `None` if it is refused, if its header isn't
+/// whole, or if those that go through it once, or the watchers, find others.
+///
+/// # Errors
+///
+/// `Memory` if there is none.
+pub fn plain_faults_in(alloc: Global, log: &[u8]) -> Result<Option<Faults>, Memory> {
+    match noted(alloc, log)? {
+        Some((tested, seen)) => agreed_faults(alloc, tested, seen.as_slice()),
+        None => Ok(None),
     }
 }
 

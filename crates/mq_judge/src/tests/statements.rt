@@ -25,9 +25,8 @@ mod subscriptions;
 pub mod suite;
 mod worked;
 
-use super::harness::{FAULTY, PASSED, REFUSED, add_timed_record, is_reported};
+use super::harness::{FAULTY, PASSED, REFUSED, add_timed_record, is_reported, weight_of};
 use super::plain::are_faults_alike;
-use crate::judge::{Judge, Options};
 use crate::report::Outcome;
 use packets::PACKETS;
 use std::alloc::{AllocError, Global};
@@ -171,56 +170,29 @@ fn first_wrong(alloc: Global, rows: &'static str) -> Result<Option<&'static str>
     Ok(None)
 }
 
-// What a judge weighs that has taken in this log, if it isn't refused.
-fn weight_after(alloc: Global, words: &'static str) -> Result<Option<usize>, Fail> {
+// Whether a judge that has taken in this log weighs so much.
+fn weighs(alloc: Global, words: &'static str, weight: usize) -> Result<bool, Fail> {
     let log = log_of(alloc, &[], words)?;
-    let mut judge = Judge::new(alloc, Options::default());
-    if judge.feed(&log).is_err() {
-        return Ok(None);
-    }
-    Ok(Some(judge.weight()))
+    Ok(weight_of(alloc, &log) == Some(weight))
 }
 
-// An identifier that is in use is in one collection until it is set free; an undecided connection's
-// events are held.
+// Logs and what they weigh. An identifier that is in use is in one collection until it is set free;
+// an undecided connection's events are held; and what waits for its answer on a connection weighs
+// nothing from its CLOSE on.
+static WEIGHTS: [(&str, usize); 6] = [
+    ("client OPEN >CONNECT <CONNACK", 0),
+    ("client OPEN >CONNECT <CONNACK >PUBLISH1:1", 1),
+    ("client OPEN >CONNECT <CONNACK >PUBLISH1:1 <PUBACK:1", 0),
+    ("client OPEN >CONNECT >PUBLISH1:1", 3),
+    ("client OPEN >CONNECT <CONNACK >SUBSCRIBE:1", 1),
+    ("client OPEN >CONNECT <CONNACK >SUBSCRIBE:1 CLOSE", 0),
+];
+
 #[test]
 fn weighs_what_is_open(rt: HostRuntime) -> Result<(), Fail> {
-    assert_eq!(rt;
-        weight_after(rt.alloc(), "client OPEN >CONNECT <CONNACK")?,
-        Some(0)
-    );
-    assert_eq!(rt;
-        weight_after(rt.alloc(), "client OPEN >CONNECT <CONNACK >PUBLISH1:1")?,
-        Some(1)
-    );
-    assert_eq!(rt;
-        weight_after(
-            rt.alloc(),
-            "client OPEN >CONNECT <CONNACK >PUBLISH1:1 <PUBACK:1"
-        )?,
-        Some(0)
-    );
-    assert_eq!(rt;
-        weight_after(rt.alloc(), "client OPEN >CONNECT >PUBLISH1:1")?,
-        Some(3)
-    );
-    Ok(())
-}
-
-// What waits for its answer on a connection weighs nothing from its CLOSE on.
-#[test]
-fn weighs_nothing_that_ended_with_its_connection(rt: HostRuntime) -> Result<(), Fail> {
-    assert_eq!(rt;
-        weight_after(rt.alloc(), "client OPEN >CONNECT <CONNACK >SUBSCRIBE:1")?,
-        Some(1)
-    );
-    assert_eq!(rt;
-        weight_after(
-            rt.alloc(),
-            "client OPEN >CONNECT <CONNACK >SUBSCRIBE:1 CLOSE"
-        )?,
-        Some(0)
-    );
+    for (words, weight) in &WEIGHTS {
+        assert!(rt; weighs(rt.alloc(), words, *weight)?, "{words}");
+    }
     Ok(())
 }
 

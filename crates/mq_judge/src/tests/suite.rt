@@ -5,7 +5,6 @@ use super::plain::are_faults_alike;
 use super::statements::{add_word, log_of, outcome_of, parts_of, report_of, suite};
 use crate::report::{Form, Outcome};
 use std::alloc::{AllocError, Global};
-use std::fmt::Write as _;
 use std::test::Fail;
 
 // The moment of each record of a log of version 2.
@@ -51,8 +50,8 @@ fn words_of(alloc: Global, line: &'static str) -> Result<Vec<&'static str>, Allo
     Ok(words)
 }
 
-// Appends the JSON for a fault with these words.
-fn add_fault(json: &mut String, words: &[&str]) -> Result<(), Fail> {
+// The JSON for a fault with these words.
+fn fault_of(alloc: Global, words: &[&str]) -> Result<String, Fail> {
     let [
         _,
         position,
@@ -69,34 +68,34 @@ fn add_fault(json: &mut String, words: &[&str]) -> Result<(), Fail> {
         return Err("a line has other words".into());
     };
     let offset = if *offset == "-" { "null" } else { *offset };
-    write!(
-        json,
-        "{{\"citation\":\"{citation}\",\"code\":\"{code}\",\"decided\":{decided},"
+    let fault = format!(in alloc;
+        "{{\"citation\":\"{citation}\",\"code\":\"{code}\",\"decided\":{decided},\
+        \"offset\":{offset},\"position\":{position},\"record\":{record}}}"
     )?;
-    write!(
-        json,
-        "\"offset\":{offset},\"position\":{position},\"record\":{record}}}"
-    )?;
-    Ok(())
+    Ok(fault)
 }
 
-// The JSON report that says what these lines say: one on a fault, if there is one, a semicolon, and
-// the last line.
-fn json_of(alloc: Global, lines: &'static str) -> Result<String, Fail> {
-    let mut fault = String::new(alloc);
-    let mut last = lines;
-    if let Some((line, rest)) = lines.split_once(';') {
-        add_fault(&mut fault, &words_of(alloc, line)?)?;
-        last = rest;
-    }
-    let words = words_of(alloc, last)?;
-    let [verdict, .., events, _] = words.as_slice() else {
+// The JSON report with this fault, if there is one, that says what these words of a last line say.
+fn report_in_json(alloc: Global, fault: &str, words: &[&str]) -> Result<String, Fail> {
+    let [verdict, .., events, _] = words else {
         return Err("the last line has other words".into());
     };
     let json = format!(in alloc;
         "{{\"events\":{events},\"faults\":[{fault}],\"verdict\":\"{verdict}\"}}\n"
     )?;
     Ok(json)
+}
+
+// The JSON report that says what these lines say: one on a fault, if there is one, a semicolon, and
+// the last line.
+fn json_of(alloc: Global, lines: &'static str) -> Result<String, Fail> {
+    match lines.split_once(';') {
+        Some((line, last)) => {
+            let fault = fault_of(alloc, &words_of(alloc, line)?)?;
+            report_in_json(alloc, fault.as_str(), &words_of(alloc, last)?)
+        }
+        None => report_in_json(alloc, "", &words_of(alloc, lines)?),
+    }
 }
 
 // Whether the log is judged so in this form: whole, byte by byte and in pieces of 7 bytes.
@@ -125,22 +124,37 @@ fn is_judged_so(alloc: Global, log: &[u8], text: &str, json: &str) -> Result<boo
     )
 }
 
+// Whether the log of these words is judged as these lines say. Its records have this moment, if
+// that isn't empty.
+fn is_log_right(
+    alloc: Global,
+    moment: &[u8],
+    words: &'static str,
+    lines: &'static str,
+) -> Result<bool, Fail> {
+    let log = log_of(alloc, moment, words)?;
+    let text = report_of(alloc, lines)?;
+    let json = json_of(alloc, lines)?;
+    is_judged_so(alloc, &log, text.as_str(), json.as_str())
+}
+
+// Whether the judge finds what the plain evaluators do if the CONNACKs come later.
+fn is_late_log_right(alloc: Global, words: &'static str) -> Result<bool, Fail> {
+    let log = log_with_late_connack(alloc, words)?;
+    Ok(are_faults_alike(alloc, &log)?)
+}
+
 // Whether the log of a row is judged as the row says, in both versions, and also if its CONNACKs
 // come later as the plain evaluators judge it.
 fn is_row_right(alloc: Global, row: &'static str) -> Result<bool, Fail> {
-    let Some((words, lines)) = parts_of(row) else {
-        return Ok(false);
-    };
-    let text = report_of(alloc, lines)?;
-    let json = json_of(alloc, lines)?;
-    let first = log_of(alloc, &[], words)?;
-    let second = log_of(alloc, MOMENT, words)?;
-    let late = log_with_late_connack(alloc, words)?;
-    Ok(
-        is_judged_so(alloc, &first, text.as_str(), json.as_str())?
-            && is_judged_so(alloc, &second, text.as_str(), json.as_str())?
-            && are_faults_alike(alloc, &late)?,
-    )
+    match parts_of(row) {
+        Some((words, lines)) => Ok(
+            is_log_right(alloc, &[], words, lines)?
+                && is_log_right(alloc, MOMENT, words, lines)?
+                && is_late_log_right(alloc, words)?,
+        ),
+        None => Ok(false),
+    }
 }
 
 // The first row whose log is judged differently.
