@@ -43,6 +43,7 @@ pub use inflight::Inflight;
 pub use judging::{watch_all, watch_sessions};
 pub use known::judge_by;
 pub use messages::Messages;
+pub use mq_rules::Fate;
 pub use owed::Owed;
 pub use pings::Pings;
 pub use quota::Quota;
