@@ -62,7 +62,7 @@ fails_kept task place log read old new is_closed error k (inl fails) = inl (reco
 })
 fails_kept task place log read old new is_closed error k (inr misnamed) = inr misnamed
 
-pub log_fails_kept : (task : Task) (place : Text) (log read old new : Option (List ℕ)) (is_closed : Bool) (error : Stream) → Keeps log read
+log_fails_kept : (task : Task) (place : Text) (log read old new : Option (List ℕ)) (is_closed : Bool) (error : Stream) → Keeps log read
     → FailsLog task place read is_closed old new error → FailsLog task place log is_closed old new error
 log_fails_kept task place log read old new is_closed error k (inl unbegun) = inl unbegun
 log_fails_kept task place log read old new is_closed error k (inr fails) = inr (fails_kept task place log read old new is_closed error k fails)

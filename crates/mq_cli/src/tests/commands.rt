@@ -149,11 +149,15 @@ fn judges_logs_whole_and_byte_by_byte(rt: HostRuntime) -> Result<(), Fail> {
     Ok(())
 }
 
-// How many events a log has that is judged with this limit on packets.
-fn events_of(alloc: Global, limit: u32, log: &[u8]) -> Result<u32, Refusal> {
+// Whether a log that is judged with this limit on packets has so many events and no fault; or is
+// refused so, at once and at its end.
+fn is_judged(alloc: Global, limit: u32, log: &[u8], answer: Result<u32, Refusal>) -> bool {
     let mut judge = Judge::new(alloc, Options { limit });
-    judge.feed(log)?;
-    judge.finish().map(|verdict| verdict.events)
+    let fed = judge.feed(log);
+    match judge.finish() {
+        Ok(verdict) => { fed.is_ok() && verdict.faults.is_empty() && answer == Ok(verdict.events) }
+        Err(refusal) => fed == Err(refusal) && answer == Err(refusal),
+    }
 }
 
 #[test]
@@ -169,7 +173,7 @@ fn reads_packets_up_to_the_limit(rt: HostRuntime) -> Result<(), Fail> {
         (14, Err(Refusal::TooLarge(19))),
     ];
     for (limit, answer) in rows {
-        assert_eq!(rt; events_of(rt.alloc(), limit, &log), answer);
+        assert!(rt; is_judged(rt.alloc(), limit, &log, answer), "{limit}");
     }
     Ok(())
 }
