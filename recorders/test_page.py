@@ -116,8 +116,10 @@ class Lines(unittest.TestCase):
         self.assertIsNone(read_event("fail 1 faults 6 events"))
 
     def test_bytes(self) -> None:
-        wanted = {"30 07 [00] 02": (["30", "07", "00", "02"], 2, 0, False), "A2 00 []": (["A2", "00"], None, 0, False),
-                  ".. 76 [00] 01 ..": (["76", "00", "01"], 1, 1, True)}
+        wanted = {"30 07 [00] 02": (["30", "07", "00", "02"], range(2, 3), 0, False),
+                  "A2 00 []": (["A2", "00"], None, 0, False),
+                  ".. 76 [00] 01 ..": (["76", "00", "01"], range(1, 2), 1, True),
+                  ".. 76 [00 01] 02": (["76", "00", "01", "02"], range(1, 3), 1, False)}
         for words, (digits, marked, first, is_cut) in wanted.items():
             self.assertEqual(bytes_of(words, 2), Bytes(digits, marked, first, is_cut), words)
 
@@ -139,6 +141,49 @@ class Lines(unittest.TestCase):
         opens = [scene for scene in story.scenes.values() if scene.event.kind == "OPEN"]
         fates = [scene.connection.fate for scene in opens if scene.connection]
         self.assertEqual(fates, ["new", "resumed", "void", "void", "new"])
+
+
+class Texts(Case):
+    """What is wrong in a text is marked, and not its length; the fault's offset stays where the program put it."""
+
+    def printed(self, *records: bytes) -> list[str]:
+        """What is printed of the broken packets of a log, after their types."""
+        (self.logs / "a.log").write_bytes(log(*records, record(4)))
+        lines = [line for line in run(self.logs)[1].splitlines() if " BAD " in line]
+        return [line.partition(" type ")[2] for line in lines]
+
+    def test_what_is_wrong(self) -> None:
+        def subscribe(topic_filter: bytes) -> bytes:
+            return packet(0x82, b"\0\1\0" + len(topic_filter).to_bytes(2, "big") + topic_filter + b"\0")
+
+        def name(topic: bytes) -> bytes:
+            return packet(0x30, len(topic).to_bytes(2, "big") + topic + b"\0")
+
+        wanted = {
+            name(b"ab\xe2\x82"): "PUBLISH at 6 bytes 30 07 00 04 61 62 [E2 82] 00",  # cut inside a character
+            name(b"a\xed\xa0\x80"): "PUBLISH at 5 bytes 30 07 00 04 61 [ED] A0 80 00",  # a surrogate
+            name(b"a\0b\0"): "PUBLISH at 5 bytes 30 07 00 04 61 [00] 62 00 00",
+            name(b"a/+/#"): "PUBLISH at 6 bytes 30 08 00 05 61 2F [2B] 2F 23 00",
+            subscribe(b"a/b+/c"): "SUBSCRIBE at 9 bytes 82 0C 00 01 00 00 06 61 2F [62 2B] 2F 63 00",
+            subscribe(b"+/#/c"): "SUBSCRIBE at 9 bytes 82 0B 00 01 00 00 05 2B 2F [23] 2F 63 00",
+            subscribe(b""): "SUBSCRIBE bytes 82 06 00 01 00 [00] 00 00",  # here the length is what is wrong
+        }
+        for one, words in wanted.items():
+            self.assertEqual(self.printed(record(2, one)), [words])
+
+    def test_the_bytes_around_it_come_from_the_log(self) -> None:
+        """It is far in a text, its packet is one of several that end in one record, and the other direction is lost."""
+        ping = packet(0xC0, b"")
+        broken = [packet(0x30, (300).to_bytes(2, "big") + b"z" * before + b"\0" + b"y" * (299 - before) + b"\0")
+                  for before in (200, 80)]
+        sent = ping + broken[0] + broken[1] + ping
+        received = packet(0xD0, b"") + bytes.fromhex("d08000")
+        self.assertEqual(self.printed(record(2, sent[:250]), record(3, received), record(2, sent[250:])), [
+            f"PUBLISH at {before + 5} bytes .. {'7A ' * 32}[00] {'79 ' * 31}.." for before in (200, 80)])
+        page = self.page()
+        self.assertIn("   205  <mark>00</mark> 79 79 79", page)
+        self.assertIn("At offset 205 U+0000 is marked; the text's length is at offset 3.", page)
+        self.assertIn("record 6, connection 1", page)
 
 
 class Written(Case):
@@ -193,8 +238,12 @@ class Written(Case):
         broken = bytes.fromhex("32070001c3000100") + b"x"
         (self.logs / "a.log").write_bytes(log(record(2, broken), record(4)))
         page = self.page()
-        self.assertIn("     0  32 07 <mark>00</mark> 01 C3 00 01 00  2·······\n     8  78", page)
-        self.assertIn("The byte at offset 2 is marked.", page)
+        self.assertIn("     0  32 07 00 01 <mark>C3</mark> 00 01 00  2·······\n     8  78", page)
+        self.assertIn("At offset 4 what isn't UTF-8 is marked; the text's length is at offset 2.", page)
+        (self.logs / "a.log").write_bytes(log(record(2, bytes.fromhex("4100")), record(4)))
+        page = self.page()
+        self.assertIn("     0  <mark>41</mark> 00", page)
+        self.assertIn("The byte at offset 0 is marked.", page)
 
     def test_the_limit_that_the_peer_announced(self) -> None:
         page = self.page(EXAMPLES)

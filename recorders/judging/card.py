@@ -4,10 +4,11 @@ from __future__ import annotations
 from html import escape
 
 from judging.chart import FULL, LEAN, PEERS, SHORT, WORDS, Drawing, fate_of, label
-from judging.events import Bytes, Event, Text
+from judging.events import Event, Text
 from judging.explain import Explanation
 from judging.markup import counted, escaped, isolated, number
 from judging.story import Fault, Scene
+from judging.texts import WORDS as WRONG
 from log_format import time_text
 
 FIELDS = 40  # of a packet that are shown
@@ -71,7 +72,7 @@ class Cards:
             ("Time", self._time(event)),
             ("Decided", self._decided(fault)),
             ("Limit", self._limit(fault, scene)),
-            ("Bytes", bytes_shown(event.bytes, fault.offset) if event.bytes else ""),
+            ("Bytes", bytes_shown(event, fault.offset)),
             (f"Identifier {event.identifier}", self._mates(scene) if self._detail > SHORT else ""),
         ]
 
@@ -190,17 +191,28 @@ def value_shown(value: str) -> str:
     return f'"{isolated(value, value.size)}"' if isinstance(value, Text) else escaped(value)
 
 
-def bytes_shown(found: Bytes, offset: int | None) -> str:
-    """Bytes in lines, each with its first offset, the one at the fault marked, and which letters they would be."""
+def bytes_shown(event: Event, offset: int | None) -> str:
+    """Bytes in lines, each with its first offset, those at fault marked, and which letters they would be."""
+    found = event.bytes
+    if not found:
+        return ""
+    marked = found.marked or range(0)
     lines = [f"{'offset':>6}  ..\n"] if found.first else []
     for start in range(0, len(found.digits), BYTES_OF_A_LINE):
         line = found.digits[start : start + BYTES_OF_A_LINE]
-        words = [f"<mark>{word}</mark>" if start + index == found.marked else word for index, word in enumerate(line)]
+        words = [f"<mark>{word}</mark>" if start + index in marked else word for index, word in enumerate(line)]
         letters = "".join(chr(int(word, 16)) if 32 <= int(word, 16) < 127 else "·" for word in line)
         space = "   " * (BYTES_OF_A_LINE - len(line))
         lines.append(f"{found.first + start:>6}  {' '.join(words)}{space}  {escaped(letters)}\n")
     if found.is_cut:
         lines.append("        ..\n")
+    return f"<pre>{''.join(lines)}</pre><span class=\"note\">{what_is_marked(event, offset)}</span>"
+
+
+def what_is_marked(event: Event, offset: int | None) -> str:
+    """What the marked bytes are."""
     at = f"offset {offset}" if offset is not None else "the offset"
-    what = f"The byte at {at} is marked." if found.marked is not None else f"The packet ends before {at}."
-    return f"<pre>{''.join(lines)}</pre><span class=\"note\">{what}</span>"
+    broken, found = event.broken, event.bytes
+    if broken and broken["at"]:
+        return f"At offset {broken['at']} {WRONG[broken['code']]} is marked; the text's length is at {at}."
+    return f"The byte at {at} is marked." if found and found.marked else f"The packet ends before {at}."

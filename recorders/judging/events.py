@@ -16,7 +16,9 @@ QUOTED = re.compile(r'"(?:[^"\\]++|\\.)*+"', re.DOTALL)
 BEGINNING = re.compile(r'"(?:[^"\\]|\\x..|\\.){0,200}', re.DOTALL)  # of a text that is long
 LONG_TEXT, LONG_EVENT = 1_000, 20_000  # characters: what is longer is cut, since a log may hold any amount
 CUT = "\0"  # where something was cut, with the size that it had in bytes: the program prints no such character
-BROKEN = re.compile(r"BAD (\S+) offset (\d+)(?: type (\S+))?(?: bytes (.*))?")
+BROKEN = re.compile(
+    r"BAD (?P<code>\S+) offset (?P<offset>\d+)(?: type (?P<type>\S+))?(?: at (?P<at>\d+))?(?: bytes (?P<bytes>.*))?"
+)
 ESCAPE = re.compile(r'\\(?:x([0-9A-F]{2})|(["\\]))')
 OWN = {"PUBLISH", "PUBREL", "SUBSCRIBE", "UNSUBSCRIBE"}  # carry an identifier that their sender chose
 
@@ -29,10 +31,10 @@ class Text(str):
 
 @dataclass
 class Bytes:
-    """The bytes of a packet that breaks a rule, as far as they are printed."""
+    """The bytes of a packet that they break a statement of, as far as they are printed."""
 
     digits: list[str]  # two hexadecimal digits each
-    marked: int | None  # which of them is at the offset; None where the packet ends there
+    marked: range | None  # which of them are marked; None where the packet ends at the offset
     first: int  # the offset of the first one
     is_cut: bool  # others come after them
 
@@ -49,8 +51,16 @@ class Event:
 
     @cached_property
     def broken(self) -> re.Match[str] | None:
-        """Of a packet that breaks a rule on its bytes: the rule, the offset, the type, and the bytes."""
+        """Of a packet whose bytes break a statement: its code, the offset, the type, and the bytes.
+
+        Where what is wrong in a text is marked, and not the text's length at the offset, that place comes too (`at`).
+        """
         return BROKEN.fullmatch(self.rest) if self.is_packet else None
+
+    def say(self, rest: str) -> None:
+        """Puts other words in place of those after the kind."""
+        self.rest = rest
+        self.__dict__.pop("broken", None)
 
     @property
     def is_packet(self) -> bool:
@@ -61,7 +71,7 @@ class Event:
         """The type of its packet, or LOST; empty for another event."""
         if not self.is_packet:
             return ""
-        return (self.broken[3] or "packet") if self.broken else self.rest.partition(" ")[0]
+        return (self.broken["type"] or "packet") if self.broken else self.rest.partition(" ")[0]
 
     @cached_property
     def identifier(self) -> int | None:
@@ -90,7 +100,8 @@ class Event:
 
     @property
     def bytes(self) -> Bytes | None:
-        return bytes_of(self.broken[4], int(self.broken[2])) if self.broken and self.broken[4] else None
+        found = self.broken
+        return bytes_of(found["bytes"], int(found["at"] or found["offset"])) if found and found["bytes"] else None
 
     @property
     def time(self) -> datetime | None:
@@ -142,14 +153,14 @@ def unquoted(word: str) -> str:
 
 
 def bytes_of(text: str, offset: int) -> Bytes:
-    """The bytes that are printed: `..` stands for those that aren't, and the one at the offset is in brackets."""
+    """The bytes that are printed: `..` stands for those that aren't, and those from the offset on are in brackets."""
     words = text.split()
     is_cut = len(words) > 1 and words[-1] == ".."
     words = [word for word in words if word != ".."]
-    marked = next((index for index, word in enumerate(words) if word.startswith("[")), None)
-    first = offset - marked if marked is not None else 0
+    begin = next((index for index, word in enumerate(words) if word.startswith("[")), None)
+    if begin is None:
+        return Bytes(words, None, 0, is_cut)
+    end = next((index for index, word in enumerate(words) if word.endswith("]")), begin) + 1
     digits = [word.strip("[]") for word in words]
-    if marked is not None and not digits[marked]:
-        del digits[marked]
-        marked = None
-    return Bytes(digits, marked, first, is_cut)
+    marked = range(begin, end) if digits[begin] else None
+    return Bytes([word for word in digits if word], marked, offset - begin, is_cut)

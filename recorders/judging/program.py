@@ -13,6 +13,7 @@ from typing import IO, BinaryIO
 
 from judging.places import what_else
 from judging.story import Teller, choose, end_of
+from judging.texts import mark_texts
 from judging.verdict import FAILED, FAULTS, REFUSED, TOO_SHORT, Verdict
 from log_format import HEADER_SIZE, body_size, version_of
 
@@ -89,6 +90,7 @@ class Judge:
             verdict.end = end_of(header_of(log))
         if self._tells and (verdict.found or verdict.status in (REFUSED, TOO_SHORT)):
             self._tell(verdict, log, identifiers)
+        mark_texts(verdict.excerpts, verdict.story, log)
 
     def _ask(self, path: Path, log: Path) -> Verdict:
         """What the program says of a log, under the name that it has. It has failed where it ends oddly."""
