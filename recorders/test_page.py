@@ -1,5 +1,5 @@
 #!/usr/bin/env python3
-"""Tests of the page, of SARIF and of the annotations that recorders/judge writes.
+"""Tests of the page that recorders/judge writes.
 
 The page is opened in chromium, where it is installed: what it shows, that its links lead somewhere, that it asks for
 nothing else, and that its scripts don't fail. `--keep DIR` keeps the pages and their pictures, to be looked at.
@@ -8,61 +8,35 @@ usage: recorders/test_page.py [--keep DIR]
 """
 from __future__ import annotations
 
+import hashlib
 import json
 import re
-import subprocess
 import sys
 import time
 import unittest
 from pathlib import Path
-from typing import Any
 
 sys.dont_write_bytecode = True  # the repository stays as it is
 sys.path.insert(0, str(Path(__file__).resolve().parent))
 import log_format
 from browser import CHROMIUM, Browser
-from judging.events import Bytes, bytes_of, read_event
+from judging.events import Bytes, Event, bytes_of, read_event
 from judging.explain import Explanation
+from judging.labels import difference, label
 from judging.page import LARGEST, Gallery, Page
 from judging.program import IDENTIFIER
 from judging.refusals import REFUSALS
-from judging.story import Fault, Teller
+from judging.story import STEP, Fault, Teller
 from judging.verdict import FAULTS, Verdict
+from made_logs import CONNACK, CONNECT, WithLogs, log, packet, publish, record, run, text
 from sarif_schema import problems
-from testing import PATIENCE, TOP, InFolder, judge_program, missing
+from testing import TOP, missing
 
-JUDGE = Path(__file__).resolve().parent / "judge"
 EXAMPLES = TOP / "examples/sessions"
 WIDTHS = (360, 1600)
+ACCEPTED = record(3, CONNACK)
 KEPT: list[Path] = []  # where pages and pictures stay, if that is wanted
-CONNECT = bytes.fromhex("100d00044d5154540502003c000000")
-CONNACK = bytes.fromhex("2003000000")
 OVERRIDE = "\u202e"  # turns the direction of what comes after it
-
-
-def record(kind: int, body: bytes = b"") -> bytes:
-    return bytes([kind]) + len(body).to_bytes(4, "big") + body
-
-
-def packet(first: int, body: bytes) -> bytes:
-    size, length = b"", len(body)
-    while length > 127:
-        size, length = size + bytes([length & 127 | 128]), length >> 7
-    return bytes([first]) + size + bytes([length]) + body
-
-
-def text(words: str) -> bytes:
-    raw = words.encode()
-    return len(raw).to_bytes(2, "big") + raw
-
-
-def publish(topic: str, identifier: int, properties: bytes = b"") -> bytes:
-    return packet(0x32, text(topic) + identifier.to_bytes(2, "big") + bytes([len(properties)]) + properties + b"x")
-
-
-def log(*records: bytes, end: int = 0) -> bytes:
-    """A log of one connection that the server accepts, with these records on it."""
-    return b"MQTR\x01" + bytes([end, 0, 0]) + record(1) + record(2, CONNECT) + record(3, CONNACK) + b"".join(records)
 
 
 def hostile_log() -> bytes:
@@ -76,23 +50,14 @@ def hostile_log() -> bytes:
     for number, words in enumerate(texts, 1):
         user = b"\x26" + text("name") + text('<svg onload="window.hit = 3">')
         records += [record(2, publish(words, number)), record(2, publish(words, number, user))]
+        records += [record(2, packet(0xC0, b""))] * STEP  # so that the faults are no run
     identifier = text(f"</title><script>window.hit = 5</script>{OVERRIDE}")
     connect = packet(0x10, bytes.fromhex("00044d5154540502003c00") + identifier)
     broken = record(2, bytes.fromhex("32070001c3000100") + b"x")
     return log(*records, broken, record(2, connect), record(4)).replace(record(2, CONNECT), record(2, connect))
 
 
-def run(*words: object, program: object = None) -> tuple[int, str, str]:
-    command = [sys.executable, str(JUDGE), *map(str, words), "--program", str(program or judge_program())]
-    answer = subprocess.run(command, capture_output=True, timeout=2 * PATIENCE)
-    return answer.returncode, answer.stdout.decode(), answer.stderr.decode()
-
-
-class Case(InFolder):
-    def setUp(self) -> None:
-        super().setUp()
-        self.logs.mkdir()
-
+class Case(WithLogs):
     def page(self, *words: object, name: str = "page", program: object = None) -> str:
         """Writes a page, which stays where that is wanted."""
         self.place = (KEPT[0] if KEPT else self.folder) / f"{name}.html"
@@ -141,6 +106,45 @@ class Lines(unittest.TestCase):
         opens = [scene for scene in story.scenes.values() if scene.event.kind == "OPEN"]
         fates = [scene.connection.fate for scene in opens if scene.connection]
         self.assertEqual(fates, ["new", "resumed", "void", "void", "new"])
+
+
+class Labels(unittest.TestCase):
+    """What stands at an arrow."""
+
+    def test_what_decides(self) -> None:
+        many = 'filter "a/#" qos 1 no-local 0 retain-as-published 0 retain-handling 0'
+        wanted = {
+            'SENT PUBLISH size 9 qos 1 dup 1 id 3 retain 0 topic "a/b" payload 1 topic-alias 7':
+                "PUBLISH id 3 · QoS 1 · DUP · a/b · alias 7",
+            'SENT PUBLISH size 9 qos 0 dup 0 retain 0 topic "" payload 1 topic-alias 7':
+                "PUBLISH · QoS 0 · no topic · alias 7",
+            f'SENT PUBLISH size 99 qos 0 dup 0 retain 0 topic "{"z" * 29}" payload 1': f"PUBLISH · QoS 0 · {'z' * 28}…",
+            'SENT CONNECT size 16 client "c" clean-start 1 keep-alive 60': "CONNECT · Clean Start",
+            "RECV CONNACK size 5 code 0x00 session-present 1": "CONNACK · Session Present 1",
+            "RECV CONNACK size 5 code 0x87 session-present 0": "CONNACK · Session Present 0 · Not authorized",
+            "RECV PUBREC size 5 id 2 code 0x97": "PUBREC id 2 · Quota exceeded",
+            "RECV PUBACK size 4 id 2 code 0x00": "PUBACK id 2",
+            f"SENT SUBSCRIBE size 20 id 1 {many} {many}": "SUBSCRIBE id 1 · a/# and 1 more",
+            "RECV SUBACK size 7 id 1 code 0x02 code 0x00": "SUBACK id 1 · Granted QoS 2 · Granted QoS 0",
+            "RECV SUBACK size 7 id 1 code 0x02 code 0x8F": "SUBACK id 1 · Topic Filter invalid",
+            "RECV UNSUBACK size 7 id 1 code 0x00": "UNSUBACK id 1",
+            "SENT DISCONNECT size 3 code 0x04": "DISCONNECT · Disconnect with Will Message",
+            "SENT BAD W04 offset 2 type PUBLISH bytes 30": "PUBLISH, malformed",
+        }
+        for line, words in wanted.items():
+            event = read_event(f"1 record 1 {line}")
+            assert event is not None
+            self.assertEqual(label(event), words)
+
+    def test_the_difference_to_the_event_before(self) -> None:
+        first = 1_795_694_645_000_001
+        wanted = {0: "", 999: "+999 µs", 1_500: "+1.5 ms", 1_234_000: "+1.234 s", 95_000_000: "+1 min 35 s",
+                  7_260_000_000: "+2 h 1 min", -20: "−20 µs"}
+        for later, words in wanted.items():
+            events = [Event(1, 1, moment, "REST", "") for moment in (first, first + later)]
+            self.assertEqual(difference(*events), words)
+        self.assertEqual(difference(None, events[0]), "")
+        self.assertEqual(difference(Event(1, 1, 17, "REST", ""), Event(2, 2, 20, "REST", "")), "+3")
 
 
 class Texts(Case):
@@ -208,9 +212,9 @@ class Written(Case):
         page = self.page(self.logs, "--ignore", "S01")
         self.assertIn("<article id=f1-5-S01 class=ignored>", page)
         self.assertIn('ignored by --ignore', page)
-        self.assertIn('<tr class="ignored"><th scope=row><a class="code" href="#r-S01">S01</a>', page)
+        self.assertIn('<tr class="ignored"><th scope=row><a class="code" href="#f1-5-S01">S01</a>', page)
         self.assertIn('<span class="badge pass">pass</span>', page)
-        self.assertIn('1 ignored</span>', page)
+        self.assertIn("1 fault ignored", page)
         known = self.folder / "known"
         known.write_text(f"{self.logs}/a.log S01 1\n")
         self.assertIn("ignored by --expect", self.page(self.logs, "--expect", known))
@@ -218,7 +222,7 @@ class Written(Case):
     def test_a_refusal_that_is_allowed(self) -> None:
         (self.logs / "a.log").write_bytes(log(record(1)))
         page = self.page(self.logs, "--allow-refused", "7")
-        self.assertIn('<span>refused 7 Nested <span class="way">ignored</span></span>', page)
+        self.assertIn('<p class="remark">ignored: refused 7 Nested (--allow-refused)</p>', page)
         self.assertIn(REFUSALS["Nested"].meaning, page)
 
     def test_a_log_that_is_too_short(self) -> None:
@@ -264,9 +268,87 @@ class Written(Case):
         ends = record(2, publish("a", 1))
         (self.logs / "a.log").write_bytes(log(ends, *apart, ends, record(4)))
         page = self.page()
-        self.assertIn("<text>198 events not shown</text>", page)  # 5 to 202: what is under identifier 1 isn't folded
+        # 5 to 202: what is under identifier 1 isn't folded
+        self.assertIn("<text><a href=#e1-5>Show 198 events</a></text><svg class=fold ", page)
+        self.assertIn('<svg id=e1-5 class=s y=', page)
         self.assertIn("<a href=#e1-4>4 PUBLISH</a>, <b>205 PUBLISH</b>", page)
         self.assertIn('id=e1-4 class="s s1i1o"', page)
+
+    def test_a_short_log_is_drawn_whole(self) -> None:
+        twice = [record(2, publish("a", 1))] * 2
+        for pings, is_folded in ((17, False), (18, True)):  # of 40 events, and of 42
+            apart = [record(2, packet(0xC0, b"")), record(3, packet(0xD0, b""))] * pings
+            (self.logs / "a.log").write_bytes(log(*apart, *twice, record(4)))
+            page = self.page()
+            self.assertIn(f"{6 + 2 * pings} events, 1 fault", page)
+            self.assertEqual("class=gap" in page, is_folded)
+            self.assertEqual('<svg id=e1-10 class=s y=' in page, True)
+
+    def test_a_run_of_a_fault_is_one_card(self) -> None:
+        limit = bytes.fromhex("2006000003210002")  # Receive Maximum 2
+        sent = [record(2, publish("a", number)) for number in range(1, 61)]
+        (self.logs / "a.log").write_bytes(log(*sent, record(4)).replace(ACCEPTED, record(3, limit)))
+        page = self.page()
+        self.assertEqual(page.count("<article "), 1)
+        self.assertIn("<a href=#e1-6>Events 6</a> to <a href=#e1-63>63</a>, 58 faults:", page)
+        for position in range(7, 64):
+            self.assertIn(f"<i id=f1-{position}-S07></i>", page)
+        self.assertEqual(page.count("<text class=c>"), 58)
+        self.assertIn("<text><a href=#e1-11>Show 50 events</a></text>", page)  # those between the first and the last
+        two = [part for number in (1, 2, 1, 2) for part in [record(2, publish("a", number))]]
+        (self.logs / "a.log").write_bytes(log(*two, record(4)))
+        self.assertEqual(self.page().count("<article "), 2)  # two are no run
+
+    def test_what_set_a_topic_alias(self) -> None:
+        aliases, alias = bytes.fromhex("2006000003220005"), b"\x23\0\3"
+        pings = [record(2, packet(0xC0, b"")), record(3, packet(0xD0, b""))] * 30
+        begin = [record(1), record(2, CONNECT), record(3, aliases)]
+        use = record(2, publish("", 2, alias))
+        made = log(record(2, publish("a", 1, alias)), *pings, record(4), *begin, *pings, use, record(4))
+        (self.logs / "a.log").write_bytes(made.replace(ACCEPTED, record(3, aliases)))
+        page = self.page()
+        self.assertIn("<article id=f1-129-C16 data-a=e1-4>", page)
+        self.assertIn("<dt>Topic Alias<dd>3 was set by <a href=#e1-4>event 4</a> on connection 1: an alias ends with its"
+                      " connection", page)
+        self.assertLess(page.index("<svg id=e1-4 "), page.index("class=gap"))  # it isn't in a fold
+        (self.logs / "a.log").write_bytes(log(use, record(4)).replace(ACCEPTED, record(3, aliases)))
+        self.assertIn("<dt>Topic Alias<dd>nothing before it sets 3", self.page())
+
+    def test_what_a_pass_has(self) -> None:
+        for name in "abc":
+            sent = [record(2, publish(name, 1)), record(3, packet(0x40, bytes.fromhex("000110")))]
+            (self.logs / f"{name}.log").write_bytes(log(*sent, record(4)))
+        page = self.page()
+        self.assertIn('<details class="passes"><summary>3 logs passed</summary>', page)
+        self.assertIn('<th scope=row><a href="#l2">b.log</a>', page)
+        self.assertIn("<p class=about>Sent: 1 CONNECT, 1 PUBLISH; received: 1 CONNACK, 1 PUBACK</p>", page)
+        self.assertEqual(page.count('<svg class="chart"'), 3)
+        self.assertIn("<text>PUBACK id 1 · No matching subscribers</text>", page)
+        self.assertIn('id="filter"', page)
+
+    def test_few_logs_need_no_table(self) -> None:
+        (self.logs / "a.log").write_bytes(log(record(4)))
+        (self.logs / "b.log").write_bytes(log(record(2, publish("a", 1)), record(2, publish("a", 1)), record(4)))
+        page = self.page()
+        self.assertNotIn('id="filter"', page)
+        self.assertNotIn('class="logs"', page)
+        self.assertIn("<details class=log id=l2 data-v=pass", page)
+
+    def test_a_record_of_what_was_judged(self) -> None:
+        for count in (2, 3):
+            for number in range(count):
+                (self.logs / f"{number}.log").write_bytes(log(record(2, publish(str(number), 1))))
+            page = self.page()
+            for path in self.logs.iterdir():
+                self.assertEqual(page.count(hashlib.sha256(path.read_bytes()).hexdigest()), 1, path)
+        self.assertRegex(page, r" on 20\d\d-\d\d-\d\d \d\d:\d\d UTC, in ")
+
+    def test_what_the_cards_say_is_said_once(self) -> None:
+        page = self.page(EXAMPLES)
+        self.assertNotIn("The statements that were broken", page)
+        self.assertEqual(page.count("Unacknowledged packets are sent again when a session is resumed."), 2)
+        self.assertEqual(page.count("The peer still holds its half of each exchange."), 1)
+        self.assertIn('aria-label="Chart of client-flood.log"', page)
 
     def test_names_of_files(self) -> None:
         for name in ("<script>alert(1)</script>", f"a{OVERRIDE}b", '"quotes"', "line\nend"):
@@ -321,18 +403,20 @@ class Moments(Case):
         page = self.told(1_795_694_645_000_001, 1500)
         self.assertIn("<dt>Time<dd>2026-11-26 12:04:05.004501 UTC", page)
         self.assertIn("REST, 2026-11-26 12:04:05.007501 UTC", page)
-        self.assertIn("<text class=t>12:04:05.000001</text>", page)
+        self.assertIn("<text><tspan class=t>12:04:05.000<tspan class=v>001</tspan></tspan> 1</text><text class=b>", page)
+        self.assertIn("</tspan></tspan> 2</text><text class=t>+1.5 ms</text>", page)
         self.assertIn('<svg class="chart timed"', page)
 
     def test_another_unit(self) -> None:
         page = self.told(17, 1)
         self.assertIn("<dt>Time<dd>moment 20", page)
-        self.assertNotIn("UTC", page)
+        self.assertIn("<text><tspan class=t>18</tspan> 2</text><text class=t>+1</text>", page)
+        self.assertNotIn("UTC", page.partition("<section")[2])
 
     def test_moments_of_many_digits(self) -> None:
         page = self.told((1 << 64) - 6, 1)
         self.assertIn("<dt>Time<dd>moment 18446744073709551613", page)
-        self.assertIn("<text class=t>…073709551613</text>", page)
+        self.assertIn("<tspan class=t>…073709551613</tspan>", page)
 
     def test_moments_that_are_all_0(self) -> None:
         page = self.told(0, 0)
@@ -348,7 +432,9 @@ class Moments(Case):
         self.logs.joinpath("a.log").write_bytes(made)
         page = self.page()
         self.assertIn("<dt>Time<dd>2026-11-26 12:04:09.000001 UTC", page)
-        self.assertIn("<text class=t>12:04:10.000001</text>", page)
+        self.assertIn("<tspan class=t>12:04:10.000<tspan class=v>001</tspan></tspan> 6</text><text class=t>+1.000 s</text>",
+                      page)
+        self.assertIn(", recorded from 2026-11-26 12:04:05 to 12:04:10 UTC</p>", page)
         printed = run(self.logs)[1]
         self.assertIn("record 5 offset - at 2026-11-26 12:04:09.000001 UTC\n", printed)
 
@@ -408,11 +494,13 @@ class Sizes(unittest.TestCase):
         self.assertEqual(page.count('<svg class="chart"'), 1000)
         self.assertEqual(page.count("<article "), 10_000)
         self.assertNotIn("rows only", page)
+        self.assertIn('<section class="statement" id="r-S01">', page)  # since the cards have no room for it
 
     def test_more(self) -> None:
         page = self.written([10] * 1000 + [12] * 200)
         self.assertEqual(page.count('<svg class="chart"'), 200)
-        self.assertEqual(page.count("<li "), 1200)
+        self.assertEqual(page.count("<tr id="), 1000)
+        self.assertEqual(page.count("<tr data-v="), 200)
         self.assertIn("Charts are drawn of the worst 200 logs; the other 1,000 logs that aren&#x27;t a pass are rows"
                       " only.", page)
         self.assertIn('data-n="client-1199.log"', page)
@@ -423,67 +511,8 @@ class Sizes(unittest.TestCase):
         self.assertIn("1,750 other faults", page)
 
 
-class CodeHosts(Case):
-    def test_sarif(self) -> None:
-        place = self.folder / "report.sarif"
-        self.assertEqual(run(EXAMPLES, "--sarif", place, "--ignore", "E1R")[0], 1)
-        report = json.loads(place.read_text())
-        self.assertEqual(problems(report), [])
-        (said,) = report["runs"]
-        rules = said["tool"]["driver"]["rules"]
-        found = [(result["ruleId"], result["properties"]["position"]) for result in said["results"]]
-        wanted = [tuple(line.split()[2:0:-1]) for path in sorted(EXAMPLES.glob("*.report"))
-                  for line in path.read_text().splitlines() if line.startswith("fault ")]
-        self.assertEqual(sorted((code, str(position)) for code, position in found), sorted(wanted))
-        for result in said["results"]:
-            self.assertEqual(rules[result["ruleIndex"]]["id"], result["ruleId"])
-            self.assertEqual("suppressions" in result, result["ruleId"] == "E1R")
-        self.assertTrue(all("In a client" in rule["help"]["text"] for rule in rules))
-
-    def test_sarif_of_what_is_not_judged(self) -> None:
-        (self.logs / "a, b%.log").write_bytes(log(record(1)))
-        place = self.folder / "report.sarif"
-        self.assertEqual(run(self.logs, "--sarif", place)[0], 2)
-        report = json.loads(place.read_text())
-        self.assertEqual((problems(report), report["runs"][0]["results"]), ([], []))
-        (notice,) = report["runs"][0]["invocations"][0]["toolExecutionNotifications"]
-        self.assertIn("refused 7 Nested", notice["message"]["text"])
-        place_of = notice["locations"][0]["physicalLocation"]["artifactLocation"]
-        self.assertTrue(place_of["uri"].endswith("/a%2C%20b%25.log"))
-
-    def test_the_checker_of_sarif_finds_something(self) -> None:
-        good: dict[str, Any] = {"version": "2.1.0", "runs": [{"tool": {"driver": {"name": "a"}}}]}
-        self.assertEqual(problems(good), [])
-        for bad in ({}, good | {"version": "2.0"}, good | {"more": 1}, good | {"runs": [{}]},
-                    good | {"runs": [{"tool": {"driver": {"name": 1}}}]},
-                    good | {"runs": [good["runs"][0] | {"results": [{"ruleId": "a"}]}]}):
-            self.assertNotEqual(problems(bad), [], bad)
-
-    def test_annotations(self) -> None:
-        (self.logs / "a,b:%\n::error::.log").write_bytes(log(record(2, publish("a", 1)), record(2, publish("a", 1))))
-        (self.logs / "refused.log").write_bytes(log(record(1)))
-        status, printed, _ = run(self.logs, "--github")
-        lines = [line for line in printed.splitlines() if line.lstrip().startswith("::")]
-        name = f"{self.logs}/a%2Cb%3A%25%0A%3A%3Aerror%3A%3A.log"
-        self.assertEqual(status, 2)
-        self.assertEqual([line.partition("::")[2].partition("::")[0] for line in lines],
-                         [f"error file={name},title=S01 MQTT-2.2.1-3",
-                          f"error file={self.logs}/refused.log,title=the log is refused"])
-        self.assertIn("::1 fault, the first at event 5: A new PUBLISH", lines[0])
-        ignored = run(self.logs, "--github", "--ignore", "S01")[1]
-        self.assertIn(f"::warning file={name},title=S01 MQTT-2.2.1-3::ignored by --ignore: 1 fault", ignored)
-
-    def test_a_place_that_cannot_be_written(self) -> None:
-        for name in ("--html", "--sarif"):
-            status, _, errors = run(EXAMPLES, name, self.folder / "none" / "file")
-            self.assertEqual(status, 3)
-            self.assertIn(f"judge: {name}: ", errors)
-
-
 @unittest.skipIf(missing(CHROMIUM), missing(CHROMIUM))
-class Opened(Case):
-    """Pages in a browser."""
-
+class InBrowser(Case):
     browser: Browser
 
     @classmethod
@@ -491,6 +520,21 @@ class Opened(Case):
         cls.browser = Browser()
         cls.browser.__enter__()
         cls.addClassCleanup(cls.browser.__exit__, None, None, None)
+
+    def open(self, place: str = "", width: int = 1280) -> None:
+        self.browser.open(self.place, width, place=place)
+
+    def edge(self, selector: str, side: str = "top") -> float:
+        """Where an edge of an element is in the window, in pixels."""
+        return float(self.browser.value(f"document.querySelector({selector!r}).getBoundingClientRect().{side}"))
+
+    def click(self, selector: str) -> None:
+        event = "new MouseEvent('click', {bubbles: true, cancelable: true})"
+        self.browser.value(f"void document.querySelector({selector!r}).dispatchEvent({event})")
+
+
+class Opened(InBrowser):
+    """What a page shows in a browser."""
 
     def look(self, name: str) -> None:
         """Takes pictures at both widths, in both schemes, and checks what holds for each page."""
@@ -515,10 +559,11 @@ class Opened(Case):
             self.assertEqual([name.split("-")[1:] for name in section["faults"]], wanted)
             for name in section["faults"]:
                 self.browser.open(self.place, place=name)
-                said = self.browser.value(f"document.getElementById({name!r}).innerText")
+                said = self.browser.value(f"document.getElementById({name!r}).closest('article').innerText")
                 self.assertIn("and what to change:", said)  # without a word of the standard
                 self.assertIn("Fields", said)
-        self.assertEqual(self.browser.value("document.querySelectorAll('.logs > li').length"), 16)
+        self.assertEqual(self.browser.value("document.querySelectorAll('.logs tbody tr').length"), 16)
+        self.assertNotIn("rule", self.browser.value("document.body.innerText").replace("rules of", ""))
 
     def test_a_hostile_log(self) -> None:
         (self.logs / "hostile <script>window.hit = 4<script>.log").write_bytes(hostile_log())
@@ -545,17 +590,16 @@ class Opened(Case):
         self.browser.open(self.place, place="f1-9-S07")  # client-flood
         self.assertEqual(self.browser.value(lit), "9 18")
         self.assertEqual(self.browser.value(lit.replace("'.lit'", "'.near'")), "3")  # the CONNACK
-        click = "dispatchEvent(new MouseEvent('click', {bubbles: true}))"
-        self.browser.value(f"document.querySelector('#e1-10 line').{click}")
+        self.click("#e1-10 line")
         self.assertEqual(self.browser.value("location.hash"), "#f1-10-S07")
 
     def test_logs_are_chosen(self) -> None:
         self.page(EXAMPLES, name="examples")
         self.browser.open(self.place)
-        shown = ("[...document.querySelectorAll('.logs > li, section.log')].filter((place) => !place.hidden)"
+        shown = ("[...document.querySelectorAll('.logs tbody tr, .log')].filter((place) => !place.hidden)"
                  ".map((place) => place.tagName).join(' ')")
-        chosen = [("code", "S07", "LI LI SECTION SECTION"), ("verdict", "pass", ""), ("code", "", "LI " * 10),
-                  ("name", "WILL", "LI")]
+        chosen = [("code", "S07", "TR TR SECTION SECTION"), ("verdict", "pass", ""),
+                  ("code", "", "TR " * 10 + "DETAILS " * 10), ("name", "WILL", "TR DETAILS")]
         for name, value, wanted in chosen:
             self.browser.value(f"{{const part = document.getElementById({name!r}); part.value = {value!r};"
                                " part.dispatchEvent(new Event('input', {bubbles: true}))}")
@@ -577,7 +621,8 @@ class Opened(Case):
         names = {(node["role"]["value"], node["name"]["value"]) for node in nodes if "role" in node and "name" in node}
         for words in ("S07 at event 9", "S01 at event 12", "client-flood.log", "Event 12"):
             self.assertIn(("link", words), names)
-        self.assertIn(("heading", "Faults by rule"), names)
+        self.assertIn(("heading", "Faults by statement"), names)
+        self.assertIn(("region", "Chart of client-flood.log"), names)
         places = self.browser.value("[...document.querySelectorAll('a')].every((place) => place.tabIndex === 0)")
         self.assertTrue(places)
 
@@ -590,12 +635,114 @@ class Opened(Case):
         self.browser.call("Emulation.setEmulatedMedia", media="")
 
 
+class Used(InBrowser):
+    """What a page does where it is clicked."""
+
+    def test_a_card_chooses_its_fault(self) -> None:
+        self.page(EXAMPLES, name="examples")
+        self.open("f5-6-S06")
+        self.browser.value("scrollBy(0, 40)")
+        place = self.edge("#f5-12-S01 h4")
+        for selector in ("#f5-12-S01 .advice", "#f5-12-S01 a[href='#e5-6']"):
+            self.click(selector)
+            self.assertEqual(self.edge("#f5-12-S01 h4"), place)  # nothing is scrolled
+            self.assertEqual(self.browser.value("location.hash"), "#f5-12-S01")
+        self.assertEqual(self.browser.value("document.querySelector('.chosen').closest('.log').id"), "l5")
+        self.assertEqual(self.browser.value("document.querySelectorAll('article.chosen').length"), 1)
+        self.assertEqual(self.browser.value("document.querySelector('.seen').id"), "e5-6")
+
+    def test_a_phone_shows_card_and_chart(self) -> None:
+        self.page(EXAMPLES, name="examples")
+        for name in ("f5-12-S01", "f1-12-S07"):  # the last one is in the middle of a run
+            self.open(name, 390)
+            picture, card = ".picture:has(.chosen)", "article.chosen h4"
+            event = ".chart .chosen"
+            self.assertGreaterEqual(self.edge(picture), 0)
+            self.assertGreaterEqual(self.edge(event), self.edge(picture))
+            self.assertLessEqual(self.edge(event, "bottom"), self.edge(picture, "bottom"))
+            self.assertGreaterEqual(self.edge(card), self.edge(picture, "bottom"))
+            self.assertLessEqual(self.edge(card, "bottom"), 1000)
+
+    def test_a_fold_opens(self) -> None:
+        apart = [part for number in range(2, 102) for part in (record(2, publish("a", number)),
+                                                               record(3, packet(0x40, number.to_bytes(2, "big"))))]
+        ends = record(2, publish("a", 1))
+        rest = [record(5), record(2, packet(0xC0, b"")), record(3, packet(0xD0, b""))]
+        (self.logs / "a.log").write_bytes(log(ends, *apart, ends, *rest, record(4)))
+        self.page(name="fold")
+        self.open()
+        shut = [self.edge(selector) for selector in ("#e1-4", "#e1-205", "#e1-208")]
+        bottom = self.edge("rect.new", "bottom")
+        self.assertEqual(self.edge("#e1-100", "height"), 0)
+        size = int(self.browser.value("document.querySelector('.gap').dataset.h"))
+        self.click(".gap a")
+        self.assertEqual(size, 198 * 28)
+        self.assertEqual([self.edge(selector) for selector in ("#e1-4", "#e1-205", "#e1-208")],
+                         [shut[0], shut[1] + size, shut[2] + size])
+        self.assertEqual(self.edge("rect.new", "bottom"), bottom + size)
+        self.assertGreater(self.edge("#e1-100", "height"), 0)
+        self.assertLess(self.edge("#e1-202", "bottom"), self.edge("#e1-205"))
+        self.click(".gap a")
+        self.assertEqual([self.edge(selector) for selector in ("#e1-4", "#e1-205", "#e1-208")], shut)
+        self.assertEqual(self.edge("#e1-100", "height"), 0)
+        self.open("e1-100")  # a link to what is in it opens it
+        self.assertGreater(self.edge("#e1-100", "height"), 0)
+        self.assertLess(self.edge("#e1-100"), 1000)
+
+    def test_what_set_an_alias_is_lit(self) -> None:
+        aliases, alias = bytes.fromhex("2006000003220005"), b"\x23\0\3"
+        begin = [record(4), record(1), record(2, CONNECT), record(3, aliases)]
+        made = log(record(2, publish("a", 1, alias)), *begin, record(2, publish("", 2, alias)), record(4))
+        (self.logs / "a.log").write_bytes(made.replace(ACCEPTED, record(3, aliases)))
+        self.page(name="alias")
+        self.open("f1-9-C16")
+        self.assertEqual(self.browser.value("document.querySelector('.near').id"), "e1-4")
+
+    def test_tables_are_sorted(self) -> None:
+        self.page(EXAMPLES, name="examples")
+        self.open()
+        cells = "[...document.querySelectorAll('.logs')].at(-1).querySelectorAll('td.num')"
+        order = f"[...{cells}].map((cell) => cell.textContent).join(' ')"
+        wanted = ["7", "9", "16", "20", "26", "30", "33", "33", "35", "35"]
+        for words in (wanted, wanted[::-1]):
+            self.browser.value("void [...document.querySelectorAll('.logs')].at(-1)"
+                               ".querySelector('thead .num button').click()")
+            self.assertEqual(self.browser.value(order), " ".join(words))
+        self.assertEqual(self.browser.value("document.querySelector('[aria-sort]').ariaSort"), "descending")
+
+    def test_passes_are_folded(self) -> None:
+        self.page(EXAMPLES, name="examples")
+        self.open()
+        self.assertEqual(self.browser.value("document.querySelectorAll('.passes[open], .log[open]').length"), 0)
+        is_seen = "document.querySelector('#l16 .chart').checkVisibility()"
+        self.assertFalse(self.browser.value(is_seen))
+        self.click(".passes a[href='#l16']")
+        self.browser.value("void (location.hash = 'l16')")
+        self.assertEqual(self.browser.value("document.querySelectorAll('.passes[open], #l16[open]').length"), 2)
+        self.assertTrue(self.browser.value(is_seen))
+        self.assertLess(self.edge("#l16"), 1000)
+
+    def test_what_is_printed(self) -> None:
+        self.page(EXAMPLES, name="examples")
+        self.open(width=720)
+        self.browser.value("void dispatchEvent(new Event('beforeprint'))")
+        self.browser.call("Emulation.setEmulatedMedia", media="print")
+        self.addCleanup(self.browser.call, "Emulation.setEmulatedMedia", media="")
+        self.assertEqual(self.browser.value("document.querySelectorAll('.passes[open]').length"), 1)  # with its hashes
+        breaks = "[...document.querySelectorAll('section.log')].map((place) => getComputedStyle(place).breakBefore)"
+        self.assertEqual(set(self.browser.value(breaks)), {"auto"})  # no page is left for a log
+        self.assertLess(abs(self.edge("#l5 .picture") - self.edge("#l5 .faults")), 20)  # they are side by side
+        self.assertGreaterEqual(self.edge("#l5 .faults", "left"), self.edge("#l5 .picture", "right"))
+        self.browser.value("void dispatchEvent(new Event('afterprint'))")
+        self.assertEqual(self.browser.value("document.querySelectorAll('.passes[open]').length"), 0)
+
+
 DEAD_LINKS = ("[...document.querySelectorAll('a')].map((place) => place.getAttribute('href'))"
               ".filter((link) => !link.startsWith('#') || !document.getElementById(link.slice(1)))")
 OUTSIDE = ("[...document.querySelectorAll('[src], link, image, use, iframe, object, embed')]"
            ".filter((place) => place.getAttribute('href') !== 'data:,').map((place) => place.outerHTML)")
 FAULTS_OF_LOGS = ("[...document.querySelectorAll('section.log')].map((place) => ({name: place.dataset.n, faults:"
-                  " [...place.querySelectorAll('article')].map((fault) => fault.id)}))")
+                  " [...place.querySelectorAll('[id^=f]')].map((fault) => fault.id)}))")
 
 
 if __name__ == "__main__":

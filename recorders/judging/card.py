@@ -1,13 +1,14 @@
-"""What is said of a fault beside its chart: the rule, the packet, and what to change."""
+"""What is said of a fault, or of a run of them, beside the chart: the statement, the packet, and what to change."""
 from __future__ import annotations
 
 from html import escape
 
-from judging.chart import FULL, LEAN, PEERS, SHORT, WORDS, Drawing, fate_of, label
+from judging.chart import FULL, LEAN, PEERS, SHORT, Drawing
 from judging.events import Event, Text
 from judging.explain import Explanation
+from judging.labels import WORDS, fate_of, label, short_label
 from judging.markup import counted, escaped, isolated, number
-from judging.story import Fault, Scene
+from judging.story import STALE_ALIAS, Fault, Scene
 from judging.texts import WORDS as WRONG
 from log_format import time_text
 
@@ -30,28 +31,60 @@ class Cards:
     def __init__(self, drawing: Drawing, explanations: dict[str, Explanation]) -> None:
         self._drawing, self._story, self._explanations = drawing, drawing.story, explanations
         self._detail = drawing.detail
-        self._drawn = {scene.event.position for scene in drawing.scenes}
-        self._advised: set[str] = set()  # codes whose advice is already beside a fault of this log
+        self._drawn = drawing.drawn
+        self._advised: dict[str, str] = {}  # where the advice for a code is, of those that came in this log
 
-    def card(self, fault: Fault) -> str:
-        """A fault with all that there is to say of it."""
+    def cards(self) -> str:
+        return "".join(self._card(run) for run in self._drawing.runs)
+
+    def place(self, code: str) -> str:
+        """The name of the card with what to change of a code; empty where there is none."""
+        return self._advised.get(code, "")
+
+    def _card(self, run: list[Fault]) -> str:
+        """A fault, or several that follow each other, with all that there is to say of the first."""
+        fault = run[0]
         scene = self._story.scenes.get(fault.position)
         way = self._drawing.overlooked.get(fault.code)
-        name = self._drawing.name(fault)
+        name = self._drawing.card(fault)
         explanation = self._explanations.get(fault.code)
         facts = self._facts(fault, scene)
-        announcer = self._announcer(fault, scene)
-        shown = f" data-a={self._drawing.place(announcer.position)}" if announcer else ""
-        decided = f" data-d={self._drawing.place(fault.decided)}" if fault.decided != fault.position else ""
+        if others := self._others(run):
+            facts.insert(0, ("All of them", others))
+        cause = self._cause(fault, scene)
+        shown = f" data-a={self._drawing.place(cause.position)}" if cause else ""
         kind = " class=ignored" if way else ""
+        place = self._advised.get(fault.code, name) if self._detail == FULL else f"r-{fault.code}"
         return (
-            f"<article id={name}{kind}{shown}{decided}>"
-            f"<h4>{self._link(fault.position)} <a href=#r-{fault.code}>{fault.code}</a>"
-            f" <i>{escaped(fault.citation)}</i>{ignored_by(way)}</h4>"
+            f"<article id={name}{kind}{shown}{self._decider(fault)}>{self._places(run)}"
+            f"<h4>{self._head(run)} <a href=#{place}>{fault.code}</a> <i>{escaped(fault.citation)}</i>"
+            f"{ignored_by(way)}</h4>"
             f"<p>{escaped(explanation.sentence if explanation else '')}"
             f'<dl>{"".join(f"<dt>{term}<dd>{text}" for term, text in facts if text)}</dl>'
-            f"{self._advice(fault.code, explanation)}</article>"
+            f"{self._advice(fault.code, name, explanation)}</article>"
         )
+
+    def _head(self, run: list[Fault]) -> str:
+        """Which events a card is about."""
+        first, last = run[0].position, run[-1].position
+        if len(run) == 1:
+            return self._link(first)
+        return f"{self._link(first, f'Events {first}')} to {self._link(last, str(last))}, {counted(len(run), 'fault')}:"
+
+    def _places(self, run: list[Fault]) -> str:
+        """Where links to the other faults of a run lead to: the head of their card."""
+        return "".join(f"<i id={self._drawing.card(fault)}{self._decider(fault)}></i>" for fault in run[1:])
+
+    def _others(self, run: list[Fault]) -> str:
+        """The faults of a run."""
+        if len(run) == 1:
+            return ""
+        links = [self._link(fault.position, str(fault.position)) for fault in run[1:]]
+        return f"<b>{run[0].position}</b>, {', '.join(links)}. Here is the first"
+
+    def _decider(self, fault: Fault) -> str:
+        """Which event to light with a fault, since it shows it."""
+        return f" data-d={self._drawing.place(fault.decided)}" if fault.decided != fault.position else ""
 
     def _link(self, position: int, words: str = "") -> str:
         text = words or f"Event {position}"
@@ -72,6 +105,7 @@ class Cards:
             ("Time", self._time(event)),
             ("Decided", self._decided(fault)),
             ("Limit", self._limit(fault, scene)),
+            ("Topic Alias", self._alias(fault, scene)),
             ("Bytes", bytes_shown(event, fault.offset)),
             (f"Identifier {event.identifier}", self._mates(scene) if self._detail > SHORT else ""),
         ]
@@ -81,7 +115,7 @@ class Cards:
         where = f"connection {connection.number}" if connection else "between connections"
         if connection and self._detail == FULL:
             where += f" ({escape(fate_of(connection))})"
-        what = event.name if self._detail == LEAN and event.fields else label(event)
+        what = event.name if self._detail == LEAN and event.fields else short_label(event)
         return f"{WORDS.get(event.kind, '')} {escape(what)}, record {event.record}, {where}".strip()
 
     def _decided(self, fault: Fault) -> str:
@@ -113,6 +147,23 @@ class Cards:
             text = f"{name} may be in {link} ({announcer.name}), which is too long to be shown"
         mine = scene.event.field(own) if own else None
         return f"{text}; this packet: <b>{number(int(mine))}</b>" if mine and mine.isdecimal() else text
+
+    def _alias(self, fault: Fault, scene: Scene) -> str:
+        """What set a Topic Alias, where that was on an earlier connection."""
+        if fault.code != STALE_ALIAS:
+            return ""
+        alias = scene.event.field("topic-alias")
+        setter = self._story.setters.get(fault.position)
+        if setter is None:
+            return f"nothing before it sets {escaped(alias)}" if alias else ""
+        place = self._story.scenes[setter.position].connection
+        where = f" on connection {place.number}" if place else ""
+        link = self._link(setter.position, f"event {setter.position}")
+        return f"{escaped(alias)} was set by {link}{where}: an alias ends with its connection"
+
+    def _cause(self, fault: Fault, scene: Scene | None) -> Event | None:
+        """The event to light with a fault, since it announced the limit, or set the Topic Alias."""
+        return self._story.setters.get(fault.position) or self._announcer(fault, scene)
 
     def _announcer(self, fault: Fault, scene: Scene | None) -> Event | None:
         """The event in which the peer announced the limit that a fault is about, or could have announced it."""
@@ -146,23 +197,24 @@ class Cards:
             words.append(f"<b>{text}</b>" if event.position == place else self._link(event.position, text))
         return ", ".join(words)
 
-    def _advice(self, code: str, explanation: Explanation | None) -> str:
-        """What usually breaks a rule, and what to change: in full at the first fault of a code, else by a link."""
+    def _advice(self, code: str, name: str, explanation: Explanation | None) -> str:
+        """What usually breaks a statement, and what to change: in full at the first fault of a code, else by a link."""
         if explanation is None or not explanation.parts:
             return ""
-        if self._detail < FULL or code in self._advised:
-            words = "What usually breaks it, and what to change" if self._detail == FULL else ""  # else by the style
-            return f"<a class=more href=#r-{code}>{words}</a>"
-        self._advised.add(code)
+        if self._detail < FULL:
+            return f"<a class=more href=#r-{code}></a>"  # its words are in the style
+        if code in self._advised:
+            return f"<a href=#{self._advised[code]}>What usually breaks it, and what to change</a>"
+        self._advised[code] = name
         return f"<div class=advice>{advice(explanation, self._story.end)}</div>"
 
 
 def advice(explanation: Explanation, end: str) -> str:
-    """Why there is a rule, and what to change in an end."""
+    """Why there is a statement, where it is judged, and what to change in an end."""
     words = explanation.advice(end)
     heading = f"What usually breaks it in a {end}, and what to change"
     found = [(heading, words)] if words else [(name, text) for name, text in explanation.advices]
-    found += [(name, explanation.parts[name]) for name in ("Why", "See") if name in explanation.parts]
+    found += [(name, explanation.parts[name]) for name in ("Why", "Judged", "See") if name in explanation.parts]
     return "".join(f"<p><b>{name}:</b> {escaped(text)}</p>" for name, text in found)
 
 

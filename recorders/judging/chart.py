@@ -9,22 +9,22 @@ from collections.abc import Iterable
 from dataclasses import dataclass, field
 from html import escape
 
-from judging.events import CUT, Event
+from judging.events import Event
+from judging.labels import difference, fate_of, label, label_shown, time_shown, title
 from judging.markup import attribute, counted, number
-from judging.story import NEW, RESUMED, UNDECIDED, VOID, Connection, Fault, Scene, Story
-from log_format import time_text
+from judging.story import WHOLE, Connection, Fault, Scene, Story, runs_of
 
 TOP = 34  # above the first row
-ROW, CODES, TIME = 28, 14, 10  # what a row takes, and codes or a time under it
+ROW, CODES = 28, 14  # what a row takes, and codes under it
 GAP = 30
 LINE = 18  # of an arrow, from the top of its row
+EARLY = 9  # pixels before the line of a gap where a band ends that ended in the gap
 LANE, LANES = 7, 4  # lines to what shows a fault are beside each other
-LONGEST_TITLE = 240
-LONGEST_MOMENT, KEPT_DIGITS = 15, 12  # characters, as a time of day has; of a longer moment the last ones are shown
+LEAST = 10  # events of a fold among others that aren't known
+SEEN_OF_RUN = 3  # faults of a run that are drawn, beside the last one; those between are folded
 PEERS = {"client": "server", "server": "client"}
-FATES = {NEW: "new session", RESUMED: "session resumed", UNDECIDED: "undecided"}
 FULL, LEAN, SHORT = 2, 1, 0  # how much is said of each event and fault
-WORDS = {"SENT": "sent", "RECV": "received"}
+FIGURE_SPACE = "\u2007"  # as wide as a digit
 
 
 @dataclass
@@ -32,15 +32,29 @@ class Drawing:
     """What is drawn of a log, and how much of it."""
 
     log: int  # its number in the page
+    name: str  # the log's
     story: Story
     overlooked: dict[str, str] = field(default_factory=dict)  # codes that are ignored, and by which option
     context: int = 2  # events before and after a fault
     most: int = 1000  # events
+    most_folded: int = 0  # events in folds that can be opened
     detail: int = FULL
+    runs: list[list[Fault]] = field(init=False)
     scenes: list[Scene] = field(init=False)
+    folded: dict[int, Scene] = field(init=False)  # by their positions
 
     def __post_init__(self) -> None:
-        self.scenes = choose_scenes(self.story, self.context, self.most)
+        self.runs = runs_of(self.story.told, self.story)
+        chosen = choose_scenes(self.story, self.runs, self.context, self.most)
+        self.scenes = [chosen[place] for place in sorted(chosen)]
+        spare = self.story.scenes.keys() - chosen.keys()
+        places = places_of(fault for run in self.runs for fault in run) or [0]
+        self.folded = {place: self.story.scenes[place] for place in nearest(spare, places, self.most_folded)}
+
+    @property
+    def drawn(self) -> set[int]:
+        """The positions that a link may lead to."""
+        return {scene.event.position for scene in self.scenes} | self.folded.keys()
 
     @property
     def is_timed(self) -> bool:
@@ -51,28 +65,33 @@ class Drawing:
         """The name of an event in the page."""
         return f"e{self.log}-{position}"
 
-    def name(self, fault: Fault) -> str:
+    def card(self, fault: Fault) -> str:
         """The name of what is said of a fault."""
         return f"f{self.log}-{fault.position}-{fault.code}"
 
 
-def choose_scenes(story: Story, context: int, most: int) -> list[Scene]:
+def choose_scenes(story: Story, runs: list[list[Fault]], context: int, most: int) -> dict[int, Scene]:
     """What is near to a fault, what is under its Packet Identifier, and how the connections of all that began.
 
-    Where that is too much, the events that are farthest from any fault are left out.
+    A short log is drawn whole. Where all that is too much, the events that are farthest from any fault are left out.
     """
-    places = sorted({place for fault in story.told for place in (fault.position, fault.decided)})
-    keys = keys_of(story) - {None}
+    if story.events <= WHOLE and len(story.scenes) == story.events:
+        return dict(story.scenes)
+    seen = [fault for run in runs for fault in [*run[:SEEN_OF_RUN], *run[SEEN_OF_RUN:][-1:]]]
+    places = places_of(seen)
+    keys = keys_of(story, seen)
     near = {place + step for place in places for step in range(-context, context + 1)}
     chosen = {place: scene for place, scene in story.scenes.items()
               if not places or place in near or scene.key in keys or scene.event.position in places}
     if len(chosen) > most:
-        chosen = {place: chosen[place] for place in nearest(chosen, places, most)}
+        chosen = {place: chosen[place] for place in nearest(chosen, places or [0], most)}
+    setters = [story.setters[place] for place in places if place in story.setters]
+    chosen |= {event.position: story.scenes[event.position] for event in setters}
     for scene in [*chosen.values()]:
         for event in beginning(scene.connection):
             chosen.setdefault(event.position, Scene(event, scene.connection))
     fill(chosen, story, max(1, 2 * context))
-    return [chosen[place] for place in sorted(chosen)]
+    return chosen
 
 
 def fill(chosen: dict[int, Scene], story: Story, most: int) -> None:
@@ -88,9 +107,15 @@ def fill(chosen: dict[int, Scene], story: Story, most: int) -> None:
             chosen |= {place: spare[place] for place in gap}
 
 
-def keys_of(story: Story) -> set[str | None]:
+def places_of(faults: Iterable[Fault]) -> list[int]:
+    """Where faults are, and the events that show them."""
+    return sorted({place for fault in faults for place in (fault.position, fault.decided)})
+
+
+def keys_of(story: Story, faults: list[Fault]) -> set[str]:
     """Which events belong to those at fault, by their Packet Identifiers."""
-    return {story.scenes[fault.position].key for fault in story.told if fault.position in story.scenes}
+    scenes = (story.scenes[fault.position] for fault in faults if fault.position in story.scenes)
+    return {scene.key for scene in scenes if scene.key}
 
 
 def nearest(chosen: Iterable[int], places: list[int], most: int) -> list[int]:
@@ -110,39 +135,32 @@ def beginning(connection: Connection | None) -> list[Event]:
     return [event for event in found if event is not None]
 
 
-def label(event: Event) -> str:
-    """What is written at an event: its type, and what tells it from others of the type."""
-    if not event.is_packet:
-        return f"RELEASE id {event.rest}" if event.kind == "RELEASE" else event.kind
-    if event.broken:
-        return f"{event.name}, malformed"
-    if event.name == "LOST":
-        return "bytes that can't be parsed"
-    words = [event.name + (f" id {event.identifier}" if event.identifier is not None else "")]
-    if event.name == "PUBLISH":
-        words.append(f"QoS {event.field('qos')}")
-        words += ["DUP"] if event.field("dup") == "1" else []
-    code = event.field("code")
-    words += [code] if code and code != "0x00" and event.name not in ("SUBACK", "UNSUBACK") else []
-    return " · ".join(words)
+@dataclass
+class Gap:
+    """Events between two that are drawn: in a fold if they are known."""
+
+    first: int
+    last: int
+    scenes: list[Scene] = field(default_factory=list)
 
 
-def fate_of(connection: Connection) -> str:
-    """What became of a connection, in words."""
-    if connection.fate != VOID:
-        return FATES[connection.fate]
-    code = connection.connack.field("code") if connection.connack else None
-    return f"void, refused with {code}" if code else "void, no CONNACK came"
-
-
-def title(scene: Scene) -> str:
-    """What is said of an event where a pointer rests on it."""
-    event = scene.event
-    where = f", connection {scene.connection.number}" if scene.connection else ""
-    time = f", {time_text(event.moment) or f'moment {event.moment}'}" if event.moment else ""
-    words = f"{WORDS.get(event.kind, event.kind)} {event.rest.replace(CUT, ' … ')}".strip()
-    words = words if len(words) <= LONGEST_TITLE else f"{words[:LONGEST_TITLE]} …"
-    return attribute(f"Event {event.position}, record {event.record}{where}{time}: {words}")
+def gaps_in(first: int, last: int, folded: dict[int, Scene]) -> list[Gap]:
+    """The events from one to another, known ones and others apart."""
+    known = sorted(place for place in folded if first <= place <= last)
+    if len(known) < LEAST and len(known) <= last - first:
+        return [Gap(first, last)]
+    gaps: list[Gap] = []
+    at = first
+    for place in known:
+        if place > at:
+            gaps.append(Gap(at, place - 1))
+        if gaps and gaps[-1].scenes and place == at:
+            gaps[-1].last = place
+            gaps[-1].scenes.append(folded[place])
+        else:
+            gaps.append(Gap(place, place, [folded[place]]))
+        at = place + 1
+    return gaps if at > last else [*gaps, Gap(at, last)]
 
 
 class Chart:
@@ -153,13 +171,16 @@ class Chart:
         self._faults: dict[int, list[Fault]] = {}
         for fault in self._story.told:
             self._faults.setdefault(fault.position, []).append(fault)
-        self._keys = keys_of(self._story) - {None}
+        self._keys = keys_of(self._story, self._story.told)
         self._lines: dict[int, int] = {}  # of events: where they are drawn
         self._bands: list[str] = []
         self._rows: list[str] = []
         self._begun: tuple[Connection, int] | None = None  # the band that isn't at its end, and where it begins
         self._height = TOP
         self._is_timed = drawing.is_timed
+        self._digits = len(str(self._story.events))
+        self._before: Event | None = None  # the event above
+        self._is_folded = False  # what is drawn is in a fold
 
     def draw(self) -> str:
         before: Scene | None = None
@@ -175,12 +196,13 @@ class Chart:
 
     def _whole(self) -> str:
         story, log = self._story, self._drawing.log
+        name = attribute(self._drawing.name)
         end = f"{story.end}, tested" if story.end else "tested end"
         peer = PEERS.get(story.end, "peer")
         height = self._height + 6
         heads = (f"<text class=h y=14>{end}</text><text class='h p' x=100% y=14>{peer}</text>"
                  f"<line class=l y1=20 y2={height} /><line class=l x1=100% x2=100% y1=20 y2={height} />")
-        about = (f"<title id=t{log}>Sequence chart of log {log}</title><desc id=d{log}>"
+        about = (f"<title id=t{log}>Sequence chart of {name}</title><desc id=d{log}>"
                  f"{number(len(self._drawing.scenes))} of {counted(story.events, 'event')}, from top to bottom; on the"
                  f" left the {end}. The code of a fault is a link to what is said of it.</desc>")
         timed = " timed" if self._is_timed else ""
@@ -188,22 +210,48 @@ class Chart:
                 f'{"".join(self._bands)}{heads}{"".join(self._rows)}{self._links()}</svg>')
 
     def _skip(self, before: Scene | None, scene: Scene | None) -> None:
-        """Draws a line for the events between two."""
+        """Draws a line for the events between two; several where some of them are known, and others aren't."""
         first = before.event.position + 1 if before else 1
         last = scene.event.position - 1 if scene else self._story.events
-        if last < first:
-            return
+        gaps = gaps_in(first, last, self._drawing.folded) if last >= first else []
+        for gap, following in zip(gaps, [*gaps[1:], None]):
+            self._put_gap(gap, before, following.scenes[0] if following and following.scenes else scene)
+            before = gap.scenes[-1] if gap.scenes else before
+
+    def _put_gap(self, gap: Gap, before: Scene | None, after: Scene | None) -> None:
+        """Draws a line for some events, and under it what opens."""
         middle = self._height + GAP // 2
         self._height += GAP
         inside = self._begun[0] if self._begun else None
-        if inside and inside.closing and inside.closing.position <= last:
-            self._end_band(middle - 9)
+        closing = inside.closing.position if inside and inside.closing else 0
+        if 0 < closing <= gap.last:
+            self._end_band(middle - EARLY)
         numbers = (before.connection.number if before and before.connection else 0,
-                   scene.connection.number if scene and scene.connection else self._story.connections + 1)
+                   after.connection.number if after and after.connection else self._story.connections + 1)
         between = numbers[1] - numbers[0] - (0 if numbers[0] else 1)
         more = f" on {counted(between, 'connection')}" if between > 1 else ""
-        text = f"{counted(last - first + 1, 'event')}{more} not shown"
-        self._rows.append(f"<svg class=gap y={middle}><line x2=100% /><text>{text}</text></svg>")
+        count = counted(gap.last - gap.first + 1, "event")
+        if not gap.scenes:
+            self._rows.append(f"<svg class=gap y={middle}><line x2=100% /><text>{count}{more} not shown</text></svg>")
+            return
+        height, rows = self._fold(gap.scenes, inside if gap.first <= closing <= gap.last else None)
+        link = f"<a href=#{self._drawing.place(gap.first)}>Show {count}{more}</a>"
+        self._rows.append(f"<svg class=gap y={middle} data-h={height}><line x2=100% /><text>{link}</text>"
+                          f"<svg class=fold y={GAP // 2}>{rows}</svg></svg>")
+
+    def _fold(self, scenes: list[Scene], ending: Connection | None) -> tuple[int, str]:
+        """The rows of a fold, and how high they are: it has places of its own, and maybe the end of a band."""
+        kept = self._height, self._bands, self._rows, self._lines, self._begun
+        self._height, self._bands, self._rows, self._lines = 0, [], [], {}
+        self._begun = (ending, -GAP // 2 - EARLY) if ending else None
+        self._is_folded = True
+        for scene in scenes:
+            self._put(scene)
+        self._end_band(self._height)
+        height, rows = self._height, "".join([*self._bands, *self._rows])
+        self._height, self._bands, self._rows, self._lines, self._begun = kept
+        self._is_folded = False
+        return height, rows
 
     def _put(self, scene: Scene) -> None:
         """Draws an event in a row of its own."""
@@ -214,18 +262,25 @@ class Chart:
         if event.kind == "OPEN" and scene.connection:
             self._end_band(self._height)
             self._begun = scene.connection, self._height + 2
-        self._height += ROW + (CODES if faults else 0) + (TIME if self._is_timed else 0)
-        words = [f"<text>{event.position}</text>", self._shape(scene)]
-        if self._is_timed:
-            words.append(f"<text class=t>{time_of(event)}</text>")
+        self._height += ROW + (CODES if faults else 0)
+        words = [self._margin(event), self._shape(scene)]
         if faults:
             words.append(self._codes(event, faults))
-        if self._drawing.detail == FULL:
+        if self._drawing.detail == FULL and not self._is_folded:
             words.insert(0, f"<title>{title(scene)}</title>")
         self._rows.append(f"<svg id={self._drawing.place(event.position)} class={self._kind(scene, faults)}"
                           f" y={line}>{''.join(words)}</svg>")
         if event.kind == "CLOSE":
             self._end_band(self._height - 2)
+        self._before = event
+
+    def _margin(self, event: Event) -> str:
+        """What stands beside an event: its position, when it happened, and how long after the one above."""
+        if not self._is_timed:
+            return f"<text>{event.position}</text>"
+        later = difference(self._before, event)
+        return (f"<text><tspan class=t>{time_shown(event)}</tspan> {event.position:{FIGURE_SPACE}>{self._digits}}</text>"
+                + (f"<text class=t>{later}</text>" if later else ""))
 
     def _kind(self, scene: Scene, faults: list[Fault]) -> str:
         """The classes of an event: how it goes, whether it is at fault, and to which others it belongs."""
@@ -244,7 +299,7 @@ class Chart:
             connection = scene.connection
             return f"<text class=b>Connection {connection.number}: {escape(fate_of(connection))}</text>"
         if event.is_packet:
-            return f"<line x{2 if event.kind == 'SENT' else 1}=100% /><text>{escape(label(event))}</text>"
+            return f"<line x{2 if event.kind == 'SENT' else 1}=100% /><text>{label_shown(event)}</text>"
         shapes = {"REST": "M-5 0L0-5L5 0L0 5z", "RELEASE": "M-7 0L4-6V6z", "CLOSE": "M-4-4L4 4M-4 4L4-4"}
         return f'<path d="{shapes.get(event.kind, "")}"/><text class=b>{label(event)}</text>'
 
@@ -256,7 +311,7 @@ class Chart:
             kind = " class=i" if is_ignored else ""
             words = f' aria-label="{fault.code}{", ignored," if is_ignored else ""} at event {fault.position}"'
             words = words if self._drawing.detail == FULL else ""
-            links.append(f"<a href=#{self._drawing.name(fault)}{kind}{words}>{fault.code}</a>")
+            links.append(f"<a href=#{self._drawing.card(fault)}{kind}{words}>{fault.code}</a>")
         place = "c" if event.is_packet else '"c b"'
         return f"<text class={place}>{' '.join(links)}</text>"
 
@@ -288,15 +343,6 @@ class Chart:
         self._height += ROW
         self._rows.append(f'<svg class="x stop" y={line}><line x2=100% />'
                           f"<text>{attribute(self._story.refusal)}</text></svg>")
-
-
-def time_of(event: Event) -> str:
-    """The time of an event as it fits beside its position; its moment where that is no time, or the end of a long one."""
-    if event.moment is None:
-        return ""
-    digits = str(event.moment)
-    digits = digits if len(digits) <= LONGEST_MOMENT else f"…{digits[-KEPT_DIGITS:]}"
-    return f"{event.time:%H:%M:%S.%f}" if event.time else digits
 
 
 def draw(drawing: Drawing) -> str:

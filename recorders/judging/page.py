@@ -5,7 +5,9 @@ import base64
 import hashlib
 import os
 from collections import Counter
+from collections.abc import Callable
 from dataclasses import dataclass, field, replace
+from datetime import UTC, datetime
 from pathlib import Path
 
 from judging.card import Cards, advice
@@ -15,9 +17,13 @@ from judging.markup import attribute, counted, escaped, isolated, number
 from judging.refusals import refusal_of
 from judging.story import Fault, Story, choose
 from judging.verdict import FAILED, FAULTS, PASSED, REFUSED, TOO_SHORT, WORDS, Verdict
+from log_format import time_text
 
 HERE = Path(__file__).resolve().parent
 LARGEST = 10_000_000  # bytes of a page
+WITH_FOLDS = 4_000_000  # bytes of one with folds that can be opened
+OF_PASSES = 2_000_000  # bytes of the charts of passes
+FEW = 3  # from so many logs on there is a table of them, with filters
 MANY_LOGS, MANY_FAULTS = 1_000, 10_000  # above that only the worst logs get charts
 WORST = 200
 SAMPLES = 20  # logs by which the size of a page is estimated
@@ -35,20 +41,22 @@ MEANINGS = {
 class Level:
     """How much is shown of a log, so that a page has its size."""
 
-    detail: int  # below FULL, what to change stands only in the list of rules, and links lead there
+    detail: int  # below FULL, what to change stands only in the list of statements, and links lead there
     context: int  # events around a fault that are drawn
     events: int  # that are drawn at most
+    folded: int  # others that a click shows
     cards: int  # faults that are shown at most with all that there is to say of them
     listed: int  # other faults of a code that are listed by their positions
 
 
 LEVELS = (
-    Level(FULL, 2, 1000, 250, 2000),
-    Level(LEAN, 2, 1000, 250, 2000),
-    Level(LEAN, 0, 400, 100, 1000),
-    Level(SHORT, 0, 200, 50, 100),
-    Level(SHORT, 0, 100, 10, 100),
-    Level(SHORT, 0, 30, 4, 10),
+    Level(FULL, 2, 1000, 600, 250, 2000),
+    Level(FULL, 2, 1000, 0, 250, 2000),
+    Level(LEAN, 2, 1000, 0, 250, 2000),
+    Level(LEAN, 0, 400, 0, 100, 1000),
+    Level(SHORT, 0, 200, 0, 50, 100),
+    Level(SHORT, 0, 100, 0, 10, 100),
+    Level(SHORT, 0, 40, 0, 4, 10),
 )
 
 
@@ -59,6 +67,7 @@ class Entry:
     number: int  # counted from 1
     verdict: Verdict
     name: str
+    digest: str = ""  # SHA-256 of its bytes, where they can be read
     ignored: Counter[str] = field(default_factory=Counter)  # faults of each code that don't count
 
     @property
@@ -79,14 +88,19 @@ class Entry:
 
 
 class Gallery:
-    """The verdicts for a page. Of very many logs only the worst ones keep their stories."""
+    """The verdicts for a page. Of very many logs only the worst ones keep their stories, and the first passes."""
 
     def __init__(self) -> None:
         self._told: list[Verdict] = []
         self._most = MANY_LOGS
+        self._passes = 0
 
     def take(self, verdict: Verdict) -> None:
         if verdict.story is None:
+            return
+        if is_plain_pass(verdict):
+            self._passes += 1
+            verdict.story = verdict.story if self._passes <= MANY_LOGS else None
             return
         self._told.append(verdict)
         if len(self._told) > self._most:
@@ -105,6 +119,7 @@ class Page:
     summary: str
     remarks: list[str]
     explanations: dict[str, Explanation]  # of each code that came
+    date: datetime = field(default_factory=lambda: datetime.now(UTC))
 
     def write(self, verdicts: list[Verdict]) -> str:
         """The whole page, in as much detail as its size allows."""
@@ -114,13 +129,24 @@ class Page:
         is_many = len(pictured) > MANY_LOGS or faults > MANY_FAULTS
         worst = sorted(pictured, key=lambda entry: entry.badness, reverse=True)[:WORST] if is_many else pictured
         charts = {entry.number for entry in worst}
-        head, foot = self._head(entries, pictured, charts), self._rules(entries) + END
-        room = LARGEST - len((head + foot).encode())
+        drawn = [entry for entry in entries if entry.number in charts]
         for level in LEVELS:
-            sections = self._fill([entry for entry in entries if entry.number in charts], level, room)
+            places = self._places(drawn) if level.detail == FULL else {}
+            head, foot = self._head(entries, pictured, charts, places), self._statements(entries, places) + END
+            room = LARGEST - len((head + foot).encode())
+            sections = self._fill(drawn, level, min(room, WITH_FOLDS) if level.folded else room)
             if sections is not None:
                 return head + sections + foot
-        return self._head(entries, pictured, set()) + foot
+        return self._head(entries, pictured, set(), {}) + self._statements(entries, {}) + END
+
+    def _places(self, drawn: list[Entry]) -> dict[str, str]:
+        """Where what to change is said of a code: on the card of its first fault that has one."""
+        places: dict[str, str] = {}
+        for entry in drawn:
+            story = entry.verdict.story
+            for fault in choose(entry.verdict.found, entry.verdict.overlooked) if story and story.scenes else []:
+                places.setdefault(fault.code, f"f{entry.number}-{fault.position}-{fault.code}")
+        return places
 
     def _fill(self, entries: list[Entry], level: Level, room: int) -> str | None:
         """What is said of some logs at a level; None where it is too large, as is tried with some of them first."""
@@ -137,7 +163,7 @@ class Page:
                 return None
         return "".join(parts)
 
-    def _head(self, entries: list[Entry], pictured: list[Entry], charts: set[int]) -> str:
+    def _head(self, entries: list[Entry], pictured: list[Entry], charts: set[int], places: dict[str, str]) -> str:
         style, script = (HERE / "page.css").read_text(), (HERE / "page.js").read_text()
         policy = (f"default-src 'none'; img-src data:; style-src '{digest(style)}'; script-src '{digest(script)}';"
                   " base-uri 'none'; form-action 'none'")
@@ -151,6 +177,8 @@ class Page:
         worst = next((status for status in ORDER if any(entry.verdict.status == status for entry in entries)), FAILED)
         place = f", in <code>{escaped(folder)}</code>" if folder else ""
         kind = " class=many" if len(charts) > SAMPLES else ""
+        logs = self._rows(entries[:ROWS], charts) if len(entries) >= FEW else '<div id="logs">'
+        logs += passes(entries[:ROWS]) + ("" if len(entries) >= FEW else "</div>")
         return (
             f'<!DOCTYPE html>\n<html lang="en"><head><meta charset="utf-8">'
             f'<meta http-equiv="Content-Security-Policy" content="{policy}">'
@@ -160,42 +188,42 @@ class Page:
             f'<a class="skip" href="#logs">To the logs</a>'
             f'<header><h1 class="{class_of(worst)}">{headline(entries)}</h1><p class="last">{escaped(self.summary)}</p>'
             f"{''.join(f'<p class=remark>{escaped(note)}</p>' for note in notes)}"
-            f'<p class="version">Judged by {escaped(self.version or "mqjudge")}{place}.</p>{LEGEND}</header>'
-            f"<main{kind}>{self._codes(entries)}{self._rows(entries[:ROWS], charts)}<script>{script}</script>"
+            f'<p class="version">Judged by {escaped(self.version or "mqjudge")} on'
+            f" {self.date:%Y-%m-%d %H:%M} UTC{place}.</p>{LEGEND}</header><main{kind}>{self._codes(entries, places)}"
+            f"{logs}<script>{script}</script>"
         )
 
-    def _codes(self, entries: list[Entry]) -> str:
+    def _codes(self, entries: list[Entry], places: dict[str, str]) -> str:
         """A table of the codes: faults and logs of each, and what doesn't count."""
         faults = sum((entry.codes for entry in entries), Counter())
         logs = Counter(code for entry in entries for code in entry.codes)
         ignored = sum((entry.ignored for entry in entries), Counter())
         if not faults and not ignored:
             return ""
-        names = ("Rule", "Faults", "Logs", *(["Ignored"] if ignored else []), "What it says")
-        head = "".join(f"<th scope=col>{name}" for name in names)
+        heads = table_heads("Statement", ".Faults", ".Logs", *([".Ignored"] if ignored else []), "What it says")
         rows = []
         for code in sorted(faults | ignored):
             kind = "" if faults[code] else ' class="ignored"'
             cell = f'<td class="num">{number(ignored[code]) if ignored[code] else "–"}' if ignored else ""
-            rows.append(f'<tr{kind}><th scope=row><a class="code" href="#r-{code}">{code}</a>'
+            rows.append(f'<tr{kind}><th scope=row><a class="code" href="#{places.get(code, f"r-{code}")}">{code}</a>'
                         f'<td class="num">{number(faults[code])}<td class="num">{number(logs[code])}{cell}'
                         f"<td>{escaped(self.explanations[code].sentence)}")
-        table = f'<table class="codes"><thead><tr>{head}<tbody>{"".join(rows)}</table>'
-        return f'<h2 id="codes">Faults by rule</h2>{table}'
+        return f'<h2 id="codes">Faults by statement</h2><table class="codes">{heads}<tbody>{"".join(rows)}</table>'
 
     def _rows(self, entries: list[Entry], charts: set[int]) -> str:
-        """A line for each log, the worst ones first, and what chooses among them."""
+        """A row for each log that isn't just a pass, the worst ones first, and what chooses among all."""
         words = {class_of(entry.verdict.status): WORDS[entry.verdict.status] for entry in entries}
         verdicts = "".join(f'<option value="{kind}">{word}</option>' for kind, word in words.items())
         codes = "".join(f"<option>{code}</option>" for code in self.explanations)
-        lines = "".join(row(entry, entry.number in charts) for entry in entries)
+        lines = "".join(row(entry, entry.number in charts) for entry in entries if entry.has_section)
+        heads = table_heads("Log", "Tested end", ".Events", "Verdict", "Statements", "SHA-256")
+        table = f'<table class="logs">{heads}<tbody>{lines}</table>' if lines else ""
         return (
             '<h2 id="logs">Logs</h2><form id="filter" hidden aria-label="Choose logs">'
             f'<label>Verdict <select id="verdict"><option value="">all</option>{verdicts}</select></label>'
-            f'<label>Rule <select id="code"><option value="">all</option>{codes}</select></label>'
+            f'<label>Statement <select id="code"><option value="">all</option>{codes}</select></label>'
             '<label>Name <input id="name" type="search" autocomplete="off"></label>'
-            f'<output id="count" aria-live="polite">{counted(len(entries), "log")}</output></form>'
-            f'<ol class="logs">{lines}</ol>'
+            f'<output id="count" aria-live="polite">{counted(len(entries), "log")}</output></form>{table}'
         )
 
     def _section(self, entry: Entry, level: Level) -> str:
@@ -206,8 +234,7 @@ class Page:
         kind = class_of(verdict.status)
         head = (f'<section class=log id=l{entry.number} data-c="{codes}" data-v={kind}'
                 f' data-n="{attribute(entry.name)}" data-end="{end_of(verdict)}">'
-                f'<h3><span class="badge {kind}">{WORDS[verdict.status]}</span> {isolated(entry.name)}</h3>'
-                f"<p class=about>{about(entry)}</p>{notes}")
+                f"{heading(entry)}<p class=about>{about(entry)}</p>{notes}")
         if verdict.last.startswith("refused "):
             head += refused(verdict)
         elif verdict.status in MEANINGS:
@@ -221,29 +248,29 @@ class Page:
         """The chart of a log, and its faults beside it."""
         verdict = entry.verdict
         told = choose(verdict.found, verdict.overlooked, level.cards)
-        drawing = Drawing(entry.number, replace(story, told=told), verdict.overlooked, level.context, level.events,
-                          level.detail)
+        shown = story.opened(told) if level.folded else replace(story, told=told)
+        drawing = Drawing(entry.number, entry.name, shown, verdict.overlooked, level.context, level.events,
+                          level.folded, level.detail)
         cards = Cards(drawing, self.explanations)
-        said = "".join(cards.card(fault) for fault in told)
+        said = cards.cards()
         if told:
-            said = f"<div class=faults>{said}{others(verdict.found, told, level.listed)}</div>"
-        return (f'<div class=both><div class=picture tabindex=0 role=region aria-label="Chart of log {entry.number}">'
-                f"{draw(drawing)}</div>{said}</div>")
+            left = others(verdict.found, told, level.listed, lambda code: cards.place(code) or f"r-{code}")
+            said = f"<div class=faults>{said}{left}</div>"
+        return f"<div class=both>{picture(drawing)}{said}</div>"
 
-    def _rules(self, entries: list[Entry]) -> str:
-        """All rules that were broken, with what explains them."""
-        if not self.explanations:
-            return ""
+    def _statements(self, entries: list[Entry], places: dict[str, str]) -> str:
+        """The statements that were broken, with what explains them, of those that no card explains."""
         ends = {entry.verdict.story.end for entry in entries if entry.verdict.story} & {"client", "server"}
         parts = []
         for code, explanation in self.explanations.items():
+            if code in places:
+                continue
             texts = [advice(explanation, end) for end in sorted(ends)] or [advice(explanation, "")]
             words = "".join(f'<div data-end="{end}">{text}</div>' for end, text in zip(sorted(ends) or [""], texts))
-            judged = explanation.parts.get("Judged", "")
-            parts.append(f'<section class="a-rule" id="r-{code}"><h3><span class="code">{code}</span>'
+            parts.append(f'<section class="statement" id="r-{code}"><h3><span class="code">{code}</span>'
                          f' {escaped(explanation.sentence)}</h3><p class="cite">{escaped(explanation.citation)}</p>'
-                         f"{words}{f'<p><b>Judged:</b> {escaped(judged)}</p>' if judged else ''}</section>")
-        return f'<h2 id="rules">The rules that were broken</h2>{"".join(parts)}'
+                         f"{words}</section>")
+        return f'<h2 id="statements">The statements that were broken</h2>{"".join(parts)}' if parts else ""
 
 
 MARKERS = (
@@ -258,15 +285,17 @@ MARKERS = (
 LEGEND = (
     "<details><summary>How to read the charts</summary><ul>"
     "<li>Time runs downwards. On the left is the end that was tested, on the right its peer. Each arrow is a packet;"
-    " the number beside it is the position of the event in the log, counted from 1."
+    " the number beside it is the position of the event in the log, counted from 1. Where the log has times, that of"
+    " the event is beside its number, and under it how long after the one before it came."
     "<li>A band is a network connection. On it the server began a new session, or resumed the one from before; it is"
     " void if the server refused it or it was closed without a CONNACK, and undecided if the log ends before that."
     "<li>REST says that the tested end had sent all that it was going to send: what is missing then never came. RELEASE"
     " says that it passed a QoS 2 message on."
-    "<li>A red arrow breaks a rule: the code under it leads to what the rule says and what to change. A thin red line"
+    "<li>A red arrow breaks a statement: the code under it leads to what that says and what to change. A thin red line"
     " leads to a later event that shows the fault. What is ignored is grey."
-    "<li>Choose a fault, and all events under its Packet Identifier in the session are lit: those of the same exchange"
-    " with whole lines, those in which the other end chose the number with dashed ones.</ul></details>"
+    "<li>Choose a fault, in the chart or by its card, and all events under its Packet Identifier in the session are lit:"
+    " those of the same exchange with whole lines, those in which the other end chose the number with dashed ones; and"
+    " what announced the limit, or set the Topic Alias, that it is about.</ul></details>"
 )
 END = "</main></body></html>\n"
 
@@ -276,11 +305,23 @@ def digest(text: str) -> str:
     return f"sha256-{base64.b64encode(hashlib.sha256(text.encode()).digest()).decode()}"
 
 
+def digest_of(path: Path) -> str:
+    """SHA-256 of a log, so that a page says which bytes were judged; empty where it is no file that can be read."""
+    try:
+        with path.open("rb") if path.is_file() else open(os.devnull, "rb") as file:
+            return hashlib.file_digest(file, "sha256").hexdigest() if path.is_file() else ""
+    except OSError:
+        return ""
+
+
 def entries_of(verdicts: list[Verdict]) -> list[Entry]:
     """The logs in the order of the page: the worst verdicts first."""
     folder = common_folder([verdict.path for verdict in verdicts])
     ranked = sorted(verdicts, key=lambda verdict: (ORDER.index(verdict.status), not verdict.ignored))
-    return [entry_of(place, verdict, folder) for place, verdict in enumerate(ranked, 1)]
+    entries = [entry_of(place, verdict, folder) for place, verdict in enumerate(ranked, 1)]
+    for entry in entries[:ROWS]:
+        entry.digest = digest_of(entry.verdict.path)
+    return entries
 
 
 def entry_of(place: int, verdict: Verdict, folder: str) -> Entry:
@@ -290,7 +331,7 @@ def entry_of(place: int, verdict: Verdict, folder: str) -> Entry:
         if words[0] != "refused":
             ignored[words[0]] += int(words[1])
     name = os.path.relpath(verdict.path, folder) if folder else str(verdict.path)
-    return Entry(place, verdict, name, ignored)
+    return Entry(place, verdict, name, ignored=ignored)
 
 
 def common_folder(paths: list[Path]) -> str:
@@ -333,8 +374,14 @@ def what_came(entry: Entry) -> str:
     return "refused" if verdict.status == REFUSED else WORDS[verdict.status]
 
 
+def table_heads(*names: str) -> str:
+    """The heads of a table: those with a dot before them are of columns of numbers."""
+    heads = "".join(f"<th scope=col{' class=num' if name[0] == '.' else ''}>{name.lstrip('.')}" for name in names)
+    return f"<thead><tr>{heads}"
+
+
 def row(entry: Entry, has_section: bool) -> str:
-    """A log in the list."""
+    """A log in the table of those that aren't just a pass."""
     verdict = entry.verdict
     kind = class_of(verdict.status)
     counts = sorted(entry.codes.items())
@@ -343,22 +390,106 @@ def row(entry: Entry, has_section: bool) -> str:
     if verdict.last.startswith("refused "):
         codes = escaped(verdict.refusal) + (' <span class="way">ignored</span>' if verdict.ignored else "")
     ignored = f' <span class="way">{number(entry.ignored.total())} ignored</span>' if entry.ignored else ""
-    end = end_of(verdict)
-    name = "" if has_section else f' id="l{entry.number}"'
-    events = counted(verdict.events, "event") if verdict.events is not None else ""
-    return (f'<li{name} data-v="{kind}" data-c="{" ".join(sorted({*entry.codes, *entry.ignored}))}">'
-            f'<a href="#l{entry.number}">{isolated(entry.name)}</a><span>{end}</span><span>{events}</span>'
-            f'<span class="badge {kind}">{what_came(entry)}</span><span>{codes}{ignored}</span></li>')
+    said = f'<td class="badge {kind}">{what_came(entry)}<td>{codes}{ignored}'
+    return f"{cells(entry, has_section)}{said}{hash_cell(entry)}"
+
+
+def cells(entry: Entry, has_section: bool) -> str:
+    """What begins a row: the name, a link where there is more to see, the tested end, and the number of events."""
+    verdict = entry.verdict
+    name = isolated(entry.name)
+    words = f'<a href="#l{entry.number}">{name}</a>' if has_section else name
+    place = "" if has_section else f' id="l{entry.number}"'
+    events = number(verdict.events) if verdict.events is not None else ""
+    codes = " ".join(sorted({*entry.codes, *entry.ignored}))
+    return (f'<tr{place} data-v="{class_of(verdict.status)}" data-c="{codes}"><th scope=row>{words}'
+            f"<td>{end_of(verdict)}<td class=num>{events}")
+
+
+def hash_cell(entry: Entry) -> str:
+    return f"<td class=hash>{entry.digest}"
+
+
+def heading(entry: Entry) -> str:
+    kind = class_of(entry.verdict.status)
+    return f'<h3><span class="badge {kind}">{WORDS[entry.verdict.status]}</span> {isolated(entry.name)}</h3>'
+
+
+def picture(drawing: Drawing) -> str:
+    """The chart of a log, in what scrolls where it is long."""
+    name = attribute(drawing.name)
+    return f'<div class=picture tabindex=0 role=region aria-label="Chart of {name}">{draw(drawing)}</div>'
+
+
+def is_plain_pass(verdict: Verdict) -> bool:
+    """Whether a log passed, and nothing of it was ignored."""
+    return verdict.status == PASSED and not verdict.ignored
+
+
+def passes(entries: list[Entry]) -> str:
+    """The logs that passed, in a fold of their own where there are several: a table of them, and folded charts."""
+    passed = [entry for entry in entries if not entry.has_section]
+    is_table = len(entries) >= FEW
+    folds: dict[int, str] = {}
+    room = OF_PASSES
+    for entry in passed:
+        if entry.verdict.story and entry.verdict.story.scenes:
+            fold = pass_shown(entry, is_table)
+            room -= len(fold.encode())
+            if room < 0:
+                break
+            folds[entry.number] = fold
+    if not is_table:
+        return "".join(folds.get(entry.number) or pass_shown(entry, is_table) for entry in passed)
+    if not passed:
+        return ""
+    heads = table_heads("Log", "Tested end", ".Events", "SHA-256")
+    rows = "".join(cells(entry, entry.number in folds) + hash_cell(entry) for entry in passed)
+    left = len(passed) - len(folds)
+    note = f"<p class=note>{counted(left, 'log')} more without a chart.</p>" if left and folds else ""
+    return (f'<details class="passes"><summary>{counted(len(passed), "log")} passed</summary>'
+            f'<table class="logs">{heads}<tbody>{rows}</table>{"".join(folds.values())}{note}</details>')
+
+
+def pass_shown(entry: Entry, is_folded: bool) -> str:
+    """A log that passed: what it has, and how it began."""
+    verdict, story = entry.verdict, entry.verdict.story
+    notes = "".join(f'<p class="remark">{escaped(note)}</p>' for note in notes_of(verdict))
+    chart = picture(Drawing(entry.number, entry.name, story, detail=SHORT)) if story and story.scenes else ""
+    counts = f"<p class=about>{what_it_has(story)}</p>" if story else ""
+    return (f'<details class=log id=l{entry.number} data-v=pass data-c="" data-n="{attribute(entry.name)}"'
+            f"{'' if is_folded else ' open'}><summary>{heading(entry)}</summary><p class=about>{about(entry)}</p>"
+            f"{counts}{'' if is_folded else hash_line(entry)}{notes}{chart}</details>")
+
+
+def what_it_has(story: Story) -> str:
+    """How often each packet went each way."""
+    ways = []
+    for kind, word in (("SENT", "sent"), ("RECV", "received")):
+        counts = [f"{number(count)} {key.split()[1]}" for key, count in story.counts.items() if key.startswith(kind)]
+        ways += [f"{word}: {', '.join(counts)}"] if counts else []
+    return escaped("; ".join(ways).capitalize()[:1] + "; ".join(ways)[1:])
+
+
+def hash_line(entry: Entry) -> str:
+    return f"<p class=about>SHA-256 <span class=hash>{entry.digest}</span></p>" if entry.digest else ""
 
 
 def about(entry: Entry) -> str:
     """What a log is."""
-    verdict = entry.verdict
+    verdict, story = entry.verdict, entry.verdict.story
     end = end_of(verdict)
     words = [f"The tested end is a {end}" if end else "", counted(verdict.events, "event") if verdict.events else "",
              what_came(entry) if verdict.status == FAULTS else "",
-             counted(entry.ignored.total(), "fault") + " ignored" if entry.ignored else ""]
+             counted(entry.ignored.total(), "fault") + " ignored" if entry.ignored else "",
+             recorded(story.span) if story and story.span else ""]
     return ", ".join(word for word in words if word)
+
+
+def recorded(span: tuple[int, int]) -> str:
+    """When a log was recorded, by its first moment and its last one; empty where they are no times."""
+    first, last = (time_text(moment)[:19] for moment in span)
+    return f"recorded from {first} to {last[11:] if last[:10] == first[:10] else last} UTC" if first and last else ""
 
 
 def notes_of(verdict: Verdict) -> list[str]:
@@ -382,7 +513,7 @@ def escaped_lines(text: str) -> str:
     return "\n".join(escaped(line) for line in text.splitlines())
 
 
-def others(found: list[Fault], told: list[Fault], most: int) -> str:
+def others(found: list[Fault], told: list[Fault], most: int, place: Callable[[str], str]) -> str:
     """The faults that are only listed, by their codes."""
     left = set(found) - set(told)
     if not left:

@@ -12,7 +12,7 @@ from pathlib import Path
 from typing import IO, BinaryIO
 
 from judging.places import what_else
-from judging.story import Teller, choose, end_of
+from judging.story import Teller, choose, end_of, is_brief
 from judging.texts import mark_texts
 from judging.verdict import FAILED, FAULTS, REFUSED, TOO_SHORT, Verdict
 from log_format import HEADER_SIZE, body_size, version_of
@@ -88,7 +88,7 @@ class Judge:
             identifiers = self._explain(verdict, log)
         if self._keeps:
             verdict.end = end_of(header_of(log))
-        if self._tells and (verdict.found or verdict.status in (REFUSED, TOO_SHORT)):
+        if self._tells and (verdict.found or verdict.status in (REFUSED, TOO_SHORT) or is_brief(verdict.events)):
             self._tell(verdict, log, identifiers)
         mark_texts(verdict.excerpts, verdict.story, log)
 

@@ -7,14 +7,19 @@ from __future__ import annotations
 import re
 from collections import Counter, deque
 from collections.abc import Iterable
-from dataclasses import dataclass, field
+from dataclasses import dataclass, field, replace
 from functools import cached_property
 from typing import NamedTuple
 
-from judging.events import Event, identifier_in, read_event
+from judging.events import LONG_TEXT, Event, identifier_in, read_event, shortened
 from log_format import HEADER_SIZE
 
 NEAR = 6  # events before and after one that is told of that are kept
+WHOLE = 40  # events of a log that are all kept, and of a longer pass the first ones
+SPARE = 600  # events of a log whose lines are all kept; of a longer one those before its faults, and the last ones
+BEFORE = 200  # of them before a fault, and at the end
+LONGEST_PASS = 100_000  # events of a pass that there is a story of
+RUN, STEP = 3, 12  # faults of a code that are a run, and how many events at most each is after the one before
 MATES = 100  # events under one Packet Identifier that are kept before a fault, and after it
 TOLD = 250  # faults of a log that are shown with all that there is to say of them
 LAST = 8  # events before a refusal
@@ -22,7 +27,9 @@ ENDS = {0: "client", 1: "server"}
 HANDSHAKES = {"client": ("SENT", "RECV"), "server": ("RECV", "SENT")}  # how CONNECT and CONNACK go, by the tested end
 NEW, RESUMED, VOID, UNDECIDED = "new", "resumed", "void", "undecided"
 SUCCESS = "0x00"
-HEAD = re.compile(r"(\d+) record \d+(?: moment \d+)? (\S+)(?: (.*))?", re.DOTALL)
+HEAD = re.compile(r"(\d+) record \d+(?: moment (\d+))? (\S+)(?: (.*))?", re.DOTALL)
+ALIAS = " topic-alias "
+STALE_ALIAS = "C16"  # an alias that wasn't set on its connection
 
 
 class Fault(NamedTuple):
@@ -72,6 +79,14 @@ class Scene:
         return f"{where}i{self.event.identifier}"
 
 
+class Passing(NamedTuple):
+    """A line with where it belongs, which is read only if it is to be shown."""
+
+    line: str
+    connection: Connection | None
+    session: int
+
+
 @dataclass
 class Story:
     """What is shown of a log."""
@@ -83,6 +98,17 @@ class Story:
     connections: int = 0
     refusal: str = ""  # the line, where the log was refused
     left: Counter[str] = field(default_factory=Counter)  # how many events under a fault's identifier aren't kept
+    setters: dict[int, Event] = field(default_factory=dict)  # what set the Topic Alias of an event at fault (C16)
+    counts: Counter[str] = field(default_factory=Counter)  # how often each packet went each way: `SENT PUBLISH`
+    span: tuple[int, int] | None = None  # the first moment and the last one, where the log has moments
+    spare: list[Passing] = field(default_factory=list)  # other events, for those who open a fold
+
+    def opened(self, told: list[Fault]) -> Story:
+        """The same for some of the faults, with all events that are known."""
+        others = [Scene(event, one.connection, one.session) for one in self.spare if (event := read_event(one.line))]
+        new = {scene.event.position: scene for scene in others if scene.event.position not in self.scenes}
+        found = Counter(scene.key for scene in new.values() if scene.key)
+        return replace(self, told=told, scenes=dict(sorted((self.scenes | new).items())), left=self.left - found)
 
     @cached_property
     def mates(self) -> dict[str, list[Scene]]:
@@ -113,6 +139,28 @@ def choose(faults: list[Fault], overlooked: Iterable[str], most: int = TOLD) -> 
     return [faults[index] for index in sorted(best)]
 
 
+def runs_of(faults: list[Fault], story: Story) -> list[list[Fault]]:
+    """Faults in the order of their positions, those together that are a run of one code on a connection."""
+    latest: dict[str, list[Fault]] = {}
+    chains: list[list[Fault]] = []
+    for fault in faults:
+        chain = latest.get(fault.code)
+        is_near = bool(chain) and fault.position - chain[-1].position <= STEP
+        if chain and is_near and place_of(story, chain[-1]) == place_of(story, fault):
+            chain.append(fault)
+        else:
+            latest[fault.code] = [fault]
+            chains.append(latest[fault.code])
+    runs = [run for chain in chains for run in ([chain] if len(chain) >= RUN else [[fault] for fault in chain])]
+    return sorted(runs, key=lambda run: run[0].position)
+
+
+def place_of(story: Story, fault: Fault) -> int:
+    """The number of the connection of a fault; 0 where it has none, or its event isn't kept."""
+    scene = story.scenes.get(fault.position)
+    return scene.connection.number if scene and scene.connection else 0
+
+
 class Teller:
     """Takes in the lines of `show --long`, and keeps what a story of some faults needs."""
 
@@ -122,9 +170,12 @@ class Teller:
         self._handshake = HANDSHAKES.get(end, HANDSHAKES["client"])
         self._wanted = near(told)
         self._told = {fault.position for fault in told}
+        self._stale = {fault.position for fault in told if fault.code == STALE_ALIAS}
+        self._setters: dict[tuple[str, str], Scene] = {}  # by how they go, and the alias
         self._before: dict[int, deque[Scene]] = {number: deque() for number in identifiers.values()}
         self._after: dict[int, int] = {}
-        self._tail: deque[Scene] = deque(maxlen=LAST)
+        self._first: list[Passing] = []
+        self._latest: deque[Passing] = deque(maxlen=BEFORE)
         self._connection: Connection | None = None
         self._session = 0  # of the latest accepted connection
         self._sessions = 0
@@ -136,27 +187,73 @@ class Teller:
             self._story.refusal = line if line.startswith("refused ") else self._story.refusal
             return
         self._position = position = int(found[1])
-        kind, rest = found[2], found[3] or ""
+        kind, rest = found[3], found[4] or ""
+        self._note(found[2], kind, rest)
         identifier = identifier_in(kind, rest) if self._before else None
         is_mate = identifier in self._before
         is_handshake = kind in ("OPEN", "CLOSE") or rest.startswith(("CONNECT ", "CONNACK "))
-        if not (is_mate or is_handshake or position in self._wanted or not self._told):
+        is_alias = bool(self._stale) and rest.startswith("PUBLISH ") and ALIAS in rest
+        if not (is_mate or is_handshake or is_alias or position in self._wanted):
+            self._pass(line)
             return
         event = read_event(line)
         assert event is not None
         if kind == "OPEN":
             self._story.connections += 1
             self._connection = Connection(self._story.connections, opening=event)
+        self._pass(line)
         scene = Scene(event, self._connection, self._session)
         if is_handshake:
             self._shake(event)
         if position in self._wanted:
             self._story.scenes[position] = scene
-        elif not self._told:
-            self._tail.append(scene)
         if is_mate:
             assert identifier is not None
             self._take_mate(scene, identifier)
+        if is_alias:
+            self._take_alias(scene)
+        if position in self._told:
+            self._spare()
+
+    def _note(self, moment: str | None, kind: str, rest: str) -> None:
+        """Counts a packet, and notes the time."""
+        if kind in HANDSHAKES["client"]:
+            self._story.counts[f"{kind} {rest.partition(' ')[0]}"] += 1
+        if moment is not None:
+            first = self._story.span[0] if self._story.span else int(moment)
+            self._story.span = first, int(moment)
+
+    def _pass(self, line: str) -> None:
+        """Keeps a line for a while: it may be shown."""
+        passing = Passing(line if len(line) <= LONG_TEXT else shortened(line), self._connection, self._session)
+        if self._position <= SPARE:
+            self._first.append(passing)
+        else:
+            del self._first[WHOLE:]
+        self._latest.append(passing)
+
+    def _spare(self) -> None:
+        """Keeps the latest events before a fault, which may be its cause, as long as there is room for them."""
+        spare = self._story.spare
+        spare += [*self._latest][-(SPARE - len(spare)):] if len(spare) < SPARE else []
+        self._latest.clear()
+
+    def _keep(self, passing: Passing) -> None:
+        event = read_event(passing.line)
+        if event is not None:
+            self._story.scenes.setdefault(event.position, Scene(event, passing.connection, passing.session))
+
+    def _take_alias(self, scene: Scene) -> None:
+        """Notes what set a Topic Alias, for a PUBLISH with an alias that wasn't set on its connection."""
+        event, alias = scene.event, scene.event.field("topic-alias")
+        if alias is None:
+            return
+        setter = self._setters.get((event.kind, alias))
+        if event.position in self._stale and setter:
+            self._story.setters[event.position] = setter.event
+            self._story.scenes.setdefault(setter.event.position, setter)
+        if event.field("topic"):
+            self._setters[event.kind, alias] = scene
 
     def _shake(self, event: Event) -> None:
         """Learns what becomes of a connection. Its CONNACK is the first that the server sent."""
@@ -205,11 +302,22 @@ class Teller:
         """What was kept, after the last line."""
         story = self._story
         story.events = self._position
-        story.scenes |= {scene.event.position: scene for scene in self._tail}
+        is_pass = not self._told and not story.refusal
+        kept = self._first[:WHOLE] if is_pass or story.events <= WHOLE else []
+        for passing in [*kept, *([*self._latest][-LAST:] if story.refusal else [])]:
+            self._keep(passing)
+        if self._told:
+            self._spare()
+            story.spare = self._first if story.events <= SPARE else story.spare
         for scene in (scene for before in self._before.values() for scene in before):
             self._leave(scene)
         story.scenes = dict(sorted(story.scenes.items()))
         return story
+
+
+def is_brief(events: int | None) -> bool:
+    """Whether a pass of so many events has a story; None stands for a log that wasn't judged."""
+    return events is not None and events <= LONGEST_PASS
 
 
 def near(faults: list[Fault]) -> set[int]:
