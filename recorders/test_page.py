@@ -269,7 +269,7 @@ class Written(Case):
         (self.logs / "a.log").write_bytes(log(ends, *apart, ends, record(4)))
         page = self.page()
         # 5 to 202: what is under identifier 1 isn't folded
-        self.assertIn("<text><a href=#e1-5>Show 198 events</a></text><svg class=fold ", page)
+        self.assertIn("<text><a href=#e1-5>Show 198 events</a></text>", page)
         self.assertIn('<svg id=e1-5 class=s y=', page)
         self.assertIn("<a href=#e1-4>4 PUBLISH</a>, <b>205 PUBLISH</b>", page)
         self.assertIn('id=e1-4 class="s s1i1o"', page)
@@ -675,14 +675,14 @@ class Used(InBrowser):
         bottom = self.edge("rect.new", "bottom")
         self.assertEqual(self.edge("#e1-100", "height"), 0)
         size = int(self.browser.value("document.querySelector('.gap').dataset.h"))
-        self.click(".gap a")
+        self.click(".gap > text a")
         self.assertEqual(size, 198 * 28)
         self.assertEqual([self.edge(selector) for selector in ("#e1-4", "#e1-205", "#e1-208")],
                          [shut[0], shut[1] + size, shut[2] + size])
         self.assertEqual(self.edge("rect.new", "bottom"), bottom + size)
         self.assertGreater(self.edge("#e1-100", "height"), 0)
         self.assertLess(self.edge("#e1-202", "bottom"), self.edge("#e1-205"))
-        self.click(".gap a")
+        self.click(".gap > text a")
         self.assertEqual([self.edge(selector) for selector in ("#e1-4", "#e1-205", "#e1-208")], shut)
         self.assertEqual(self.edge("#e1-100", "height"), 0)
         self.open("e1-100")  # a link to what is in it opens it

@@ -200,8 +200,7 @@ class Chart:
         end = f"{story.end}, tested" if story.end else "tested end"
         peer = PEERS.get(story.end, "peer")
         height = self._height + 6
-        heads = (f"<text class=h y=14>{end}</text><text class='h p' x=100% y=14>{peer}</text>"
-                 f"<line class=l y1=20 y2={height} /><line class=l x1=100% x2=100% y1=20 y2={height} />")
+        heads = f"<text class=h y=14>{end}</text><text class='h p' x=100% y=14>{peer}</text>{lifelines(20, height)}"
         about = (f"<title id=t{log}>Sequence chart of {name}</title><desc id=d{log}>"
                  f"{number(len(self._drawing.scenes))} of {counted(story.events, 'event')}, from top to bottom; on the"
                  f" left the {end}. The code of a fault is a link to what is said of it.</desc>")
@@ -236,8 +235,8 @@ class Chart:
             return
         height, rows = self._fold(gap.scenes, inside if gap.first <= closing <= gap.last else None)
         link = f"<a href=#{self._drawing.place(gap.first)}>Show {count}{more}</a>"
-        self._rows.append(f"<svg class=gap y={middle} data-h={height}><line x2=100% /><text>{link}</text>"
-                          f"<svg class=fold y={GAP // 2}>{rows}</svg></svg>")
+        self._rows.append(f"<svg class=gap y={middle} data-h={height}><svg class=fold y={GAP // 2}>{rows}</svg>"
+                          f"<line x2=100% /><text>{link}</text></svg>")
 
     def _fold(self, scenes: list[Scene], ending: Connection | None) -> tuple[int, str]:
         """The rows of a fold, and how high they are: it has places of its own, and maybe the end of a band."""
@@ -248,7 +247,8 @@ class Chart:
         for scene in scenes:
             self._put(scene)
         self._end_band(self._height)
-        height, rows = self._height, "".join([*self._bands, *self._rows])
+        sides = lifelines(-GAP // 2 - EARLY, self._height) if self._bands else ""
+        height, rows = self._height, "".join([*self._bands, sides, *self._rows])
         self._height, self._bands, self._rows, self._lines, self._begun = kept
         self._is_folded = False
         return height, rows
@@ -343,6 +343,11 @@ class Chart:
         self._height += ROW
         self._rows.append(f'<svg class="x stop" y={line}><line x2=100% />'
                           f"<text>{attribute(self._story.refusal)}</text></svg>")
+
+
+def lifelines(first: int, last: int) -> str:
+    """The two ends, from one place to another."""
+    return f"<line class=l y1={first} y2={last} /><line class=l x1=100% x2=100% y1={first} y2={last} />"
 
 
 def draw(drawing: Drawing) -> str:

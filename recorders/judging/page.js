@@ -55,7 +55,7 @@
     const isOpen = gap.classList.toggle("open");
     const [from, size] = [Number(gap.getAttribute("y")), Number(gap.dataset.h) * (isOpen ? 1 : -1)];
     const chart = gap.closest(".chart");
-    const link = gap.querySelector("a");
+    const link = gap.querySelector(":scope > text a");
     link.textContent = link.textContent.replace(/^\w+/, isOpen ? "Hide" : "Show");
     const move = (place, part, above = 0) => {
       const at = Number(place.getAttribute(part));
