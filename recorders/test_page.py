@@ -119,6 +119,8 @@ class Labels(unittest.TestCase):
             'SENT PUBLISH size 9 qos 0 dup 0 retain 0 topic "" payload 1 topic-alias 7':
                 "PUBLISH · QoS 0 · no topic · alias 7",
             f'SENT PUBLISH size 99 qos 0 dup 0 retain 0 topic "{"z" * 29}" payload 1': f"PUBLISH · QoS 0 · {'z' * 28}…",
+            f'SENT PUBLISH size 99 qos 0 dup 0 retain 0 topic "{OVERRIDE * 4}" payload 1':
+                f"PUBLISH · QoS 0 · {OVERRIDE * 3}…",
             'SENT CONNECT size 16 client "c" clean-start 1 keep-alive 60': "CONNECT · Clean Start",
             "RECV CONNACK size 5 code 0x00 session-present 1": "CONNACK · Session Present 1",
             "RECV CONNACK size 5 code 0x87 session-present 0": "CONNACK · Session Present 0 · Not authorized",
@@ -388,13 +390,13 @@ class Moments(Case):
 5 record 5 moment {4} SENT PUBLISH size 9 qos 1 dup 0 id 1 retain 0 topic "a" payload 1
 6 record 6 moment {5} REST
 """
-    FAULTS = "fault 4 S01 MQTT-2.2.1-3 decided 6 record 4 offset -\nfail 1 faults 6 events\n"
+    FAULTS = "fault 4 S01 MQTT-2.2.1-3 decided {} record 4 offset -\nfail 1 faults 6 events\n"
 
-    def told(self, first: int, step: int) -> str:
+    def told(self, first: int, step: int, topic: str = "a", decided: int = 6) -> str:
         self.logs.joinpath("a.log").write_bytes(b"MQTR\x02\0\0\0")
-        events = self.EVENTS.format(*(first + step * place for place in range(6)))
+        events = self.EVENTS.format(*(first + step * place for place in range(6))).replace('"a"', f'"{topic}"')
         program = self.folder / "program"
-        program.write_text(f"#!/bin/sh\ncase $1 in\ncheck) cat <<'END'\n{self.FAULTS}END\nexit 1;;\n"
+        program.write_text(f"#!/bin/sh\ncase $1 in\ncheck) cat <<'END'\n{self.FAULTS.format(decided)}END\nexit 1;;\n"
                            f"show) cat <<'END'\n{events}END\nexit 0;;\nesac\nexit 3\n")
         program.chmod(0o755)
         return self.page(program=program, name="moments" if step > 1 else "counts")
@@ -418,6 +420,11 @@ class Moments(Case):
         self.assertIn("<dt>Time<dd>moment 18446744073709551613", page)
         self.assertIn("<tspan class=t>…073709551613</tspan>", page)
 
+    def test_a_topic_at_the_event_that_shows_a_fault(self) -> None:
+        page = self.told(0, 0, topic=f"<b>{OVERRIDE}", decided=5)
+        self.assertNotIn(OVERRIDE, page)
+        self.assertIn('</a>: PUBLISH id 1 · QoS 1 · &lt;b&gt;<span class="odd">U+202E</span>', page)
+
     def test_moments_that_are_all_0(self) -> None:
         page = self.told(0, 0)
         self.assertNotIn("<dt>Time", page)
@@ -432,8 +439,7 @@ class Moments(Case):
         self.logs.joinpath("a.log").write_bytes(made)
         page = self.page()
         self.assertIn("<dt>Time<dd>2026-11-26 12:04:09.000001 UTC", page)
-        self.assertIn("<tspan class=t>12:04:10.000<tspan class=v>001</tspan></tspan> 6</text><text class=t>+1.000 s</text>",
-                      page)
+        self.assertIn("12:04:10.000<tspan class=v>001</tspan></tspan> 6</text><text class=t>+1.000 s</text>", page)
         self.assertIn(", recorded from 2026-11-26 12:04:05 to 12:04:10 UTC</p>", page)
         printed = run(self.logs)[1]
         self.assertIn("record 5 offset - at 2026-11-26 12:04:09.000001 UTC\n", printed)

@@ -8,6 +8,7 @@ from judging.events import Event, Text
 from judging.explain import Explanation
 from judging.labels import WORDS, fate_of, label, short_label
 from judging.markup import counted, escaped, isolated, number
+from judging.reasons import reason
 from judging.story import STALE_ALIAS, Fault, Scene
 from judging.texts import WORDS as WRONG
 from log_format import time_text
@@ -123,7 +124,7 @@ class Cards:
         if fault.decided == fault.position:
             return ""
         scene = self._story.scenes.get(fault.decided)
-        what = f": {escape(label(scene.event))}" if scene else ""
+        what = f": {escaped(label(scene.event))}" if scene else ""
         time = self._time(scene.event) if scene else ""
         link = self._link(fault.decided, f"event {fault.decided}")
         return f"{link}{what}{', ' if time else ''}{time}. Only this later event shows the fault"
@@ -210,12 +211,14 @@ class Cards:
 
 
 def advice(explanation: Explanation, end: str) -> str:
-    """Why there is a statement, where it is judged, and what to change in an end."""
-    words = explanation.advice(end)
+    """Why there is a statement, and what to change in an end; in a fold, where it is judged."""
+    words, parts = explanation.advice(end), explanation.parts
     heading = f"What usually breaks it in a {end}, and what to change"
     found = [(heading, words)] if words else [(name, text) for name, text in explanation.advices]
-    found += [(name, explanation.parts[name]) for name in ("Why", "Judged", "See") if name in explanation.parts]
-    return "".join(f"<p><b>{name}:</b> {escaped(text)}</p>" for name, text in found)
+    found += [(name, parts[name]) for name in ("Why", "See") if name in parts]
+    said = "".join(f"<p><b>{name}:</b> {escaped(text)}</p>" for name, text in found)
+    judged = parts.get("Judged")
+    return said + (f"<details><summary>Where it is judged</summary>{escaped(judged)}</details>" if judged else "")
 
 
 def ignored_by(way: str | None) -> str:
@@ -231,7 +234,7 @@ def fields(event: Event) -> str:
     """The fields of a packet. Of some only the size is printed."""
     words = []
     for name, values in event.fields[:FIELDS]:
-        unit = " bytes" if name in SIZES else ""
+        unit = " bytes" if name in SIZES else f" ({reason(event.name, values[0])})" if name == "code" and values else ""
         text = " = ".join(map(value_shown, values))
         words.append(f"<span class=field><i>{name}</i> {text}{unit}</span>")
     if event.is_cut or len(event.fields) > FIELDS:

@@ -1,10 +1,10 @@
 """The words at an event in a chart: what tells it from others of its type, and when it happened."""
 from __future__ import annotations
 
-from html import escape
+from html import escape, unescape
 
 from judging.events import CUT, Event
-from judging.markup import attribute
+from judging.markup import attribute, is_odd
 from judging.reasons import reason
 from judging.story import NEW, RESUMED, UNDECIDED, VOID, Connection, Scene
 from log_format import TIMES, time_text
@@ -62,7 +62,13 @@ def filters_shown(event: Event) -> str:
 
 
 def shortened(text: str) -> str:
-    return text if len(text) <= LONGEST_TOPIC else f"{text[:LONGEST_TOPIC]}…"
+    """The beginning of a text, as far as there is room for it, and for the names of characters that can't be seen."""
+    size = 0
+    for at, character in enumerate(text):
+        size += len(attribute(character)) if is_odd(character, 0) else 1
+        if size > LONGEST_TOPIC:
+            return f"{text[:at]}…"
+    return text
 
 
 def what_decides(event: Event) -> list[str]:
@@ -84,7 +90,7 @@ def label_shown(event: Event) -> str:
     before, topic, after = label_parts(event)
     text = " · ".join(before)
     if topic:
-        size = len(" · ".join([*before, topic, *after]))
+        size = len(" · ".join([*before, unescape(attribute(topic)), *after]))
         kind = next((kind for most, kind in sorted(NARROW.items(), reverse=True) if size > most), "q")
         text += f"<tspan class={kind}> · {attribute(topic)}</tspan>"
     return text + "".join(f" · {escape(word)}" for word in after)

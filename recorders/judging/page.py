@@ -308,8 +308,10 @@ def digest(text: str) -> str:
 def digest_of(path: Path) -> str:
     """SHA-256 of a log, so that a page says which bytes were judged; empty where it is no file that can be read."""
     try:
-        with path.open("rb") if path.is_file() else open(os.devnull, "rb") as file:
-            return hashlib.file_digest(file, "sha256").hexdigest() if path.is_file() else ""
+        if not path.is_file():
+            return ""
+        with path.open("rb") as file:
+            return hashlib.file_digest(file, "sha256").hexdigest()
     except OSError:
         return ""
 
