@@ -334,12 +334,13 @@ class Written(Case):
         page = self.page()
         self.assertNotIn('id="filter"', page)
         self.assertNotIn('class="logs"', page)
-        self.assertIn("<details class=log id=l2 data-v=pass", page)
+        self.assertLess(page.index("<section class=log id=l1 "), page.index("<details class=log id=l2 "))
 
     def test_a_record_of_what_was_judged(self) -> None:
         for count in (2, 3):
             for number in range(count):
-                (self.logs / f"{number}.log").write_bytes(log(record(2, publish(str(number), 1))))
+                sent = [record(2, publish(str(number), 1))] * (1 + number)  # two under one identifier are a fault
+                (self.logs / f"{number}.log").write_bytes(log(*sent))
             page = self.page()
             for path in self.logs.iterdir():
                 self.assertEqual(page.count(hashlib.sha256(path.read_bytes()).hexdigest()), 1, path)

@@ -68,6 +68,7 @@ class Entry:
     verdict: Verdict
     name: str
     digest: str = ""  # SHA-256 of its bytes, where they can be read
+    is_listed: bool = True  # it is in a table
     ignored: Counter[str] = field(default_factory=Counter)  # faults of each code that don't count
 
     @property
@@ -130,14 +131,16 @@ class Page:
         worst = sorted(pictured, key=lambda entry: entry.badness, reverse=True)[:WORST] if is_many else pictured
         charts = {entry.number for entry in worst}
         drawn = [entry for entry in entries if entry.number in charts]
+        passed = "" if len(entries) >= FEW else "".join(map(pass_shown, plain_passes(entries)))
         for level in LEVELS:
             places = self._places(drawn) if level.detail == FULL else {}
             head, foot = self._head(entries, pictured, charts, places), self._statements(entries, places) + END
+            foot = passed + foot
             room = LARGEST - len((head + foot).encode())
             sections = self._fill(drawn, level, min(room, WITH_FOLDS) if level.folded else room)
             if sections is not None:
                 return head + sections + foot
-        return self._head(entries, pictured, set(), {}) + self._statements(entries, {}) + END
+        return self._head(entries, pictured, set(), {}) + passed + self._statements(entries, {}) + END
 
     def _places(self, drawn: list[Entry]) -> dict[str, str]:
         """Where what to change is said of a code: on the card of its first fault that has one."""
@@ -177,8 +180,9 @@ class Page:
         worst = next((status for status in ORDER if any(entry.verdict.status == status for entry in entries)), FAILED)
         place = f", in <code>{escaped(folder)}</code>" if folder else ""
         kind = " class=many" if len(charts) > SAMPLES else ""
-        logs = self._rows(entries[:ROWS], charts) if len(entries) >= FEW else '<div id="logs">'
-        logs += passes(entries[:ROWS]) + ("" if len(entries) >= FEW else "</div>")
+        logs = '<i id="logs"></i>'
+        if len(entries) >= FEW:
+            logs = self._rows(entries[:ROWS], charts) + passes(entries[:ROWS])
         return (
             f'<!DOCTYPE html>\n<html lang="en"><head><meta charset="utf-8">'
             f'<meta http-equiv="Content-Security-Policy" content="{policy}">'
@@ -234,7 +238,7 @@ class Page:
         kind = class_of(verdict.status)
         head = (f'<section class=log id=l{entry.number} data-c="{codes}" data-v={kind}'
                 f' data-n="{attribute(entry.name)}" data-end="{end_of(verdict)}">'
-                f"{heading(entry)}<p class=about>{about(entry)}</p>{notes}")
+                f"{heading(entry)}<p class=about>{about(entry)}</p>{hash_line(entry)}{notes}")
         if verdict.last.startswith("refused "):
             head += refused(verdict)
         elif verdict.status in MEANINGS:
@@ -322,7 +326,7 @@ def entries_of(verdicts: list[Verdict]) -> list[Entry]:
     ranked = sorted(verdicts, key=lambda verdict: (ORDER.index(verdict.status), not verdict.ignored))
     entries = [entry_of(place, verdict, folder) for place, verdict in enumerate(ranked, 1)]
     for entry in entries[:ROWS]:
-        entry.digest = digest_of(entry.verdict.path)
+        entry.digest, entry.is_listed = digest_of(entry.verdict.path), len(entries) >= FEW
     return entries
 
 
@@ -428,23 +432,24 @@ def is_plain_pass(verdict: Verdict) -> bool:
     return verdict.status == PASSED and not verdict.ignored
 
 
+def plain_passes(entries: list[Entry]) -> list[Entry]:
+    return [entry for entry in entries if not entry.has_section]
+
+
 def passes(entries: list[Entry]) -> str:
-    """The logs that passed, in a fold of their own where there are several: a table of them, and folded charts."""
-    passed = [entry for entry in entries if not entry.has_section]
-    is_table = len(entries) >= FEW
+    """The logs that passed, in a fold of their own: a table of them, and folded charts, for which there is some room."""
+    passed = plain_passes(entries)
+    if not passed:
+        return ""
     folds: dict[int, str] = {}
     room = OF_PASSES
     for entry in passed:
         if entry.verdict.story and entry.verdict.story.scenes:
-            fold = pass_shown(entry, is_table)
+            fold = pass_shown(entry)
             room -= len(fold.encode())
             if room < 0:
                 break
             folds[entry.number] = fold
-    if not is_table:
-        return "".join(folds.get(entry.number) or pass_shown(entry, is_table) for entry in passed)
-    if not passed:
-        return ""
     heads = table_heads("Log", "Tested end", ".Events", "SHA-256")
     rows = "".join(cells(entry, entry.number in folds) + hash_cell(entry) for entry in passed)
     left = len(passed) - len(folds)
@@ -453,15 +458,15 @@ def passes(entries: list[Entry]) -> str:
             f'<table class="logs">{heads}<tbody>{rows}</table>{"".join(folds.values())}{note}</details>')
 
 
-def pass_shown(entry: Entry, is_folded: bool) -> str:
-    """A log that passed: what it has, and how it began."""
+def pass_shown(entry: Entry) -> str:
+    """A log that passed: what it has, and how it began. It is folded where it is one of many."""
     verdict, story = entry.verdict, entry.verdict.story
     notes = "".join(f'<p class="remark">{escaped(note)}</p>' for note in notes_of(verdict))
     chart = picture(Drawing(entry.number, entry.name, story, detail=SHORT)) if story and story.scenes else ""
     counts = f"<p class=about>{what_it_has(story)}</p>" if story else ""
     return (f'<details class=log id=l{entry.number} data-v=pass data-c="" data-n="{attribute(entry.name)}"'
-            f"{'' if is_folded else ' open'}><summary>{heading(entry)}</summary><p class=about>{about(entry)}</p>"
-            f"{counts}{'' if is_folded else hash_line(entry)}{notes}{chart}</details>")
+            f"{'' if entry.is_listed else ' open'}><summary>{heading(entry)}</summary><p class=about>{about(entry)}</p>"
+            f"{counts}{hash_line(entry)}{notes}{chart}</details>")
 
 
 def what_it_has(story: Story) -> str:
@@ -470,11 +475,14 @@ def what_it_has(story: Story) -> str:
     for kind, word in (("SENT", "sent"), ("RECV", "received")):
         counts = [f"{number(count)} {key.split()[1]}" for key, count in story.counts.items() if key.startswith(kind)]
         ways += [f"{word}: {', '.join(counts)}"] if counts else []
-    return escaped("; ".join(ways).capitalize()[:1] + "; ".join(ways)[1:])
+    words = "; ".join(ways)
+    return escaped(words[:1].upper() + words[1:])
 
 
 def hash_line(entry: Entry) -> str:
-    return f"<p class=about>SHA-256 <span class=hash>{entry.digest}</span></p>" if entry.digest else ""
+    """The hash of a log that is in no table."""
+    is_shown = entry.digest and not entry.is_listed
+    return f"<p class=about>SHA-256 <span class=hash>{entry.digest}</span></p>" if is_shown else ""
 
 
 def about(entry: Entry) -> str:
