@@ -310,8 +310,8 @@ class Written(Case):
         (self.logs / "a.log").write_bytes(made.replace(ACCEPTED, record(3, aliases)))
         page = self.page()
         self.assertIn("<article id=f1-129-C16 data-a=e1-4>", page)
-        self.assertIn("<dt>Topic Alias<dd>3 was set by <a href=#e1-4>event 4</a> on connection 1: an alias ends with its"
-                      " connection", page)
+        self.assertIn("<dt>Topic Alias<dd>3 was set by <a href=#e1-4>event 4</a> on connection 1: an alias ends with"
+                      " its connection", page)
         self.assertLess(page.index("<svg id=e1-4 "), page.index("class=gap"))  # it isn't in a fold
         (self.logs / "a.log").write_bytes(log(use, record(4)).replace(ACCEPTED, record(3, aliases)))
         self.assertIn("<dt>Topic Alias<dd>nothing before it sets 3", self.page())
@@ -406,7 +406,7 @@ class Moments(Case):
         page = self.told(1_795_694_645_000_001, 1500)
         self.assertIn("<dt>Time<dd>2026-11-26 12:04:05.004501 UTC", page)
         self.assertIn("REST, 2026-11-26 12:04:05.007501 UTC", page)
-        self.assertIn("<text><tspan class=t>12:04:05.000<tspan class=v>001</tspan></tspan> 1</text><text class=b>", page)
+        self.assertIn("<tspan class=t>12:04:05.000<tspan class=v>001</tspan></tspan> 1</text><text class=b>", page)
         self.assertIn("</tspan></tspan> 2</text><text class=t>+1.5 ms</text>", page)
         self.assertIn('<svg class="chart timed"', page)
 

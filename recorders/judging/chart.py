@@ -279,8 +279,9 @@ class Chart:
         if not self._is_timed:
             return f"<text>{event.position}</text>"
         later = difference(self._before, event)
-        return (f"<text><tspan class=t>{time_shown(event)}</tspan> {event.position:{FIGURE_SPACE}>{self._digits}}</text>"
-                + (f"<text class=t>{later}</text>" if later else ""))
+        position = f"{event.position:{FIGURE_SPACE}>{self._digits}}"
+        words = f"<text><tspan class=t>{time_shown(event)}</tspan> {position}</text>"
+        return words + (f"<text class=t>{later}</text>" if later else "")
 
     def _kind(self, scene: Scene, faults: list[Fault]) -> str:
         """The classes of an event: how it goes, whether it is at fault, and to which others it belongs."""

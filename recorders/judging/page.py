@@ -297,8 +297,8 @@ LEGEND = (
     " says that it passed a QoS 2 message on."
     "<li>A red arrow breaks a statement: the code under it leads to what that says and what to change. A thin red line"
     " leads to a later event that shows the fault. What is ignored is grey."
-    "<li>Choose a fault, in the chart or by its card, and all events under its Packet Identifier in the session are lit:"
-    " those of the same exchange with whole lines, those in which the other end chose the number with dashed ones; and"
+    "<li>Choose a fault, in the chart or by its card, and all events under its Packet Identifier in the session are"
+    " lit: those of the same exchange with whole lines, those in which the other end chose the number with dashed ones; and"
     " what announced the limit, or set the Topic Alias, that it is about.</ul></details>"
 )
 END = "</main></body></html>\n"
@@ -437,7 +437,7 @@ def plain_passes(entries: list[Entry]) -> list[Entry]:
 
 
 def passes(entries: list[Entry]) -> str:
-    """The logs that passed, in a fold of their own: a table of them, and folded charts, for which there is some room."""
+    """The logs that passed, in a fold of their own: a table of them, and folded charts, as far as there is room."""
     passed = plain_passes(entries)
     if not passed:
         return ""
