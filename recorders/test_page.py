@@ -494,6 +494,8 @@ class Sizes(unittest.TestCase):
         page = Page("mqjudge", "many logs", [], {"S01": explanation}).write(verdicts)
         self.assertLess(time.process_time() - begun, 10)
         self.assertLessEqual(len(page.encode()), LARGEST)
+        links, names = (set(re.findall(rf'\b{mark}([^\s">]+)', page)) for mark in ('href="?#', 'id="?'))
+        self.assertEqual(links - names, set())
         return page
 
     def test_a_thousand_logs_with_ten_thousand_faults(self) -> None:

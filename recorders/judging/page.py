@@ -535,6 +535,6 @@ def others(found: list[Fault], told: list[Fault], most: int, place: Callable[[st
     parts = []
     for code, positions in sorted(places.items()):
         more = f" and {number(len(positions) - most)} more" if len(positions) > most else ""
-        parts.append(f'<p><a class="code" href="#r-{code}">{code}</a> at events'
+        parts.append(f'<p><a class="code" href="#{place(code)}">{code}</a> at events'
                      f" {', '.join(map(str, positions[:most]))}{more}</p>")
     return f'<div class="others"><h4>{counted(len(left), "other fault")}</h4>{"".join(parts)}</div>'
