@@ -26,6 +26,7 @@ STAND_IN = """#!/bin/sh
 case "$1" in
 check) sed '1d;$d' < "$2"; exit "$(tail -n 1 "$2")" ;;
 show) test "$2 $3 $4" = "--faults --around 2" && test -f "$5.show" && exec cat "$5.show" ;;
+rules) printf '%s both sec-1 It is so.\n' W01 W09 S01 S02 E1A; exit 0 ;;
 esac
 exit 3
 """
@@ -295,6 +296,76 @@ class Policies(Case):
         wanted += [f"gone: {self.logs}/c.log S02: 1 fault expected, 0 found"]
         wanted += ["1 log: 1 pass, 0 fail, 0 refused, 0 failed; ignored: 2 faults by --expect"]
         self.assertEqual(printed.splitlines()[-3:], wanted)
+
+    def test_names_of_logs(self) -> None:
+        self.put(a=FAIL)
+        inner = self.logs / "inner" / "b.log"
+        inner.parent.mkdir()
+        inner.write_text(LOG + FAIL)
+        known, here = self.folder / "known", self.logs.parent
+        spellings = ["{}", "logs/{}", "./logs/{}", "logs/./inner/../{}"]
+        spellings += [f"{self.logs}/{{}}", f"{self.logs}//inner/../{{}}"]
+        for named in (self.logs, "logs", "./logs", "logs/inner/.."):
+            for spelling in spellings:
+                names = [spelling.format(name) for name in ("a.log", "inner/b.log")]
+                known.write_text("".join(f"{name} s01 1\n{name} w09 1\n" for name in names))
+                words = self.command(named, "--expect", known)
+                answer = subprocess.run(words, cwd=here, capture_output=True, text=True, timeout=PATIENCE)
+                self.assertEqual((answer.returncode, "gone" in answer.stdout), (0, False), (named, spelling))
+        known.write_text("b.log S01 1\nb.log W09 1\n")  # a file that is named has the name that it has in its folder
+        self.assertEqual(self.judged(inner, "--expect", known)[0], 0)
+        self.assertEqual(self.judged(self.logs, "--expect", known)[0], 1)
+
+    def test_patterns_of_names(self) -> None:
+        self.put(**{f"run{number}.client": FAIL for number in (1, 2)}, other=FAIL)
+        known = self.folder / "known"
+        for lines, status in (
+            (["*.client.log S01 1", "*.client.log W09 1", "other.log S01 1", "other.log W09 1"], 0),
+            (["logs/run[12].client.log S01 1", "*run?.client.log W09 1", "other.log S01 1", "other.log W09 1"], 0),
+            (["*.client.log S01 1", "*.client.log W09 1"], 1),
+            (["*.log S01 0", "*.log S01 1", "other.log S01 0", "*.log W09 1"], 0),  # the most that any line says
+            (["*.LOG S01 1", "*.log W09 1"], 1),
+        ):
+            known.write_text("\n".join(lines))
+            self.assertEqual(self.judged(self.logs, "--expect", known)[0], status, lines)
+        known.write_text("*.log S01 1\n*.log W09 2\nrun3.* S02 1\n")
+        gone = [line for line in self.judged(self.logs, "--expect", known)[1].splitlines() if line.startswith("gone")]
+        wanted = ["gone: *.log W09: 2 faults expected, 1 found", "gone: run3.* S02: 1 fault expected, 0 found"]
+        self.assertEqual(gone, wanted)
+
+    def test_a_name_that_looks_like_a_pattern(self) -> None:
+        self.put(**{"a[1]": FAIL})
+        known = self.folder / "known"
+        known.write_text("a[1].log S01 1\na[1].log W09 1\n")
+        self.assertEqual(self.judged(self.logs, "--expect", known)[0], 0)
+
+    def test_what_does_not_exist_is_misuse(self) -> None:
+        self.put(a=FAIL)
+        unknown = self.baseline("a.log X99 1")
+        all_codes = "; there are W01, W09, S01, S02, E1A"
+        refusals = "there is no refusal 99; there are 1 Header, 2 Version, 3 Role, "
+        wanted = {
+            ("--ignore", "XYZ"): f"--ignore: there is no statement XYZ{all_codes}",
+            ("--ignore", "S1"): "--ignore: there is no statement S1; those with S are S01, S02",
+            ("--ignore", "w09,s3"): "--ignore: there is no statement S3; those with S are S01, S02",
+            ("--expect", unknown): f"--expect: {unknown}: there is no statement X99{all_codes}",
+            ("--allow-refused", "99"): f"--allow-refused: {refusals}",
+            ("--allow-refused", "x"): "--allow-refused: there is no refusal X; ",
+        }
+        report = self.folder / "report.xml"
+        for words, why in wanted.items():
+            status, printed, errors = self.judged(self.logs, *words, "--junit", report)
+            self.assertEqual((status, printed), (3, ""))
+            self.assertTrue(errors.splitlines()[-1].startswith(f"judge: {why}"), errors)
+            self.assertFalse(report.exists())
+
+    def test_the_statements_that_the_judge_has(self) -> None:
+        log = TOP / "examples/identifier-in-use.log"
+        words = (log, "--ignore", "s01", "--allow-refused", "12")
+        self.assertEqual(self.judged(*words, program=judge_program())[0], 0)
+        status, _, errors = self.judged(log, "--ignore", "S99", program=judge_program())
+        self.assertEqual(status, 3)
+        self.assertIn("those with S are S01, S02, S03, S04, S05, S06, S07", errors)
 
     def test_more_faults_than_are_known(self) -> None:
         fault = FAIL.splitlines()[0]

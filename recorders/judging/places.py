@@ -5,6 +5,7 @@ from collections.abc import Iterable
 from dataclasses import dataclass, field
 from pathlib import Path
 
+from judging.baseline import names_of
 from log_format import MARK
 
 CAPTURE = "it is a capture: recorders/from-capture makes logs of it"
@@ -26,6 +27,10 @@ class Found:
     logs: list[Path] = field(default_factory=list)  # each once
     empty: list[Path] = field(default_factory=list)  # folders that have none
     left_out: int = 0  # files of the folders that are no logs, whatever they are called
+    folders: dict[Path, Path] = field(default_factory=dict)  # of each log: the one that was named, or that it is in
+
+    def names_of(self, log: Path) -> frozenset[str]:
+        return names_of(log, self.folders.get(log, log.parent))
 
 
 def is_log(path: Path) -> bool:
@@ -59,6 +64,7 @@ def find_logs(places: Iterable[Path]) -> Found:
             inside = [path for path in files if is_log(path)]
             others.update(set(files) - set(inside))
             found.empty += [] if inside else [place]
+            found.folders |= {path: place for path in inside if path not in found.folders}
         logs.update(dict.fromkeys(inside))
     found.logs, found.left_out = list(logs), len(others - set(logs))
     return found

@@ -1,16 +1,15 @@
 """What of the verdicts counts for the status: what is known or ignored doesn't, and a log that is too short does."""
 from __future__ import annotations
 
-from collections import Counter
-from collections.abc import Iterable
+from collections import Counter, defaultdict
+from collections.abc import Callable, Iterable
 from dataclasses import dataclass, field
 from pathlib import Path
 
-from judging.verdict import FAULTS, PASSED, REFUSED, TOO_SHORT, Verdict, counted, show
+from judging.baseline import Baseline
+from judging.verdict import FAULTS, PASSED, REFUSED, TOO_SHORT, Verdict, counted
 
-
-class PolicyError(Exception):
-    """A baseline that can't be used. The text says why."""
+Names = frozenset[str]
 
 
 @dataclass
@@ -19,13 +18,13 @@ class Policy:
 
     ignore: frozenset[str] = frozenset()  # codes
     allow_refused: frozenset[str] = frozenset()  # numbers of refusals
-    expected: dict[tuple[str, str], int] = field(default_factory=dict)  # faults of a log (as it is printed) and code
+    expected: Baseline = field(default_factory=Baseline)
     min_events: int = 0
 
-    def weigh(self, verdict: Verdict) -> None:
-        """Takes out of a verdict what is ignored, and says so in it."""
+    def weigh(self, verdict: Verdict, names: Names) -> None:
+        """Takes out of a verdict what is ignored, and says so in it. Names are those of the log."""
         if verdict.status == FAULTS:
-            self._weigh_faults(verdict)
+            self._weigh_faults(verdict, names)
         elif verdict.status == REFUSED and verdict.last.split()[1:2] and verdict.last.split()[1] in self.allow_refused:
             verdict.ignored.append(f"{verdict.refusal} (--allow-refused)")
             verdict.status = PASSED
@@ -33,10 +32,10 @@ class Policy:
             if verdict.events < self.min_events:
                 verdict.status = TOO_SHORT
 
-    def _weigh_faults(self, verdict: Verdict) -> None:
+    def _weigh_faults(self, verdict: Verdict, names: Names) -> None:
         for key in sorted(verdict.faults):
             code, count = key.split()[0], verdict.faults[key]
-            known = self.expected.get((show(verdict.path), code), 0)
+            known = self.expected.count(names, code)
             if code in self.ignore:
                 verdict.ignored.append(f"{code} {counted(count, 'fault')} (--ignore)")
                 verdict.overlooked[code] = "--ignore"
@@ -52,42 +51,37 @@ class Policy:
         if not verdict.faults:
             verdict.status = PASSED
 
-    def gone(self, verdicts: Iterable[Verdict], found: dict[tuple[str, str], int]) -> list[str]:
-        """Lines on known faults that are not there any more. `found` has the faults of all logs before weighing."""
-        unknown = {show(verdict.path) for verdict in verdicts if verdict.events is None}
-        lines = []
-        for (log, code), count in sorted(self.expected.items()):
-            now = found.get((log, code), 0)
-            if now < count and log not in unknown:
-                lines.append(f"gone: {log} {code}: {counted(count, 'fault')} expected, {now} found")
-        return lines
-
 
 @dataclass
 class Weighing:
     """A policy at work: it remembers what there was before it took something out."""
 
     policy: Policy
-    found: Counter[tuple[str, str]] = field(default_factory=Counter)
+    names_of: Callable[[Path], Names]
+    found: dict[Path, Counter[str]] = field(default_factory=dict)  # of each log the faults by their codes
 
     def weigh(self, verdict: Verdict) -> None:
-        for key, count in verdict.faults.items():
-            self.found[show(verdict.path), key.split()[0]] = count
-        self.policy.weigh(verdict)
+        counts = Counter({key.split()[0]: count for key, count in verdict.faults.items()})
+        if counts:
+            self.found[verdict.path] = counts
+        self.policy.weigh(verdict, self.names_of(verdict.path))
 
-
-def read_expected(path: Path) -> dict[tuple[str, str], int]:
-    """A baseline: a line for each log and code, `LOG CODE COUNT`. Empty lines, and those with # first, don't count."""
-    expected: dict[tuple[str, str], int] = {}
-    try:
-        lines = path.read_text().splitlines()
-    except (OSError, UnicodeDecodeError) as error:
-        raise PolicyError(f"--expect: {path} can't be read: {error}") from None
-    for number, line in enumerate(lines, 1):
-        words = line.rsplit(None, 2)
-        if not words or line.startswith("#"):
-            continue
-        if len(words) != 3 or not words[2].isdecimal():
-            raise PolicyError(f"--expect: {path}, line {number} isn't LOG CODE COUNT")
-        expected[words[0].strip(), words[1]] = int(words[2])
-    return expected
+    def gone(self, verdicts: Iterable[Verdict]) -> list[str]:
+        """Lines on known faults that no log has any more. Of a log that wasn't judged nothing is known."""
+        lines = self.policy.expected.lines
+        if not lines:
+            return []
+        names = {verdict.path: self.names_of(verdict.path) for verdict in verdicts}
+        logs: dict[str, list[Verdict]] = defaultdict(list)
+        for verdict in verdicts:
+            for name in names[verdict.path]:
+                logs[name].append(verdict)
+        said = []
+        for known in lines:
+            fitting = logs.get(known.name, [])
+            if known.is_pattern:
+                fitting = [verdict for verdict in verdicts if known.fits(names[verdict.path])]
+            now = max((self.found.get(verdict.path, Counter())[known.code] for verdict in fitting), default=0)
+            if now < known.count and all(verdict.events is not None for verdict in fitting):
+                said.append(f"gone: {known.name} {known.code}: {counted(known.count, 'fault')} expected, {now} found")
+        return said

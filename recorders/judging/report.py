@@ -7,7 +7,7 @@ from collections.abc import Sequence
 from pathlib import Path
 from xml.etree import ElementTree
 
-from judging.verdict import FAILED, FAULTS, PASSED, REFUSED, TOO_SHORT, WORDS, Verdict, counted, show
+from judging.verdict import FAILED, FAULTS, PASSED, REFUSED, TOO_SHORT, WORDS, Verdict, counted, one_line, show
 
 NOT_IN_XML = re.compile("[^\t\n\r\x20-\ud7ff\ue000-\ufffd\U00010000-\U0010ffff]")
 FAILURES = (FAULTS, TOO_SHORT)
@@ -18,11 +18,6 @@ def print_verdict(verdict: Verdict) -> None:
     print(f"{WORDS[verdict.status]} {one_line(verdict.path)}")
     for line in verdict.lines:
         print(f"  {show(line)}")
-
-
-def one_line(text: object) -> str:
-    """A file's name that can't begin a line of its own, which a host may take for a command (`--github`)."""
-    return show(text).replace("\n", "\\n").replace("\r", "\\r")
 
 
 def print_table(verdicts: list[Verdict]) -> None:

@@ -27,6 +27,23 @@ def show(text: object) -> str:
     return str(text).encode("utf-8", "replace").decode()
 
 
+def one_line(text: object) -> str:
+    """The same without characters that end a line or that a terminal obeys: they are written as escapes, `\\x1b`.
+
+    So are bytes that aren't text: `\\xff`.
+    """
+    words = str(text)
+    if words.isprintable():
+        return words
+    return "".join(sign if sign.isprintable() else escape_of(sign) for sign in words)
+
+
+def escape_of(sign: str) -> str:
+    """A character's number as Python writes it. A byte that isn't text is one of these surrogates."""
+    number = ord(sign)
+    return f"\\x{number - 0xDC00:02x}" if 0xDC80 <= number <= 0xDCFF else sign.encode("unicode_escape").decode()
+
+
 def fault_of(found: re.Match[str]) -> Fault:
     position, code, citation, decided, record, offset = found.groups()
     return Fault(int(position), code, citation, int(decided), int(record), None if offset == "-" else int(offset))

@@ -1,0 +1,109 @@
+"""The options of recorders/judge. What can't work is refused before anything is done."""
+from __future__ import annotations
+
+import argparse
+import os
+import re
+import shutil
+import subprocess
+from pathlib import Path
+
+from arguments import Parser
+from judging.baseline import Baseline, BaselineError, read_baseline
+from judging.policy import Policy
+from judging.refusals import REFUSALS
+from judging.verdict import one_line
+
+REPOSITORY = Path(__file__).resolve().parent.parent.parent
+BUILT = REPOSITORY / "crates/mq_cli/out/mq_cli"
+CODE = re.compile("[A-Z][0-9A-Z]{1,3}")
+REPORTS = ("junit", "html", "sarif")
+
+
+def words_of(text: str) -> frozenset[str]:
+    """Words with commas between them, in capital letters."""
+    return frozenset(word.strip() for word in text.upper().split(",") if word.strip())
+
+
+def arguments() -> Parser:
+    parser = Parser(description="Judges many logs, and prints what isn't a pass.")
+    parser.add_argument("places", nargs="+", type=Path, metavar="DIR_OR_FILE", help="logs, or folders that hold some")
+    parser.add_argument("--program", metavar="PATH", help="the program (else the built one, or mqjudge of the PATH)")
+    parser.add_argument("--jobs", type=int, default=os.cpu_count() or 1, metavar="N", help="how many to judge at once")
+    parser.add_argument("--junit", type=Path, metavar="FILE", help="write JUnit XML for test reports")
+    parser.add_argument("--html", type=Path, metavar="FILE", help="write a page with pictures and what to change")
+    parser.add_argument("--sarif", type=Path, metavar="FILE", help="write SARIF 2.1.0 for code hosts")
+    parser.add_argument("--github", action="store_true", help="print annotations for workflows of GitHub")
+    parser.add_argument("--most", type=int, default=20, metavar="N", help="print at most N faults per log")
+    parser.add_argument("--min-events", type=int, metavar="N", help="a log with fewer events is no pass")
+    parser.add_argument("--expect", type=Path, metavar="FILE", help="known faults, in lines LOG CODE COUNT")
+    parser.add_argument("--ignore", type=words_of, default=frozenset(), metavar="CODE,..",
+                        help="faults that don't count")
+    parser.add_argument("--allow-refused", type=words_of, default=frozenset(), metavar="NUMBER,..",
+                        help="refusals that don't count")
+    return parser
+
+
+def statements_of(program: str) -> list[str]:
+    """The codes of the statements that the program judges by; none where it doesn't list them."""
+    try:
+        answer = subprocess.run([program, "rules"], stdin=subprocess.DEVNULL, capture_output=True, timeout=60)
+    except (OSError, subprocess.TimeoutExpired):
+        return []
+    codes = [line.split()[0] for line in answer.stdout.decode("utf-8", "replace").splitlines() if line.split()]
+    return codes if answer.returncode == 0 and all(map(CODE.fullmatch, codes)) else []
+
+
+def unknown_code(code: str, statements: list[str]) -> str:
+    """Why there is no such code, with those that are meant perhaps; empty if there is. A program may list none."""
+    if code in statements or (not statements and CODE.fullmatch(code)):
+        return ""
+    near = [known for known in statements if known[0] == code[:1]]
+    those = f"those with {code[:1]}" if near else "there"
+    return f"there is no statement {one_line(code)}" + (f"; {those} are {', '.join(near or statements)}" * bool(statements))
+
+
+def unknown_refusal(number: str) -> str:
+    """Why no log is refused with this number, with those that there are; empty if some are."""
+    names = {str(refusal.number): name for name, refusal in REFUSALS.items()}
+    those = ", ".join(f"{known} {name}" for known, name in names.items())
+    return "" if number in names else f"there is no refusal {one_line(number)}; there are {those}"
+
+
+def check_names(parser: Parser, options: argparse.Namespace, expected: Baseline) -> None:
+    """Refuses codes and numbers that don't exist: what they were meant to name would count without a word."""
+    for number in sorted(options.allow_refused):
+        if why := unknown_refusal(number):
+            parser.error(f"--allow-refused: {why}")
+    named = {(code, "--ignore") for code in options.ignore}
+    named |= {(known.code, f"--expect: {options.expect}") for known in expected.lines}
+    statements = statements_of(options.program) if named else []
+    for code, option in sorted(named):
+        if why := unknown_code(code, statements):
+            parser.error(f"{option}: {why}")
+
+
+def parse() -> tuple[argparse.Namespace, Policy]:
+    """The options, and the policy that they make."""
+    parser = arguments()
+    options = parser.parse_args()
+    if options.jobs < 1 or options.most < 0 or (options.min_events or 0) < 0:
+        parser.error("--jobs must be at least 1, and --most and --min-events at least 0")
+    program = options.program or (str(BUILT) if BUILT.is_file() else "mqjudge")
+    if shutil.which(program) is None:
+        parser.error(f"--program: {program} can't be run" if options.program else
+                     "mqjudge isn't built: name it with --program")
+    options.program = shutil.which(program)
+    try:
+        expected = read_baseline(options.expect) if options.expect else Baseline()
+    except BaselineError as error:
+        parser.error(f"--expect: {error}")
+    check_names(parser, options, expected)
+    for name in REPORTS:
+        place = getattr(options, name)
+        try:
+            if place is not None:
+                place.open("ab").close()
+        except OSError as error:
+            parser.error(f"--{name}: {one_line(place)} can't be written: {error.strerror}")
+    return options, Policy(options.ignore, options.allow_refused, expected, options.min_events or 0)
