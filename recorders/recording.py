@@ -343,6 +343,11 @@ class Connection:
         return self.connect is not None and not self.is_answered
 
     @property
+    def is_silent(self) -> bool:
+        """Nothing was sent on it by either end, as where somebody only looked whether the port is open."""
+        return self.log is None and not any(item.data for item in self.kept)
+
+    @property
     def may_rest(self) -> bool:
         """A REST can be written. Where in doubt, none is."""
         is_sound = self.client.is_sound and self.server.is_sound
@@ -541,7 +546,7 @@ class Recorder:
         """Writes what is still kept, and closes the files. A connection that is open stays so in its log."""
         for connection in self._connections.values():
             if connection.log is None and not connection.is_left_out and not connection.is_waiting:
-                self._place(connection)
+                self._place_ended(connection)
         self.stop()
 
     def stop(self, line: str = "") -> None:
@@ -726,6 +731,13 @@ class Recorder:
             log.pause()
             self._write_waiting(log)
         elif not connection.is_waiting and not connection.is_left_out:
+            self._place_ended(connection)
+
+    def _place_ended(self, connection: Connection) -> None:
+        """Finds the log of a connection on which nothing more comes, if anything came."""
+        if connection.is_silent:
+            self._take_kept(connection)
+        else:
             self._place(connection)
 
     def _rest(self, connection: Connection) -> None:

@@ -125,6 +125,18 @@ class Connections(Case):
         self.assertEqual(self.stop(), 0)
         self.assertEqual(list(self.folder.iterdir()), [])
 
+    def test_a_port_probe_leaves_no_log(self) -> None:
+        self.start()
+        for _ in range(3):
+            socket.create_connection(("127.0.0.1", self.port), PATIENCE).close()
+            server, _ = self.broker.accept()
+            server.settimeout(PATIENCE)
+            self.assertEqual(receive(server, 1), b"")
+            server.close()
+        self.pair(b"a")
+        self.assertEqual(self.stop(), 0)
+        self.assertEqual(sorted(path.name for path in self.folder.iterdir()), ["a.1.client.log", "a.1.server.log"])
+
     def test_one_end_alone(self) -> None:
         self.start("--end", "server")
         self.pair(b"a")

@@ -123,6 +123,26 @@ class Sessions(Case):
         self.assertEqual(self.recorded(), {"a.1.client.log": [*unanswered, *opening(b"a", False, True)]})
         self.assertEqual(self.warnings, [])
 
+    def test_a_connection_on_which_nothing_was_sent_leaves_no_log(self) -> None:
+        recorder = self.recorder(*BOTH, rest_after=1.0)
+        for key in (1, 2):
+            recorder.opened(key)
+        self.now = 5
+        recorder.tick()
+        recorder.closed(1)  # the other one is open at the end
+        self.accept(recorder, 3, b"a")
+        recorder.opened(4)
+        recorder.from_server(4, PINGRESP)
+        recorder.closed(4)
+        recorder.opened(5)
+        recorder.from_client(5, b"\x10")
+        recorder.finish()
+        logs = {name: words for name, words in self.recorded().items() if "client" in name}
+        unnamed = [["OPEN", "RECV d000", "CLOSE"], ["OPEN", "SENT 10"]]
+        wanted = {f"@unnamed.{number}.client.log": words for number, words in enumerate(unnamed, 1)}
+        self.assertEqual(logs, wanted | {"a.1.client.log": opening(b"a")})
+        self.assertEqual((self.warnings, recorder._kept_bytes, recorder.connections), ([], 0, 3))
+
     def test_a_session_from_before_the_recording_is_left_out(self) -> None:
         recorder = self.recorder()
         self.accept(recorder, 1, b"a", False, True)
