@@ -463,6 +463,96 @@ class Cut(Case):
             self.assertEqual((status, printed.splitlines()[-1]), (2, "8 logs: 0 pass, 0 fail, 8 refused, 0 failed"))
 
 
+def log_of(*records: tuple[int, bytes], is_server: bool = False, version: int = 2) -> bytes:
+    """A log of these records, whose moments count from 1."""
+    made = log_format.VERSIONS[version]
+    body = [made.record(kind, data, moment) for moment, (kind, data) in enumerate(records, 1)]
+    return made.header(is_server, False) + b"".join(body)
+
+
+class Foreign(Case):
+    """Logs of what isn't MQTT, by the judge itself. Records: OPEN 1, SENT 2, RECV 3, CLOSE 4."""
+
+    CONNECT = bytes.fromhex("100e00044d5154540502003c0000 0161")
+    HTTP = b"GET /status HTTP/1.1\r\nHost: broker\r\n\r\n"
+    WEBSOCKET = b"GET /mqtt HTTP/1.1\r\nHost: broker\r\nUpgrade: WebSocket\r\nConnection: Upgrade\r\n\r\n"
+    HELLO = bytes.fromhex("160301 00c8 01 0000c4 0303") + bytes(199)
+    ALERT = bytes.fromhex("150303 0002 0246")
+    SPEAKS = "the client speaks HTTP (GET /status HTTP/1.1), not MQTT"
+    TLS = "the client begins TLS (a ClientHello), and no MQTT is recorded: "
+    UPGRADES = "the client asks for a WebSocket (GET /mqtt HTTP/1.1), and no MQTT is recorded: "
+    ANSWERS = "the server answers with TLS, not MQTT: "
+
+    def lines(self, *records: tuple[int, bytes], is_server: bool = False) -> list[str]:
+        """What is printed of a log, without the fault lines and the table."""
+        (self.logs / "a.log").write_bytes(log_of(*records, is_server=is_server))
+        printed = self.judged(self.logs, program=judge_program())[1]
+        return [line for line in printed.partition("\n\n")[0].splitlines() if not line.startswith("    fault")]
+
+    def test_they_are_named_in_words(self) -> None:
+        for data, words in ((self.HTTP * 9, self.SPEAKS), (self.HELLO, self.TLS), (self.WEBSOCKET, self.UPGRADES)):
+            first, second, *rest = self.lines((1, b""), (2, data), (4, b""))
+            self.assertIn(first, (f"fail {self.logs}/a.log", f"pass {self.logs}/a.log"))
+            self.assertTrue(second.startswith(f"  {words}"), second)
+            self.assertNotIn("47", "".join(rest))
+            self.assertNotIn("bytes", "".join(rest))
+            first, second, *_ = self.lines((1, b""), (3, data), (4, b""), is_server=True)
+            self.assertEqual((first, second.startswith(f"  {words}")), (f"pass {self.logs}/a.log", True))
+
+    def test_they_come_in_pieces(self) -> None:
+        pieces = [(2, self.WEBSOCKET[at : at + 1]) for at in range(40)] + [(2, self.WEBSOCKET[40:])]
+        self.assertTrue(self.lines((1, b""), *pieces)[1].startswith(f"  {self.UPGRADES}"))
+
+    def test_a_server_that_answers_otherwise(self) -> None:
+        lines = self.lines((1, b""), (2, self.CONNECT), (3, self.ALERT), (4, b""))
+        self.assertTrue(lines[1].startswith(f"  {self.ANSWERS}"), lines)
+        lines = self.lines((1, b""), (2, self.CONNECT), (3, b"HTTP/1.1 400 Bad Request\r\n\r\n"), (4, b""))
+        self.assertEqual(lines[1], "  the server answers with HTTP (HTTP/1.1 400 Bad Request), not MQTT: is it the right port?")
+
+    def test_the_verdict_stays(self) -> None:
+        (self.logs / "a.log").write_bytes(log_of((1, b""), (2, self.HELLO), (4, b"")))
+        status, printed, _ = self.judged(self.logs, program=judge_program())
+        self.assertEqual(status, 1)
+        self.assertIn("    fault 2 W01 MQTT-2.1.3-1 decided 2 record 2 offset 0", printed)
+        self.assertEqual(printed.splitlines()[-1], "1 log: 0 pass, 1 fail, 0 refused, 0 failed")
+
+    def test_mqtt_is_not_named(self) -> None:
+        """Neither is what only contains such bytes, or what comes on a later connection, whose events are shown."""
+        accepted = (3, bytes.fromhex("2003000000"))
+        for records in (
+            [(1, b""), (2, self.CONNECT), accepted, (2, b"\x30\x30\0\x01a\0" + self.HTTP), (4, b"")],
+            [(1, b""), (2, self.CONNECT), accepted, (4, b""), (1, b""), (2, self.HELLO), (4, b"")],
+        ):
+            self.assertNotIn("not MQTT", "".join(self.lines(*records)))
+        self.assertIn("BAD W01", "".join(self.lines(*records)))
+
+
+class Rests(Case):
+    def remark(self, **logs: bytes) -> list[str]:
+        for path in self.logs.iterdir():
+            path.unlink()
+        for name, log in logs.items():
+            (self.logs / f"{name}.log").write_bytes(log)
+        status, printed, _ = self.judged(self.logs, program=judge_program())
+        self.assertEqual(status, 0)
+        return [line for line in printed.splitlines() if "REST" in line]
+
+    def test_logs_without_one_are_counted(self) -> None:
+        """A client that never acknowledges passes where no REST is recorded."""
+        publish = (3, bytes.fromhex("3207000161000100 78".replace(" ", "")))
+        session = [(1, b""), (2, Foreign.CONNECT), (3, bytes.fromhex("2003000000")), publish]
+        silent, rested = log_of(*session), (TOP / "examples/pass.log").read_bytes()
+        line = "no REST in {} of {}: missing answers aren't judged there"
+        self.assertEqual(self.remark(a=silent), [line.format(1, "1 log")])
+        self.assertEqual(self.remark(a=silent, b=rested, c=log_of(*session, version=1)), [line.format(2, "3 logs")])
+        self.assertEqual(self.remark(a=rested), [])
+        self.assertEqual(self.remark(a=log_of(*session[:3], (2, b"\xc0\0" * 3), (5, b""), version=1)), [])
+
+    def test_what_is_not_judged_is_not_counted(self) -> None:
+        (self.logs / "a.log").write_bytes(log_of((4, b"")))
+        self.assertNotIn("REST", self.judged(self.logs, program=judge_program())[1])
+
+
 class Times(Case):
     """Logs of version 2, by what the stand-in shows of them."""
 

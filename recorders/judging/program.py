@@ -11,11 +11,12 @@ from collections.abc import Callable
 from pathlib import Path
 from typing import IO, BinaryIO
 
+from judging.looking import look_at
 from judging.places import what_else
 from judging.story import Teller, choose, end_of, is_brief
 from judging.texts import mark_texts
 from judging.verdict import FAILED, FAULTS, REFUSED, TOO_SHORT, Verdict
-from log_format import HEADER_SIZE, body_size, version_of
+from log_format import HEADER_SIZE, body_size, mapped, version_of
 
 STATUSES = (0, 1, 2, 4)
 CUT = "refused 10 Cut "
@@ -80,17 +81,31 @@ class Judge:
     def _finish(self, verdict: Verdict, log: Path) -> None:
         """Weighs a verdict, and has its faults explained, or says what a file is that isn't a log."""
         self._weigh(verdict)
+        is_foreign = self._look(verdict, log)
         if verdict.status == REFUSED and verdict.last.startswith(NO_LOG) and (note := what_else(log)):
             verdict.notes.append(note)
         identifiers: dict[int, int] = {}
         has_times = bool(verdict.shown) and has_moments(log)
         if (verdict.status == FAULTS and verdict.positions) or (self._tells and verdict.found) or has_times:
             identifiers = self._explain(verdict, log)
+        if is_foreign:
+            verdict.excerpts = {}  # what is spoken says more than its bytes do
         if self._keeps:
             verdict.end = end_of(header_of(log))
         if self._tells and (verdict.found or verdict.status in (REFUSED, TOO_SHORT) or is_brief(verdict.events)):
             self._tell(verdict, log, identifiers)
         mark_texts(verdict.excerpts, verdict.story, log)
+
+    def _look(self, verdict: Verdict, log: Path) -> bool:
+        """Says in the verdict what can be seen without judging. It gives whether the log has nothing of MQTT."""
+        try:
+            with mapped(log) as whole:
+                looked = look_at(whole)
+        except OSError:
+            return False
+        verdict.has_rest, verdict.foreign = looked.has_rest, looked.foreign
+        verdict.notes += [looked.foreign] if looked.foreign else []
+        return bool(looked.foreign) and looked.is_only
 
     def _ask(self, path: Path, log: Path) -> Verdict:
         """What the program says of a log, under the name that it has. It has failed where it ends oddly."""

@@ -34,6 +34,13 @@ def print_table(verdicts: list[Verdict]) -> None:
         print(f"{refusal}: {counted(refusals[refusal], 'log')}")
 
 
+def rest_line(verdicts: list[Verdict]) -> list[str]:
+    """A line if there are logs without a REST: they may be passes though answers are missing."""
+    judged = [verdict for verdict in verdicts if verdict.events is not None and verdict.has_rest is not None]
+    without = sum(not verdict.has_rest for verdict in judged)
+    return [f"no REST in {without} of {counted(len(judged), 'log')}: missing answers aren't judged there"] if without else []
+
+
 def last_line(verdicts: list[Verdict], has_least: bool) -> str:
     """What all logs came to. What was ignored, and which logs are too short, is in it whatever the status is."""
     counts = Counter(verdict.status for verdict in verdicts)
@@ -105,5 +112,5 @@ def add_case(suite: ElementTree.Element, verdict: Verdict) -> None:
         ElementTree.SubElement(case, kind, words).text = text
     elif verdict.ignored:
         ElementTree.SubElement(case, "skipped", {"message": in_xml("; ".join(verdict.ignored))}).text = text
-    elif verdict.whole is not None:
+    elif verdict.is_worth_a_line:
         ElementTree.SubElement(case, "system-out").text = text

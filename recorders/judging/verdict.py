@@ -64,6 +64,8 @@ class Verdict:
     seconds: float = 0.0
     ignored: list[str] = field(default_factory=list)  # what the policy left out of the status, and why
     notes: list[str] = field(default_factory=list)  # what else there is to say of it
+    foreign: str = ""  # what is spoken in its place, where that isn't MQTT; one of the notes
+    has_rest: bool | None = None  # None where it isn't a log
     sentences: dict[str, str] = field(default_factory=dict)  # what each code says
     excerpts: dict[str, list[str]] = field(default_factory=dict)  # what happened around each code's first fault
     moments: dict[int, int] = field(default_factory=dict)  # of the events at fault, where the log has moments
@@ -114,6 +116,7 @@ class Verdict:
     @property
     def lines(self) -> list[str]:
         """The lines that explain the verdict."""
+        foreign = [self.foreign] if self.foreign else []
         if self.status == FAULTS:
             kept = [line for code in sorted(self.faults) for line in self._explained(code)]
         elif self.status == TOO_SHORT:
@@ -121,10 +124,15 @@ class Verdict:
         else:
             kept = [self._with_time(line) for line in self.first]
             kept += ([f"and {self.count - len(self.first)} more"] if self.count > len(self.first) else [])
-        notes = [*(f"ignored: {text}" for text in self.ignored), *self.notes]
+        notes = [*(f"ignored: {text}" for text in self.ignored), *(note for note in self.notes if note != self.foreign)]
         if self.whole is not None:
             notes.append(f"it ends inside a record: judged are its first {self.whole} bytes")
-        return kept + notes
+        return foreign + kept + notes
+
+    @property
+    def is_worth_a_line(self) -> bool:
+        """Whether there is more to say of it than that it passes."""
+        return self.status != PASSED or self.whole is not None or bool(self.ignored) or bool(self.foreign)
 
     @property
     def shown(self) -> set[int]:
