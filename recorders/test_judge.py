@@ -270,6 +270,19 @@ class Policies(Case):
         self.assertEqual(failure.get("message"), "too short to say anything: 2 events")
         self.assertEqual(self.last("--min-events", "2")[0], 0)
 
+    def test_too_few_logs(self) -> None:
+        self.put(a=PASS, b=FAIL)
+        self.assertEqual([self.judged(self.logs, "--min-logs", count)[0] for count in (0, 1, 2)], [1, 1, 1])
+        report = self.folder / "report.xml"
+        status, printed, _ = self.judged(self.logs, "--min-logs", "3", "--junit", report, "--github")
+        line = "too few logs: 2, where --min-logs asks for 3"
+        self.assertEqual((status, printed.splitlines()[-2]), (4, line))
+        self.assertIn(f"::error title=mqjudge::{line}", printed.splitlines())
+        self.assertEqual([error.get("message") for error in ElementTree.parse(report).iter("error")], [line])
+        counts = {name: ElementTree.parse(report).getroot().get(name) for name in ("tests", "errors", "failures")}
+        self.assertEqual(counts, {"tests": "3", "errors": "1", "failures": "1"})
+        self.assertEqual(self.judged(self.logs, "--min-logs", "-1")[0], 3)
+
     def test_codes_that_are_ignored(self) -> None:
         self.put(a=FAIL)
         ends = "0 refused, 0 failed; ignored: "

@@ -34,12 +34,20 @@ client.loop_stop()
 """
 
 
+def section() -> str:
+    """What README.md says about recording."""
+    return (TOP / "README.md").read_text().partition("## Record your own session\n")[2].partition("\n## ")[0]
+
+
 def blocks() -> dict[str, str]:
     """The lines for each way, under the words that stand in bold before them."""
-    page = (TOP / "README.md").read_text()
-    section = page.partition("## Record your own session\n")[2].partition("\n## ")[0]
-    ways = [way.partition("**") for way in section.split("\n**")[1:]]
+    ways = [way.partition("**") for way in section().split("\n**")[1:]]
     return {name: text.partition("\n```\n")[2].partition("\n```")[0] + "\n" for name, _, text in ways}
+
+
+def judged() -> list[tuple[str, str]]:
+    """The folders that are judged, and how many logs each must have."""
+    return re.findall(r"recorders/judge (\w+) --min-logs (\d)", section())
 
 
 def may_capture() -> bool:
@@ -87,6 +95,13 @@ class Readme(InFolder):
         self.assertEqual([*blocks()], ["A proxy", "A preloaded library", "A capture", "In a client"])
         self.assertLessEqual({text.count("\n") for text in blocks().values()}, {3, 4})
 
+    def test_each_way_has_a_folder_of_its_own_and_says_how_many_logs_it_makes(self) -> None:
+        self.assertEqual([count for _, count in judged()], ["2", "1", "2", "1"])
+        folders = [folder for folder, _ in judged()]
+        self.assertEqual(len(set(folders)), 4)
+        for folder, text in zip(folders, blocks().values(), strict=True):
+            self.assertEqual({name for name in folders if re.search(rf"\b{name}\b", text)}, {folder})
+
     def test_proxy(self) -> None:
         with broker(self.folder) as (port, _):
             self.assert_passes(self.run_lines(blocks()["A proxy"], {1883: port, 1884: free_port()}), 2)
@@ -109,7 +124,8 @@ class Readme(InFolder):
             text = CLIENT.format(lines=blocks()["In a client"], port=port)
             (self.folder / "client.py").write_text(text)
             self.run_lines(f"{sys.executable} client.py", {})
-        self.assert_passes(self.run_lines("recorders/judge logs", {}), 1)
+        folder, count = judged()[-1]
+        self.assert_passes(self.run_lines(f"recorders/judge {folder} --min-logs {count}", {}), 1)
 
 
 if __name__ == "__main__":

@@ -17,6 +17,11 @@ def annotations(verdicts: list[Verdict], explanations: dict[str, Explanation]) -
     return sorted(lines, key=lambda line: not line.startswith("::error"))
 
 
+def general(text: str) -> str:
+    """An error that is about no log."""
+    return f"::error title=mqjudge::{within(text, DATA)}"
+
+
 def of_log(verdict: Verdict, explanations: dict[str, Explanation]) -> list[str]:
     lines = []
     counts = Counter(fault.code for fault in verdict.found)

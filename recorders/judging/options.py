@@ -36,6 +36,7 @@ def arguments() -> Parser:
     parser.add_argument("--github", action="store_true", help="print annotations for workflows of GitHub")
     parser.add_argument("--most", type=int, default=20, metavar="N", help="print at most N faults per log")
     parser.add_argument("--min-events", type=int, metavar="N", help="a log with fewer events is no pass")
+    parser.add_argument("--min-logs", type=int, metavar="N", help="fewer logs than N are a failure")
     parser.add_argument("--expect", type=Path, metavar="FILE", help="known faults, in lines LOG CODE COUNT")
     parser.add_argument("--ignore", type=words_of, default=frozenset(), metavar="CODE,..",
                         help="faults that don't count")
@@ -87,8 +88,8 @@ def parse() -> tuple[argparse.Namespace, Policy]:
     """The options, and the policy that they make."""
     parser = arguments()
     options = parser.parse_args()
-    if options.jobs < 1 or options.most < 0 or (options.min_events or 0) < 0:
-        parser.error("--jobs must be at least 1, and --most and --min-events at least 0")
+    if options.jobs < 1 or min(options.most, options.min_events or 0, options.min_logs or 0) < 0:
+        parser.error("--jobs must be at least 1, and --most, --min-events and --min-logs at least 0")
     program = options.program or (str(BUILT) if BUILT.is_file() else "mqjudge")
     if shutil.which(program) is None:
         parser.error(f"--program: {program} can't be run" if options.program else

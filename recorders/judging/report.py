@@ -76,26 +76,30 @@ def in_xml(text: object) -> str:
     return NOT_IN_XML.sub("?", show(text))
 
 
-def junit(verdicts: list[Verdict], empty: Sequence[Path], remarks: list[str]) -> ElementTree.ElementTree:
+def junit(
+    verdicts: list[Verdict], empty: Sequence[Path], missing: Sequence[str], remarks: list[str]
+) -> ElementTree.ElementTree:
     """The verdicts as JUnit XML: a log is a test case.
 
     Faults are a failure, what isn't judged is an error, and what is ignored altogether is skipped. A folder without
-    logs is an error too. Remarks are what is said of all of them.
+    logs is an error too, and so is a line on what is missing. Remarks are what is said of all of them.
     """
     failures = sum(verdict.status in FAILURES for verdict in verdicts)
-    errors = sum(verdict.status in ERRORS for verdict in verdicts) + len(empty)
+    errors = sum(verdict.status in ERRORS for verdict in verdicts) + len(empty) + len(missing)
     skipped = sum(verdict.status == PASSED and bool(verdict.ignored) for verdict in verdicts)
     seconds = f"{sum(verdict.seconds for verdict in verdicts):.3f}"
-    tests = str(len(verdicts) + len(empty))
+    tests = str(len(verdicts) + len(empty) + len(missing))
     counts = {"tests": tests, "failures": str(failures), "errors": str(errors), "time": seconds}
     suites = ElementTree.Element("testsuites", counts)
     suite = ElementTree.SubElement(suites, "testsuite", {"name": "mqjudge", "skipped": str(skipped), **counts})
     for verdict in verdicts:
         add_case(suite, verdict)
-    for folder in empty:
-        words = {"classname": in_xml(folder), "name": "(no logs)", "time": "0.000"}
-        case = ElementTree.SubElement(suite, "testcase", words)
-        ElementTree.SubElement(case, "error", {"type": WORDS[FAILED], "message": "the folder has no logs"})
+    for place, name, message in [
+        *((in_xml(folder), "(no logs)", "the folder has no logs") for folder in empty),
+        *(("mqjudge", "(too few logs)", line) for line in missing),
+    ]:
+        case = ElementTree.SubElement(suite, "testcase", {"classname": place, "name": name, "time": "0.000"})
+        ElementTree.SubElement(case, "error", {"type": WORDS[FAILED], "message": message})
     if remarks:
         ElementTree.SubElement(suite, "system-out").text = in_xml("\n".join(remarks))
     ElementTree.indent(suites)
