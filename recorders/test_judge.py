@@ -8,6 +8,7 @@ from __future__ import annotations
 import contextlib
 import os
 import pty
+import re
 import signal
 import subprocess
 import sys
@@ -25,7 +26,7 @@ STAND_IN = """#!/bin/sh
 # Says what the log's text says after its first line: its lines, and the last one's status. It shows LOG.show.
 case "$1" in
 check) sed '1d;$d' < "$2"; exit "$(tail -n 1 "$2")" ;;
-show) test "$2 $3 $4" = "--faults --around 2" && test -f "$5.show" && exec cat "$5.show" ;;
+show) test "$2 $3 $4 $5" = "--long --faults --around 2" && test -f "$6.show" && exec cat "$6.show" ;;
 rules) printf '%s both sec-1 It is so.\n' W01 W09 S01 S02 E1A; exit 0 ;;
 esac
 exit 3
@@ -142,6 +143,7 @@ class Printed(Case):
         wanted = [f"fail {self.logs}/b.log", *faults, f"refused {self.logs}/c.log", "  refused 7 Nested at 13"]
         wanted += [f"fail {self.logs}/d.log", *faults, "", "code   faults   logs  citation"]
         wanted += ["S01         2      2  MQTT-2.2.1-3", "W09         2      2  sec-2.2.1", "refused 7 Nested: 1 log"]
+        wanted += [f"what breaks S01, and what to change: {self.program} explain S01, and so for each code"]
         wanted += ["", "4 logs: 1 pass, 2 fail, 1 refused, 0 failed"]
         self.assertEqual(self.judged()[1].splitlines(), wanted)
 
@@ -164,6 +166,14 @@ class Printed(Case):
         status, printed, _ = self.judged(self.logs, self.logs / "a.log", inner)
         self.assertEqual((status, printed.splitlines()[-1]), (0, "3 logs: 3 pass, 0 fail, 0 refused, 0 failed"))
 
+    def shown(self, name: str, faults: list[str], events: dict[int, str]) -> list[str]:
+        """What is printed of a log with these faults and events, which its header says to be of version 2."""
+        lines = [*faults, f"fail {len(faults)} faults 9 events", "1"]
+        (self.logs / f"{name}.log").write_text("\n".join(["MQTR\x02\0\0\0", *lines, ""]))
+        (self.logs / f"{name}.log.show").write_text("\n".join([*events.values(), ""]))
+        printed = self.judged(self.logs / f"{name}.log")[1]
+        return printed.partition("\n\n")[0].splitlines()[1:]
+
     def test_what_a_fault_means(self) -> None:
         self.put(a=FAIL)
         events = [f"{number} record {number} SENT PINGREQ size 2" for number in range(1, 10)]
@@ -174,11 +184,93 @@ class Printed(Case):
         report = self.folder / "report.xml"
         printed = self.judged(self.logs, "--junit", report)[1].splitlines()
         first, second = FAIL.splitlines()[:2]
+        said = [*events[:5], "  fault S01 (decided at event 9)", *events[5:7], "  fault W09 (offset 2)", *events[7:]]
         wanted = ["S01 MQTT-2.2.1-3 1 fault: It takes no identifier.", f"  {first}"]
-        wanted += [f"    {line}" for line in shown[2:9]]
-        wanted += ["W09 sec-2.2.1 1 fault: It isn't 0.", f"  {second}", *(f"    {line}" for line in shown[4:11])]
+        wanted += [f"    {line}" for line in said[2:9]]
+        wanted += ["W09 sec-2.2.1 1 fault: It isn't 0.", f"  {second}", *(f"    {line}" for line in said[4:11])]
         self.assertEqual(printed[1 : 1 + len(wanted)], [f"  {line}" for line in wanted])
         self.assertEqual((ElementTree.parse(report).findtext(".//failure") or "").splitlines(), wanted)
+
+    def test_codes_of_one_event_share_what_happened(self) -> None:
+        faults = [f"fault 2 {code} sec-1 decided 2 record 2 offset -" for code in ("W09", "S01")]
+        faults += ["fault 3 E1A sec-1 decided 3 record 3 offset -"]
+        events = {number: f"{number} record {number} moment 0 SENT PINGREQ size 2" for number in (1, 2, 3)}
+        events[2] += "".join(f"\n  fault {code} sec-1 It is {code}." for code in ("W09", "S01"))
+        events[3] += "\n  fault E1A sec-1 It is E1A."
+        happened = ["1 record 1 moment 0 SENT PINGREQ size 2", "2 record 2 moment 0 SENT PINGREQ size 2", "  fault W09"]
+        happened += ["  fault S01", "3 record 3 moment 0 SENT PINGREQ size 2", "  fault E1A"]
+        excerpt = [f"      {line}" for line in happened]
+        wanted = ["  E1A sec-1 1 fault: It is E1A.", f"    {faults[2]}", *excerpt]
+        wanted += ["  S01 sec-1 1 fault: It is S01.", f"    {faults[1]}"]
+        wanted += ["  W09 sec-1 1 fault: It is W09.", f"    {faults[0]}"]
+        self.assertEqual(self.shown("a", faults, events), [*wanted, *excerpt])
+
+    def test_moments_of_events_are_times_where_they_can_be(self) -> None:
+        moments = {1: 1_795_694_645_000_001, 2: 1_795_694_646_500_000, 3: 7}
+        events = {at: f"{at} record {at} moment {moment} SENT PINGREQ size 2" for at, moment in moments.items()}
+        fault = "fault 2 S01 sec-1 decided 2 record 2 offset -"
+        lines = self.shown("a", [fault], events)
+        self.assertEqual(lines[-3:], ["      1 record 1 12:04:05.000001 SENT PINGREQ size 2",
+                                      "      2 record 2 12:04:06.500000 SENT PINGREQ size 2",
+                                      "      3 record 3 moment 7 SENT PINGREQ size 2"])
+        self.assertEqual(lines[1], f"    {fault} at 2026-11-26 12:04:06.500000 UTC")
+
+    def test_long_texts_and_lines_are_cut(self) -> None:
+        fields = f'topic "{"t" * 70_000}" payload 3 user-property "a\\"b" ' + 'reason-string "r" ' * 40
+        fault = "fault 1 S01 sec-1 decided 1 record 1 offset -"
+        lines = self.shown("a", [fault], {1: f"1 record 1 SENT PUBLISH {fields}"})
+        beginning = f'      1 record 1 SENT PUBLISH topic "{"t" * 60}.." payload 3 user-property "a\\"b" reason-string'
+        self.assertTrue(lines[-1].startswith(beginning), lines[-1])
+        self.assertTrue(lines[-1].endswith(" ..") and len(lines[-1]) < 340)
+
+    def test_the_values_that_decide(self) -> None:
+        """The limit that a packet breaks is beside it, if the packet that announced it is."""
+        printed = self.judged(TOP / "examples/sessions/client-large-packet.log", program=judge_program())[1]
+        self.assertRegex(printed, r"RECV CONNACK size 18 code 0x00 .*maximum-packet-size 100\b")
+        self.assertIn("SENT PUBLISH size 214 ", printed)
+        self.assertEqual(printed.count("A packet isn't larger than the peer's Maximum Packet Size."), 1)
+
+    def test_what_to_ask_next(self) -> None:
+        log = TOP / "examples/identifier-in-use.log"
+        line = next(line for line in self.judged(log, program=judge_program())[1].splitlines() if "explain" in line)
+        self.assertTrue(line.startswith("what breaks S01, and what to change: "))
+        answer = subprocess.run(line.partition("change: ")[2], shell=True, capture_output=True, text=True)
+        self.assertEqual(answer.returncode, 0)
+        self.assertIn("Packet Identifier", answer.stdout)
+        self.assertNotIn("explain", self.judged(TOP / "examples/pass.log", program=judge_program())[1])
+
+    def on_a_terminal(self, **variables: str) -> str:
+        """What is written to a terminal."""
+        here, there = pty.openpty()
+        environment = {name: value for name, value in os.environ.items() if name not in ("NO_COLOR", "TERM")}
+        with open(there, "w") as terminal:
+            subprocess.run(self.command(), stdout=terminal, stderr=subprocess.DEVNULL, timeout=PATIENCE,
+                           env=environment | {"TERM": "xterm"} | variables)
+        shown = os.read(here, 100_000).decode()
+        os.close(here)
+        return shown.replace("\r\n", "\n")
+
+    def test_colours_on_a_terminal(self) -> None:
+        self.put(a=FAIL)
+        plain = self.judged()[1]
+        coloured = self.on_a_terminal()
+        wanted = [f"\x1b[31mfail\x1b[0m {self.logs}/a.log", "  \x1b[1mS01\x1b[0m MQTT-2.2.1-3 1 fault"]
+        wanted += ["  \x1b[31m  fault 5\x1b[0m S01 MQTT-2.2.1-3 decided 5 record 5 offset -"]
+        self.assertEqual(coloured.splitlines()[:3], wanted)
+        self.assertEqual(re.sub(r"\x1b\[\d+m", "", coloured), plain)
+        self.assertNotIn("\x1b", plain)
+        for variables in ({"NO_COLOR": "1"}, {"TERM": "dumb"}, {"TERM": ""}):
+            self.assertEqual(self.on_a_terminal(**variables), plain)
+        self.assertEqual(self.on_a_terminal(NO_COLOR=""), coloured)  # it is as if it weren't set
+
+    def test_names_with_characters_that_a_terminal_obeys(self) -> None:
+        names = {b"a\x1b[31m\x07.log": r"a\x1b[31m\x07.log", "b\u009b\u202e.log".encode(): r"b\x9b\u202e.log",
+                 b"c\nfail.log": r"c\nfail.log", b"d\xff.log": r"d\xff.log", "e\u00e9.log".encode(): "e\u00e9.log"}
+        for name in names:
+            Path(os.fsdecode(os.path.join(os.fsencode(self.logs), name))).write_text(LOG + FAIL)
+        for printed in (self.on_a_terminal(NO_COLOR="1"), self.judged()[1]):
+            said = [line for line in printed.splitlines() if line.startswith("fail ")]
+            self.assertEqual(sorted(said), sorted(f"fail {self.logs}/{name}" for name in names.values()))
 
     def test_files_of_a_folder_that_are_no_logs(self) -> None:
         self.put(a=PASS)
@@ -520,7 +612,7 @@ class Foreign(Case):
         lines = self.lines((1, b""), (2, self.CONNECT), (3, self.ALERT), (4, b""))
         self.assertTrue(lines[1].startswith(f"  {self.ANSWERS}"), lines)
         lines = self.lines((1, b""), (2, self.CONNECT), (3, b"HTTP/1.1 400 Bad Request\r\n\r\n"), (4, b""))
-        self.assertEqual(lines[1], "  the server answers with HTTP (HTTP/1.1 400 Bad Request), not MQTT: is it the right port?")
+        self.assertTrue(lines[1].startswith("  the server answers with HTTP (HTTP/1.1 400 Bad Request), not MQTT: "))
 
     def test_the_verdict_stays(self) -> None:
         (self.logs / "a.log").write_bytes(log_of((1, b""), (2, self.HELLO), (4, b"")))

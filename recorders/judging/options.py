@@ -4,6 +4,7 @@ from __future__ import annotations
 import argparse
 import os
 import re
+import shlex
 import shutil
 import subprocess
 from pathlib import Path
@@ -84,6 +85,14 @@ def check_names(parser: Parser, options: argparse.Namespace, expected: Baseline)
             parser.error(f"{option}: {why}")
 
 
+def as_typed(program: str) -> str:
+    """How a program is called from here: by its name in the PATH, or by the shorter of its paths."""
+    if os.sep not in program:
+        return shlex.quote(program)
+    near = os.path.relpath(program)
+    return shlex.quote(program if near.startswith(os.pardir) else os.path.join(os.curdir, near) if os.sep not in near else near)
+
+
 def parse() -> tuple[argparse.Namespace, Policy]:
     """The options, and the policy that they make."""
     parser = arguments()
@@ -95,6 +104,7 @@ def parse() -> tuple[argparse.Namespace, Policy]:
         parser.error(f"--program: {program} can't be run" if options.program else
                      "mqjudge isn't built: name it with --program")
     options.program = shutil.which(program)
+    options.shown_program = as_typed(program)
     try:
         expected = read_baseline(options.expect) if options.expect else Baseline()
     except BaselineError as error:

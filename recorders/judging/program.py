@@ -11,6 +11,7 @@ from collections.abc import Callable
 from pathlib import Path
 from typing import IO, BinaryIO
 
+from judging.excerpt import sentence_in
 from judging.looking import look_at
 from judging.places import what_else
 from judging.story import Teller, choose, end_of, is_brief
@@ -28,9 +29,6 @@ IDENTIFIER = re.compile(
     r"\d+ record \d+(?: moment \d+)? (?:(?:SENT|RECV) \S+ size \d+(?: qos \d dup \d)? id|RELEASE) (\d+)"
 )
 MOMENT = re.compile(r"\d+ record \d+ moment (\d+) ")
-FAULT_LINE = re.compile(
-    r"\s+fault (\S+) \S+ (.*?)(?: \(decided at event \d+\))?(?: \(offset \d+\))?(?: \(at [-\d]+ [\d:.]+ UTC\))?"
-)
 
 
 class Judge:
@@ -141,7 +139,8 @@ class Judge:
             nonlocal at
             number = line.partition(" ")[0]
             at = int(number) if number.isdecimal() else at
-            learn_sentence(verdict, line)
+            if said := sentence_in(line):
+                verdict.sentences.setdefault(*said)
             if at in at_fault and (identifier := IDENTIFIER.match(line)):
                 identifiers[at] = int(identifier[1])
             if at in at_fault and (moment := MOMENT.match(line)):
@@ -151,7 +150,7 @@ class Judge:
                     excerpts[code].append(line)
 
         try:
-            status = self._read(take, "show", "--faults", "--around", str(AROUND), os.path.abspath(log))
+            status = self._read(take, "show", "--long", "--faults", "--around", str(AROUND), os.path.abspath(log))
         except OSError:
             return {}
         if status == 0:
@@ -214,13 +213,6 @@ def header_of(log: Path) -> bytes:
 def has_moments(log: Path) -> bool:
     version = version_of(header_of(log))
     return version is not None and version.has_moments
-
-
-def learn_sentence(verdict: Verdict, line: str) -> None:
-    """Takes what a code says from a fault's line."""
-    fault = FAULT_LINE.fullmatch(line)
-    if fault:
-        verdict.sentences.setdefault(fault[1], fault[2])
 
 
 def copy_whole_records(path: Path, room: IO[bytes] | BinaryIO) -> int:

@@ -7,6 +7,7 @@ from collections.abc import Sequence
 from pathlib import Path
 from xml.etree import ElementTree
 
+from judging.colours import Paint
 from judging.verdict import FAILED, FAULTS, PASSED, REFUSED, TOO_SHORT, WORDS, Verdict, counted, one_line, show
 
 NOT_IN_XML = re.compile("[^\t\n\r\x20-\ud7ff\ue000-\ufffd\U00010000-\U0010ffff]")
@@ -14,14 +15,14 @@ FAILURES = (FAULTS, TOO_SHORT)
 ERRORS = (REFUSED, FAILED)
 
 
-def print_verdict(verdict: Verdict) -> None:
-    print(f"{WORDS[verdict.status]} {one_line(verdict.path)}")
+def print_verdict(verdict: Verdict, paint: Paint) -> None:
+    print(f"{paint.status(WORDS[verdict.status], verdict.status)} {one_line(verdict.path)}")
     for line in verdict.lines:
-        print(f"  {show(line)}")
+        print(f"  {paint.line(one_line(line))}")
 
 
-def print_table(verdicts: list[Verdict]) -> None:
-    """Each code with the number of its faults, and of the logs that have it; and refusals."""
+def print_table(verdicts: list[Verdict], program: str) -> None:
+    """Each code with the number of its faults, and of the logs that have it, and what says more; and refusals."""
     faults: Counter[str] = sum((verdict.faults for verdict in verdicts), Counter())
     logs = Counter(code for verdict in verdicts for code in verdict.faults)
     if faults:
@@ -32,6 +33,10 @@ def print_table(verdicts: list[Verdict]) -> None:
     refusals = Counter(verdict.refusal for verdict in verdicts if verdict.status == REFUSED)
     for refusal in sorted(refusals):
         print(f"{refusal}: {counted(refusals[refusal], 'log')}")
+    if faults:
+        code = min(faults).split()[0]
+        others = ", and so for each code" if len(faults) > 1 else ""
+        print(f"what breaks {code}, and what to change: {program} explain {code}{others}")
 
 
 def rest_line(verdicts: list[Verdict]) -> list[str]:

@@ -7,6 +7,7 @@ from collections import Counter
 from dataclasses import dataclass, field
 from pathlib import Path
 
+from judging.excerpt import told
 from judging.story import Fault, Story
 
 HERE = Path(__file__).resolve().parent
@@ -118,7 +119,7 @@ class Verdict:
         """The lines that explain the verdict."""
         foreign = [self.foreign] if self.foreign else []
         if self.status == FAULTS:
-            kept = [line for code in sorted(self.faults) for line in self._explained(code)]
+            kept = self._explained()
         elif self.status == TOO_SHORT:
             kept = [self.headline]
         else:
@@ -150,12 +151,24 @@ class Verdict:
         time = self.time_at(int(fault[1])) if fault else ""
         return f"{line} at {time}" if time else line
 
-    def _explained(self, key: str) -> list[str]:
-        """A code's faults: how many, what they mean, the first of them, and what happened around the very first."""
+    def _explained(self) -> list[str]:
+        """The faults by their codes, and what happened around the first of each. Codes of one event share that."""
+        groups: dict[object, list[str]] = {}
+        for key in sorted(self.faults):
+            code = key.split()[0]
+            groups.setdefault(self.positions.get(code, code), []).append(key)
+        said = {key.split()[0] for key in self.faults} & self.sentences.keys()
+        lines = []
+        for keys in groups.values():
+            for key in keys:
+                lines += self._of_code(key)
+            lines += [f"    {told(line, said)}" for line in self.excerpts.get(keys[0].split()[0], ())]
+        return lines
+
+    def _of_code(self, key: str) -> list[str]:
+        """A code's faults: how many, what they mean, and the first of them."""
         code, count = key.split()[0], self.faults[key]
         sentence = f": {self.sentences[code]}" if code in self.sentences else ""
         kept = [line for line in self.first if line.startswith("fault ") and line.split()[2] == code]
         more = [f"  and {count - len(kept)} more"] if count > len(kept) else []
-        excerpt = [f"    {line}" for line in self.excerpts.get(code, ())]
-        faults = [f"  {self._with_time(line)}" for line in kept]
-        return [f"{key} {counted(count, 'fault')}{sentence}", *faults, *more, *excerpt]
+        return [f"{key} {counted(count, 'fault')}{sentence}", *(f"  {self._with_time(line)}" for line in kept), *more]
