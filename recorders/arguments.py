@@ -2,7 +2,10 @@
 from __future__ import annotations
 
 import argparse
+import contextlib
 import sys
+from collections.abc import Iterator
+from pathlib import Path
 from typing import NoReturn
 
 from log_format import NEWEST, VERSIONS
@@ -33,6 +36,37 @@ def seconds(text: str) -> float:
     if not 0 < number < 1e9:
         raise argparse.ArgumentTypeError(f"{text!r} isn't a number of seconds above 0")
     return number
+
+
+def why(error: OSError, place: str = "") -> str:
+    """What failed in words, after the file that the error names, or else this place: `a.xml: No space left on device`."""
+    name = place if error.filename is None else str(error.filename)
+    reason = error.strerror or str(error)
+    return f"{name}: {reason}" if name else reason
+
+
+@contextlib.contextmanager
+def naming(file: Path) -> Iterator[None]:
+    """Has the errors inside name a file, as those of writing and of closing don't."""
+    try:
+        yield
+    except OSError as error:
+        if error.filename is not None:
+            raise
+        raise OSError(error.errno, error.strerror, str(file)) from None
+
+
+@contextlib.contextmanager
+def writing(file: Path) -> Iterator[None]:
+    """Has a new file removed if what is inside fails or is interrupted. One that was there before stays."""
+    was_there = file.exists()
+    try:
+        with naming(file):
+            yield
+    except BaseException:
+        if not was_there:
+            file.unlink(missing_ok=True)
+        raise
 
 
 def counted(count: int, thing: str) -> str:

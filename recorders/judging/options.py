@@ -11,6 +11,7 @@ from pathlib import Path
 
 from arguments import Parser
 from judging.baseline import Baseline, BaselineError, read_baseline
+from judging.places import place_of
 from judging.policy import Policy
 from judging.refusals import REFUSALS
 from judging.verdict import one_line
@@ -28,12 +29,14 @@ def words_of(text: str) -> frozenset[str]:
 
 def arguments() -> Parser:
     parser = Parser(description="Judges many logs, and prints what isn't a pass.")
-    parser.add_argument("places", nargs="+", type=Path, metavar="DIR_OR_FILE", help="logs, or folders that hold some")
+    parser.add_argument("places", nargs="+", type=place_of, metavar="DIR_OR_FILE",
+                        help="logs, or folders that hold some; - is a log on standard input")
     parser.add_argument("--program", metavar="PATH", help="the program (else the built one, or mqjudge of the PATH)")
     parser.add_argument("--jobs", type=int, default=os.cpu_count() or 1, metavar="N", help="how many to judge at once")
     parser.add_argument("--junit", type=Path, metavar="FILE", help="write JUnit XML for test reports")
     parser.add_argument("--html", type=Path, metavar="FILE", help="write a page with pictures and what to change")
     parser.add_argument("--sarif", type=Path, metavar="FILE", help="write SARIF 2.1.0 for code hosts")
+    parser.add_argument("--json", action="store_true", help="print a line of JSON for each log, and nothing else")
     parser.add_argument("--github", action="store_true", help="print annotations for workflows of GitHub")
     parser.add_argument("--most", type=int, default=20, metavar="N", help="print at most N faults per log")
     parser.add_argument("--min-events", type=int, metavar="N", help="a log with fewer events is no pass")
@@ -85,6 +88,21 @@ def check_names(parser: Parser, options: argparse.Namespace, expected: Baseline)
             parser.error(f"{option}: {why}")
 
 
+def check_reports(parser: Parser, options: argparse.Namespace) -> None:
+    """Refuses reports that can't be written. No file is left: what is interrupted before it has a report has none."""
+    for name in REPORTS:
+        place = getattr(options, name)
+        if place is None:
+            continue
+        try:
+            was_there = place.exists()
+            place.open("ab").close()
+            if not was_there:
+                place.unlink()
+        except OSError as error:
+            parser.error(f"--{name}: {one_line(place)} can't be written: {error.strerror}")
+
+
 def as_typed(program: str) -> str:
     """How a program is called from here: by its name in the PATH, or by the shorter of its paths."""
     if os.sep not in program:
@@ -99,6 +117,8 @@ def parse() -> tuple[argparse.Namespace, Policy]:
     options = parser.parse_args()
     if options.jobs < 1 or min(options.most, options.min_events or 0, options.min_logs or 0) < 0:
         parser.error("--jobs must be at least 1, and --most, --min-events and --min-logs at least 0")
+    if options.json and options.github:
+        parser.error("--json and --github both write to standard output: choose one")
     program = options.program or (str(BUILT) if BUILT.is_file() else "mqjudge")
     if shutil.which(program) is None:
         parser.error(f"--program: {program} can't be run" if options.program else
@@ -110,11 +130,5 @@ def parse() -> tuple[argparse.Namespace, Policy]:
     except BaselineError as error:
         parser.error(f"--expect: {error}")
     check_names(parser, options, expected)
-    for name in REPORTS:
-        place = getattr(options, name)
-        try:
-            if place is not None:
-                place.open("ab").close()
-        except OSError as error:
-            parser.error(f"--{name}: {one_line(place)} can't be written: {error.strerror}")
+    check_reports(parser, options)
     return options, Policy(options.ignore, options.allow_refused, expected, options.min_events or 0)

@@ -1,6 +1,7 @@
 """Which logs are meant by the files and folders that a user names."""
 from __future__ import annotations
 
+import os
 from collections.abc import Iterable
 from dataclasses import dataclass, field
 from pathlib import Path
@@ -8,6 +9,7 @@ from pathlib import Path
 from judging.baseline import names_of
 from log_format import MARK
 
+STANDARD_INPUT = Path("-")
 CAPTURE = "it is a capture: recorders/from-capture makes logs of it"
 COMPRESSED = "it is compressed by gzip: unpack it first"
 OTHERS = {  # what else a file may be, by its first bytes
@@ -31,6 +33,12 @@ class Found:
 
     def names_of(self, log: Path) -> frozenset[str]:
         return names_of(log, self.folders.get(log, log.parent))
+
+
+def place_of(text: str) -> Path:
+    """The place that a word on the command line means; `-` is standard input, and `./-` a file of that name."""
+    place = Path(text)
+    return Path(os.path.abspath(text)) if place == STANDARD_INPUT and text != str(STANDARD_INPUT) else place
 
 
 def is_log(path: Path) -> bool:
@@ -59,7 +67,7 @@ def find_logs(places: Iterable[Path]) -> Found:
     found = Found()
     for place in places:
         inside = [place]
-        if place.is_dir():
+        if place != STANDARD_INPUT and place.is_dir():
             files = sorted(path for path in place.rglob("*.log") if path.is_file())
             inside = [path for path in files if is_log(path)]
             others.update(set(files) - set(inside))

@@ -1,28 +1,31 @@
 """Has logs judged by `mqjudge`, by several threads at a time."""
 from __future__ import annotations
 
+import contextlib
 import os
 import re
 import subprocess
 import tempfile
 import threading
 import time
-from collections.abc import Callable
+from collections.abc import Callable, Iterator
 from pathlib import Path
-from typing import IO, BinaryIO
+from typing import BinaryIO
 
+from arguments import naming, why
 from judging.excerpt import sentence_in
 from judging.looking import look_at
 from judging.places import what_else
 from judging.story import Teller, choose, end_of, is_brief
 from judging.texts import mark_texts
-from judging.verdict import FAILED, FAULTS, REFUSED, TOO_SHORT, Verdict
+from judging.verdict import FAILED, FAULTS, REFUSED, TOO_SHORT, Verdict, show
 from log_format import HEADER_SIZE, body_size, mapped, version_of
 
 STATUSES = (0, 1, 2, 4)
 CUT = "refused 10 Cut "
 NO_LOG = "refused 1 Header "
 HINT = "mqjudge: it is "  # what the program says beside that of some files: `what_else` says it of them
+STANDARD_INPUT_FILE = "/dev/stdin"
 CHUNK = 1 << 20
 AROUND = 2  # events before and after a fault that are shown
 IDENTIFIER = re.compile(
@@ -42,19 +45,21 @@ class Judge:
         self._keeps, self._tells = keeps, tells
         self._running: set[subprocess.Popen[bytes]] = set()
         self._lock = threading.Lock()  # for what runs
+        self.copies: dict[Path, Path] = {}  # files that stand for logs which can't be read twice
         self.is_stopped = False
 
     def judge(self, path: Path) -> Verdict:
         """Has a log judged, and one that ends inside a record up to its last whole one."""
         begun = time.monotonic()
-        verdict = self._ask(path, path)
+        log = self.copies.get(path, path)
+        verdict = self._ask(path, log)
         if verdict.status == REFUSED and verdict.last.startswith(CUT):
             try:
-                verdict = self._judge_whole_records(path) or verdict
+                verdict = self._judge_whole_records(path, log) or verdict
             except OSError as error:
-                verdict = Verdict(path, FAILED, [str(error)], str(error), 1)
+                verdict = Verdict(path, FAILED, [why(error)], why(error), 1)
         else:
-            self._finish(verdict, path)
+            self._finish(verdict, log)
         verdict.seconds = time.monotonic() - begun
         return verdict
 
@@ -65,15 +70,17 @@ class Judge:
             for child in self._running:
                 child.kill()
 
-    def _judge_whole_records(self, path: Path) -> Verdict | None:
+    def _judge_whole_records(self, path: Path, log: Path) -> Verdict | None:
         """Has a copy of a log judged that ends at its last whole record; None where there is nothing to judge."""
-        with tempfile.NamedTemporaryFile() as room:
-            whole = copy_whole_records(path, room)
+        with tempfile.TemporaryDirectory() as folder:
+            copy = Path(folder) / "log"
+            with naming(copy), copy.open("wb") as room:
+                whole = copy_whole_records(log, room)
             if not whole:
                 return None
-            verdict = self._ask(path, Path(room.name))
+            verdict = self._ask(path, copy)
             verdict.whole = whole
-            self._finish(verdict, Path(room.name))
+            self._finish(verdict, copy)
             return verdict
 
     def _finish(self, verdict: Verdict, log: Path) -> None:
@@ -114,9 +121,9 @@ class Judge:
                 verdict.take(line, self._most)
 
         try:
-            verdict.status = self._read(take, "check", os.path.abspath(log), errors=subprocess.STDOUT)
+            verdict.status = self._read(take, "check", log=log, errors=subprocess.STDOUT)
         except OSError as error:
-            verdict.take(str(error), self._most)
+            verdict.take(why(error), self._most)
         if verdict.status not in STATUSES or (verdict.status == FAULTS) != verdict.last.startswith("fail "):
             verdict.take(f"the program ended with status {verdict.status}", len(verdict.first) + 1)
             verdict.status = FAILED
@@ -150,7 +157,7 @@ class Judge:
                     excerpts[code].append(line)
 
         try:
-            status = self._read(take, "show", "--long", "--faults", "--around", str(AROUND), os.path.abspath(log))
+            status = self._read(take, "show", "--long", "--faults", "--around", str(AROUND), log=log)
         except OSError:
             return {}
         if status == 0:
@@ -163,7 +170,7 @@ class Judge:
         places = {fault.position for fault in told}
         teller = Teller(verdict.end, told, {place: identifiers[place] for place in places & identifiers.keys()})
         try:
-            self._read(teller.take, "show", "--long", os.path.abspath(log))
+            self._read(teller.take, "show", "--long", log=log)
         except OSError:
             return
         verdict.story = teller.story()
@@ -177,28 +184,45 @@ class Judge:
             return ""
         return "".join(f"{line}\n" for line in lines)
 
-    def _read(self, take: Callable[[str], None], *words: str, errors: int = subprocess.DEVNULL) -> int:
+    def _read(
+        self, take: Callable[[str], None], *words: str, log: Path | None = None, errors: int = subprocess.DEVNULL
+    ) -> int:
         """Runs the program, and has each line that it prints taken in. It gives the status."""
-        child = self._start(*words, errors=errors)
-        with child:
-            assert child.stdout is not None
-            for raw in child.stdout:
-                take(raw.decode("utf-8", "replace").rstrip("\r\n"))
+        with opened(log) as (name, given):
+            child = self._start([*words, *name], given, errors)
+            with child:
+                assert child.stdout is not None
+                for raw in child.stdout:
+                    take(raw.decode("utf-8", "replace").rstrip("\r\n"))
         self._ended(child)
         return child.returncode
 
-    def _start(self, *words: str, errors: int) -> subprocess.Popen[bytes]:
+    def _start(self, words: list[str], given: int, errors: int) -> subprocess.Popen[bytes]:
         with self._lock:
             if self.is_stopped:
                 raise InterruptedError("it was stopped")
-            command = [self._program, *words]
-            child = subprocess.Popen(command, stdin=subprocess.DEVNULL, stdout=subprocess.PIPE, stderr=errors)
+            child = subprocess.Popen([self._program, *words], stdin=given, stdout=subprocess.PIPE, stderr=errors)
             self._running.add(child)
         return child
 
     def _ended(self, child: subprocess.Popen[bytes]) -> None:
         with self._lock:
             self._running.discard(child)
+
+
+@contextlib.contextmanager
+def opened(log: Path | None) -> Iterator[tuple[list[str], int]]:
+    """The word that names a log to the program, and what it has as standard input.
+
+    The program opens no name that isn't UTF-8: such a log is its standard input, by the name that this has, since it
+    reads some logs twice.
+    """
+    name = os.path.abspath(log) if log is not None else ""
+    if name == show(name):
+        yield [name] if name else [], subprocess.DEVNULL
+        return
+    with open(name, "rb") as file:
+        yield [STANDARD_INPUT_FILE], file.fileno()
 
 
 def header_of(log: Path) -> bytes:
@@ -215,7 +239,7 @@ def has_moments(log: Path) -> bool:
     return version is not None and version.has_moments
 
 
-def copy_whole_records(path: Path, room: IO[bytes] | BinaryIO) -> int:
+def copy_whole_records(path: Path, room: BinaryIO) -> int:
     """Copies a log up to its last whole record, and gives the number of bytes; 0 where not even its header is whole."""
     with path.open("rb") as log:
         left = whole = size_of_whole_records(log, path.stat().st_size)
@@ -223,7 +247,6 @@ def copy_whole_records(path: Path, room: IO[bytes] | BinaryIO) -> int:
         while left and (piece := log.read(min(left, CHUNK))):
             room.write(piece)
             left -= len(piece)
-    room.flush()
     return whole
 
 

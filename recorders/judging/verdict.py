@@ -22,6 +22,8 @@ SHORT = 3  # events that a connection takes to open: OPEN, CONNECT, CONNACK
 FAULT = re.compile(r"fault (\d+) (\S+) (\S+) decided (\d+) record (\d+) offset (\d+|-)")
 ENDING = re.compile(r"(?:pass|fail \d+ faults) (\d+) events")
 
+REFUSED_LINE = re.compile(r"refused (\d+) (\w+) at (\d+)")
+
 
 def show(text: object) -> str:
     """A text that can be printed, whatever a file's name holds."""
@@ -140,6 +142,12 @@ class Verdict:
         """The positions of the faults that are shown."""
         lines = (FAULT.fullmatch(line) for line in self.first)
         return {int(line[1]) for line in lines if line} | {fault.position for fault in self.found}
+
+    @property
+    def refused(self) -> tuple[int, str, int] | None:
+        """The number of the condition under which it was refused, its name, and the place of its byte."""
+        found = REFUSED_LINE.fullmatch(self.last)
+        return (int(found[1]), found[2], int(found[3])) if found else None
 
     def time_at(self, position: int) -> str:
         """When an event at fault happened; empty where that isn't known."""

@@ -1,0 +1,35 @@
+"""The verdicts for other programs: a line of JSON for each log."""
+from __future__ import annotations
+
+import json
+from typing import Any
+
+from judging.story import Fault
+from judging.verdict import WORDS, Verdict, one_line
+
+
+def json_line(verdict: Verdict) -> str:
+    """What is known of a log, in one line. What isn't known, or isn't there, is left out."""
+    found: dict[str, Any] = {
+        "log": one_line(verdict.path),
+        "verdict": WORDS[verdict.status],
+        "end": verdict.end,
+        "events": verdict.events,
+        "has-rest": verdict.has_rest,
+        "judged-bytes": verdict.whole,
+    }
+    if verdict.refused:
+        found |= dict(zip(("refused", "name", "at"), verdict.refused))
+    elif verdict.events is None:
+        found["failed"] = "\n".join(verdict.first)
+    else:
+        found["faults"] = [of_fault(verdict, fault) for fault in verdict.found]
+    found |= {"ignored": verdict.ignored, "notes": verdict.notes}
+    kept = {name: value for name, value in found.items() if name == "faults" or value not in (None, "", [])}
+    return json.dumps(kept, ensure_ascii=False)
+
+
+def of_fault(verdict: Verdict, fault: Fault) -> dict[str, Any]:
+    """A fault, as `mqjudge check --json` has it, with its time, and the option by which it is ignored."""
+    more = {"time": verdict.time_at(fault.position), "ignored": verdict.overlooked.get(fault.code, "")}
+    return fault._asdict() | {name: value for name, value in more.items() if value}
