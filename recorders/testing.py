@@ -22,7 +22,8 @@ BUILT = TOP / "crates/mq_cli/out/mq_cli"
 PROGRAM_VARIABLE = "MQJUDGE"  # in the environment: the program that judges
 PATHS = os.pathsep.join((os.environ.get("PATH", os.defpath), "/usr/sbin", "/usr/local/sbin"))  # of servers
 PAHO = "paho-mqtt for Python"
-MODULES = {PAHO: "paho"}
+WEBSOCKETS = "websockets for Python"
+MODULES = {PAHO: "paho", WEBSOCKETS: "websockets"}
 HOST = "127.0.0.1"
 PATIENCE = 40.0  # seconds for what has to come
 STOP_SECONDS = 5.0
@@ -60,12 +61,13 @@ def missing(*names: str) -> str:
     return f"{', '.join(absent)} isn't installed" if absent else ""
 
 
-def python_with(name: str) -> str | None:
-    """A Python that has a module: this one, or else the system's."""
-    if not missing(name):
+def python_with(*names: str) -> str | None:
+    """A Python that has these modules: this one, or else the system's."""
+    if not missing(*names):
         return sys.executable
     system = "/usr/bin/python3"
-    command = [system, "-c", f"import sys, {MODULES[name]}; sys.exit(sys.version_info < (3, 11))"]
+    modules = ", ".join(MODULES[name] for name in names)
+    command = [system, "-c", f"import sys, {modules}; sys.exit(sys.version_info < (3, 11))"]
     try:
         return system if subprocess.run(command, capture_output=True).returncode == 0 else None
     except OSError:
