@@ -423,10 +423,10 @@ class Recorder:
     each.
 
     `rest_after` is the number of seconds after which silence means that the end is at rest: `tick` is to be called from
-    time to time then. Without it only `rested` makes a REST. `releases` says that each release is given to `released`.
-    `from_start` says that no end had a session before the recording. Without it a session that is resumed, though its
-    beginning wasn't recorded, is left out: judged alone, it would seem to have faults. `made` is called with the path
-    of each log that is begun.
+    time to time then. Without it only `rested` makes a REST. `releases` says that each release is given to `released`,
+    also that of a message which goes to nobody. `from_start` says that no end had a session before the recording.
+    Without it a session that is resumed, though its beginning wasn't recorded, is left out: judged alone, it would
+    seem to have faults. `made` is called with the path of each log that is begun.
 
     `moment` gives the time of what is recorded, in microseconds since 1970-01-01 UTC, for logs of version 2.
     """
@@ -489,7 +489,10 @@ class Recorder:
 
     @guarded
     def released(self, key: Hashable, identifier: int) -> None:
-        """The tested end released the QoS 2 message of this Packet Identifier; only where releases are recorded."""
+        """The tested end released the QoS 2 message of this Packet Identifier; only where releases are recorded.
+
+        One that goes to nobody is released too, where it would be passed on: else it seems to be lost (L3).
+        """
         item = self._item(Kind.RELEASE, (identifier & 0xFFFF).to_bytes(2, "big"))
         if not self._releases:
             return

@@ -156,6 +156,23 @@ class Scripted(Case):
         self.assertEqual([word for word in joined(self.log().read_bytes()) if word != "REST"][-4:], wanted)
         self.assertEqual(verdict(self.log()), "pass")
 
+    def test_a_message_that_goes_to_nobody_is_released_too(self) -> None:
+        """There is no callback at all, or only one for another topic: without a RELEASE the message would seem lost."""
+        def other(client: Any, data: Any, message: Any) -> None:
+            self.fail("it is for another topic")
+
+        for topic in ("", "other"):
+            with self.subTest(topic=topic):
+                client = self.connected(setting=lambda client: topic and client.message_callback_add(topic, other))
+                self.server.say(PUBLISH_QOS_2)
+                self.server_takes(client, PUBREC_9)
+                self.server.say(PUBREL_9)
+                self.server_takes(client, PUBCOMP_9)
+                log = self.logs / f"c.{2 if topic else 1}.client.log"
+                self.assertEqual(joined(log.read_bytes()).count("RELEASE 0009"), 1)
+                self.assertEqual(verdict(log), "pass")
+                self.stop(client)
+
     def test_a_message_that_comes_again_is_released_once(self) -> None:
         client = self.connected()
         self.server.say(PUBLISH_QOS_2)

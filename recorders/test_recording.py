@@ -18,7 +18,7 @@ sys.path.insert(0, str(Path(__file__).resolve().parent))
 import log_format
 import recording
 from recording import End, Framer, Recorder, file_name
-from testing import InFolder, words as records
+from testing import InFolder, verdict, words as records
 
 BOTH = frozenset(End)
 
@@ -408,6 +408,22 @@ class Releases(Case):
         recorder.released(1, 258)
         self.assertEqual(self.log("a.1.client.log"), [*opening(b"a"), "RELEASE 0007", "CLOSE", "RELEASE 0102"])
         self.assertEqual((self.folder / "a.1.client.log").read_bytes()[:8].hex(), "4d51545202000100")
+
+    def test_a_message_that_goes_to_nobody_is_released_too(self) -> None:
+        """A server answers 0x00 to a PUBLISH that no subscription matches, and has nobody to pass it on to."""
+        publish, pubrec = bytes.fromhex("3406000161000900"), bytes.fromhex("50020009")
+        pubrel, pubcomp = bytes.fromhex("62020009"), bytes.fromhex("70020009")
+        for identifier, is_released in ((b"released", True), (b"not", False)):
+            recorder = self.recorder(End.SERVER, releases=True)
+            self.accept(recorder, 1, identifier)
+            recorder.from_client(1, publish)
+            if is_released:
+                recorder.released(1, 9)
+            recorder.from_server(1, pubrec)
+            recorder.from_client(1, pubrel)
+            recorder.from_server(1, pubcomp)
+            wanted = "pass" if is_released else "L3"
+            self.assertEqual(verdict(self.folder / f"{identifier.decode()}.1.server.log"), wanted)
 
     def test_a_new_session_has_none_of_the_old_one(self) -> None:
         recorder = self.recorder(releases=True)
