@@ -39,7 +39,7 @@ def seconds(text: str) -> float:
 
 
 def why(error: OSError, place: str = "") -> str:
-    """What failed in words, after the file that the error names, or else this place: `a.xml: No space left on device`."""
+    """What failed in words, after the file that the error names or else a place: `a.xml: No space left on device`."""
     name = place if error.filename is None else str(error.filename)
     reason = error.strerror or str(error)
     return f"{name}: {reason}" if name else reason

@@ -4,19 +4,17 @@ All that writes or reads logs here has from this file how long a head and a body
 """
 from __future__ import annotations
 
-import contextlib
-import mmap
 import struct
 from collections.abc import Iterator
 from dataclasses import dataclass
 from datetime import UTC, datetime, timedelta
-from pathlib import Path
-from typing import NamedTuple
+from typing import BinaryIO, NamedTuple
 
 MARK = b"MQTR"  # the first bytes of each log
 HEADER_SIZE = 8
 VERSION_AT = 4
 LENGTH_SIZE, MOMENT_SIZE = 4, 8
+PIECE = 1 << 18  # bytes that are read at once
 BEGINNING = struct.Struct(">BI")  # of a record: its kind, and how many bytes its body has
 LARGEST_MOMENT = (1 << 8 * MOMENT_SIZE) - 1
 EPOCH = datetime(1970, 1, 1, tzinfo=UTC)
@@ -47,7 +45,6 @@ class Version:
         return bytes((kind,)) + len(body).to_bytes(LENGTH_SIZE, "big") + told + body
 
 
-Log = bytes | mmap.mmap
 VERSIONS = {1: Version(1, 1_048_576, False), 2: Version(2, 16_777_216, True)}
 NEWEST = max(VERSIONS)
 
@@ -84,40 +81,25 @@ def records(log: bytes) -> Iterator[Record]:
         yield Record(head[0], log[begin:at], moment)
 
 
-@contextlib.contextmanager
-def mapped(path: Path) -> Iterator[Log]:
-    """The bytes of a log on the disk, which aren't read before they are asked for; none where that isn't possible."""
-    with path.open("rb") as file:
-        try:
-            whole = mmap.mmap(file.fileno(), 0, access=mmap.ACCESS_READ)
-        except (OSError, ValueError):  # it is empty, or no file that can be read at any place
-            yield b""
-            return
-        with whole:
-            yield whole
+def places(file: BinaryIO) -> Iterator[tuple[int, int, int]]:
+    """Of each record of a log its kind, and where its body begins and ends; of what is no log, none.
 
-
-def places(log: Log) -> Iterator[tuple[int, int, int]]:
-    """Of each whole record of a log its kind, and where its body begins and ends. Of what is no log there is none."""
-    version = version_of(log[:HEADER_SIZE])
-    at, size, head = HEADER_SIZE, len(log), version.head_size if version else 0
-    while version and at + head <= size:
-        end = at + head + int.from_bytes(log[at + 1 : at + 1 + LENGTH_SIZE], "big")
-        if end > size:
-            return
-        yield log[at], at + head, end
-        at = end
-
-
-def has_kind(log: Log, kind: int) -> bool:
-    """Whether a log of a known version has a record of this kind whose head is whole. It is asked of long logs."""
-    at, size, head = HEADER_SIZE, len(log), VERSIONS[log[VERSION_AT]].head_size
-    while at + head <= size:
-        found, length = BEGINNING.unpack_from(log, at)
-        if found == kind:
-            return True
-        at += head + length
-    return False
+    A record whose head isn't whole isn't among them. Of long bodies nothing is read. The file may be written meanwhile.
+    """
+    file.seek(0)
+    version = version_of(file.read(HEADER_SIZE))
+    size = version.head_size if version else 0
+    begin = at = HEADER_SIZE
+    piece = b""
+    while version:
+        if at + size > begin + len(piece):
+            file.seek(at)
+            begin, piece = at, file.read(PIECE)
+            if len(piece) < size:
+                return
+        kind, length = BEGINNING.unpack_from(piece, at - begin)
+        yield kind, at + size, at + size + length
+        at += size + length
 
 
 def time_of(moment: int | None) -> datetime | None:

@@ -5,6 +5,7 @@ usage: recorders/test_judged_logs.py
 """
 from __future__ import annotations
 
+import os
 import subprocess
 import sys
 import unittest
@@ -243,6 +244,25 @@ class Rests(Case):
         self.assertEqual(self.remark(a=silent, b=rested, c=log_of(*session, version=1)), [line.format(2, "3 logs")])
         self.assertEqual(self.remark(a=rested), [])
         self.assertEqual(self.remark(a=log_of(*session[:3], (2, b"\xc0\0" * 3), (5, b""), version=1)), [])
+
+    def test_long_bodies_are_passed_over(self) -> None:
+        """Also a REST behind more bytes than are read at once, and bodies that look like one."""
+        publish = (2, bytes.fromhex("30ffff1f 000161 00".replace(" ", "")) + b"\x05" * (0x7FFFF - 4))
+        session = [(1, b""), (2, Foreign.CONNECT), (3, bytes.fromhex("2003000000")), publish]
+        for version in (1, 2):
+            self.assertEqual(len(self.remark(a=log_of(*session, version=version))), 1)
+            self.assertEqual(self.remark(a=log_of(*session, (5, b""), version=version)), [])
+        pings = [(2, b"\xc0\0")] * 50_000
+        self.assertEqual(len(self.remark(a=log_of(*session[:3], *pings))), 1)
+        self.assertEqual(self.remark(a=log_of(*session[:3], *pings, (5, b""))), [])
+
+    def test_a_pipe_that_is_named(self) -> None:
+        """It can be read once, so nothing is said of RESTs."""
+        pipe = self.folder / "pipe"
+        os.mkfifo(pipe)
+        with subprocess.Popen(["sh", "-c", 'cat "$0" > "$1"', TOP / "examples/before-connack-new.log", pipe]):
+            status, printed, _ = self.judged(pipe, program=judge_program())
+        self.assertEqual((status, printed), (0, "\n1 log: 1 pass, 0 fail, 0 refused, 0 failed\n"))
 
     def test_what_is_not_judged_is_not_counted(self) -> None:
         (self.logs / "a.log").write_bytes(log_of((4, b"")))

@@ -66,7 +66,7 @@ def names_of(log: Path, folder: Path) -> frozenset[str]:
 
 
 def read_baseline(path: Path) -> Baseline:
-    """Reads lines `LOG CODE COUNT`. Empty lines, and those with # first, don't count; a code may be in small letters."""
+    """Reads lines `LOG CODE COUNT`, codes also in small letters. Empty lines, and those with # first, don't count."""
     lines = []
     try:
         text = path.read_text("utf-8")

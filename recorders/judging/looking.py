@@ -4,8 +4,10 @@ from __future__ import annotations
 import re
 from dataclasses import dataclass
 from itertools import islice
+from pathlib import Path
+from typing import BinaryIO
 
-from log_format import HEADER_SIZE, Log, has_kind, places, version_of
+from log_format import HEADER_SIZE, places, version_of
 
 LOOKED_AT = 4_096  # bytes of each direction of the first connection
 LOOKED_AT_RECORDS = 64
@@ -28,20 +30,34 @@ class Looked:
     has_rest: bool | None = None  # None where it isn't a log
 
 
-def look_at(log: Log) -> Looked:
-    """Looks at the first bytes of each direction, and for a REST. Of all else it reads only the heads of records."""
-    if version_of(log[:HEADER_SIZE]) is None:
+def look_at(log: Path) -> Looked:
+    """Looks at the first bytes of each direction, and for a REST. Of all else it reads only the heads of records.
+
+    What is no file, such as a pipe, can't be read again.
+    """
+    if not log.is_file():
         return Looked()
+    with log.open("rb") as file:
+        header = file.read(HEADER_SIZE)
+        if version_of(header) is None:
+            return Looked()
+        sent, received = first_bytes(file)
+        client, server = (received, sent) if header[ROLE_AT] == SERVER else (sent, received)
+        foreign = of_client(client) or of_server(server)
+        is_only = not foreign or sum(kind == OPEN for kind, _, _ in places(file)) <= 1
+        return Looked(foreign, is_only, any(kind == REST for kind, _, _ in places(file)))
+
+
+def first_bytes(file: BinaryIO) -> tuple[bytes, bytes]:
+    """The first bytes that were sent on a log's first connection, and those that were received."""
     first = {SENT: b"", RECV: b""}
-    for kind, begin, end in islice(places(log), LOOKED_AT_RECORDS):
+    for kind, begin, end in [*islice(places(file), LOOKED_AT_RECORDS)]:
         if kind == CLOSE:
             break
         if kind in first:
-            first[kind] += log[begin : min(end, begin + LOOKED_AT - len(first[kind]))]
-    client, server = (first[RECV], first[SENT]) if log[ROLE_AT] == SERVER else (first[SENT], first[RECV])
-    foreign = of_client(client) or of_server(server)
-    is_only = not foreign or sum(kind == OPEN for kind, _, _ in places(log)) <= 1
-    return Looked(foreign, is_only, has_kind(log, REST))
+            file.seek(begin)
+            first[kind] += file.read(min(end - begin, LOOKED_AT - len(first[kind])))
+    return first[SENT], first[RECV]
 
 
 def of_client(data: bytes) -> str:

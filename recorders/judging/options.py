@@ -63,9 +63,10 @@ def unknown_code(code: str, statements: list[str]) -> str:
     """Why there is no such code, with those that are meant perhaps; empty if there is. A program may list none."""
     if code in statements or (not statements and CODE.fullmatch(code)):
         return ""
-    near = [known for known in statements if known[0] == code[:1]]
-    those = f"those with {code[:1]}" if near else "there"
-    return f"there is no statement {one_line(code)}" + (f"; {those} are {', '.join(near or statements)}" * bool(statements))
+    text = f"there is no statement {one_line(code)}"
+    if near := [known for known in statements if known[0] == code[:1]]:
+        return f"{text}; those with {code[:1]} are {', '.join(near)}"
+    return f"{text}; there are {', '.join(statements)}" if statements else text
 
 
 def unknown_refusal(number: str) -> str:
@@ -108,7 +109,9 @@ def as_typed(program: str) -> str:
     if os.sep not in program:
         return shlex.quote(program)
     near = os.path.relpath(program)
-    return shlex.quote(program if near.startswith(os.pardir) else os.path.join(os.curdir, near) if os.sep not in near else near)
+    if near.startswith(os.pardir):
+        return shlex.quote(program)
+    return shlex.quote(near if os.sep in near else os.path.join(os.curdir, near))
 
 
 def parse() -> tuple[argparse.Namespace, Policy]:

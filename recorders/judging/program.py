@@ -19,7 +19,7 @@ from judging.places import what_else
 from judging.story import Teller, choose, end_of, is_brief
 from judging.texts import mark_texts
 from judging.verdict import FAILED, FAULTS, REFUSED, TOO_SHORT, Verdict, show
-from log_format import HEADER_SIZE, body_size, mapped, version_of
+from log_format import HEADER_SIZE, body_size, version_of
 
 STATUSES = (0, 1, 2, 4)
 CUT = "refused 10 Cut "
@@ -104,8 +104,7 @@ class Judge:
     def _look(self, verdict: Verdict, log: Path) -> bool:
         """Says in the verdict what can be seen without judging. It gives whether the log has nothing of MQTT."""
         try:
-            with mapped(log) as whole:
-                looked = look_at(whole)
+            looked = look_at(log)
         except OSError:
             return False
         verdict.has_rest, verdict.foreign = looked.has_rest, looked.foreign

@@ -43,7 +43,9 @@ def rest_line(verdicts: list[Verdict]) -> list[str]:
     """A line if there are logs without a REST: they may be passes though answers are missing."""
     judged = [verdict for verdict in verdicts if verdict.events is not None and verdict.has_rest is not None]
     without = sum(not verdict.has_rest for verdict in judged)
-    return [f"no REST in {without} of {counted(len(judged), 'log')}: missing answers aren't judged there"] if without else []
+    if not without:
+        return []
+    return [f"no REST in {without} of {counted(len(judged), 'log')}: missing answers aren't judged there"]
 
 
 def last_line(verdicts: list[Verdict], has_least: bool) -> str:
