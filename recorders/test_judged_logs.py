@@ -133,7 +133,7 @@ class Policies(Case):
             ("--ignore", "XYZ"): f"--ignore: there is no statement XYZ{all_codes}",
             ("--ignore", "S1"): "--ignore: there is no statement S1; those with S are S01, S02",
             ("--ignore", "w09,s3"): "--ignore: there is no statement S3; those with S are S01, S02",
-            ("--expect", unknown): f"--expect: {unknown}: there is no statement X99{all_codes}",
+            ("--expect", unknown): f"--expect: {unknown}, line 3: there is no statement X99{all_codes}",
             ("--allow-refused", "99"): f"--allow-refused: {refusals}",
             ("--allow-refused", "x"): "--allow-refused: there is no refusal X; ",
         }

@@ -4,7 +4,7 @@ from __future__ import annotations
 import os
 from collections import defaultdict
 from collections.abc import Iterable
-from dataclasses import dataclass
+from dataclasses import dataclass, field
 from fnmatch import fnmatchcase
 from pathlib import Path
 
@@ -24,6 +24,7 @@ class Known:
     name: str
     code: str
     count: int
+    line: int = field(default=0, compare=False)  # where it stands in the file
 
     @property
     def is_pattern(self) -> bool:
@@ -78,5 +79,5 @@ def read_baseline(path: Path) -> Baseline:
             continue
         if len(words) != 3 or not words[2].isdecimal():
             raise BaselineError(f"{path}, line {number} isn't LOG CODE COUNT")
-        lines.append(Known(os.path.normpath(words[0].strip()), words[1].upper(), int(words[2])))
+        lines.append(Known(os.path.normpath(words[0].strip()), words[1].upper(), int(words[2]), number))
     return Baseline(lines)
