@@ -13,7 +13,7 @@ from judging.verdict import one_line, show
 SIGNS = "*?["  # a name with one of them is a pattern
 
 
-class BaselineError(Exception):
+class PolicyError(Exception):
     """A file of known faults that can't be used. The text says why."""
 
 
@@ -66,18 +66,18 @@ def names_of(log: Path, folder: Path) -> frozenset[str]:
     return frozenset(text for name in names for text in (show(name), one_line(name)))
 
 
-def read_baseline(path: Path) -> Baseline:
+def read_expected(path: Path) -> Baseline:
     """Reads lines `LOG CODE COUNT`, codes also in small letters. Empty lines, and those with # first, don't count."""
     lines = []
     try:
         text = path.read_text("utf-8")
     except (OSError, UnicodeDecodeError) as error:
-        raise BaselineError(f"{path} can't be read: {getattr(error, 'strerror', None) or error}") from None
+        raise PolicyError(f"--expect: {path} can't be read: {getattr(error, 'strerror', None) or error}") from None
     for number, line in enumerate(text.splitlines(), 1):
         words = line.rsplit(None, 2)
         if not words or line.startswith("#"):
             continue
         if len(words) != 3 or not words[2].isdecimal():
-            raise BaselineError(f"{path}, line {number} isn't LOG CODE COUNT")
+            raise PolicyError(f"--expect: {path}, line {number} isn't LOG CODE COUNT")
         lines.append(Known(os.path.normpath(words[0].strip()), words[1].upper(), int(words[2]), number))
     return Baseline(lines)

@@ -10,16 +10,16 @@ import subprocess
 from pathlib import Path
 
 from arguments import Parser
-from judging.baseline import Baseline, BaselineError, read_baseline
+from judging.baseline import Baseline
 from judging.places import place_of
-from judging.policy import Policy
+from judging.policy import Policy, PolicyError, read_expected
 from judging.refusals import REFUSALS
+from judging.reports import Places
 from judging.verdict import one_line
 
 REPOSITORY = Path(__file__).resolve().parent.parent.parent
 BUILT = REPOSITORY / "crates/mq_cli/out/mq_cli"
 CODE = re.compile("[A-Z][0-9A-Z]{1,3}")
-REPORTS = ("junit", "html", "sarif")
 
 
 def words_of(text: str) -> frozenset[str]:
@@ -76,32 +76,17 @@ def unknown_refusal(number: str) -> str:
     return "" if number in names else f"there is no refusal {one_line(number)}; there are {those}"
 
 
-def check_names(parser: Parser, options: argparse.Namespace, expected: Baseline) -> None:
+def check_names(parser: Parser, options: argparse.Namespace, expected: Baseline | None) -> None:
     """Refuses codes and numbers that don't exist: what they were meant to name would count without a word."""
     for number in sorted(options.allow_refused):
         if why := unknown_refusal(number):
             parser.error(f"--allow-refused: {why}")
     named = {(code, "--ignore") for code in options.ignore}
-    named |= {(known.code, f"--expect: {options.expect}, line {known.line}") for known in expected.lines}
+    named |= {(known.code, f"--expect: {options.expect}, line {known.line}") for known in (expected.lines if expected else ())}
     statements = statements_of(options.program) if named else []
     for code, option in sorted(named):
         if why := unknown_code(code, statements):
             parser.error(f"{option}: {why}")
-
-
-def check_reports(parser: Parser, options: argparse.Namespace) -> None:
-    """Refuses reports that can't be written. No file is left: what is interrupted before it has a report has none."""
-    for name in REPORTS:
-        place = getattr(options, name)
-        if place is None:
-            continue
-        try:
-            was_there = place.exists()
-            place.open("ab").close()
-            if not was_there:
-                place.unlink()
-        except OSError as error:
-            parser.error(f"--{name}: {one_line(place)} can't be written: {error.strerror}")
 
 
 def as_typed(program: str) -> str:
@@ -129,9 +114,11 @@ def parse() -> tuple[argparse.Namespace, Policy]:
     options.program = shutil.which(program)
     options.shown_program = as_typed(program)
     try:
-        expected = read_baseline(options.expect) if options.expect else Baseline()
-    except BaselineError as error:
-        parser.error(f"--expect: {error}")
+        expected = read_expected(options.expect) if options.expect else None
+    except PolicyError as error:
+        parser.error(str(error))
     check_names(parser, options, expected)
-    check_reports(parser, options)
+    options.reports = Places(options.html, options.junit, options.sarif)
+    if refusal := options.reports.refused():
+        parser.error(refusal)
     return options, Policy(options.ignore, options.allow_refused, expected, options.min_events or 0)

@@ -2,6 +2,7 @@
 from __future__ import annotations
 
 import re
+import sys
 from collections import Counter
 from collections.abc import Sequence
 from pathlib import Path
@@ -15,7 +16,9 @@ FAILURES = (FAULTS, TOO_SHORT)
 ERRORS = (REFUSED, FAILED)
 
 
-def print_verdict(verdict: Verdict, paint: Paint) -> None:
+def print_verdict(verdict: Verdict, paint: Paint | None = None) -> None:
+    """Prints a verdict's line, and what there is to say of it below, in the colours that standard output has."""
+    paint = paint or Paint(sys.stdout)
     print(f"{paint.status(WORDS[verdict.status], verdict.status)} {one_line(verdict.path)}")
     for line in verdict.lines:
         print(f"  {paint.line(one_line(line))}")
