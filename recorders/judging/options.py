@@ -82,7 +82,8 @@ def check_names(parser: Parser, options: argparse.Namespace, expected: Baseline 
         if why := unknown_refusal(number):
             parser.error(f"--allow-refused: {why}")
     named = {(code, "--ignore") for code in options.ignore}
-    named |= {(known.code, f"--expect: {options.expect}, line {known.line}") for known in (expected.lines if expected else ())}
+    for known in expected.lines if expected else ():
+        named.add((known.code, f"--expect: {options.expect}, line {known.line}"))
     statements = statements_of(options.program) if named else []
     for code, option in sorted(named):
         if why := unknown_code(code, statements):
