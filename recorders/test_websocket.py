@@ -21,7 +21,7 @@ sys.dont_write_bytecode = True  # the repository stays as it is
 sys.path.insert(0, str(Path(__file__).resolve().parent))
 from peers import paho_modules
 from test_proxy import PROXY, Case, receive
-from test_recording import PINGREQ, PINGRESP, connack, connect
+from test_recording import PINGREQ, PINGRESP, connack, connect, packet
 from testing import HOST, PAHO, PATIENCE, WEBSOCKETS, InFolder, find, free_port, joined, make_certificate, missing
 from testing import mosquitto, process, verdict, wait_until
 
@@ -176,11 +176,17 @@ class Frames(Case):
         read_frame(client)
         self.wait_until(lambda: self.log("a.1.client.log")[-1:] == ["REST"])
         ping = frame(BINARY, PINGREQ)
-        client.sendall(ping[:-1])
+        client.sendall(ping + ping[:-1])
+        self.wait_until(lambda: self.log("a.1.client.log")[-1:] == ["SENT c000"])
         time.sleep(1.5)
-        self.assertEqual(self.log("a.1.client.log")[3:], ["REST"])
+        self.assertEqual(self.log("a.1.client.log")[3:], ["REST", "SENT c000"])
         client.sendall(ping[-1:])
-        self.wait_until(lambda: self.log("a.1.client.log")[3:] == ["REST", "SENT c000", "REST"])
+        self.wait_until(lambda: self.log("a.1.client.log")[3:] == ["REST", "SENT c000", "SENT c000", "REST"])
+        long = frame(BINARY, packet(0x30, b"\0\1a\0" + bytes(300)))
+        client.sendall(long[:1])
+        time.sleep(0.2)
+        client.sendall(long[1:])
+        self.wait_until(lambda: self.log("a.1.client.log")[-1:] == ["REST"] and len(self.log("a.1.client.log")) == 9)
 
     def asked(self, broker: str) -> str:
         """The head with which the proxy asks a broker of this address for a WebSocket, for a client at /own."""

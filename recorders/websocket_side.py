@@ -17,6 +17,9 @@ DEFAULT_PATH = "/mqtt"  # that most brokers have
 CONTINUATION, TEXT, BINARY, CLOSE = 0, 1, 2, 8  # kinds of frames
 GONE, NO_BINARY = 1000, 1003  # reasons for a close: all was said; a kind of data that isn't taken
 
+HEAD_END = b"\r\n\r\n"  # of HTTP
+MASK_SIZE = 4  # of a client's frames
+
 
 class NoLibrary(Exception):
     """The library isn't there. The text says what to do."""
@@ -40,6 +43,11 @@ def check_library() -> None:
     find("server", "ServerProtocol", "ServerConnection")
 
 
+def frame_size(size: int) -> int:
+    """How many bytes a frame has whose payload has so many, without a mask (RFC 6455, section 5.2)."""
+    return 2 + (0 if size < 126 else 2 if size < 1 << 16 else 8) + size
+
+
 class WebSocketSide(Side):
     """A connection inside a WebSocket. It begins with its handshake: `accept` or `connect`."""
 
@@ -50,10 +58,13 @@ class WebSocketSide(Side):
         self._payload = bytearray()  # that was received, and not read yet
         self._is_over = False  # no more payload comes
         self._has_closed = False  # a close was sent, and what the peer sent before it saw that still comes
-        self._is_inside = False  # the last bytes that came ended no frame
+        self._head: bytearray | None = bytearray()  # what came before the handshake was over
+        self._unframed = 0  # bytes that came of a frame which isn't whole yet
+        self._mask_size = 0  # of the frames that come
 
     async def accept(self) -> bool:
         """Answers a client's handshake; false where it was none, or a wrong one, or the connection ended."""
+        self._mask_size = MASK_SIZE
         self._protocol = find("server", "ServerProtocol", "ServerConnection")(
             subprotocols=[SUBPROTOCOL], max_size=None
         )
@@ -87,7 +98,6 @@ class WebSocketSide(Side):
     async def read(self) -> bytes:
         while not self._payload and not self._is_over:
             data, events = await self._receive()
-            self._is_inside = bool(data) and not events
             self._take(events)
             await self._send_waiting()
             self._is_over = self._is_over or not data or not (self._is_open() or self._has_closed)
@@ -109,7 +119,7 @@ class WebSocketSide(Side):
             await self._send_waiting()
 
     def is_idle(self) -> bool:
-        return super().is_idle() and not self._is_inside and not self._payload
+        return super().is_idle() and not self._unframed and not self._payload
 
     def _is_open(self) -> bool:
         return self._protocol.state.name == "OPEN"
@@ -125,7 +135,21 @@ class WebSocketSide(Side):
         except Exception as error:  # before the handshake is over, whatever a peer sends there
             self._protocol.handshake_exc = error
             return b"", []
-        return data, self._protocol.events_received()
+        events = self._protocol.events_received()
+        self._count(data, events)
+        return data, events
+
+    def _count(self, data: bytes, events: list[Any]) -> None:
+        """Counts what came of a frame that isn't whole yet. If a frame's length is spelled oddly there is no rest."""
+        self._unframed += len(data)
+        if self._head is not None:
+            self._head += data
+        for event in events:
+            if hasattr(event, "opcode"):
+                self._unframed -= frame_size(len(event.data)) + self._mask_size
+            elif self._head is not None:  # the handshake's message
+                self._unframed = len(self._head) - self._head.find(HEAD_END) - len(HEAD_END)
+                self._head = None
 
     def _take(self, frames: list[Any]) -> None:
         """Keeps the payload of binary frames. Another kind of data ends the connection, as section 6.0 has it."""
