@@ -429,6 +429,7 @@ class Recorder:
     seem to have faults. `made` is called with the path of each log that is begun.
 
     `moment` gives the time of what is recorded, in microseconds since 1970-01-01 UTC, for logs of version 2.
+    `named` gives the part of a log's name that says its Client Identifier: another one for each.
     """
 
     def __init__(
@@ -444,8 +445,10 @@ class Recorder:
         made: Callable[[Path], None] = lambda _: None,
         log_version: int = NEWEST,
         moment: Callable[[], int] = microseconds_now,
+        named: Callable[[bytes], str] = file_name,
     ) -> None:
         self._folder, self._ends, self._rest_after, self._releases = folder, ends, rest_after, releases
+        self._named = named
         self._clock, self._from_start, self._warn, self._made = clock, from_start, warn, made
         self._version, self._moment = VERSIONS[log_version], moment
         self.connections = 0  # that a log has
@@ -506,6 +509,18 @@ class Recorder:
     def rested(self, key: Hashable) -> None:
         """The tested end is at rest: this is known, not guessed. For a `Recorder` with one end."""
         if (connection := self._connections.get(key)) is not None and connection.may_rest:
+            self._rest(connection)
+
+    @guarded
+    def stayed_open(self, key: Hashable) -> None:
+        """The tested end has sent its last packet, a DISCONNECT or a refusal, and keeps the connection: this is known.
+
+        It is a REST, which `rested` doesn't write there: there it would say that the end didn't close.
+        """
+        connection = self._connections.get(key)
+        if connection is None or connection.log is None or connection.has_rest:
+            return
+        if connection.has_disconnect or (connection.is_answered and not connection.is_accepted):
             self._rest(connection)
 
     @guarded
@@ -596,7 +611,7 @@ class Recorder:
     def _check_version(self, connection: Connection) -> None:
         connect = connection.connect
         if connect is not None and connect.version != 5:
-            who = file_name(connect.identifier or b"") or UNNAMED
+            who = self._named(connect.identifier or b"") or UNNAMED
             self._leave_out(connection, f"{who} uses {file_name(connect.protocol)} version {connect.version}")
 
     def _item(self, kind: Kind, data: bytes = b"") -> Item:
@@ -636,7 +651,7 @@ class Recorder:
         identifier = connection.connect.identifier
         if not identifier and connection.is_accepted and connection.connack is not None:
             identifier = connection.connack.assigned or b""
-        return file_name(identifier) if identifier else None
+        return self._named(identifier) if identifier else None
 
     def _place(self, connection: Connection) -> None:
         """Finds the log of a connection whose CONNACK has come, or whose CONNACK won't come any more."""

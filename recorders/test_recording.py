@@ -208,6 +208,13 @@ class Sessions(Case):
         self.assertEqual(self.recorded(), {"a.1.client.log": wanted})
 
 
+    def test_a_name_of_the_recorders_own(self) -> None:
+        recorder = self.recorder(named=lambda identifier: file_name(identifier.removeprefix(b"run-7-")))
+        self.accept(recorder, 1, b"run-7-a")
+        recorder.closed(1)
+        self.assertEqual([*self.recorded()], ["a.1.client.log"])
+
+
 class Takeover(Case):
     def test_the_old_connection_is_closed_first_and_what_it_still_sends_is_left_out(self) -> None:
         recorder = self.recorder(End.SERVER)
@@ -380,6 +387,22 @@ class Rest(Case):
                     record(recorder, 1, sent)
                     self.silent(recorder)
                     self.assertNotIn("REST", self.log(f"{name}.1.client.log"))
+
+    def test_an_end_that_should_have_closed_and_stays(self) -> None:
+        recorder = self.recorder(End.SERVER)
+        self.accept(recorder, 1, b"a")
+        recorder.stayed_open(1)  # nothing says that it should close
+        recorder.from_server(1, TAKEN_OVER)
+        recorder.rested(1)
+        self.assertEqual(self.log("a.1.server.log").count("REST"), 0)
+        recorder.stayed_open(1)
+        recorder.stayed_open(1)
+        self.assertEqual(self.log("a.1.server.log")[-2:], [f"SENT {TAKEN_OVER.hex()}", "REST"])
+        recorder.opened(2)
+        recorder.from_client(2, connect(b"b"))
+        recorder.from_server(2, connack(0x87))
+        recorder.stayed_open(2)
+        self.assertEqual(self.log("b.1.server.log")[-2:], [f"SENT {connack(0x87).hex()}", "REST"])
 
     def test_stirring_puts_it_off(self) -> None:
         recorder = self.recorder(rest_after=5.0)
