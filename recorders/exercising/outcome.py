@@ -1,0 +1,199 @@
+"""What a run came to: which statements are broken, tested and kept, and not tested, and why."""
+from __future__ import annotations
+
+from collections import Counter, defaultdict
+from collections.abc import Iterable
+from dataclasses import dataclass, field
+from pathlib import Path
+
+from arguments import counted
+from exercising.both_ends import LOOK, ONCE, Fairness
+from exercising.evidence import BINDING, FOREIGN
+from exercising.running import Fate, Result
+from exercising.table import Scenario
+from judging.story import Fault
+from judging.verdict import REFUSED, show
+
+WIDTH = 18  # of the words at the left
+NAMED = 6  # scenarios that are named in a line
+SEEN = 12  # lines of what isn't judged
+WHY_NOT = {  # what a broker didn't do, where a statement isn't tested
+    "C10": "it assigned no Client Identifier",
+    "C11": "it sent no DISCONNECT",
+    "C12": "it never refused a connection",
+    "C15": "it sent no Topic Alias",
+    "C16": "it sent no Topic Alias in place of a Topic Name",
+    "C19": "it sent no DISCONNECT",
+    "C21": "it sent nothing that could have an explanation",
+    "C22": "it sent no Response Information",
+    "C23": "it sent no DISCONNECT, and refused no connection",
+    "S02": "it sent no message again",
+    "S06": "it resumed no session with an open message",
+    "S07": "it never used up the Receive Maximum",
+    "W21": "it sent no Topic Alias in place of a Topic Name",
+}
+
+
+@dataclass
+class Outcome:
+    """All results of a run, with what was played once more."""
+
+    is_server: bool
+    title: str
+    out: Path
+    results: list[Result]
+    scenarios: list[Scenario]  # all that there are, also those that weren't played
+    again: dict[str, Result] = field(default_factory=dict)  # by the names of the scenarios
+    left_out: dict[str, str] = field(default_factory=dict)  # why scenarios weren't played at all
+    seconds: float = 0.0
+    program: str = "mqjudge"
+
+    # ---- what the statements came to
+
+    @property
+    def reachable(self) -> list[str]:
+        """The statements that the tested end could break in such a log."""
+        return sorted(BINDING[self.is_server] - FOREIGN[self.is_server])
+
+    @property
+    def broken(self) -> set[str]:
+        return {code for result in self.results for code in result.broken}
+
+    @property
+    def tested(self) -> set[str]:
+        """The statements that a completed scenario aims at, and that its logs put to the test."""
+        return {code for result in self.completed for code in result.tested & set(result.scenario.aims)}
+
+    @property
+    def kept(self) -> list[str]:
+        return sorted(self.tested - self.broken)
+
+    @property
+    def untested(self) -> list[str]:
+        return sorted(set(self.reachable) - self.tested - self.broken)
+
+    # ---- what the scenarios came to
+
+    @property
+    def completed(self) -> list[Result]:
+        return [result for result in self.results if result.fate is Fate.COMPLETED]
+
+    @property
+    def ended(self) -> list[Result]:
+        """The scenarios that the tested end brought to an end."""
+        return [result for result in self.results if result.fate is Fate.ENDED]
+
+    @property
+    def refused(self) -> list[Path]:
+        return [verdict.path for result in self.results for verdict in result.verdicts if verdict.status == REFUSED]
+
+    def why_untested(self, code: str) -> str:
+        """Why a statement isn't tested."""
+        aiming = [scenario.name for scenario in self.scenarios if code in scenario.aims]
+        played = {result.scenario.name for result in self.completed}
+        if not aiming:
+            return "no scenario aims at it"
+        if not played & set(aiming):
+            reasons = {self.left_out[name] for name in aiming if name in self.left_out}
+            return f"no scenario that aims at it was completed{': ' if reasons else ''}{', '.join(sorted(reasons))}"
+        return WHY_NOT.get(code, "what it speaks of didn't come about")
+
+    # ---- in lines
+
+    def lines(self, fairness: Fairness) -> list[str]:
+        """The last table."""
+        logs = sum(len(result.verdicts) for result in self.results)
+        played = [result for result in self.results if result.fate is not Fate.LEFT_OUT]
+        head = f"{self.title}: {counted(len(played), 'scenario')} in {self.seconds:.0f} s" \
+               f" ({len(self.completed)} completed), {counted(logs, 'log')} in {show(self.out)}/"
+        lines = [head, f"{len(BINDING[self.is_server])} statements bind such an end whose log has no releases"]
+        lines += [row("broken", len(self.broken), " ".join(sorted(self.broken)))]
+        lines += [row("tested, kept", len(self.kept), wrapped(self.kept))]
+        lines += self._untested_lines()
+        lines += [row("out of reach", len(FOREIGN[self.is_server]), f"{' '.join(sorted(FOREIGN[self.is_server]))}: only"
+                      " an end that sends other packets could break them")]
+        lines += self._fault_lines(fairness)
+        lines += self._incomplete_lines()
+        lines += self._seen_lines()
+        return [show(line) for line in lines]
+
+    def _untested_lines(self) -> list[str]:
+        reasons: dict[str, list[str]] = defaultdict(list)
+        for code in self.untested:
+            reasons[self.why_untested(code)].append(code)
+        texts = [f"{' '.join(codes)}: {why}" for why, codes in sorted(reasons.items(), key=lambda one: one[1])]
+        return [row("not tested" if not at else "", len(self.untested) if not at else None, text)
+                for at, text in enumerate(texts or ["-"])]
+
+    def _fault_lines(self, fairness: Fairness) -> list[str]:
+        """For each code that is broken where it is seen first, and what is there only to be looked at."""
+        lines = []
+        for code in sorted(self.broken):
+            here = [(result, verdict) for result in self.results for verdict in result.verdicts
+                    if any(key.split()[0] == code for key in verdict.faults)]
+            names = sorted({result.scenario.name for result, _ in here})
+            first = min((verdict for _, verdict in here), key=lambda verdict: (verdict.events or 0, verdict.path))
+            lines.append(f"{code} in {named(names)}")
+            lines.append(f"    {self.program} show --faults --around 3 {show(first.path)}")
+        looks = Counter(fault.code for faults in fairness.looks.values() for fault in faults)
+        if looks:
+            lines.append(row(LOOK, looks.total(), f"{in_words(looks)}: after the exerciser had broken a rule itself"))
+        once = Counter(text.split()[0] for result in self.results for verdict in result.verdicts
+                       for text in verdict.ignored if text.endswith(f"({ONCE})"))
+        if once:
+            lines.append(row("not seen again", once.total(), f"{in_words(once)}: missing answers that came with more"
+                             " time, or that weren't tried again"))
+        return lines
+
+    def _incomplete_lines(self) -> list[str]:
+        reasons: dict[str, list[str]] = defaultdict(list)
+        for result in self.results:
+            if result.fate is not Fate.COMPLETED:
+                reasons[result.why].append(result.scenario.name)
+        for name, why in self.left_out.items():
+            reasons[why].append(name)
+        ordered = sorted(reasons.items(), key=lambda one: -len(one[1]))
+        return [row("not completed" if not at else "", sum(map(len, reasons.values())) if not at else None,
+                    f"{named(sorted(names))}: {why}") for at, (why, names) in enumerate(ordered)]
+
+    def _seen_lines(self) -> list[str]:
+        seen: dict[str, list[str]] = defaultdict(list)
+        for result in self.results:
+            for text in result.observed:
+                seen[text].append(result.scenario.name)
+        open_first = sorted(seen.items(), key=lambda one: (one[0].startswith("closed"), -len(one[1])))
+        kept = open_first[:SEEN]
+        lines = [row("seen, not judged" if not at else "", None if at else len(seen), f"{text}: {named(sorted(names))}")
+                 for at, (text, names) in enumerate(kept)]
+        return lines + ([row("", None, f"and {len(seen) - len(kept)} more")] if len(seen) > len(kept) else [])
+
+
+def row(title: str, count: int | None, text: str) -> str:
+    return f"  {title:{WIDTH}}{'' if count is None else count:>4}  {text}".rstrip()
+
+
+def named(names: Iterable[str]) -> str:
+    """Some names, and how many more there are."""
+    every = list(names)
+    more = f" and {len(every) - NAMED} more" if len(every) > NAMED else ""
+    return f"{' '.join(every[:NAMED])}{more}"
+
+
+def in_words(counts: Counter[str]) -> str:
+    return ", ".join(f"{code} {count}" for code, count in sorted(counts.items()))
+
+
+def wrapped(codes: list[str], most: int = 14) -> str:
+    """Codes, so many in a line, under each other."""
+    pieces = [" ".join(codes[at : at + most]) for at in range(0, len(codes), most)]
+    return ("\n" + " " * (WIDTH + 8)).join(pieces)
+
+
+def silent_faults(result: Result, codes: frozenset[str]) -> dict[str, list[tuple[Path, Fault]]]:
+    """The faults of a result that count and are by silence, by their codes."""
+    found: dict[str, list[tuple[Path, Fault]]] = defaultdict(list)
+    for verdict in result.verdicts:
+        for fault in verdict.found:
+            if fault.code in codes and fault.code in result.broken and fault.code not in verdict.overlooked:
+                found[fault.code].append((verdict.path, fault))
+    return found

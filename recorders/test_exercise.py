@@ -1,0 +1,470 @@
+#!/usr/bin/env python3
+"""Tests of recorders/exercise: its language, how it judges both ends, and what it says of brokers right and wrong.
+
+A small broker that keeps the rules (plain_broker.py) is what the whole table is played against: it may find nothing
+there, and the exerciser itself has to keep the rules wherever the table says so.
+
+usage: recorders/test_exercise.py
+"""
+from __future__ import annotations
+
+import contextlib
+import os
+import signal
+import socket
+import subprocess
+import sys
+import threading
+import unittest
+from collections.abc import Callable, Iterator
+from concurrent.futures import ThreadPoolExecutor
+from pathlib import Path
+from xml.etree import ElementTree
+
+sys.dont_write_bytecode = True  # the repository stays as it is
+HERE = Path(__file__).resolve().parent
+sys.path.insert(0, str(HERE))
+from exercising.both_ends import Fairness, other_end
+from exercising.evidence import BINDING, FOREIGN, SERVER_AT, tested_by
+from exercising.notation import NotationError, bytes_of
+from exercising.packets import Cutter, Prop, Type, connack, connect, packet, publish, reply, subscribe
+from exercising.table import Scenario, TableError, parse, read_scenarios
+from exercising.verbs import NEEDS, shapes
+from judging.program import Judge
+from log_format import VERSIONS
+from testing import HOST, PATIENCE, TOP, InFolder, accepts, free_port, judge_program, missing, process, wait_until
+from testing import broker as mosquitto_broker
+
+COMMAND = HERE / "exercise"
+PLAIN = HERE / "plain_broker.py"
+TABLE = HERE / "exercising/broker.scenarios"
+SUITE = TOP / "examples/suite"
+RUN_SECONDS = 400
+OPEN, SENT, RECV, CLOSE, REST = 1, 2, 3, 4, 5
+ACCEPTED = connack()
+
+
+def table() -> list[Scenario]:
+    return read_scenarios(TABLE, shapes(), NEEDS)
+
+
+def log_of(*records: tuple[int, bytes], is_server: bool = True) -> bytes:
+    version = VERSIONS[2]
+    return version.header(is_server, False) + b"".join(version.record(kind, body, 0) for kind, body in records)
+
+
+class Language(unittest.TestCase):
+    def parsed(self, text: str) -> list[Scenario]:
+        return parse(text, "x.scenarios", shapes(), NEEDS)
+
+    def refused(self, text: str) -> str:
+        with self.assertRaises(TableError) as caught:
+            self.parsed(text)
+        return str(caught.exception)
+
+    def test_variants_in_braces_are_all_combinations(self) -> None:
+        found = self.parsed("""
+# a comment
+one-{end}-q{qos}  end={drop bye}  qos={1 2}   | aims S02 S06 | needs start
+  a connect clean expiry=300 ; a publish T/{n} qos={qos} x4
+  x3 a {end}
+""")
+        self.assertEqual([one.name for one in found], ["one-drop-q1", "one-drop-q2", "one-bye-q1", "one-bye-q2"])
+        first = found[0]
+        self.assertEqual((first.aims, first.needs, first.breaks_rules), (("S02", "S06"), {"start"}, False))
+        self.assertEqual([line.times for line in first.lines], [1, 3])
+        publishing = first.lines[0].steps[1]
+        self.assertEqual((publishing.words, dict(publishing.options), publishing.times), (("T/{n}",), {"qos": "1"}, 4))
+        self.assertEqual(first.place, "x.scenarios:3")
+
+    def test_values_together_and_lines_of_values(self) -> None:
+        found = self.parsed("""
+two-{a}{b}-{what}  a,b={1,x 2,y}  | aims W13 | breaks the rules
+  each what bytes
+    ping    c0 00
+    text    30 .. "a;b" [] 'x'
+  try a send {bytes} ; a rest
+""")
+        self.assertEqual([one.name for one in found], ["two-1x-ping", "two-1x-text", "two-2y-ping", "two-2y-text"])
+        line = found[1].lines[0]
+        self.assertTrue(line.may_end and found[1].breaks_rules)
+        self.assertEqual([step.raw for step in line.steps], ["""30 .. "a;b" [] 'x'""", ""])
+
+    def test_what_is_wrong_is_said_with_its_line(self) -> None:
+        for text, wanted in {
+            "  a rest": "x.scenarios:1: a step before the first scenario",
+            "one | aims S01": "x.scenarios:1: one has no steps",
+            "one\n  a rest": "x.scenarios:1: one aims at nothing",
+            "One | aims S01\n  a rest": "x.scenarios:1: 'One' is no name",
+            "one | aims S1\n  a rest": "x.scenarios:1: 'aims S1' is neither",
+            "one | needs luck\n  a rest": "x.scenarios:1: 'needs luck' is neither",
+            "one two | aims S01\n  a rest": "x.scenarios:1: 'two' isn't NAME={VALUE VALUE}",
+            "one-{b}  a,b={1 2,3} | aims S01\n  a rest": "x.scenarios:1: each value of a,b must be 2 words",
+            "one | aims S01\n  a dance": "x.scenarios:2: no such verb: 'dance'",
+            "one | aims S01\n  a": "x.scenarios:2: 'a' isn't ACTOR VERB",
+            "one | aims S01\n  a connect {qos}": "x.scenarios:2: there is no value {qos}",
+            "one | aims S01\n  a connect loudly": "x.scenarios:2: connect has 1 words after it, and should have 0 to 0",
+            "one | aims S01\n  a connect speed=3": "x.scenarios:2: connect has no speed=",
+            "one | aims S01\n  each what\n  a rest": "x.scenarios:2: `each` needs names, and lines of values",
+            "one | aims S01\n  x3": "x.scenarios:2: nothing comes after 'x3'",
+            "one | aims S01\n  a rest\none | aims S01\n  a rest": "x.scenarios:3: one is also at x.scenarios:1",
+        }.items():
+            self.assertTrue(self.refused(text).startswith(wanted), (text, self.refused(text)))
+
+    def test_bytes(self) -> None:
+        names = {"T": "x1/7", "I": "me"}
+        for source, wanted in {
+            "c0 00": "c000",
+            '30 .. "T/a" [23 0005] \'hi\'': "300e" + "0006" + b"x1/7/a".hex() + "03" + "230005" + b"hi".hex(),
+            '"T\\xff" "a/T"': "0005" + b"x1/7".hex() + "ff" + "0006" + b"a/x1/7".hex(),
+            "41*3 'ab'*2": "414141" + b"abab".hex(),
+            '"I":4': "0004" + b"mexx".hex(),
+            "c0 .. + d0 ..": "c000d000",
+            "30 .. 00*200": "30c801" + "00" * 200,
+            "[ [ 01 ] ]": "020101",
+        }.items():
+            self.assertEqual(bytes_of(source, names).hex(), wanted, source)
+
+    def test_what_says_no_bytes(self) -> None:
+        for source in ("3", "zz", "[", "]", "30 .. ..", "[ .. ]", "'open", "00*9999999"):
+            with self.assertRaises(NotationError, msg=source):
+                bytes_of(source, {})
+
+
+class Packets(unittest.TestCase):
+    def test_what_is_made_is_what_the_program_says(self) -> None:
+        made = {
+            connect("me", True, [(Prop.SESSION_EXPIRY, 300)]): "CONNECT",
+            publish("a/b", b"hello", 2, 7, properties=[(Prop.USER_PROPERTY, (b"k", b"v"))]): "PUBLISH",
+            subscribe(5, [("a/#", 2)], [(Prop.SUBSCRIPTION_IDENTIFIER, 300)]): "SUBSCRIBE",
+            connack(True, 0, [(Prop.RECEIVE_MAXIMUM, 20)]): "CONNACK",
+            packet(Type.PUBREL, b"\0\7"): "PUBREL",
+        }
+        for data, name in made.items():
+            words = [judge_program(), "packet", data.hex()]
+            answer = subprocess.run(words, capture_output=True, text=True, timeout=PATIENCE)
+            self.assertEqual((answer.returncode, name in answer.stdout), (0, True), answer.stdout)
+
+    def test_what_is_read_and_answered(self) -> None:
+        cutter = Cutter()
+        data = publish("a", b"x" * 200, 1, 9) + publish("b", b"", 2, 10) + packet(Type.PUBREL, b"\0\x0a")
+        came = [got for at in range(len(data)) for got in cutter.feed(data[at : at + 1])]
+        self.assertEqual([str(got) for got in came], ["PUBLISH id 9", "PUBLISH id 10", "PUBREL id 10 0x00"])
+        self.assertEqual([(reply(got) or b"").hex() for got in came], ["40020009", "5002000a", "7002000a"])
+        self.assertTrue(cutter.is_between and not cutter.is_lost)
+        cutter.feed(bytes.fromhex("30ffffffff01"))
+        self.assertTrue(cutter.is_lost)
+
+    def test_reading_never_fails(self) -> None:
+        for first in range(256):
+            for body in (b"", b"\0", b"\0\1", b"\0\1\xff", bytes(range(40))):
+                Cutter().feed(bytes((first, len(body))) + body)
+
+
+class Evidence(unittest.TestCase):
+    def test_a_log_that_breaks_a_statement_tests_it(self) -> None:
+        for path in sorted(SUITE.glob("*-broken.log")):
+            log = path.read_bytes()
+            code, is_server = path.name.split("-")[0], bool(log[SERVER_AT])
+            if code in BINDING[is_server] and code not in FOREIGN[is_server] and not is_broken_packet(code):
+                self.assertIn(code, tested_by(log), path.name)
+
+    def test_a_log_without_connections_tests_nothing(self) -> None:
+        for is_server in (True, False):
+            self.assertEqual(tested_by(log_of(is_server=is_server)), set())
+
+    def test_silence_and_limits(self) -> None:
+        hello = [(OPEN, b""), (RECV, connect("a", True, [(Prop.RECEIVE_MAXIMUM, 1)])), (SENT, ACCEPTED)]
+        asked = [*hello, (RECV, bytes.fromhex("c000")), (SENT, bytes.fromhex("d000"))]
+        self.assertNotIn("E7R", tested_by(log_of(*asked)))
+        self.assertIn("E7R", tested_by(log_of(*asked, (REST, b""))))
+        self.assertIn("S07", tested_by(log_of(*hello, (SENT, publish("a", b"", 1, 1)))))
+        self.assertNotIn("S07", tested_by(log_of(*hello, (SENT, publish("a", b"", 0)))))
+
+
+def is_broken_packet(code: str) -> bool:
+    """Whether a statement is on a packet's bytes: where those are broken, they can't be read to say what it tests."""
+    return code.startswith("W")
+
+
+class BothEnds(InFolder):
+    """The broker answers an acknowledgement that was never asked for, before or after the client's own fault."""
+
+    def weighed(self, *records: tuple[int, bytes]) -> tuple[int, list[str], list[str]]:
+        """The status of a log, the codes that count, and those that are there to be looked at."""
+        path = self.folder / "a.log"
+        path.write_bytes(log_of((OPEN, b""), (RECV, connect("a", True)), (SENT, ACCEPTED), *records))
+        fairness = Fairness()
+        fairness.judge = Judge(judge_program(), 20, fairness.weigh, keeps=True)
+        verdict = fairness.judge.judge(path)
+        return (verdict.status, [key.split()[0] for key in verdict.faults],
+                [fault.code for fault in fairness.looks.get(path, [])])
+
+    def test_before_and_after_our_own_fault(self) -> None:
+        stray = (SENT, bytes.fromhex("40020009"))  # a PUBACK
+        broken = (RECV, bytes.fromhex("30020000"))  # a PUBLISH without a topic or properties
+        self.assertEqual(self.weighed(stray), (1, ["E1A"], []))
+        self.assertEqual(self.weighed(stray, broken), (1, ["E1A"], []))
+        self.assertEqual(self.weighed(broken, stray), (0, [], ["E1A"]))
+        self.assertEqual(self.weighed(broken, (REST, b""), stray), (0, [], ["E1A"]))
+
+    def test_what_holds_whatever_the_peer_does(self) -> None:
+        broken = (RECV, bytes.fromhex("30020000"))
+        self.assertEqual(self.weighed(broken, (SENT, bytes.fromhex("40020000"))), (1, ["W09"], []))
+
+    def test_a_fault_that_is_decided_later(self) -> None:
+        unanswered = (RECV, publish("a", b"", 1, 3))
+        stray = (RECV, bytes.fromhex("40020009"))
+        self.assertEqual(self.weighed(unanswered, (REST, b"")), (1, ["E1R"], []))
+        self.assertEqual(self.weighed(unanswered, (REST, b""), stray), (1, ["E1R"], []))
+        self.assertEqual(self.weighed(unanswered, stray, (REST, b"")), (0, [], ["E1R"]))
+
+    def test_the_other_end_has_no_rest(self) -> None:
+        log = log_of((OPEN, b""), (RECV, b"ab"), (SENT, b"cd"), (REST, b""), (CLOSE, b""))
+        wanted = log_of((OPEN, b""), (SENT, b"ab"), (RECV, b"cd"), (CLOSE, b""), is_server=False)
+        self.assertEqual(other_end(log), wanted)
+
+
+class Table(unittest.TestCase):
+    def test_it_has_at_least_so_many(self) -> None:
+        self.assertGreaterEqual(len(table()), 245)
+
+    def test_each_statement_that_can_be_broken_is_aimed_at(self) -> None:
+        aims = {code for scenario in table() for code in scenario.aims}
+        self.assertEqual(BINDING[True] - FOREIGN[True] - aims, set())
+        self.assertEqual(aims - BINDING[True], set())
+
+    def test_all_bytes_can_be_said(self) -> None:
+        for scenario in table():
+            for step in (step for line in scenario.lines for step in line.steps if step.verb in ("send", "dribble")):
+                bytes_of(step.raw, {"T": "t", "I": "i", "D": "d"})
+
+
+class Called(InFolder):
+    def command(self, *words: object) -> list[str]:
+        return [sys.executable, str(COMMAND), *map(str, words)]
+
+    def called(self, *words: object) -> tuple[int, str, str]:
+        """The status, and what is written to standard output and standard error."""
+        answer = subprocess.run(self.command(*words), capture_output=True, text=True, timeout=RUN_SECONDS)
+        return answer.returncode, answer.stdout, answer.stderr
+
+    def exercised(self, port: int, *words: object) -> tuple[int, str, str]:
+        return self.called("broker", f"{HOST}:{port}", "--out", self.logs, "--program", judge_program(), *words)
+
+    @contextlib.contextmanager
+    def plain(self) -> Iterator[int]:
+        """The plain broker: its port."""
+        port = free_port()
+        with process(sys.executable, PLAIN, port) as child:
+            wait_until(lambda: child.poll() is not None or accepts(port), "the plain broker listens")
+            yield port
+
+    @contextlib.contextmanager
+    def served(self, serve: Callable[[socket.socket], None]) -> Iterator[int]:
+        """A server that does with each connection what a function says: its port."""
+        with socket.create_server((HOST, 0), backlog=100) as listener:
+
+            def loop() -> None:
+                while True:
+                    try:
+                        connection, _ = listener.accept()
+                    except OSError:
+                        return
+                    with connection, contextlib.suppress(OSError):
+                        serve(connection)
+
+            thread = threading.Thread(target=loop, daemon=True)
+            thread.start()
+            yield listener.getsockname()[1]
+
+
+class Listing(Called):
+    def test_all_and_for_a_statement(self) -> None:
+        status, printed, _ = self.called("list")
+        self.assertEqual((status, printed.splitlines()[-1]), (0, f"{len(table())} scenarios"))
+        status, printed, _ = self.called("list", "--for", "s06")
+        wanted = [scenario.name for scenario in table() if "S06" in scenario.aims]
+        self.assertEqual([line.split()[0] for line in printed.splitlines()[:-1]], wanted)
+
+
+class Misuse(Called):
+    def test_it_is_refused_before_any_work(self) -> None:
+        port = free_port()
+        for words, line in (
+            (["--only", "no-such"], "no scenario's name begins with 'no-such'"),
+            (["--require", "X99"], "no statement binds a broker by this code"),
+            (["--jobs", "0"], "--jobs must be at least 1"),
+            (["--rest", "0"], "isn't a number of seconds above 0"),
+            (["--junit", self.folder], "--junit"),
+            (["--start", "true", "--remote"], "--start starts a broker on this host"),
+        ):
+            status, printed, errors = self.exercised(port, *words)
+            self.assertEqual((status, printed), (3, ""), words)
+            self.assertIn(line, errors.splitlines()[-1])
+            self.assertFalse(self.logs.exists(), words)
+
+    def test_another_host_only_if_it_is_asked_for(self) -> None:
+        status, _, errors = self.called("broker", "192.0.2.1:1883", "--out", self.logs, "--program", judge_program())
+        self.assertEqual(status, 3)
+        self.assertIn("192.0.2.1 isn't this host", errors.splitlines()[-1])
+
+    def test_logs_of_an_earlier_run_stay(self) -> None:
+        (self.logs / "x").mkdir(parents=True)
+        (self.logs / "x/a.1.server.log").write_bytes(b"MQTR")
+        status, _, errors = self.exercised(free_port())
+        self.assertEqual(status, 3)
+        self.assertIn("has logs of an earlier run", errors.splitlines()[-1])
+
+
+class Unreachable(Called):
+    def assert_said(self, answer: tuple[int, str, str], line: str) -> None:
+        self.assertEqual(answer[:2], (4, ""), answer)
+        self.assertIn(line, answer[2].splitlines()[-1])
+
+    def test_nobody_listens(self) -> None:
+        self.assert_said(self.exercised(free_port()), "can't be reached: Connection refused")
+
+    def test_no_mqtt(self) -> None:
+        def http(connection: socket.socket) -> None:
+            connection.recv(4096)
+            connection.sendall(b"HTTP/1.0 400 Bad Request\r\n\r\n")
+
+        with self.served(http) as port:
+            self.assert_said(self.exercised(port), "doesn't speak MQTT 5.0")
+
+    def test_only_an_older_version(self) -> None:
+        def old(connection: socket.socket) -> None:
+            connection.recv(4096)
+            connection.sendall(bytes.fromhex("20020001"))
+
+        with self.served(old) as port:
+            self.assert_said(self.exercised(port), "it refuses the version (0x01)")
+
+    def test_who_lets_nobody_in(self) -> None:
+        def strict(connection: socket.socket) -> None:
+            connection.recv(4096)
+            connection.sendall(bytes.fromhex("2003008700"))
+
+        with self.served(strict) as port:
+            self.assert_said(self.exercised(port), "CONNACK 0x87; name a user with --user and --password")
+
+    def test_a_command_that_starts_none(self) -> None:
+        self.assert_said(self.exercised(free_port(), "--start", "false"), "it said nothing")
+        self.assert_said(self.exercised(free_port(), "--start", "no-such-program"), "no-such-program can't be started")
+
+    def test_a_broker_that_is_there_already_isnt_taken_for_the_one_that_is_started(self) -> None:
+        with self.plain() as port:
+            self.assert_said(self.exercised(port, "--start", f"{sys.executable} {PLAIN} {port}"), "is taken already")
+            self.assertTrue(accepts(port))
+
+    def test_a_broker_that_dies(self) -> None:
+        port = free_port()
+        with process(sys.executable, PLAIN, port) as child:
+            wait_until(lambda: accepts(port), "the plain broker listens")
+            words = self.command("broker", f"{HOST}:{port}", "--out", self.logs, "--program", judge_program(),
+                                 "--only", "outbound,stay")
+            with subprocess.Popen(words, stdout=subprocess.PIPE, stderr=subprocess.DEVNULL, text=True) as run:
+                wait_until(lambda: len([*self.logs.glob("stay*/*.log")]) > 0, "logs are written")
+                child.kill()
+                printed, _ = run.communicate(timeout=RUN_SECONDS)
+        self.assertEqual(run.returncode, 4)
+        self.assertIn("it stopped early: the broker is gone", printed)
+
+
+class Interrupted(Called):
+    def test_whole_logs_and_the_table_so_far(self) -> None:
+        with self.plain() as port:
+            words = self.command("broker", f"{HOST}:{port}", "--out", self.logs, "--program", judge_program(),
+                                 "--only", "connect,outbound,stay")
+            with subprocess.Popen(words, stdout=subprocess.PIPE, stderr=subprocess.DEVNULL, text=True) as run:
+                wait_until(lambda: len([*self.logs.glob("stay*/*.log")]) > 0, "logs are written")
+                run.send_signal(signal.SIGINT)
+                printed, _ = run.communicate(timeout=RUN_SECONDS)
+        self.assertEqual(run.returncode, 4)
+        self.assertIn("it stopped early: it was interrupted", printed)
+        self.assertIn("tested, kept", printed)
+        logs = [*self.logs.rglob("*.log")]
+        statuses = {path.name: subprocess.run([judge_program(), "check", path], capture_output=True).returncode
+                    for path in logs}
+        self.assertEqual({status for status in statuses.values() if status not in (0, 1)}, set(), statuses)
+
+
+class DryRun(Called):
+    maxDiff = None
+
+    """The whole table against the plain broker."""
+
+    def test_nothing_is_found_and_the_exerciser_keeps_the_rules(self) -> None:
+        port = free_port()
+        junit = self.folder / "report.xml"
+        status, printed, errors = self.exercised(
+            port, "--start", f"{sys.executable} {PLAIN} {port}", "--denied", "denied/x", "--wrong-password", "wrong",
+            "--require", "reachable", "--junit", junit, "--most", "3",
+        )
+        self.assertEqual(status, 0, f"{printed}\n{errors}")
+        slow = [scenario.name for scenario in table() if "slow" in scenario.needs]
+        played = len(table()) - len(slow)
+        self.assertIn(f"{played} scenarios in ", printed)
+        self.assertIn(f" ({played} completed), ", printed)
+        self.assertIn("broken               0", printed)
+        self.assertIn("not tested           0", printed)
+        self.assertEqual(ElementTree.parse(junit).getroot().attrib["failures"], "0")
+        self.assert_own_rules_kept(slow)
+        self.assertFalse(accepts(port))
+
+    def assert_own_rules_kept(self, slow: list[str]) -> None:
+        """The exerciser's own end of each log has no fault, except where the table says that it breaks the rules."""
+        right = {scenario.name for scenario in table() if not scenario.breaks_rules} - set(slow)
+        paths = [path for path in sorted(self.logs.rglob("*.log")) if path.parent.name in right]
+        self.assertGreater(len(paths), len(right) - 1)
+        with ThreadPoolExecutor() as pool:
+            faults = {path: codes for path, codes in zip(paths, pool.map(own_faults, paths)) if codes}
+        self.assertEqual({f"{path.parent.name}/{path.name}": codes for path, codes in faults.items()}, {})
+
+    def test_what_is_required_and_not_tested(self) -> None:
+        with self.plain() as port:
+            status, printed, _ = self.exercised(port, "--only", "connect-plain", "--require", "E7R,S07")
+        self.assertEqual(status, 1)
+        self.assertIn("required, and not tested: S07", printed)
+
+    def test_sessions_and_retained_messages_are_gone_afterwards(self) -> None:
+        with self.plain() as port:
+            self.exercised(port, "--only", "subscribe-options-00,outbound-drop-q1-none-1,wills-retained")
+            with socket.create_connection((HOST, port), PATIENCE) as connection:
+                connection.settimeout(1)
+                connection.sendall(connect("look", True) + subscribe(1, [("#", 0)]))
+                came = b""
+                with contextlib.suppress(TimeoutError):
+                    while data := connection.recv(4096):
+                        came += data
+        self.assertEqual([got.name for got in Cutter().feed(came)], ["CONNACK", "SUBACK"])
+
+    def test_a_time_after_which_nothing_begins(self) -> None:
+        with self.plain() as port:
+            status, printed, _ = self.exercised(port, "--seconds", "0.2", "--jobs", "1", "--only", "stay,outbound")
+        self.assertIn(": the time was up", printed)
+
+
+def own_faults(path: Path) -> list[str]:
+    """The codes of the faults at the exerciser's own end of a log."""
+    answer = subprocess.run([judge_program(), "check"], input=other_end(path.read_bytes()), capture_output=True,
+                            timeout=PATIENCE)
+    found = [line.split()[2] for line in answer.stdout.decode().splitlines() if line.startswith("fault ")]
+    return [code for code in found if code != "S06"]  # whether we had come to rest isn't known
+
+
+@unittest.skipIf(missing("mosquitto"), missing("mosquitto"))
+class Mosquitto(Called):
+    def test_known_faults_are_found_and_can_be_expected(self) -> None:
+        with mosquitto_broker(self.folder, f"user {os.environ.get('USER', 'root')}\n" if os.geteuid() else "user root\n"
+                              ) as (port, _):
+            words = ["--only", "connect-plain,packet-size-40,receive-maximum-2-q1,bad-publish-response-wild"]
+            status, printed, errors = self.exercised(port, *words)
+            self.assertEqual(status, 1, errors)
+            broken = next(line for line in printed.splitlines() if line.startswith("  broken "))
+            self.assertTrue({"C14", "S07", "W14"} <= set(broken.split()[2:]), printed)
+
+
+if __name__ == "__main__":
+    unittest.main()
