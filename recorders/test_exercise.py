@@ -10,6 +10,7 @@ from __future__ import annotations
 
 import contextlib
 import os
+import shutil
 import signal
 import socket
 import subprocess
@@ -25,27 +26,49 @@ sys.dont_write_bytecode = True  # the repository stays as it is
 HERE = Path(__file__).resolve().parent
 sys.path.insert(0, str(HERE))
 from exercising.both_ends import Fairness, other_end
+from exercising.client_verbs import HOSTS
+from exercising.client_verbs import NEEDS as CLIENT_NEEDS
 from exercising.evidence import BINDING, FOREIGN, SERVER_AT, tested_by
 from exercising.notation import NotationError, bytes_of
 from exercising.packets import Cutter, Prop, Type, connack, connect, packet, publish, reply, subscribe
 from exercising.table import Scenario, TableError, parse, read_scenarios
-from exercising.verbs import NEEDS, shapes
+from exercising.verbs import CLIENTS, NEEDS
 from judging.program import Judge
 from log_format import VERSIONS
-from testing import HOST, PATIENCE, TOP, InFolder, accepts, free_port, judge_program, missing, process, wait_until
+from testing import (
+    HOST,
+    PAHO,
+    PATIENCE,
+    TOP,
+    InFolder,
+    accepts,
+    free_port,
+    judge_program,
+    missing,
+    process,
+    python_with,
+    wait_until,
+)
 from testing import broker as mosquitto_broker
 
 COMMAND = HERE / "exercise"
 PLAIN = HERE / "plain_broker.py"
 TABLE = HERE / "exercising/broker.scenarios"
+CLIENT_TABLE = HERE / "exercising/client.scenarios"
+DRIVERS = HERE / "exercising/drivers"
 SUITE = TOP / "examples/suite"
+INCLUDED = ("/usr/include", "/usr/local/include")
 RUN_SECONDS = 400
 OPEN, SENT, RECV, CLOSE, REST = 1, 2, 3, 4, 5
 ACCEPTED = connack()
 
 
 def table() -> list[Scenario]:
-    return read_scenarios(TABLE, shapes(), NEEDS)
+    return read_scenarios(TABLE, CLIENTS.shapes, NEEDS)
+
+
+def client_table() -> list[Scenario]:
+    return read_scenarios(CLIENT_TABLE, HOSTS.shapes, CLIENT_NEEDS)
 
 
 def log_of(*records: tuple[int, bytes], is_server: bool = True) -> bytes:
@@ -55,7 +78,7 @@ def log_of(*records: tuple[int, bytes], is_server: bool = True) -> bytes:
 
 class Language(unittest.TestCase):
     def parsed(self, text: str) -> list[Scenario]:
-        return parse(text, "x.scenarios", shapes(), NEEDS)
+        return parse(text, "x.scenarios", CLIENTS.shapes, NEEDS)
 
     def refused(self, text: str) -> str:
         with self.assertRaises(TableError) as caught:
@@ -240,6 +263,21 @@ class Table(unittest.TestCase):
                 bytes_of(step.raw, {"T": "t", "I": "i", "D": "d"})
 
 
+class ClientTable(unittest.TestCase):
+    def test_it_has_at_least_so_many(self) -> None:
+        self.assertGreaterEqual(len(client_table()), 148)
+
+    def test_each_statement_that_can_be_broken_is_aimed_at(self) -> None:
+        aims = {code for scenario in client_table() for code in scenario.aims}
+        self.assertEqual(BINDING[False] - FOREIGN[False] - aims, set())
+        self.assertEqual(aims - BINDING[False], set())
+
+    def test_all_bytes_can_be_said(self) -> None:
+        for scenario in client_table():
+            for step in (step for line in scenario.lines for step in line.steps if step.verb == "send"):
+                bytes_of(step.raw, {})
+
+
 class Called(InFolder):
     def command(self, *words: object) -> list[str]:
         return [sys.executable, str(COMMAND), *map(str, words)]
@@ -286,6 +324,8 @@ class Listing(Called):
         status, printed, _ = self.called("list", "--for", "s06")
         wanted = [scenario.name for scenario in table() if "S06" in scenario.aims]
         self.assertEqual([line.split()[0] for line in printed.splitlines()[:-1]], wanted)
+        status, printed, _ = self.called("list", "--client")
+        self.assertEqual((status, printed.splitlines()[-1]), (0, f"{len(client_table())} scenarios"))
 
 
 class Misuse(Called):
@@ -293,13 +333,23 @@ class Misuse(Called):
         port = free_port()
         for words, line in (
             (["--only", "no-such"], "no scenario's name begins with 'no-such'"),
-            (["--require", "X99"], "no statement binds a broker by this code"),
+            (["--require", "X99"], "no statement has the code X99"),
             (["--jobs", "0"], "--jobs must be at least 1"),
             (["--rest", "0"], "isn't a number of seconds above 0"),
             (["--junit", self.folder], "--junit"),
             (["--start", "true", "--remote"], "--start starts a broker on this host"),
         ):
             status, printed, errors = self.exercised(port, *words)
+            self.assertEqual((status, printed), (3, ""), words)
+            self.assertIn(line, errors.splitlines()[-1])
+            self.assertFalse(self.logs.exists(), words)
+
+    def test_a_clients_command(self) -> None:
+        for words, line in (
+            (["sleep", "1"], "the client's command must have {port} in it"),
+            (["no-such-client", "{port}"], "no-such-client can't be run"),
+        ):
+            status, printed, errors = self.called("client", "--out", self.logs, "--program", judge_program(), "--", *words)
             self.assertEqual((status, printed), (3, ""), words)
             self.assertIn(line, errors.splitlines()[-1])
             self.assertFalse(self.logs.exists(), words)
@@ -446,6 +496,46 @@ class DryRun(Called):
         self.assertIn(": the time was up", printed)
 
 
+class Clients(Called):
+    maxDiff = None
+
+    def against(self, *words: object) -> tuple[int, str]:
+        """The status of a run against a client, and what it prints."""
+        status, printed, errors = self.called("client", "--out", self.logs, "--program", judge_program(), *words)
+        self.assertIn(status, (0, 1), f"{printed}\n{errors}")
+        return status, printed
+
+    def test_one_that_never_connects(self) -> None:
+        words = ("client", "--out", self.logs, "--program", judge_program(), "--only", "plain-q0", "--")
+        status, printed, _ = self.called(*words, "sh", "-c", "sleep 60 # {port}")
+        self.assertEqual(status, 4)
+        self.assertIn("too many scenarios weren't completed: 1 of 1", printed)
+        self.assertIn("the client doesn't connect", printed)
+
+    @unittest.skipIf(python_with(PAHO) is None, missing(PAHO))
+    def test_paho_for_python(self) -> None:
+        status, printed = self.against("--", python_with(PAHO), DRIVERS / "paho_python.py", "{port}", "{id}")
+        broken = next(line for line in printed.splitlines() if line.startswith("  broken ")).split()[2:]
+        self.assertEqual((status, {"C14", "C17", "S07"} - set(broken)), (1, set()), printed)
+        right = {scenario.name for scenario in client_table() if not scenario.breaks_rules}
+        faults = {path.parent.name: own_faults(path) for path in self.logs.rglob("*.log") if path.parent.name in right}
+        self.assertEqual({name: codes for name, codes in faults.items() if codes}, {})
+
+    @unittest.skipIf(missing("cc"), missing("cc"))
+    def test_the_drivers_in_c(self) -> None:
+        for name, header, library in (("mosquitto", "mosquitto.h", "mosquitto"), ("paho_c", "MQTTAsync.h", "paho-mqtt3a")):
+            if not any(Path(place, header).exists() for place in INCLUDED):
+                continue
+            driver = self.folder / name
+            subprocess.run(["cc", "-o", driver, DRIVERS / f"{name}.c", f"-l{library}"], check=True)
+            self.logs = self.folder / f"{name}-logs"
+            some = "plain,driven,drop-q1"
+            _, printed = self.against("--only", some, "--", driver, "{port}", "{id}")
+            names = [scenario.name for scenario in client_table() if scenario.name.startswith(tuple(some.split(",")))]
+            self.assertIn(f"{len(names)} scenarios in ", printed)
+            self.assertIn(f"({len(names)} completed)", printed)
+
+
 def own_faults(path: Path) -> list[str]:
     """The codes of the faults at the exerciser's own end of a log."""
     answer = subprocess.run([judge_program(), "check"], input=other_end(path.read_bytes()), capture_output=True,
@@ -463,7 +553,17 @@ class Mosquitto(Called):
             status, printed, errors = self.exercised(port, *words)
             self.assertEqual(status, 1, errors)
             broken = next(line for line in printed.splitlines() if line.startswith("  broken "))
-            self.assertTrue({"C14", "S07", "W14"} <= set(broken.split()[2:]), printed)
+            codes = set(broken.split()[2:])
+            self.assertTrue({"C14", "S07", "W14"} <= codes, printed)
+            known = self.folder / "known.txt"
+            logs = [*self.logs.rglob("*.log")]
+            known.write_text("".join(f"{path} {code} 1000\n" for path in logs for code in sorted(codes)))
+            shutil.rmtree(self.logs)
+            page, sarif = self.folder / "page.html", self.folder / "report.sarif"
+            status, printed, _ = self.exercised(port, *words, "--expect", known, "--html", page, "--sarif", sarif)
+            self.assertEqual(status, 0, printed)
+            self.assertIn("receive-maximum-2-q1", page.read_text())
+            self.assertIn('"S07"', sarif.read_text())
 
 
 if __name__ == "__main__":

@@ -72,6 +72,8 @@ class Reading:
 
     def close(self) -> None:
         self._after_end(is_packet=False)
+        if self.here.is_unasked:
+            self.tested.add("C13")
 
     def rest(self) -> None:
         self._after_end(is_packet=False)

@@ -38,30 +38,28 @@ def is_this_host(host: str, port: int) -> bool:
 
 def greet(target: Target, run: str) -> Packet:
     """Connects once, and gives the CONNACK. It raises Unreachable or Unwelcome."""
-    cutter = Cutter()
-    raw = b""
+    cutter, raw = Cutter(), b""
     with target.reach() as connection:
         connection.settimeout(ANSWER_SECONDS)
         try:
             connection.sendall(connect(f"x{run}-hello", True, user=target.user, password=target.password))
             while data := connection.recv(4096):
                 raw += data
-                if packets := cutter.feed(data):
-                    check(packets[0], raw, target)
+                greeting = next((got for got in cutter.feed(data) if got.kind == Type.CONNACK), None)
+                if greeting is not None:
+                    check(greeting, target)
                     connection.sendall(disconnect())
-                    return packets[0]
+                    return greeting
         except OSError as error:
-            raise Unwelcome(f"{target} takes the connection, and doesn't answer a CONNECT of MQTT 5.0:"
-                            f" {error.strerror or 'nothing came'}") from None
+            came = f"{raw[:16].hex(' ')} came" if raw else error.strerror or "nothing came"
+            raise Unwelcome(f"{target} doesn't answer a CONNECT of MQTT 5.0: {came}") from None
     what = f"it closed after {raw[:16].hex(' ')}" if raw else "it closed without a packet"
     raise Unwelcome(f"{target} takes the connection, and doesn't speak MQTT 5.0: {what}")
 
 
-def check(first: Packet, raw: bytes, target: Target) -> None:
-    """Whether a broker's first packet lets us in."""
-    code = first.code or 0
-    if first.kind != Type.CONNACK:
-        raise Unwelcome(f"{target} doesn't speak MQTT 5.0: it answers a CONNECT with {raw[:16].hex(' ')}")
+def check(greeting: Packet, target: Target) -> None:
+    """Whether a broker's CONNACK lets us in."""
+    code = greeting.code or 0
     if code in VERSION_UNSUPPORTED:
         raise Unwelcome(f"{target} doesn't speak MQTT 5.0: it refuses the version (0x{code:02x})")
     if code >= RESERVED:

@@ -4,7 +4,8 @@ from __future__ import annotations
 import time
 from collections.abc import Mapping
 
-from exercising.links import Gone, Link
+from exercising.actors import Actor
+from exercising.links import Link
 from exercising.packets import (
     LARGEST_IDENTIFIER,
     PING,
@@ -24,35 +25,21 @@ from exercising.packets import (
 )
 from exercising.stage import Stage, Unfit
 
-ANSWER_SECONDS = 2.0  # for an answer that has to come
 CLOSE_SECONDS = 1.0  # for a broker that has to close
 DUP = 8  # in the first byte of a PUBLISH
 IDLE_SECONDS = 0.2  # after which there is nothing more to answer
 
 
-class Player:
+class Player(Actor):
     """A client. Its connections make one log, or several where sessions begin anew."""
 
-    def __init__(self, stage: Stage, name: str, friends: Mapping[str, Player]) -> None:
-        self.stage, self.name, self.friends = stage, name, friends
-        self.identifier = f"{stage.prefix}{name}"
-        self.links: list[Link] = []
-        self.held: list[Packet] = []  # messages whose answers are withheld
+    def __init__(self, stage: Stage, name: str, friends: Mapping[str, Actor]) -> None:
+        super().__init__(stage, name, friends)
         self.limits = Packet(Type.CONNACK << 4, b"")  # the CONNACK of the link
         self.begun: dict[int, bytes] = {}  # PUBLISHes whose exchange wasn't gone on with, by their identifiers
         self._last_identifier = 0
 
     # ---- connections
-
-    @property
-    def link(self) -> Link:
-        if not self.links:
-            raise Gone(f"{self.name} isn't connected")
-        return self.links[-1]
-
-    @property
-    def is_over(self) -> bool:
-        return not self.links or self.link.is_over
 
     def open(self) -> Link:
         self.links.append(self.stage.open())
@@ -92,8 +79,9 @@ class Player:
         self._last_identifier = self._last_identifier % LARGEST_IDENTIFIER + 1
         return self._last_identifier
 
-    def expect(self, kind: int, identifier: int | None = None, seconds: float = ANSWER_SECONDS) -> Packet | None:
-        got = self.link.expect(kind, seconds, identifier)
+    def expect(self, kind: int, identifier: int | None = None) -> Packet | None:
+        """An answer that has to come, or None if it takes too long."""
+        got = self.link.expect(kind, self.stage.target.patience, identifier)
         if got is not None:
             self.stage.silence.learn(self.link.slowest)
         return got
@@ -112,10 +100,9 @@ class Player:
 
     def rest(self) -> None:
         """Waits until the broker has read everything, and has answered it."""
-        if self.is_over:
-            return
-        self.ping()
-        self.link.rest(self.stage.silence.now)
+        if not self.is_over:
+            self.ping()
+            super().rest()
 
     def publish(self, topic: str, payload: bytes, qos: int, *, retain: bool = False, properties: Properties = ()
                 ) -> None:

@@ -18,7 +18,7 @@ from exercising.links import Gone, Tape
 from exercising.stage import Silence, Stage, Target, Unfit, Unreachable
 from exercising.started import Started
 from exercising.table import Scenario
-from exercising.verbs import play
+from exercising.verbs import CLIENTS, Vocabulary, play
 from judging.places import find_logs
 from judging.program import Judge
 from judging.verdict import Verdict
@@ -136,6 +136,9 @@ class Deathbed:
 class Runner:
     """Plays scenarios against a broker, has their logs judged, and says how far it is."""
 
+    vocabulary: Vocabulary = CLIENTS
+    tested: End = End.SERVER
+
     def __init__(self, target: Target, run: str, out: Path, silence: Silence, jobs: int, judge: Judge,
                  fairness: Fairness, started: Started | None = None) -> None:
         self.target, self.run, self.out, self.silence, self.jobs = target, run, out, silence, jobs
@@ -221,7 +224,7 @@ class Runner:
         begun, scenario, folder = time.monotonic(), stage.scenario, stage.tape.folder
         result = Result(scenario, Fate.COMPLETED, observed=stage.observed)
         try:
-            play(stage)
+            play(stage, self.vocabulary)
         except Unfit as unfit:
             result.fate, result.why = Fate.UNFIT, str(unfit)
         except Stopped as stopped:
@@ -250,8 +253,12 @@ class Runner:
             if time.monotonic() > until:
                 raise Gone(f"it took more than {most:.0f} s")
 
-        tape = Tape(folder, End.SERVER, f"x{run}-{scenario.name}-", self.warnings.append)
+        tape = Tape(folder, self.tested, f"x{run}-{scenario.name}-", self.warnings.append)
         number = self._numbers.setdefault(scenario.name, len(self._numbers))
+        return self._new_stage(scenario, run, number, tape, silence, check)
+
+    def _new_stage(self, scenario: Scenario, run: str, number: int, tape: Tape, silence: Silence,
+                   check: Callable[[], None]) -> Stage:
         return Stage(scenario, self.target, run, number, tape, silence, check=check)
 
     def _check_life(self, scenario: Scenario, gone: Unreachable) -> None:

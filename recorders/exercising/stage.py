@@ -10,6 +10,7 @@ from exercising.packets import connect, disconnect, publish
 from exercising.table import Scenario
 
 CONNECT_SECONDS = 5.0
+ANSWER_SECONDS = 2.0
 SWEEP_SECONDS = 1.0
 MOST_SILENCE = 1.0  # a fault by silence is seen again with ten times the silence
 QUARTER = 4  # an honest answer takes at most a quarter of the silence that counts as rest
@@ -33,6 +34,7 @@ class Target:
     password: str | None = None
     denied: str | None = None  # a topic that this user may not use
     wrong_password: str | None = None
+    patience: float = ANSWER_SECONDS  # in seconds, for an answer that has to come
 
     def reach(self) -> socket.socket:
         """A new connection. It raises Unreachable."""

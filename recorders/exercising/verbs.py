@@ -2,14 +2,16 @@
 from __future__ import annotations
 
 import time
-from collections.abc import Callable
+from collections.abc import Callable, Mapping
 from dataclasses import dataclass, replace
+from typing import Any
 
 from exercising import crowds
+from exercising.actors import Actor, NothingLeft
 from exercising.links import Gone, Link
 from exercising.notation import bytes_of, named
 from exercising.packets import RESERVED, Packet, Prop, Type, Value, Will, acknowledgement, reply
-from exercising.players import ANSWER_SECONDS, CLOSE_SECONDS, IDLE_SECONDS, Player
+from exercising.players import CLOSE_SECONDS, IDLE_SECONDS, Player
 from exercising.stage import Stage
 from exercising.table import BRACE, REPETITION, Line, Shape, Step, TableError
 
@@ -30,11 +32,7 @@ CONNECTING = Shape(
 )
 
 
-class NothingLeft(Exception):
-    """There is nothing to answer any more: a line's repetition ends."""
-
-
-Act = Callable[[Player, Step], None]
+Act = Callable[[Any, Step], None]  # of the actor of its table
 
 
 @dataclass(frozen=True)
@@ -43,6 +41,19 @@ class Verb:
 
     shape: Shape
     act: Act
+
+
+@dataclass(frozen=True)
+class Vocabulary:
+    """The verbs that a table may use, and who acts in it."""
+
+    verbs: Mapping[str, Verb]
+    actor: Callable[[Stage, str, Mapping[str, Actor]], Actor]
+
+    @property
+    def shapes(self) -> dict[str, Shape]:
+        """The verbs' words, for the parser."""
+        return {name: one.shape for name, one in self.verbs.items()}
 
 
 VERBS: dict[str, Verb] = {}
@@ -59,32 +70,27 @@ def verb(name: str, shape: Shape = Shape()) -> Callable[[Act], Act]:
     return keep
 
 
-def shapes() -> dict[str, Shape]:
-    """The verbs' words, for the parser."""
-    return {name: one.shape for name, one in VERBS.items()}
-
-
 # ---- playing
 
 
-def play(stage: Stage) -> None:
+def play(stage: Stage, vocabulary: Vocabulary) -> None:
     """Plays a scenario to its end. It raises Gone or Unfit where that can't be reached."""
-    players: dict[str, Player] = {}
+    actors: dict[str, Actor] = {}
+    for name in stage.scenario.actors:
+        actors[name] = vocabulary.actor(stage, name, actors)
     try:
         for line in stage.scenario.lines:
-            play_line(stage, line, players)
+            play_line(line, vocabulary, actors)
     finally:
-        for player in players.values():
-            for link in player.links:
-                link.close()
+        for actor in actors.values():
+            actor.leave()
 
 
-def play_line(stage: Stage, line: Line, players: dict[str, Player]) -> None:
+def play_line(line: Line, vocabulary: Vocabulary, actors: Mapping[str, Actor]) -> None:
     try:
         for number in range(line.times):
             for step in line.steps:
-                player = players.setdefault(step.actor, Player(stage, step.actor, players))
-                play_step(player, step, number)
+                play_step(actors[step.actor], step, vocabulary.verbs[step.verb], number)
     except NothingLeft:
         pass
     except Gone:
@@ -92,15 +98,14 @@ def play_line(stage: Stage, line: Line, players: dict[str, Player]) -> None:
             raise
 
 
-def play_step(player: Player, step: Step, number: int) -> None:
-    player.stage.check()
-    act = VERBS[step.verb]
-    if act.shape.counts or step.times == 1:
-        act.act(player, numbered(step, number))
+def play_step(actor: Actor, step: Step, what: Verb, number: int) -> None:
+    actor.stage.check()
+    if what.shape.counts or step.times == 1:
+        what.act(actor, numbered(step, number))
         return
     for own in range(step.times):
-        player.stage.check()
-        act.act(player, numbered(step, own))
+        actor.stage.check()
+        what.act(actor, numbered(step, own))
 
 
 def numbered(step: Step, number: int) -> Step:
@@ -247,7 +252,7 @@ def kill(player: Player, step: Step) -> None:
     """The broker dies by this signal, once for all scenarios that name the same group, and is started again."""
     player.stage.kill()
     if not player.is_over:
-        player.link.closes(ANSWER_SECONDS)
+        player.link.closes(player.stage.target.patience)
     player.link.close()
 
 
@@ -366,7 +371,7 @@ def wait(player: Player, step: Step) -> None:
 def await_packets(player: Player, step: Step) -> None:
     """Waits until so many packets of a type are there, or it has taken too long. They stay to be answered."""
     kind = kind_of(step)
-    until = time.monotonic() + float(step.options.get("seconds", ANSWER_SECONDS))
+    until = time.monotonic() + float(step.options.get("seconds", player.stage.target.patience))
     while not player.is_over and (left := until - time.monotonic()) > 0:
         if sum(got.kind == kind for got in player.link.inbox) >= step.times:
             return
@@ -476,10 +481,13 @@ def burst(player: Player, step: Step) -> None:
 def flood(player: Player, step: Step) -> None:
     """Another player (`from`) publishes so many messages, with so many unanswered at a time, and this one serves."""
     sender = player.friends.get(step.options.get("from", ""))
-    if sender is None:
+    if not isinstance(sender, Player):
         raise TableError(f"{step.place}: from= must name another player who is connected")
     wanted = crowds.Flood(name_in(player, step.words[0]), whole(step, "qos", 1), whole(step, "count", 1000),
                           whole(step, "window", 15), whole(step, "seconds", 20))
     came = crowds.flood(sender, player, wanted)
     if came < wanted.count:
         player.stage.observe(f"{came} of {wanted.count} messages came in a flood")
+
+
+CLIENTS = Vocabulary(VERBS, Player)  # of the table in which clients play against a broker
