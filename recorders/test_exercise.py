@@ -17,6 +17,7 @@ import subprocess
 import sys
 import threading
 import unittest
+from collections import Counter
 from collections.abc import Callable, Iterator
 from concurrent.futures import ThreadPoolExecutor
 from pathlib import Path
@@ -42,6 +43,7 @@ from testing import (
     TOP,
     InFolder,
     accepts,
+    find,
     free_port,
     judge_program,
     missing,
@@ -564,6 +566,26 @@ class Mosquitto(Called):
             self.assertEqual(status, 0, printed)
             self.assertIn("receive-maximum-2-q1", page.read_text())
             self.assertIn('"S07"', sarif.read_text())
+
+    @unittest.skipIf(missing("cc"), missing("cc"))
+    def test_what_is_seen_outside_is_seen_inside_too(self) -> None:
+        port, config = free_port(), self.folder / "mosquitto.conf"
+        user = "" if os.geteuid() else "user root\n"
+        config.write_text(f"listener {port} {HOST}\nallow_anonymous true\n{user}")
+        status, printed, errors = self.exercised(
+            port, "--start", f"{find('mosquitto')} -c {config}", "--inside", "--only",
+            "packet-size-40,receive-maximum,bad-publish-response-wild,broker-kill-q1-none",
+        )
+        self.assertEqual(status, 1, errors)
+        judge = Judge(judge_program(), 0, lambda _: None)
+        verdicts = [judge.judge(path) for path in sorted(self.logs.rglob("*.log"))]
+        outside: Counter[str] = Counter()
+        inside: Counter[str] = Counter()
+        for verdict in verdicts:
+            (inside if verdict.path.parent.name == "inside" else outside).update(verdict.faults)
+        self.assertEqual({"C14", "S07", "W14"} - {key.split()[0] for key in outside}, set(), printed)
+        self.assertEqual([key for key in outside if outside[key] > inside[key]], [])
+        self.assertFalse(accepts(port))
 
 
 if __name__ == "__main__":

@@ -10,7 +10,10 @@ from exercising.running import Runner
 from exercising.stage import Silence, Target
 from exercising.started import Started
 from exercising.table import Scenario
+from judging.places import find_logs
+from judging.verdict import Verdict
 
+INSIDE = "inside"  # the folder of what was recorded inside the broker
 LOCAL_HOSTS = "127.0.0.1, ::1 or localhost"
 
 
@@ -28,10 +31,12 @@ def missing_needs(options: argparse.Namespace) -> dict[str, str]:
 class BrokerCampaign(Campaign):
     """A run against a broker, which may be started by it."""
 
-    def __init__(self, plan: Plan, scenarios: list[Scenario], target: Target, start: str | None) -> None:
+    def __init__(self, plan: Plan, scenarios: list[Scenario], target: Target, start: str | None, has_inside: bool
+                 ) -> None:
         super().__init__(plan, scenarios)
         self.target = target
-        self.started = Started(start, target, plan.out / "broker.txt") if start is not None else None
+        self.inside = plan.out / INSIDE if has_inside else None
+        self.started = Started(start, target, plan.out / "broker.txt", self.inside) if start is not None else None
 
     @property
     def title(self) -> str:
@@ -49,10 +54,16 @@ class BrokerCampaign(Campaign):
         if self.started is not None:
             self.started.stop()
 
+    def inside_verdicts(self) -> list[Verdict]:
+        logs = find_logs([self.inside]).logs if self.inside is not None and self.inside.is_dir() else []
+        return [self.judge.judge(path) for path in logs]
+
 
 def check_address(options: argparse.Namespace, parser: Parser) -> None:
     """Refuses an address that isn't of this host, unless it is asked for."""
     host, port = options.address
+    if options.inside and not options.start:
+        parser.error("--inside records inside a broker that --start starts")
     if options.remote and options.start:
         parser.error("--start starts a broker on this host, so --remote can't be meant")
     if not options.remote and not is_this_host(host, port):

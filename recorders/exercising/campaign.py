@@ -100,6 +100,10 @@ class Campaign:
     def end(self) -> None:
         """Ends what was started."""
 
+    def inside_verdicts(self) -> list[Verdict]:
+        """The verdicts on logs that were recorded inside the tested end, in its own order."""
+        return []
+
     # ---- the run
 
     def play(self) -> int:
@@ -116,7 +120,7 @@ class Campaign:
         finally:
             self.end()
         outcome = Outcome(self.is_server, self.title, plan.out, runner.results, self.scenarios, again, plan.left_out,
-                          time.monotonic() - begun)
+                          time.monotonic() - begun, self.inside_verdicts())
         return self._conclude(runner, outcome)
 
     # ---- missing answers once more
@@ -171,7 +175,7 @@ class Campaign:
     def _verdicts(self, outcome: Outcome, weighing: Weighing) -> list[Verdict]:
         """The verdicts for the reports: those with faults once more, with their stories where a page is wanted."""
         once = {verdict.path: [fault for fault in verdict.found if verdict.overlooked.get(fault.code) == ONCE]
-                for result in outcome.results for verdict in result.verdicts}
+                for verdict in outcome.verdicts}
 
         def weigh(verdict: Verdict) -> None:
             self.fairness.weigh(verdict)
@@ -181,11 +185,10 @@ class Campaign:
         judge = Judge(self.plan.program, self.plan.most, weigh, keeps=True, tells=bool(self.plan.reports.html))
         gallery = Gallery()
         verdicts = []
-        for result in outcome.results:
-            for verdict in result.verdicts:
-                new = judge.judge(verdict.path) if verdict.status != PASSED or verdict.ignored else verdict
-                gallery.take(new)
-                verdicts.append(new)
+        for verdict in outcome.verdicts:
+            new = judge.judge(verdict.path) if verdict.status != PASSED or verdict.ignored else verdict
+            gallery.take(new)
+            verdicts.append(new)
         return sorted(verdicts, key=lambda verdict: verdict.path)
 
     def _unmet(self, outcome: Outcome) -> list[str]:

@@ -12,7 +12,7 @@ from exercising.evidence import BINDING, FOREIGN
 from exercising.running import Fate, Result
 from exercising.table import Scenario
 from judging.story import Fault
-from judging.verdict import REFUSED, show
+from judging.verdict import REFUSED, Verdict, show
 
 WIDTH = 18  # of the words at the left
 NAMED = 6  # scenarios that are named in a line
@@ -46,6 +46,7 @@ class Outcome:
     again: dict[str, Result] = field(default_factory=dict)  # by the names of the scenarios
     left_out: dict[str, str] = field(default_factory=dict)  # why scenarios weren't played at all
     seconds: float = 0.0
+    inside: list[Verdict] = field(default_factory=list)  # on logs in the tested end's own order
     program: str = "mqjudge"
 
     # ---- what the statements came to
@@ -57,7 +58,7 @@ class Outcome:
 
     @property
     def broken(self) -> set[str]:
-        return {code for result in self.results for code in result.broken}
+        return {key.split()[0] for verdict in self.verdicts for key in verdict.faults}
 
     @property
     def tested(self) -> set[str]:
@@ -75,6 +76,11 @@ class Outcome:
     # ---- what the scenarios came to
 
     @property
+    def verdicts(self) -> list[Verdict]:
+        """On all logs; first on those that have the tested end's own order."""
+        return [*self.inside, *(verdict for result in self.results for verdict in result.verdicts)]
+
+    @property
     def completed(self) -> list[Result]:
         return [result for result in self.results if result.fate is Fate.COMPLETED]
 
@@ -85,7 +91,7 @@ class Outcome:
 
     @property
     def refused(self) -> list[Path]:
-        return [verdict.path for result in self.results for verdict in result.verdicts if verdict.status == REFUSED]
+        return [verdict.path for verdict in self.verdicts if verdict.status == REFUSED]
 
     def why_untested(self, code: str) -> str:
         """Why a statement isn't tested."""
@@ -112,6 +118,7 @@ class Outcome:
         lines += self._untested_lines()
         lines += [row("out of reach", len(FOREIGN[self.is_server]), f"{' '.join(sorted(FOREIGN[self.is_server]))}: only"
                       " an end that sends other packets could break them")]
+        lines += self._inside_lines()
         lines += self._fault_lines(fairness)
         lines += self._incomplete_lines()
         lines += self._seen_lines()
@@ -125,15 +132,23 @@ class Outcome:
         return [row("not tested" if not at else "", len(self.untested) if not at else None, text)
                 for at, text in enumerate(texts or ["-"])]
 
+    def _inside_lines(self) -> list[str]:
+        """What was recorded inside the tested end."""
+        if not self.inside:
+            return []
+        faults: Counter[str] = Counter()
+        for verdict in self.inside:
+            faults.update({key.split()[0]: count for key, count in verdict.faults.items()})
+        return [row("inside", len(self.inside), f"logs in the broker's own order: {in_words(faults) or 'no faults'}")]
+
     def _fault_lines(self, fairness: Fairness) -> list[str]:
         """For each code that is broken where it is seen first, and what is there only to be looked at."""
         lines = []
         for code in sorted(self.broken):
-            here = [(result, verdict) for result in self.results for verdict in result.verdicts
-                    if any(key.split()[0] == code for key in verdict.faults)]
-            names = sorted({result.scenario.name for result, _ in here})
-            first = min((verdict for _, verdict in here), key=lambda verdict: (verdict.events or 0, verdict.path))
-            lines.append(f"{code} in {named(names)}")
+            names = sorted(result.scenario.name for result in self.results if code in result.broken)
+            here = [verdict for verdict in self.verdicts if any(key.split()[0] == code for key in verdict.faults)]
+            first = min(here, key=lambda verdict: (verdict.path.parent.name != "inside", verdict.events or 0, verdict.path))
+            lines.append(f"{code} in {named(names) or 'no scenario, but inside the broker'}")
             lines.append(f"    {self.program} show --faults --around 3 {show(first.path)}")
         looks = Counter(fault.code for faults in fairness.looks.values() for fault in faults)
         if looks:

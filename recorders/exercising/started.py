@@ -5,13 +5,15 @@ import os
 import shlex
 import signal
 import subprocess
+import sys
 import time
 from pathlib import Path
 
 from exercising.stage import Target, Unreachable
 
+PRELOAD = Path(__file__).resolve().parent.parent / "preload/run"
 LISTEN_SECONDS = 45.0
-STOP_SECONDS = 10.0
+STOP_SECONDS = 30.0  # in which the preloaded library's logs are made, too
 LOOK_SECONDS = 0.05
 LAST_LINES = 5  # of its output, where it doesn't come up
 SIGNALS = {"kill": signal.SIGKILL, "term": signal.SIGTERM}
@@ -20,8 +22,11 @@ SIGNALS = {"kill": signal.SIGKILL, "term": signal.SIGTERM}
 class Started:
     """A process, and its own group of processes, which is ended as a whole."""
 
-    def __init__(self, command: str, target: Target, output: Path) -> None:
+    def __init__(self, command: str, target: Target, output: Path, inside: Path | None = None) -> None:
+        """With a folder for what is inside, the preloaded library records there what the broker reads and writes."""
         self._words, self._target, self._output = shlex.split(command), target, output
+        if inside is not None:
+            self._words = [sys.executable, str(PRELOAD), "-o", str(inside), "--", *self._words]
         self._process: subprocess.Popen[bytes] | None = None
 
     def start(self) -> None:
@@ -71,6 +76,9 @@ class Started:
             except subprocess.TimeoutExpired:
                 continue
         self._process = None
+        until = time.monotonic() + STOP_SECONDS
+        while self._takes_connections() and time.monotonic() < until:
+            time.sleep(LOOK_SECONDS)  # what it had started ends too, a moment later
 
     def _takes_connections(self) -> bool:
         try:
