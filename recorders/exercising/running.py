@@ -233,6 +233,8 @@ class Runner:
             result.fate, result.why = Fate.ENDED, str(gone)
             if isinstance(gone, Unreachable):
                 self._check_life(scenario, gone)
+        except Exception as error:  # a mistake of the exerciser's own: the others are played all the same
+            result.fate, result.why = Fate.ENDED, f"the exerciser failed: {error!r}"
         finally:
             stage.tape.finish()
             if not self.is_dead:
