@@ -8,6 +8,7 @@ usage: recorders/test_exercise.py
 """
 from __future__ import annotations
 
+import asyncio
 import contextlib
 import os
 import shutil
@@ -31,11 +32,14 @@ from exercising.client_verbs import HOSTS
 from exercising.client_verbs import NEEDS as CLIENT_NEEDS
 from exercising.evidence import BINDING, FOREIGN, SERVER_AT, tested_by
 from exercising.notation import NotationError, bytes_of
-from exercising.packets import Cutter, Prop, Type, connack, connect, packet, publish, reply, subscribe
+from exercising.packets import Cutter, Packet, Prop, Type, connack, connect, packet, publish, reply, subscribe
+from exercising.running import Fate, Runner
+from exercising.stage import Silence, Target
 from exercising.table import Scenario, TableError, parse, read_scenarios
 from exercising.verbs import CLIENTS, NEEDS
 from judging.program import Judge
 from log_format import VERSIONS
+from planting import Plant, State, serve
 from testing import (
     HOST,
     PAHO,
@@ -496,6 +500,39 @@ class DryRun(Called):
         with self.plain() as port:
             status, printed, _ = self.exercised(port, "--seconds", "0.2", "--jobs", "1", "--only", "stay,outbound")
         self.assertIn(": the time was up", printed)
+
+
+class Once(Called):
+    def test_an_answer_that_is_missing_only_once_does_not_count(self) -> None:
+        lost: list[bool] = []
+
+        def lose_the_second(got: Packet, _: State) -> bytes | None:
+            if got.kind == Type.PINGRESP:
+                lost.append(True)
+            return b"" if got.kind == Type.PINGRESP and len(lost) == 2 else None
+
+        proxy = free_port()
+        with self.plain() as port:
+            plant = Plant("once", "E7R", "connect-plain", lose_the_second)
+            thread = threading.Thread(target=lambda: asyncio.run(serve(proxy, port, plant)), daemon=True)
+            thread.start()
+            wait_until(lambda: accepts(proxy), "the proxy listens")
+            status, printed, errors = self.exercised(proxy, "--only", "connect-plain", "--wait", "0.3", "--rest", "0.1")
+        self.assertEqual(status, 0, printed)
+        self.assertIn("again, alone and with more time: connect-plain (E7R)", errors)
+        self.assertIn("not seen again       1  E7R 1", printed)
+
+    def test_a_scenario_that_fails_by_a_mistake(self) -> None:
+        text = "one | aims E7R\n  a connect ; a publish T qos=x\ntwo | aims E7R\n  a connect ; a rest ; a bye\n"
+        fairness = Fairness()
+        fairness.judge = judge = Judge(judge_program(), 20, fairness.weigh, keeps=True)
+        with self.plain() as port:
+            runner = Runner(Target(HOST, port), "ab12", self.logs, Silence(0.1), 2, judge, fairness)
+            runner.play_all(parse(text, "x.scenarios", CLIENTS.shapes, NEEDS), None)
+        fates = {result.scenario.name: (result.fate, result.why) for result in runner.results}
+        self.assertEqual(fates["two"], (Fate.COMPLETED, ""))
+        self.assertEqual(fates["one"][0], Fate.ENDED)
+        self.assertIn("x.scenarios:2: qos=x isn't a number", fates["one"][1])
 
 
 class Clients(Called):
