@@ -409,6 +409,14 @@ class Unreachable(Called):
         self.assert_said(self.exercised(free_port(), "--start", "false"), "it said nothing")
         self.assert_said(self.exercised(free_port(), "--start", "no-such-program"), "no-such-program can't be started")
 
+    def test_a_broker_that_goes_into_the_background(self) -> None:
+        port = free_port()
+        script = self.folder / "start.sh"
+        script.write_text(f"#!/bin/sh\n{sys.executable} {PLAIN} {port} &\n")
+        script.chmod(0o755)
+        self.assert_said(self.exercised(port, "--start", script), "start the broker in the foreground")
+        self.assertFalse(accepts(port))
+
     def test_a_broker_that_is_there_already_isnt_taken_for_the_one_that_is_started(self) -> None:
         with self.plain() as port:
             self.assert_said(self.exercised(port, "--start", f"{sys.executable} {PLAIN} {port}"), "is taken already")

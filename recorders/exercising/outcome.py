@@ -147,9 +147,11 @@ class Outcome:
         for code in sorted(self.broken):
             names = sorted(result.scenario.name for result in self.results if code in result.broken)
             here = [verdict for verdict in self.verdicts if any(key.split()[0] == code for key in verdict.faults)]
-            first = min(here, key=lambda verdict: (verdict.path.parent.name != "inside", verdict.events or 0, verdict.path))
+            first = min(here, key=lambda verdict: (verdict not in self.inside, verdict.events or 0, verdict.path))
             lines.append(f"{code} in {named(names) or 'no scenario, but inside the broker'}")
             lines.append(f"    {self.program} show --faults --around 3 {show(first.path)}")
+            if again := sorted(name for name, result in self.again.items() if code in result.broken):
+                lines.append(f"    seen again, alone and with more time: {named(again)}")
         looks = Counter(fault.code for faults in fairness.looks.values() for fault in faults)
         if looks:
             lines.append(row(LOOK, looks.total(), f"{in_words(looks)}: after the exerciser had broken a rule itself"))

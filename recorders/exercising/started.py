@@ -42,9 +42,14 @@ class Started:
         until = time.monotonic() + LISTEN_SECONDS
         while not self._takes_connections():
             if self._process.poll() is not None or time.monotonic() > until:
-                self.stop()
-                raise Unreachable(f"the broker that was started doesn't listen on {self._target}: {self._last_words()}")
+                break
             time.sleep(LOOK_SECONDS)
+        status = self._process.poll()
+        if status is not None or not self._takes_connections():
+            self.stop()
+            hint = "; start the broker in the foreground" if status == 0 else ""
+            ending = "" if status is None else f" and ended with status {status}{hint}"
+            raise Unreachable(f"what was started doesn't listen on {self._target}{ending}: {self._last_words()}")
 
     def restart(self, how: str) -> None:
         """Ends it by a signal, `kill` or `term`, and starts it again."""
