@@ -151,8 +151,13 @@ two-{a}{b}-{what}  a,b={1,x 2,y}  | aims W13 | breaks the rules
             "c0 .. + d0 ..": "c000d000",
             "30 .. 00*200": "30c801" + "00" * 200,
             "[ [ 01 ] ]": "020101",
+            "flags:02 login": "02",
         }.items():
             self.assertEqual(bytes_of(source, names).hex(), wanted, source)
+
+    def test_a_user_if_there_is_one(self) -> None:
+        names = {"user": "me", "password": "it"}
+        self.assertEqual(bytes_of("flags:02 01 login", names).hex(), "c201" + "0002" + b"me".hex() + "0002" + b"it".hex())
 
     def test_what_says_no_bytes(self) -> None:
         for source in ("3", "zz", "[", "]", "30 .. ..", "[ .. ]", "'open", "00*9999999"):

@@ -23,8 +23,6 @@ def missing_needs(options: argparse.Namespace) -> dict[str, str]:
                if getattr(options, need.replace("-", "_")) is None}
     if not options.slow:
         missing["slow"] = "no --slow"
-    if options.user is not None:
-        missing["anonymous"] = "its own CONNECT names no user"
     return missing
 
 

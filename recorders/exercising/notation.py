@@ -8,6 +8,8 @@
     'p'*50          the word before the star so many times
     "I":65535       a text that is filled up with `x` to so many bytes
     +               the next packet, in the same write
+    flags:02        a CONNECT's flags, with those for a user's name and password if there are some
+    login           these two as texts, or nothing
 
 So `30 .. "T" [] 'hello'` is a PUBLISH of QoS 0. In texts a level T stands for the scenario's topic, and I for the
 actor's Client Identifier; `\\xff` is a byte.
@@ -19,12 +21,15 @@ from collections.abc import Mapping
 
 from exercising.packets import text, varint
 
-WORD = re.compile(r"""\s*(\.\.|\[|\]|\+|(?:"[^"]*"|'[^']*'|[0-9a-fA-F]+)(?:[*:]\d+)?)(?=[\s\]\[]|$)|\s*(\[)""")
+WORD = re.compile(r"""\s*(\.\.|login|flags:[0-9a-fA-F]{2}|\[|\]|\+|(?:"[^"]*"|'[^']*'|[0-9a-fA-F]+)(?:[*:]\d+)?)(?=[\s\]\[]|$)|\s*(\[)""")
 SUFFIX = re.compile(r"""((?:"[^"]*"|'[^']*'|[0-9a-fA-F]+))([*:])(\d+)""")
 ESCAPE = re.compile(rb"\\x([0-9a-fA-F]{2})")
 LEVEL = re.compile(r"(?<![^/])[A-Z](?=[/\\]|$)")  # that may be a name
 MOST_BYTES = 1_000_000
-Names = Mapping[str, str]  # what single capital letters stand for
+FLAGS, LOGIN = "flags:", "login"
+HAS_USER, HAS_PASSWORD = 0x80, 0x40
+USER, PASSWORD = "user", "password"  # among the names, if the broker asks for them
+Names = Mapping[str, str]  # what single capital letters stand for, and those two
 
 
 class NotationError(ValueError):
@@ -51,6 +56,11 @@ def words_of(source: str) -> list[str]:
 
 def spell(word: str, names: Names) -> bytes:
     """The bytes of digits or of a text, with its repetition."""
+    if word == LOGIN:
+        return b"".join(text(names[key]) for key in (USER, PASSWORD) if key in names)
+    if word.startswith(FLAGS):
+        has = (HAS_USER if USER in names else 0) | (HAS_PASSWORD if PASSWORD in names else 0)
+        return bytes((int(word.removeprefix(FLAGS), 16) | has,))
     parts = SUFFIX.fullmatch(word)
     core, sign, number = parts.groups() if parts else (word, "", "")
     times = int(number) if sign == "*" else 1

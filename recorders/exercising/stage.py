@@ -93,7 +93,10 @@ class Stage:
 
     def names(self, identifier: str = "") -> dict[str, str]:
         """What the letters in a scenario's texts stand for."""
-        return {"T": self.topic, "I": identifier, "D": self.target.denied or "denied", "R": self.run}
+        target = self.target
+        login = {"user": target.user, "password": target.password}
+        known = {"T": self.topic, "I": identifier, "D": target.denied or "denied", "R": self.run}
+        return known | {key: value for key, value in login.items() if value is not None}
 
     def observe(self, text: str) -> None:
         if text not in self.observed:

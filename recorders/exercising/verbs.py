@@ -57,7 +57,7 @@ class Vocabulary:
 
 
 VERBS: dict[str, Verb] = {}
-NEEDS = frozenset(("start", "denied", "wrong-password", "slow", "anonymous", "alone"))
+NEEDS = frozenset(("start", "denied", "wrong-password", "slow", "alone"))
 
 
 def verb(name: str, shape: Shape = Shape()) -> Callable[[Act], Act]:
