@@ -345,6 +345,8 @@ class Misuse(Called):
         for words, line in (
             (["--only", "no-such"], "no scenario's name begins with 'no-such'"),
             (["--require", "X99"], "no statement has the code X99"),
+            (["--require", "C02,S07"], "no statement binds a broker by the code C02"),
+            (["--for", "reachable"], "no statement binds a broker by the code REACHABLE"),
             (["--jobs", "0"], "--jobs must be at least 1"),
             (["--rest", "0"], "isn't a number of seconds above 0"),
             (["--junit", self.folder], "--junit"),
@@ -540,7 +542,7 @@ class Once(Called):
         fairness = Fairness()
         fairness.judge = judge = Judge(judge_program(), 20, fairness.weigh, keeps=True)
         with self.plain() as port:
-            runner = Runner(Target(HOST, port), "ab12", self.logs, Silence(0.1), 2, judge, fairness)
+            runner = Runner(Target(HOST, port), "ab12", self.logs, Silence(0.1), 2, judge)
             runner.play_all(parse(text, "x.scenarios", CLIENTS.shapes, NEEDS), None)
         fates = {result.scenario.name: (result.fate, result.why) for result in runner.results}
         self.assertEqual(fates["two"], (Fate.COMPLETED, ""))

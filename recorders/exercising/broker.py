@@ -45,8 +45,7 @@ class BrokerCampaign(Campaign):
             self.started.start()
         say(f"{self.target} announces {announced(greet(self.target, self.run))}")
         plan = self.plan
-        return Runner(self.target, self.run, plan.out, Silence(plan.rest), plan.jobs, self.judge, self.fairness,
-                      self.started)
+        return Runner(self.target, self.run, plan.out, Silence(plan.rest), plan.jobs, self.judge, self.started)
 
     def end(self) -> None:
         if self.started is not None:

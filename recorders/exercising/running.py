@@ -12,7 +12,6 @@ from dataclasses import dataclass, field
 from enum import Enum
 from pathlib import Path
 
-from exercising.both_ends import Fairness
 from exercising.evidence import tested_by
 from exercising.links import Gone, Tape
 from exercising.stage import Silence, Stage, Target, Unfit, Unreachable
@@ -140,9 +139,9 @@ class Runner:
     tested: End = End.SERVER
 
     def __init__(self, target: Target, run: str, out: Path, silence: Silence, jobs: int, judge: Judge,
-                 fairness: Fairness, started: Started | None = None) -> None:
+                 started: Started | None = None) -> None:
         self.target, self.run, self.out, self.silence, self.jobs = target, run, out, silence, jobs
-        self._judge, self._fairness, self._started = judge, fairness, started
+        self._judge, self._started = judge, started
         self._places = Places(CONNECTIONS_MOST)
         self._numbers: dict[str, int] = {}
         self._lock = threading.Lock()
@@ -198,12 +197,13 @@ class Runner:
         try:
             if self.stop_reason or (until is not None and time.monotonic() > until):
                 return Result(scenario, Fate.LEFT_OUT, self.stop_reason or "the time was up")
-            stage = self._stage(scenario, self.out / scenario.name, self.silence, self.run)
-            if bed is not None:
+            folder = self.out / scenario.name
+            if bed is not None:  # all of them have to be there at once
+                stage = self._stage(scenario, folder, self.silence, self.run)
                 stage.meet = stage.kill = bed.meet
-                return self.play_one(stage)  # all of them have to be there at once
-            with self._places.taken(len(scenario.actors)):
                 return self.play_one(stage)
+            with self._places.taken(len(scenario.actors)):
+                return self.play_one(self._stage(scenario, folder, self.silence, self.run))
         finally:
             if bed is not None:
                 bed.leave()
