@@ -10,22 +10,24 @@ use Rattle.mq_rules.specs.declared.note.Note.{Note}
 use Rattle.mq_rules.specs.declared.note.Seen.{Seen}
 use Rattle.mq_rules.specs.Words.{is_some_and, is_id}
 use Rattle.mq_rules.specs.Notes.{is_open, is_release}
-use Rattle.mq_rules.specs.Moments.{Moment, since, is_next, Among}
-use Rattle.mq_rules.specs.Connections.{begun, number, latest_fate, accepts, begins, voided, any_accepted, has_session, session}
+use Rattle.mq_rules.specs.Moments.{Moment, since, is_next, Among, newest}
+use Rattle.mq_rules.specs.Connections.{begun, number, latest_fate, accepts, begins, voided, any_accepted, has_session, session, surprises, couldnt_know}
 use Rattle.mq_rules.specs.Folds.{session_since, gained}
 use Rattle.mq_rules.specs.Exchanges.{Exchange, causes, answers, breaks_A}
 use Rattle.mq_rules.specs.Rules.{binds, same_rule}
 use Rattle.mq_rules.specs.Faults.{offset_of}
 use Rattle.mq_rules.specs.FaultKeys.{FaultMap}
 use Rattle.mq_rules.specs.Statements.{statement, in_session}
-use Rattle.mq_rules.proofs.Exports.{and_false, begun-closed, begun-open-of-given as begun-open, differ, session-members, session_since-next}
-use Rattle.mq_rules.specs.Under.{fate_before, turns_with}
+use Rattle.mq_rules.proofs.Exports.{and_false, begun-closed, begun-open-of-given as begun-open, both_true, differ, session-members, session_since-next}
+use Rattle.mq_rules.specs.Under.{fate_before, turns_with, IsUnder}
 use Rattle.mq_rules.specs.Growing.{Gains}
 use Rattle.mq_books.specs.Quotas.{judged_by}
 use Rattle.mq_books.specs.Answering.{IsApart}
 use Rattle.mq_books.specs.Askings.{caused, owed, is_before, answered_next, is_unasked, IsAsked}
 use Rattle.mq_books.proofs.JudgeLaws.{session-turns_with, gains_judged}
 use Rattle.mq_books.proofs.VoidLaws.{numbers}
+use Rattle.mq_books.proofs.KnowingLaws.{and-out, excused-known}
+use Rattle.mq_books.specs.Knowing.{excused, if_early}
 
 abbrev pub owed_next : Fate → Note → Bool → Bool → Bool → Bool → Bool
 owed_next f n s t all old = cond (is_open n) (not (begins (Some f)) && all) (cond (accepts f) (s || (not t && old)) old)
@@ -87,24 +89,49 @@ owed-next tested x packets i f e past =
         ∙ ap (λ c. gained (accepts f) s t (with_number c (Some f))) (begun-closed e past n)
 
 -- the pairs
-pub A-turns : (tested : Tested) (rule : Rule) (x : Exchange) → IsApart x → statement tested.role rule ≡ in_session (breaks_A x tested.role) → (f : Fate) (e : Seen) (past : List Seen) (k : ℕ)
-    → turns_with tested f e past k rule ≡ (is_next past k && (binds rule tested && (accepts f && is_some_and (λ i. not (owed tested.role x i (fate_before tested f e past) past)) (x.answer e.note))))
+pub A-turns : (tested : Tested) (rule : Rule) (x : Exchange) (early : Bool) → IsApart x → statement tested.role rule ≡ in_session (if_early early tested.role (breaks_A x tested.role)) → (f : Fate) (at : ℕ) (e : Seen) (past : List Seen)
+    → IsUnder tested f at e past → (k : ℕ) → turns_with tested f e past k rule
+    ≡ (is_next past k && excused (early && surprises f) (at == e.place.position) (binds rule tested && (accepts f && is_some_and (λ i. not (owed tested.role x i (fate_before tested f e past) past)) (x.answer e.note))))
 unfolding breaks_A
-A-turns tested rule x packets says f e past k =
-    session-turns_with tested rule (breaks_A x tested.role) says f e past k ∙ ap (λ b. is_next past k && (binds rule tested && (accepts f && b))) (go (is_open e.note) refl)
+A-turns tested rule x early packets says f at e past under k =
+    session-turns_with tested rule (if_early early tested.role (breaks_A x tested.role)) says f e past k ∙ ap (λ b. is_next past k && b) (by_early early)
   where
     same : (p q : ℕ → Bool) (o : Option ℕ) → ((i : ℕ) → p i ≡ q i) → is_some_and p o ≡ is_some_and q o
     same p q None h = refl
     same p q (Some i) h = h i
 
+    there_in : (p : ℕ → Bool) (o : Option ℕ) → is_some_and p o ≡ true → is_some o ≡ true
+    there_in p None h = absurd (cc)
+    there_in p (Some i) h = refl
+
     lacks : ℕ → ℕ → Bool
     lacks c i = not (since (causes x i) (λ j. answers x i j && (number j == c)) (session tested.role (Some f) past))
+
+    unowed : ℕ → Bool
+    unowed i = not (owed tested.role x i (fate_before tested f e past) past)
 
     go : (b : Bool) → is_open e.note ≡ b → is_some_and (lacks (begun (e ∷ past))) (x.answer e.note) ≡ is_some_and (λ i. not (owed tested.role x i (cond b (latest_fate tested.role past) (Some f)) past)) (x.answer e.note)
     go true n =
         let none = (packets.none e.note (ap (λ b. b || is_release e.note) n)).1 in
         ap (is_some_and (lacks (begun (e ∷ past)))) none ∙ sym (ap (is_some_and (λ i. not (owed tested.role x i (latest_fate tested.role past) past))) none)
     go false n = same (lacks (begun (e ∷ past))) (lacks (begun past)) (x.answer e.note) (λ i. ap (λ c. lacks c i) (begun-closed e past n))
+
+    found : breaks_A x tested.role f (newest e past) ≡ is_some_and unowed (x.answer e.note)
+    found = go (is_open e.note) refl
+
+    always : (b : Bool) → b ≡ (b && true)
+    always true = refl
+    always false = refl
+
+    by_early : (b : Bool) → (binds rule tested && (accepts f && if_early b tested.role (breaks_A x tested.role) f (newest e past)))
+        ≡ excused (b && surprises f) (at == e.place.position) (binds rule tested && (accepts f && is_some_and unowed (x.answer e.note)))
+    by_early false = ap (λ b. binds rule tested && (accepts f && b)) found ∙ always (binds rule tested && (accepts f && is_some_and unowed (x.answer e.note)))
+    by_early true =
+        and-out (binds rule tested) (accepts f) (breaks_A x tested.role f (newest e past)) (not (couldnt_know tested.role f (newest e past)))
+        ∙ ap (λ b. (binds rule tested && (accepts f && b)) && not (couldnt_know tested.role f (newest e past))) found
+        ∙ excused-known tested f at e past (surprises f) (binds rule tested && (accepts f && is_some_and unowed (x.answer e.note))) under
+        (λ t. packets.needs e.note (there_in unowed (x.answer e.note)
+        (both_true (accepts f) (is_some_and unowed (x.answer e.note)) (both_true (binds rule tested) (accepts f && is_some_and unowed (x.answer e.note)) t).1).1))
 
 -- ---- what is kept
 
@@ -238,14 +265,16 @@ asked-next tested x f fate opened now answered next e past packets placed q is g
     before_kept i false g false c t o p = refl
 
 -- the faults
-pub asked-gains : (tested : Tested) (rule : Rule) (x : Exchange) → IsApart x → statement tested.role rule ≡ in_session (breaks_A x tested.role) → (f fate : Fate) (opened : ℕ) (answered : ℕ → Option ℕ) (at : ℕ) (e : Seen) (past : List Seen) (m : FaultMap) (bound b : Bool)
-    → e.place.position ≡ length past + 1 → IsAsked x fate opened answered tested (fate_before tested f e past) past → bound ≡ binds rule tested → b ≡ (bound && is_unasked f opened (x.answer e.note) answered)
+pub asked-gains : (tested : Tested) (rule : Rule) (x : Exchange) (early : Bool) → IsApart x → statement tested.role rule ≡ in_session (if_early early tested.role (breaks_A x tested.role)) → (f fate : Fate) (opened : ℕ) (answered : ℕ → Option ℕ) (at : ℕ)
+    (e : Seen) (past : List Seen) (m : FaultMap) (bound b : Bool)
+    → IsUnder tested f at e past → IsAsked x fate opened answered tested (fate_before tested f e past) past → bound ≡ binds rule tested
+    → b ≡ excused (early && surprises f) (at == e.place.position) (bound && is_unasked f opened (x.answer e.note) answered)
     → Gains (λ k r. same_rule r rule && turns_with tested f e past k r) tested (e ∷ past) at m (judged_by b rule e.place at m)
-asked-gains tested rule x packets says f fate opened answered at e past m bound b placed q binding is =
-    gains_judged tested rule f e past at m b (λ m. ap (λ s. offset_of s m) says) placed (λ k.
-    A-turns tested rule x packets says f e past k
-    ∙ ap (λ c. is_next past k && (binds rule tested && (accepts f && c))) (sym (same (x.answer e.note)))
-    ∙ ap (λ c. is_next past k && (c && is_unasked f opened (x.answer e.note) answered)) (sym binding)
+asked-gains tested rule x early packets says f fate opened answered at e past m bound b under q binding is =
+    gains_judged tested rule f e past at m b (λ m. ap (λ s. offset_of s m) says) under.follows.placed.0 (λ k.
+    A-turns tested rule x early packets says f at e past under k
+    ∙ ap (λ c. is_next past k && excused (early && surprises f) (at == e.place.position) (binds rule tested && (accepts f && c))) (sym (same (x.answer e.note)))
+    ∙ ap (λ c. is_next past k && excused (early && surprises f) (at == e.place.position) (c && is_unasked f opened (x.answer e.note) answered)) (sym binding)
     ∙ ap (λ c. is_next past k && c) (sym is))
   where
     same : (o : Option ℕ) → is_some_and (λ i. not (is_before opened (answered i))) o ≡ is_some_and (λ i. not (owed tested.role x i (fate_before tested f e past) past)) o

@@ -19,7 +19,7 @@ use Rattle.mq_rules.specs.declared.note.Seen.{Seen}
 use Rattle.mq_rules.specs.Words.{is_some_and, is_id, only}
 use Rattle.mq_rules.specs.Notes.{is_open, is_close, is_boundary, is_rest, is_release, released_id, received_exactly_once, sent_as, received_as, ended_in, unmatched_pubrec_in, success_pubcomp_in, received_subscription, sent_grant, sent_publish, delivery_of, closer_of, is_received_pingreq, is_sent_pingresp}
 use Rattle.mq_rules.specs.Moments.{Moment}
-use Rattle.mq_rules.specs.Connections.{latest_fate, accepts, begins}
+use Rattle.mq_rules.specs.Connections.{latest_fate, accepts, begins, surprises}
 use Rattle.mq_rules.specs.Pasts.{set_alias}
 use Rattle.mq_rules.specs.Subscriptions.{Standing, is_shared}
 use Rattle.mq_rules.specs.Exchanges.{Exchange, breaks_A, breaks_O, shows_R}
@@ -44,6 +44,7 @@ use Rattle.mq_books.specs.Quotas.{announced, may_count, flown, exceeds, IsQuota}
 use Rattle.mq_books.specs.Releasing as releasing
 use Rattle.mq_books.specs.Releasing.{IsReleasing, is_inside, starts_over, kept_next, lasting}
 use Rattle.mq_books.specs.Standings.{Waits, IsStanding, allows, weighed, asked, is_answered, goes_on, grants_some, judged_topic, delivers_so, is_unasked as unasked, is_above}
+use Rattle.mq_books.specs.Knowing.{excused, if_early, is_placed}
 use Rattle.mq_books.proofs.AskedLaws.{asked-next, asked-gains}
 use Rattle.mq_books.proofs.CountLaws.{counted-next, counted-gains}
 use Rattle.mq_books.proofs.DeliveryLaws.{B01-gains, B02-gains}
@@ -115,10 +116,10 @@ counted-passes tested rule c breaks is says plain fate f counts at e past bound 
 
 -- ---- whether answers were asked for
 
-pub asked-passes : (tested : Tested) (rule : Rule) (x : Exchange) → IsApart x → statement tested.role rule ≡ in_session (breaks_A x tested.role) → (f fate : Fate) (opened : ℕ) (answered : ℕ → Option ℕ) (at : ℕ) (e : Seen) (past : List Seen) (bound : Bool)
+pub asked-passes : (tested : Tested) (rule : Rule) (x : Exchange) (early : Bool) → IsApart x → statement tested.role rule ≡ in_session (if_early early tested.role (breaks_A x tested.role)) → (f fate : Fate) (opened : ℕ) (answered : ℕ → Option ℕ) (at : ℕ) (e : Seen) (past : List Seen) (bound : Bool)
     → concerns_asked x e.note ≡ false → IsUnder tested f at e past → bound ≡ binds rule tested → IsAsked x fate opened answered tested (fate_before tested f e past) past
     → IsAsked x fate opened answered tested (Some f) (e ∷ past) × ((m : FaultMap) → Gains (λ k r. same_rule r rule && turns_with tested f e past k r) tested (e ∷ past) at m m)
-asked-passes tested rule x apart says f fate opened answered at e past bound h under judged before =
+asked-passes tested rule x early apart says f fate opened answered at e past bound h under judged before =
     let n = e.note in
     let h1 = neither (is_open n) (is_some (x.cause n) || is_some (x.answer n)) h in
     let h2 = neither (is_some (x.cause n)) (is_some (x.answer n)) h1.1 in
@@ -132,8 +133,8 @@ asked-passes tested rule x apart says f fate opened answered at e past bound h u
     ∙ ap (λ b. cond b (cond (begins (Some f)) None (answered i)) (cond (accepts f) (answered i) (answered i))) h1.0
     ∙ same_cond (accepts f) (answered i))) in (
       subst (λ (g : Fate). IsAsked x g opened answered tested (Some f) (e ∷ past)) (some-same f fate o.same_fate) next,
-      λ m. asked-gains tested rule x apart says f fate opened answered at e past m bound false under.follows.placed.0 before judged
-          (sym (ap (λ q. bound && is_unasked f opened q answered) gives ∙ and2_false bound (accepts f) false refl)),
+      λ m. asked-gains tested rule x early apart says f fate opened answered at e past m bound false under before judged
+          (ap (excused (early && surprises f) (at == e.place.position)) (sym (ap (λ q. bound && is_unasked f opened q answered) gives ∙ and2_false bound (accepts f) false refl))),
     )
 
 -- ---- what is owed
@@ -277,8 +278,8 @@ releasing-passes tested role releases fate f any brought released due at e past 
     ∙ gained-nothing inside (starts_over f n) (released i) over)) in (
       subst (λ (g : Fate). IsReleasing role releases g any brought released due tested (Some f) (e ∷ past)) (some-same f fate r.same_fate) next,
       λ m. releases-gains tested role releases fate f any brought released due at e past m m m m false false false under before
-          (sym (ap (λ o. releases && is_some_and (λ i. not (brought i)) o) frees ∙ and_false releases)) refl
-          (sym (ap (λ o. releases && is_some_and released o) frees ∙ and_false releases)) refl
+          (ap (λ b. b && is_placed f (at == e.place.position)) (sym (ap (λ o. releases && is_some_and (λ i. not (brought i)) o) frees ∙ and_false releases))) refl
+          (ap (λ b. b && is_placed f (at == e.place.position)) (sym (ap (λ o. releases && is_some_and released o) frees ∙ and_false releases))) refl
           (sym (and2_false releases (accepts f) (is_some_and (λ i. not (released i) && due i) (sent_as success_pubcomp_in n)) (ap (λ o. is_some_and (λ i. not (released i) && due i) o) completes))) refl,
     )
 

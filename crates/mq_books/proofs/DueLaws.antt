@@ -106,7 +106,7 @@ sent-again role f a i past placed o r = same_test (some (sends_again i) (connect
 -- ---- what is due
 
 -- an opener of i is owed
-abbrev core : Role → Fate → Bool → List Seen → ℕ → Moment → Bool
+abbrev pub core : Role → Fate → Bool → List Seen → ℕ → Moment → Bool
 core role f x past i m = since (is_same m) (moves i) (session role (Some f) past) && (not (some (is_same m) (connection past))
     && (not (some (sends_again i) (connection past)) && not (since (is_same m) (confirms i) (session role (Some f) past) && x)))
 

@@ -8,10 +8,10 @@ use Rattle.mq_rules.specs.declared.rule.Rule.{Rule}
 use Rattle.mq_rules.specs.declared.note.Seen.{Seen}
 use Rattle.mq_rules.specs.Words.{is_some_and}
 use Rattle.std.specs.Option.{option_or}
-use Rattle.mq_rules.specs.Notes.{is_open, decides}
+use Rattle.mq_rules.specs.Notes.{is_open}
 use Rattle.mq_rules.proofs.Exports.{beginning, both_true, gains_in, gains_same, gains_then, latest_fate-same, moment-stays, newest-first, or_parts, there, within_first, within_in, within_same, within_second}
 use Rattle.mq_rules.specs.Moments.{Moment, newest, moment, is_next}
-use Rattle.mq_rules.specs.Connections.{latest_fate, accepts, is_binding}
+use Rattle.mq_rules.specs.Connections.{latest_fate, gives_fate, accepts, is_binding}
 use Rattle.mq_rules.specs.Rules.{binds}
 use Rattle.mq_rules.specs.FaultKeys.{FaultMap}
 use Rattle.mq_rules.specs.Statements.{Statement, on_bytes, on_past, in_session, at_release, at_rest, statement}
@@ -178,7 +178,7 @@ passes tested f e hs base can = record {
     go : (ds : List Seen) → is_open e.note ≡ false → latest_fate tested.role (e ∷ (ds ++ base)) ≡ Some f → fate_after tested f ds base ≡ Some f
     go [] closed h =
         let g = there (latest_fate tested.role base) can.known in
-        let now : Some g.0 ≡ Some f = ap (λ o. option_or o (decides tested.role e.note)) (sym g.1) ∙ sym (latest_fate-same tested.role e base closed) ∙ h in
+        let now : Some g.0 ≡ Some f = ap (λ o. option_or o (gives_fate tested.role (newest e base))) (sym g.1) ∙ sym (latest_fate-same tested.role e base closed) ∙ h in
         g.1 ∙ now
     go (d ∷ ds) closed h = refl
 

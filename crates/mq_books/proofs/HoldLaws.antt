@@ -10,7 +10,7 @@ use Rattle.mq_rules.specs.declared.note.Seen.{Seen}
 use Rattle.mq_rules.specs.Words.{is_some_and}
 use Rattle.mq_rules.specs.Notes.{is_open, is_rest, decides}
 use Rattle.mq_rules.specs.Moments.{Moment, newest, moment, is_next, some}
-use Rattle.mq_rules.specs.Connections.{begun, number, connection, fate, latest_fate, accepts, accepted, ends_binding, is_binding}
+use Rattle.mq_rules.specs.Connections.{begun, number, connection, fate, latest_fate, accepts, accepted, ends_binding, is_binding, gives_fate}
 use Rattle.mq_rules.specs.Rules.{binds}
 use Rattle.mq_rules.specs.Statements.{Statement, on_bytes, on_past, in_session, at_release, at_rest, statement, is_false_under, where_accepted}
 use Rattle.mq_rules.specs.Steps.{given, shows_under, shows, turns}
@@ -26,7 +26,7 @@ given-now role f e past closed undecided h =
     ap (λ o. cond (is_some o) None (fate role (begun past) (e ∷ past))) undecided ∙ ap (λ n. fate role n (e ∷ past)) (sym (begun-closed e past closed)) ∙ h
 
 -- and where it decides nothing it gives none
-given-never : (role : Role) (e : Seen) (past : List Seen) (c : ℕ) → ((f : Fate) → c ≡ begun past → decides role e.note ≡ Some f → is_open e.note ≡ false → fate role c past ≡ None → ⊥) → given role e past c ≡ None
+given-never : (role : Role) (e : Seen) (past : List Seen) (c : ℕ) → ((f : Fate) → c ≡ begun past → gives_fate role (newest e past) ≡ Some f → is_open e.note ≡ false → fate role c past ≡ None → ⊥) → given role e past c ≡ None
 given-never role e past c never = go (given role e past c) refl
   where
     go : (o : Option Fate) → given role e past c ≡ o → o ≡ None
@@ -48,7 +48,7 @@ unbound-open role e past h =
 unbound-after : (role : Role) (e : Seen) (past : List Seen) → latest_fate role (e ∷ past) ≡ None → is_binding role (newest e past) ≡ false
 unbound-after role e past none = go (is_open e.note) refl
   where
-    before : (o : Option Fate) → latest_fate role past ≡ o → option_or o (decides role e.note) ≡ None → o ≡ None
+    before : (o : Option Fate) → latest_fate role past ≡ o → option_or o (gives_fate role (newest e past)) ≡ None → o ≡ None
     before None is h = refl
     before (Some f) is h = absurd (cc)
 
@@ -65,7 +65,7 @@ shows-nothing role breaks e past k none =
     never : (c : ℕ) → given role e past c ≡ None
     never c = given-never role e past c (λ f at gives closed unknown.
         let was : latest_fate role past ≡ None = ap (λ n. fate role n past) (sym at) ∙ unknown in
-        let now : latest_fate role (e ∷ past) ≡ Some f = latest_fate-same role e past closed ∙ ap (λ o. option_or o (decides role e.note)) was ∙ gives in
+        let now : latest_fate role (e ∷ past) ≡ Some f = latest_fate-same role e past closed ∙ ap (λ o. option_or o (gives_fate role (newest e past))) was ∙ gives in
         absurd (cc))
 
     go : (o : Option Moment) → is_some_and (λ m. is_false_under breaks m (given role e past (number m))) o ≡ false

@@ -22,6 +22,7 @@ use Rattle.mq_books.specs.Quotas.{announced, peer_room, may_count, flown}
 use Rattle.mq_books.specs.Opened.{entry_next}
 use Rattle.mq_books.specs.Resending.{bounds_next, excuses, settles, told, IsResent}
 use Rattle.mq_books.specs.Using.{in_delivery, delivering, stray_next, ArePublished, waits_next, void_next, resent_next, breaks, judged_all, is_at_once, is_inflight, IsUsing}
+use Rattle.mq_books.specs.Knowing.{all_excused}
 use Rattle.mq_books.proofs.DueLaws.{opened-within}
 use Rattle.mq_books.proofs.StrayLaws.{delivering-next, listed-connected, published-next}
 use Rattle.mq_books.proofs.QuotaLaws.{peer-next, flown-next, flying-most}
@@ -31,7 +32,7 @@ use Rattle.mq_books.proofs.UsingLaws.{waiting, delivering-waits, sent-none, rese
 use Rattle.mq_books.proofs.ResendsLaws.{bounds-next, resends-gains}
 
 pub inflight-gains : (tested : Tested) (s : Inflight) (f : Fate) (at : ℕ) (e : Seen) (past : List Seen) (m : FaultMap) (b : Broken) (rests excused : Bool) → IsUnder tested f at e past → IsUsing s tested (fate_before tested f e past) past
-    → b ≡ breaks s f e.note → rests ≡ settles f (at == e.place.position) s.ended e.note → excused ≡ excuses s.peer s.in_flight s.bounds
+    → b ≡ all_excused f (at == e.place.position) (breaks s f e.note) → rests ≡ settles f (at == e.place.position) s.ended e.note → excused ≡ excuses s.peer s.in_flight s.bounds
     → Gains (λ k r. is_inflight r && turns_with tested f e past k r) tested (e ∷ past) at m (told rests s.again excused s.opened at (values_of s.entries.entries) (get nat_eq s.entries) s.confirmed.keys (judged_all b e.place at m))
 inflight-gains tested s f at e past m b rests excused under u b_is rest_is excused_is =
     gains_either is_at_once (λ r. same_rule r S06) (λ k r. turns_with tested f e past k r) tested (e ∷ past) at m (judged_all b e.place at m) (told rests s.again excused s.opened at (values_of s.entries.entries) (get nat_eq s.entries) s.confirmed.keys (judged_all b e.place at m))

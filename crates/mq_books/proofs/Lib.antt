@@ -1,4 +1,5 @@
 pub mod KnownLaws
+pub mod UnchangedLaws
 pub mod JudgeLaws
 pub mod QuotaLaws
 pub mod HoldLaws
@@ -47,3 +48,4 @@ pub mod StandLaws
 pub mod StandingSizeLaws
 pub mod AskingSizeLaws
 pub mod BurdenLaws
+pub mod KnowingLaws

@@ -37,6 +37,8 @@ use Rattle.mq_books.specs.Pingings.{ends_by}
 use Rattle.mq_books.specs.Quotas.{announced, may_count, flown, judged_by}
 use Rattle.mq_books.specs.Resending.{bounds_by, confirmed_next, confirms_untouched, excuses, settles, IsResent}
 use Rattle.mq_books.specs.Using.{delivering, stray_next, void_next, resent_next, breaks, unopened, past_pubrel, out_of_order, is_inflight, IsUsing}
+use Rattle.mq_books.proofs.KnowingLaws.{all_excused-late}
+use Rattle.mq_books.proofs.VoidLaws.{accepted-unvoided}
 use Rattle.mq_books.proofs.AgainLaws.{again-next}
 use Rattle.mq_books.proofs.DueLaws.{opened-within}
 use Rattle.mq_books.proofs.InflightLaws.{inflight-next, inflight-gains}
@@ -104,7 +106,7 @@ moved-next tested s t f at e past opener x closer pubrel pubrec under u m accept
     inflight-next tested s t f at e past under u w.others.role (w.others.fate ∙ sym same) w.others.ordered (w.distinct u.distinct) entries
     (λ i. w.stray i ∙ sym (stray-moves i))
     (λ i. ap (λ v. contains nat_eq v i) w.others.void
-    ∙ sym (ap (λ b. (is_id i (delivery_of n) && not b) || contains nat_eq s.void i) accepted ∙ ap (λ b. b || contains nat_eq s.void i) (and_false (is_id i (delivery_of n)))))
+    ∙ sym (ap (λ b. (is_id i (delivery_of n) && b) || contains nat_eq s.void i) (accepted-unvoided f accepted) ∙ ap (λ b. b || contains nat_eq s.void i) (and_false (is_id i (delivery_of n)))))
     (λ i. ap (λ v. contains nat_eq v i) w.others.subscribing ∙ sym (wait-stays (sent_as subscribe_in n) (received_as suback_in n) (is_boundary n) i (contains nat_eq s.subscribing i) m.subscribe m.suback m.inside))
     (λ i. ap (λ v. contains nat_eq v i) w.others.unsubscribing ∙ sym (wait-stays (sent_as unsubscribe_in n) (received_as unsuback_in n) (is_boundary n) i (contains nat_eq s.unsubscribing i) m.unsubscribe m.unsuback m.inside))
     (w.others.resent ∙ sym (resent-stays n (get nat_eq s.entries) s.resent m.closed m.resends))
@@ -164,11 +166,11 @@ breaks-moves s f n opener x closer pubrel pubrec m accepted =
         (a && is_some_and (past_pubrel (get nat_eq s.entries)) o) (s.ordered && (a && is_some_and (out_of_order (get nat_eq s.entries) s.resent) o))
 
 pub moved-gains : (tested : Tested) (s : Inflight) (f : Fate) (at : ℕ) (e : Seen) (past : List Seen) (m : FaultMap) (opener : Option ℕ) (x : Bool) (closer pubrel pubrec : Option ℕ) → IsUnder tested f at e past
-    → IsUsing s tested (fate_before tested f e past) past → Moves e.note opener x closer pubrel pubrec → accepts f ≡ true
+    → at ≡ e.place.position → IsUsing s tested (fate_before tested f e past) past → Moves e.note opener x closer pubrel pubrec → accepts f ≡ true
     → Gains (λ k r. is_inflight r && turns_with tested f e past k r) tested (e ∷ past) at m (judged_by (is_some_and (busy s) opener) S01 e.place at m)
-moved-gains tested s f at e past m opener x closer pubrel pubrec under u w accepted =
+moved-gains tested s f at e past m opener x closer pubrel pubrec under now u w accepted =
     inflight-gains tested s f at e past m (record { takes_busy = is_some_and (busy s) opener; unopened = false; twice = false; past_pubrel = false; out_of_order = false }) false (excuses s.peer s.in_flight s.bounds) under u
-    (breaks-moves s f e.note opener x closer pubrel pubrec w accepted)
+    (breaks-moves s f e.note opener x closer pubrel pubrec w accepted ∙ all_excused-late f at e.place.position (breaks s f e.note) now)
     (sym (ap (λ b. resumes f && (b && ((at == e.place.position) && (accepts f && not s.ended)))) w.awake ∙ and_false (resumes f)))
     refl
 
@@ -183,7 +185,7 @@ moved-step tested s t taken e past m new opener x closer pubrel pubrec follows k
       agrees = subst (λ o. IsUsing t tested o (e ∷ past)) k.after (moved-next tested s t s.fate e.place.position e past opener x closer pubrel pubrec k.under v w accepted refl is);
       grows = known-gains tested s.fate taken is_inflight e past m new k
           (subst (λ (n : FaultMap). Gains (λ k r. is_inflight r && turns_with tested s.fate e past k r) tested (e ∷ past) e.place.position m n) (sym now)
-          (moved-gains tested s s.fate e.place.position e past m opener x closer pubrel pubrec k.under v w accepted));
+          (moved-gains tested s s.fate e.place.position e past m opener x closer pubrel pubrec k.under refl v w accepted));
     }
 
 -- ---- what each packet without properties does

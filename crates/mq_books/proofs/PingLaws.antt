@@ -17,7 +17,7 @@ use Rattle.mq_rules.specs.Rules.{binds, found_line, line_of, lines, same_rule}
 use Rattle.mq_rules.specs.Statements.{statement}
 use Rattle.mq_rules.specs.Faults.{offset_of}
 use Rattle.mq_rules.specs.FaultKeys.{FaultMap}
-use Rattle.mq_rules.proofs.Exports.{connection-newest as connection-next, differ, latest_fate-same, option_or-none, rest-opens-nothing, rest-undecided, some-next}
+use Rattle.mq_rules.proofs.Exports.{connection-newest as connection-next, differ, latest_fate-same, option_or-none, rest-opens-nothing, rest-gives, some-next}
 use Rattle.mq_books.specs.declared.pings.Pings.{Pings}
 use Rattle.mq_rules.specs.Under.{IsUnder, turns_with}
 use Rattle.mq_rules.specs.Growing.{Gains}
@@ -46,7 +46,7 @@ binding-under tested f at e past under = go (is_rest e.note) refl
     go false h = refl
     go true h =
         let now : latest_fate tested.role (e ∷ past) ≡ latest_fate tested.role past =
-        latest_fate-same tested.role e past (rest-opens-nothing e.note h) ∙ ap (option_or (latest_fate tested.role past)) (rest-undecided tested.role e.note h) ∙ option_or-none (latest_fate tested.role past) in
+        latest_fate-same tested.role e past (rest-opens-nothing e.note h) ∙ ap (option_or (latest_fate tested.role past)) (rest-gives tested.role e past h) ∙ option_or-none (latest_fate tested.role past) in
         ap (λ b. b && not (some ends_binding (connection past))) (decided (latest_fate tested.role past) refl now)
         ∙ and-last (at == e.place.position) (accepts f) (not (some ends_binding (connection past)))
 

@@ -14,7 +14,7 @@ use Rattle.mq_rules.specs.declared.bare.BareFields.{BareFields}
 use Rattle.mq_rules.specs.declared.bare.BareFields.TheVariants as bares
 use Rattle.mq_rules.specs.Words.{is_some_and, only}
 use Rattle.mq_rules.specs.Notes.{bare_note, bare_fields, note_of_bare, is_exactly_once, refuses, received_exactly_once, sent_as, ended_in}
-use Rattle.mq_rules.specs.Connections.{accepts, begins}
+use Rattle.mq_rules.specs.Connections.{accepts, begins, is_void}
 use Rattle.mq_rules.specs.FaultKeys.{FaultMap}
 use Rattle.mq_rules.specs.Under.{Follows, IsKnown, fate_before, turns_with}
 use Rattle.mq_rules.specs.Growing.{Gains}
@@ -23,6 +23,7 @@ use Rattle.mq_books.specs.declared.releases.Releases.{Releases}
 use Rattle.mq_books.specs.Quotas.{judged_by}
 use Rattle.mq_books.specs.Releasing.{expires, kept_next, lasting_of, due_by, completes_unreleased, IsReleasing}
 use Rattle.mq_books.specs.Receiving.{Receives, IsReceived, is_release_rule, IsLedTo, IsStep}
+use Rattle.mq_books.specs.Knowing.{is_placed}
 use Rattle.mq_books.proofs.KnownLaws.{Knows, knows, known-gains}
 use Rattle.mq_books.proofs.ReleaseLaws.{releasing-next, releases-gains}
 
@@ -46,7 +47,7 @@ received-next tested s t e past brings unmatched ender completed before m w =
 
     r : IsReleasing s.role s.releases s.fate s.has_accepted (contains nat_eq t.brought) (contains nat_eq t.released) (contains nat_eq t.due) tested (Some s.fate) (e ∷ past)
     r = releasing-next tested s.role s.releases s.fate s.fate s.has_accepted (contains nat_eq s.brought) (contains nat_eq s.released) (contains nat_eq s.due) (accepts s.fate) false s.has_accepted (contains nat_eq t.brought) (contains nat_eq t.released) (contains nat_eq t.due) e past before
-        (sym (ap (λ b. accepts s.fate || (b && s.has_accepted)) m.unreleased ∙ or_false (accepts s.fate)))
+        (sym (ap (λ b. accepts s.fate || (b && (is_void s.fate && s.has_accepted))) m.unreleased ∙ or_false (accepts s.fate)))
         (sym (ap (λ b. b && begins (Some s.fate)) m.closed))
         (sym (ap (λ b. s.has_accepted || (b && accepts s.fate)) m.closed ∙ or_false s.has_accepted))
         (λ i. w.due_are i ∙ sym (
@@ -71,8 +72,8 @@ received-gains : (tested : Tested) (s : Releases) (taken : Option Fate) (e : See
     → Gains (λ k r. is_release_rule r && turns_with tested s.fate e past k r) tested (e ∷ past) e.place.position m new
 received-gains tested s taken e past m new brings unmatched ender completed k before w now =
     releases-gains tested s.role s.releases s.fate s.fate s.has_accepted (contains nat_eq s.brought) (contains nat_eq s.released) (contains nat_eq s.due) e.place.position e past m m m new false false (lacking s completed) k.under before
-    (sym (ap (λ o. s.releases && is_some_and (λ i. not (contains nat_eq s.brought i)) o) w.frees ∙ and_false s.releases)) refl
-    (sym (ap (λ o. s.releases && is_some_and (contains nat_eq s.released) o) w.frees ∙ and_false s.releases)) refl
+    (ap (λ b. b && is_placed s.fate (e.place.position == e.place.position)) (sym (ap (λ o. s.releases && is_some_and (λ i. not (contains nat_eq s.brought i)) o) w.frees ∙ and_false s.releases))) refl
+    (ap (λ b. b && is_placed s.fate (e.place.position == e.place.position)) (sym (ap (λ o. s.releases && is_some_and (contains nat_eq s.released) o) w.frees ∙ and_false s.releases))) refl
     (sym (ap (lacking s) w.completes)) now
 
 -- ---- a step

@@ -14,18 +14,20 @@ use Rattle.mq_rules.specs.declared.note.Seen.{Seen}
 use Rattle.mq_rules.specs.Words.{is_some_and, is_id, only}
 use Rattle.mq_rules.specs.Notes.{is_open, is_release, released_id, received_exactly_once, sent_as, ended_in, success_pubcomp_in}
 use Rattle.mq_rules.specs.Moments.{Moment, newest, note, position, is_same, since, earliest_since, is_next}
-use Rattle.mq_rules.specs.Connections.{latest_fate, accepts, begins, any_accepted, has_session, with_first, session}
+use Rattle.mq_rules.specs.Connections.{latest_fate, accepts, begins, any_accepted, has_session, with_first, session, is_void, is_placed_release}
 use Rattle.mq_rules.specs.Folds.{gained}
 use Rattle.mq_rules.specs.Releases.{brings, releases_message, ends, breaks_L1, breaks_L2, breaks_L3}
 use Rattle.mq_rules.specs.Rules.{binds, found_line, line_of, lines, same_rule}
-use Rattle.mq_rules.specs.Statements.{statement}
+use Rattle.mq_rules.specs.Statements.{statement, where_placed}
 use Rattle.mq_rules.specs.Faults.{offset_of}
 use Rattle.mq_rules.specs.FaultKeys.{FaultMap}
-use Rattle.mq_rules.proofs.Exports.{earliest_since-there, gains_either, within_all, within_either_first}
+use Rattle.mq_rules.proofs.Exports.{both_true, earliest_since-there, gains_either, release-needs, within_all, within_either_first}
 use Rattle.mq_rules.specs.Under.{IsUnder, fate_before, turns_with}
 use Rattle.mq_rules.specs.Growing.{Gains, GainsWithin}
 use Rattle.mq_books.specs.Quotas.{judged_by}
 use Rattle.mq_books.specs.Releasing.{expires, is_unmatched, needs_release, is_inside, starts_over, kept_next, lasting, due_next, is_unreceived, is_repeated, is_unreleased, IsReleasing}
+use Rattle.mq_books.specs.Knowing.{is_placed}
+use Rattle.mq_books.proofs.KnowingLaws.{and-apart, placed-known}
 use Rattle.mq_books.proofs.JudgeLaws.{session-turns_with, release-turns_with, gains_judged}
 
 -- ---- the statements
@@ -132,10 +134,10 @@ inside-is : (tested : Tested) (f : Fate) (any : Bool) (e : Seen) (past : List Se
 inside-is tested f any e past is = go (accepts f) (is_release e.note) (is_open e.note) refl (λ h. (open-unseen e.note h).3) is
   where
     go : (a r o : Bool) → is_release e.note ≡ r → (is_open e.note ≡ true → is_release e.note ≡ false) → any ≡ any_accepted tested.role (cond (is_open e.note) (latest_fate tested.role past) (Some f)) past
-        → (a || (r && any)) ≡ (a || (r && (not a && any_accepted tested.role (Some f) past)))
+        → (a || (r && (is_void f && any))) ≡ (a || (r && (is_void f && any_accepted tested.role (Some f) past)))
     go true r o h none is = refl
     go false false o h none is = refl
-    go false true o h none is = is ∙ same (is_open e.note) refl
+    go false true o h none is = ap (λ b. is_void f && b) (is ∙ same (is_open e.note) refl)
       where
         same : (b : Bool) → is_open e.note ≡ b → any_accepted tested.role (cond b (latest_fate tested.role past) (Some f)) past ≡ any_accepted tested.role (Some f) past
         same true g = absurd (let x = none g in cc)
@@ -314,21 +316,38 @@ same-found tested f e past p q o none are = go (is_open e.note) refl o none are
     go false h None none are = refl
     go false h (Some i) none are = are i
 
-L1-turns : (tested : Tested) (role : Role) (releases : Bool) (fate f : Fate) (any : Bool) (brought released due : ℕ → Bool) (e : Seen) (past : List Seen)
-    → IsReleasing role releases fate any brought released due tested (fate_before tested f e past) past → (k : ℕ) → turns_with tested f e past k L1 ≡ (is_next past k && (releases && is_unreceived e.note brought))
-unfolding breaks_L1
-L1-turns tested role releases fate f any brought released due e past r k =
-    release-turns_with tested L1 (breaks_L1 tested.role) refl f e past k
-    ∙ ap (λ b. is_next past k && (b && breaks_L1 tested.role f (newest e past))) (binds-L1 tested.role tested.releases ∙ sym r.same_releases)
-    ∙ ap (λ b. is_next past k && (releases && b)) (sym (same-found tested f e past (λ i. not (brought i)) (λ i ms. not (since (brings i) (ends i) ms)) (released_id e.note) (λ h. (open-unseen e.note h).1) (λ i. ap not (r.brought_are i))))
+there_in : (p : ℕ → Bool) (o : Option ℕ) → is_some_and p o ≡ true → is_some o ≡ true
+there_in p None h = absurd (cc)
+there_in p (Some i) h = refl
 
-L2-turns : (tested : Tested) (role : Role) (releases : Bool) (fate f : Fate) (any : Bool) (brought released due : ℕ → Bool) (e : Seen) (past : List Seen)
-    → IsReleasing role releases fate any brought released due tested (fate_before tested f e past) past → (k : ℕ) → turns_with tested f e past k L2 ≡ (is_next past k && (releases && is_repeated e.note released))
+placed-in : (a b p q : Bool) → a ≡ b → (b && p) ≡ (b && q) → (a && p) ≡ (b && q)
+placed-in a b p q is h = ap (λ x. x && p) is ∙ h
+
+L1-turns : (tested : Tested) (role : Role) (releases : Bool) (fate f : Fate) (any : Bool) (brought released due : ℕ → Bool) (at : ℕ) (e : Seen) (past : List Seen) → IsUnder tested f at e past
+    → IsReleasing role releases fate any brought released due tested (fate_before tested f e past) past
+    → (k : ℕ) → turns_with tested f e past k L1 ≡ (is_next past k && ((releases && is_unreceived e.note brought) && is_placed f (at == e.place.position)))
+unfolding breaks_L1
+L1-turns tested role releases fate f any brought released due at e past under r k =
+    release-turns_with tested L1 (where_placed tested.role (breaks_L1 tested.role)) refl f e past k
+    ∙ ap (λ b. is_next past k && (b && (breaks_L1 tested.role f (newest e past) && is_placed_release tested.role f (newest e past)))) (binds-L1 tested.role tested.releases ∙ sym r.same_releases)
+    ∙ ap (λ b. is_next past k && b) (and-apart releases (breaks_L1 tested.role f (newest e past)) (is_placed_release tested.role f (newest e past)))
+    ∙ ap (λ b. is_next past k && b) (placed-in (releases && breaks_L1 tested.role f (newest e past)) (releases && is_unreceived e.note brought) (is_placed_release tested.role f (newest e past)) (is_placed f (at == e.place.position))
+    (ap (λ b. releases && b) (sym (same-found tested f e past (λ i. not (brought i)) (λ i ms. not (since (brings i) (ends i) ms)) (released_id e.note) (λ h. (open-unseen e.note h).1) (λ i. ap not (r.brought_are i)))))
+    (placed-known tested f at e past (releases && is_unreceived e.note brought) under
+    (λ t. release-needs e.note (there_in (λ i. not (brought i)) (released_id e.note) (both_true releases (is_unreceived e.note brought) t).1))))
+
+L2-turns : (tested : Tested) (role : Role) (releases : Bool) (fate f : Fate) (any : Bool) (brought released due : ℕ → Bool) (at : ℕ) (e : Seen) (past : List Seen) → IsUnder tested f at e past
+    → IsReleasing role releases fate any brought released due tested (fate_before tested f e past) past
+    → (k : ℕ) → turns_with tested f e past k L2 ≡ (is_next past k && ((releases && is_repeated e.note released) && is_placed f (at == e.place.position)))
 unfolding breaks_L2
-L2-turns tested role releases fate f any brought released due e past r k =
-    release-turns_with tested L2 (breaks_L2 tested.role) refl f e past k
-    ∙ ap (λ b. is_next past k && (b && breaks_L2 tested.role f (newest e past))) (binds-L2 tested.role tested.releases ∙ sym r.same_releases)
-    ∙ ap (λ b. is_next past k && (releases && b)) (sym (same-found tested f e past released (λ i ms. since (releases_message i) (ends i) ms) (released_id e.note) (λ h. (open-unseen e.note h).1) r.released_are))
+L2-turns tested role releases fate f any brought released due at e past under r k =
+    release-turns_with tested L2 (where_placed tested.role (breaks_L2 tested.role)) refl f e past k
+    ∙ ap (λ b. is_next past k && (b && (breaks_L2 tested.role f (newest e past) && is_placed_release tested.role f (newest e past)))) (binds-L2 tested.role tested.releases ∙ sym r.same_releases)
+    ∙ ap (λ b. is_next past k && b) (and-apart releases (breaks_L2 tested.role f (newest e past)) (is_placed_release tested.role f (newest e past)))
+    ∙ ap (λ b. is_next past k && b) (placed-in (releases && breaks_L2 tested.role f (newest e past)) (releases && is_repeated e.note released) (is_placed_release tested.role f (newest e past)) (is_placed f (at == e.place.position))
+    (ap (λ b. releases && b) (sym (same-found tested f e past released (λ i ms. since (releases_message i) (ends i) ms) (released_id e.note) (λ h. (open-unseen e.note h).1) r.released_are)))
+    (placed-known tested f at e past (releases && is_repeated e.note released) under
+    (λ t. release-needs e.note (there_in released (released_id e.note) (both_true releases (is_repeated e.note released) t).1))))
 
 -- a RELEASE is missing for the first PUBLISH, and it needs one
 missing-first : (a : Bool) (test : Moment → Bool) (o : Option Moment) → (not a && is_some_and (λ first. not (test first)) o) ≡ is_some_and (λ first. not a && not (test first)) o
@@ -353,18 +372,18 @@ L3-turns tested role releases fate f any brought released due e past r k =
     before = session tested.role (fate_before tested f e past) past
 
 L1-gains : (tested : Tested) (role : Role) (releases : Bool) (fate f : Fate) (any : Bool) (brought released due : ℕ → Bool) (at : ℕ) (e : Seen) (past : List Seen) (old new : FaultMap) (b : Bool) → IsUnder tested f at e past
-    → IsReleasing role releases fate any brought released due tested (fate_before tested f e past) past → b ≡ (releases && is_unreceived e.note brought) → new ≡ judged_by b L1 e.place at old
+    → IsReleasing role releases fate any brought released due tested (fate_before tested f e past) past → b ≡ ((releases && is_unreceived e.note brought) && is_placed f (at == e.place.position)) → new ≡ judged_by b L1 e.place at old
     → Gains (λ k r. same_rule r L1 && turns_with tested f e past k r) tested (e ∷ past) at old new
 L1-gains tested role releases fate f any brought released due at e past old new b under r is grown =
     subst (λ (m : FaultMap). Gains (λ k r. same_rule r L1 && turns_with tested f e past k r) tested (e ∷ past) at old m) (sym grown)
-    (gains_judged tested L1 f e past at old b (no_offset-L1 tested) under.follows.placed.0 (λ k. L1-turns tested role releases fate f any brought released due e past r k ∙ ap (λ b. is_next past k && b) (sym is)))
+    (gains_judged tested L1 f e past at old b (no_offset-L1 tested) under.follows.placed.0 (λ k. L1-turns tested role releases fate f any brought released due at e past under r k ∙ ap (λ b. is_next past k && b) (sym is)))
 
 L2-gains : (tested : Tested) (role : Role) (releases : Bool) (fate f : Fate) (any : Bool) (brought released due : ℕ → Bool) (at : ℕ) (e : Seen) (past : List Seen) (old new : FaultMap) (b : Bool) → IsUnder tested f at e past
-    → IsReleasing role releases fate any brought released due tested (fate_before tested f e past) past → b ≡ (releases && is_repeated e.note released) → new ≡ judged_by b L2 e.place at old
+    → IsReleasing role releases fate any brought released due tested (fate_before tested f e past) past → b ≡ ((releases && is_repeated e.note released) && is_placed f (at == e.place.position)) → new ≡ judged_by b L2 e.place at old
     → Gains (λ k r. same_rule r L2 && turns_with tested f e past k r) tested (e ∷ past) at old new
 L2-gains tested role releases fate f any brought released due at e past old new b under r is grown =
     subst (λ (m : FaultMap). Gains (λ k r. same_rule r L2 && turns_with tested f e past k r) tested (e ∷ past) at old m) (sym grown)
-    (gains_judged tested L2 f e past at old b (no_offset-L2 tested) under.follows.placed.0 (λ k. L2-turns tested role releases fate f any brought released due e past r k ∙ ap (λ b. is_next past k && b) (sym is)))
+    (gains_judged tested L2 f e past at old b (no_offset-L2 tested) under.follows.placed.0 (λ k. L2-turns tested role releases fate f any brought released due at e past under r k ∙ ap (λ b. is_next past k && b) (sym is)))
 
 L3-gains : (tested : Tested) (role : Role) (releases : Bool) (fate f : Fate) (any : Bool) (brought released due : ℕ → Bool) (at : ℕ) (e : Seen) (past : List Seen) (old new : FaultMap) (b : Bool) → IsUnder tested f at e past
     → IsReleasing role releases fate any brought released due tested (fate_before tested f e past) past → b ≡ (releases && is_unreleased f e.note released due) → new ≡ judged_by b L3 e.place at old
@@ -374,15 +393,15 @@ L3-gains tested role releases fate f any brought released due at e past old new 
     (gains_judged tested L3 f e past at old b (no_offset-L3 tested) under.follows.placed.0 (λ k. L3-turns tested role releases fate f any brought released due e past r k ∙ ap (λ b. is_next past k && b) (sym is)))
 
 L2-both : (tested : Tested) (role : Role) (releases : Bool) (fate f : Fate) (any : Bool) (brought released due : ℕ → Bool) (at : ℕ) (e : Seen) (past : List Seen) (old mid new : FaultMap) (b1 b2 : Bool) → IsUnder tested f at e past
-    → IsReleasing role releases fate any brought released due tested (fate_before tested f e past) past → b1 ≡ (releases && is_unreceived e.note brought) → mid ≡ judged_by b1 L1 e.place at old
-    → b2 ≡ (releases && is_repeated e.note released) → new ≡ judged_by b2 L2 e.place at mid → Gains (λ k r. (same_rule r L1 || same_rule r L2) && turns_with tested f e past k r) tested (e ∷ past) at old new
+    → IsReleasing role releases fate any brought released due tested (fate_before tested f e past) past → b1 ≡ ((releases && is_unreceived e.note brought) && is_placed f (at == e.place.position)) → mid ≡ judged_by b1 L1 e.place at old
+    → b2 ≡ ((releases && is_repeated e.note released) && is_placed f (at == e.place.position)) → new ≡ judged_by b2 L2 e.place at mid → Gains (λ k r. (same_rule r L1 || same_rule r L2) && turns_with tested f e past k r) tested (e ∷ past) at old new
 L2-both tested role releases fate f any brought released due at e past old mid new b1 b2 under r is1 grown1 is2 grown2 =
     gains_either (λ r. same_rule r L1) (λ r. same_rule r L2) (turns_with tested f e past) tested (e ∷ past) at old mid new
     (L1-gains tested role releases fate f any brought released due at e past old mid b1 under r is1 grown1) (L2-gains tested role releases fate f any brought released due at e past mid new b2 under r is2 grown2)
 
 -- after the first of the three, after two, and after all
 pub within-first : (tested : Tested) (role : Role) (releases : Bool) (fate f : Fate) (any : Bool) (brought released due : ℕ → Bool) (at : ℕ) (e : Seen) (past : List Seen) (old new : FaultMap) (b1 : Bool) → IsUnder tested f at e past
-    → IsReleasing role releases fate any brought released due tested (fate_before tested f e past) past → b1 ≡ (releases && is_unreceived e.note brought) → new ≡ judged_by b1 L1 e.place at old
+    → IsReleasing role releases fate any brought released due tested (fate_before tested f e past) past → b1 ≡ ((releases && is_unreceived e.note brought) && is_placed f (at == e.place.position)) → new ≡ judged_by b1 L1 e.place at old
     → GainsWithin (λ k r. ((same_rule r L1 || same_rule r L2) || same_rule r L3) && turns_with tested f e past k r) tested (e ∷ past) at old new
 within-first tested role releases fate f any brought released due at e past old new b1 under r is1 grown1 =
     within_either_first (λ r. same_rule r L1 || same_rule r L2) (λ r. same_rule r L3) (turns_with tested f e past) tested (e ∷ past) at old new
@@ -390,15 +409,15 @@ within-first tested role releases fate f any brought released due at e past old 
     (within_all (λ k r. same_rule r L1 && turns_with tested f e past k r) tested (e ∷ past) at old new (L1-gains tested role releases fate f any brought released due at e past old new b1 under r is1 grown1)))
 
 pub within-both : (tested : Tested) (role : Role) (releases : Bool) (fate f : Fate) (any : Bool) (brought released due : ℕ → Bool) (at : ℕ) (e : Seen) (past : List Seen) (old mid new : FaultMap) (b1 b2 : Bool) → IsUnder tested f at e past
-    → IsReleasing role releases fate any brought released due tested (fate_before tested f e past) past → b1 ≡ (releases && is_unreceived e.note brought) → mid ≡ judged_by b1 L1 e.place at old
-    → b2 ≡ (releases && is_repeated e.note released) → new ≡ judged_by b2 L2 e.place at mid → GainsWithin (λ k r. ((same_rule r L1 || same_rule r L2) || same_rule r L3) && turns_with tested f e past k r) tested (e ∷ past) at old new
+    → IsReleasing role releases fate any brought released due tested (fate_before tested f e past) past → b1 ≡ ((releases && is_unreceived e.note brought) && is_placed f (at == e.place.position)) → mid ≡ judged_by b1 L1 e.place at old
+    → b2 ≡ ((releases && is_repeated e.note released) && is_placed f (at == e.place.position)) → new ≡ judged_by b2 L2 e.place at mid → GainsWithin (λ k r. ((same_rule r L1 || same_rule r L2) || same_rule r L3) && turns_with tested f e past k r) tested (e ∷ past) at old new
 within-both tested role releases fate f any brought released due at e past old mid new b1 b2 under r is1 grown1 is2 grown2 =
     within_either_first (λ r. same_rule r L1 || same_rule r L2) (λ r. same_rule r L3) (turns_with tested f e past) tested (e ∷ past) at old new
     (within_all (λ k r. (same_rule r L1 || same_rule r L2) && turns_with tested f e past k r) tested (e ∷ past) at old new (L2-both tested role releases fate f any brought released due at e past old mid new b1 b2 under r is1 grown1 is2 grown2))
 
 pub releases-gains : (tested : Tested) (role : Role) (releases : Bool) (fate f : Fate) (any : Bool) (brought released due : ℕ → Bool) (at : ℕ) (e : Seen) (past : List Seen) (old first second new : FaultMap) (b1 b2 b3 : Bool) → IsUnder tested f at e past
-    → IsReleasing role releases fate any brought released due tested (fate_before tested f e past) past → b1 ≡ (releases && is_unreceived e.note brought) → first ≡ judged_by b1 L1 e.place at old
-    → b2 ≡ (releases && is_repeated e.note released) → second ≡ judged_by b2 L2 e.place at first → b3 ≡ (releases && is_unreleased f e.note released due) → new ≡ judged_by b3 L3 e.place at second
+    → IsReleasing role releases fate any brought released due tested (fate_before tested f e past) past → b1 ≡ ((releases && is_unreceived e.note brought) && is_placed f (at == e.place.position)) → first ≡ judged_by b1 L1 e.place at old
+    → b2 ≡ ((releases && is_repeated e.note released) && is_placed f (at == e.place.position)) → second ≡ judged_by b2 L2 e.place at first → b3 ≡ (releases && is_unreleased f e.note released due) → new ≡ judged_by b3 L3 e.place at second
     → Gains (λ k r. ((same_rule r L1 || same_rule r L2) || same_rule r L3) && turns_with tested f e past k r) tested (e ∷ past) at old new
 releases-gains tested role releases fate f any brought released due at e past old first second new b1 b2 b3 under r is1 grown1 is2 grown2 is3 grown3 =
     gains_either (λ r. same_rule r L1 || same_rule r L2) (λ r. same_rule r L3) (turns_with tested f e past) tested (e ∷ past) at old second new

@@ -10,15 +10,15 @@ use Rattle.mq_rules.specs.declared.role.Role.{Role}
 use Rattle.mq_rules.specs.declared.role.Role.TheVariants.{Client, Server}
 use Rattle.mq_rules.specs.declared.role.Tested.{Tested}
 use Rattle.mq_rules.specs.declared.fate.Fate.{Fate}
-use Rattle.mq_rules.specs.declared.fate.Fate.TheVariants.{Void, New, Resumed}
+use Rattle.mq_rules.specs.declared.fate.Fate.TheVariants.{Void, Adrift, New, Forgotten, Resumed, Unasked, Unknown}
 use Rattle.mq_rules.specs.declared.rule.Rule.TheVariants.{S06}
 use Rattle.mq_rules.specs.declared.note.Seen.{Seen}
 use Rattle.mq_rules.specs.declared.packet_note.ConnectNote.{ConnectNote}
 use Rattle.mq_rules.specs.declared.packet_note.ConnackNote.{ConnackNote}
 use Rattle.mq_rules.specs.Words.{is_some_and}
-use Rattle.mq_rules.specs.Notes.{is_open, is_rest, connect_of, connack_of, decides}
-use Rattle.mq_rules.specs.Moments.{Moment, newest, position, moment, moments, those, some, Among, IsPlaced}
-use Rattle.mq_rules.specs.Connections.{connection, latest_fate, accepts, resumes, accepted, resumed, ends_binding, is_binding, first_connect, first_connack, session}
+use Rattle.mq_rules.specs.Notes.{is_open, is_rest, connect_of, connack_of, opener_of}
+use Rattle.mq_rules.specs.Moments.{Moment, newest, position, moment, moments, those, some, Among, IsPlaced, note}
+use Rattle.mq_rules.specs.Connections.{connection, latest_fate, accepts, resumes, accepted, resumed, ends_binding, is_binding, first_connect, first_connack, session, gives_fate}
 use Rattle.mq_rules.specs.Counter.{in_flight}
 use Rattle.mq_rules.specs.Identifiers.{counts, is_used_up, has_announced, shows_S06}
 use Rattle.mq_rules.specs.Rules.{binds, found_line, line_of, lines, same_rule}
@@ -38,7 +38,7 @@ use Rattle.mq_books.proofs.PingLaws.{binding-under}
 use Rattle.mq_books.proofs.BlameLaws.{place_at, blame_of, gains_blamed, gains_none}
 use Rattle.mq_books.proofs.QuotaLaws.{room-kept}
 use Rattle.mq_books.proofs.OpenedLaws.{entry-is}
-use Rattle.mq_books.proofs.DueLaws.{owes, due-owes, owes-due}
+use Rattle.mq_books.proofs.DueLaws.{core, owes, due-owes, owes-due}
 use Rattle.mq_books.proofs.PlacesLaws.{IsDueAt, value-due, key-due, places_under, under-due, listed-due, blamed_due-is, blamed_under-is}
 use Rattle.mq_books.proofs.AgainLaws.{due-listed}
 
@@ -81,7 +81,7 @@ binding-fate tested f at e past under h =
     go : (o : Option Fate) → latest_fate tested.role past ≡ o → accepted o ≡ true → is_open e.note ≡ false → o ≡ Some f
     go None is a closed = absurd (cc)
     go (Some g) is a closed =
-        let after : latest_fate tested.role (e ∷ past) ≡ Some g = latest_fate-same tested.role e past closed ∙ ap (λ o. option_or o (decides tested.role e.note)) is in
+        let after : latest_fate tested.role (e ∷ past) ≡ Some g = latest_fate-same tested.role e past closed ∙ ap (λ o. option_or o (gives_fate tested.role (newest e past))) is in
         ap Some (under.fits g after).0
 
 S06-turns : (tested : Tested) (f : Fate) (e : Seen) (past : List Seen) (k : ℕ) → turns_with tested f e past k S06 ≡ (is_binding tested.role (newest e past) && is_some_and (shows_S06 tested.role (newest e past)) (moment past k))
@@ -99,16 +99,17 @@ shown-owes role f x e past fate is None = refl
 shown-owes role f x e past fate is (Some m) = shows-owes role e past m ∙ ap (λ o. owes role o (is_used_up role (newest e past) || has_announced role (newest e past)) past m) fate ∙ ap (λ b. owes role (Some f) b past m) is
 
 shown-nowhere : (role : Role) (f : Fate) (x : Bool) (past : List Seen) → resumes f ≡ false → (q : Option Moment) → is_some_and (owes role (Some f) x past) q ≡ false
-shown-nowhere role New x past h None = refl
-shown-nowhere role New x past h (Some m) = refl
-shown-nowhere role Void x past h None = refl
-shown-nowhere role Void x past h (Some m) = refl
-shown-nowhere role Resumed x past h q = absurd (cc)
+shown-nowhere role f x past h None = refl
+shown-nowhere role f x past h (Some m) = ap (λ b. b && is_some_and (λ i. core role f x past i m) (opener_of (note m))) h
 
 resumed-accepts : (f : Fate) → resumes f ≡ true → accepts f ≡ true
-resumed-accepts Resumed h = refl
-resumed-accepts New h = absurd (cc)
 resumed-accepts Void h = absurd (cc)
+resumed-accepts Adrift h = absurd (cc)
+resumed-accepts New h = absurd (cc)
+resumed-accepts Forgotten h = absurd (cc)
+resumed-accepts Resumed h = refl
+resumed-accepts Unasked h = refl
+resumed-accepts Unknown h = absurd (cc)
 
 due-blamed : (tested : Tested) (f : Fate) (at opened : ℕ) (x : Bool) (e : Seen) (past : List Seen) (entry : ℕ → Option Entry) (places : List Place3) → IsPlaced past → resumes f ≡ true → opened ≡ opened_at past
     → ((i : ℕ) → entry i ≡ entry_in i (session tested.role (Some f) past)) → ((k : ℕ) → turns_with tested f e past k S06 ≡ is_some_and (owes tested.role (Some f) x past) (moment past k))

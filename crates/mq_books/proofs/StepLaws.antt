@@ -6,24 +6,34 @@ use Rattle.std.proofs.lemmas.List.{reverse-append}
 use Rattle.mq_rules.specs.declared.role.Role.{Role}
 use Rattle.mq_rules.specs.declared.role.Tested.{Tested}
 use Rattle.mq_rules.specs.declared.fate.Fate.{Fate}
+use Rattle.mq_rules.specs.declared.history.History.{History}
 use Rattle.mq_rules.specs.declared.rule.Rule.{Rule}
 use Rattle.mq_rules.specs.declared.note.Seen.{Seen}
-use Rattle.mq_rules.specs.Notes.{is_open, decides}
-use Rattle.mq_rules.specs.Moments.{IsPlaced}
-use Rattle.mq_rules.specs.Connections.{latest_fate, AreOnConnections}
+use Rattle.mq_rules.specs.Notes.{is_open}
+use Rattle.mq_rules.specs.Moments.{newest, IsPlaced}
+use Rattle.mq_rules.specs.Connections.{latest_fate, gives_fate, AreOnConnections}
+use Rattle.mq_rules.specs.Histories.{history, history_after, gives_now}
 use Rattle.mq_rules.specs.FaultKeys.{FaultMap}
-use Rattle.mq_rules.proofs.Exports.{and_false, gains_nothing, latest_fate-next, there}
+use Rattle.mq_rules.proofs.Exports.{and_false, gains_nothing, gives-is, history-next, latest_fate-next, there}
 use Rattle.mq_rules.specs.Under.{IsInTurn, Follows}
 use Rattle.mq_rules.specs.Growing.{Gains, GainsWithin}
 use Rattle.mq_books.specs.Holding.{is_nothing, AreHeld, CanPass, turns_session, settled, Holds}
 use Rattle.mq_books.proofs.HoldLaws.{undecided-turns}
 
 -- the fate that is kept next
-pub fate-next : (role : Role) (tested : Tested) (fate now : Option Fate) (e : Seen) (past : List Seen) → role ≡ tested.role → fate ≡ latest_fate tested.role past
-    → now ≡ cond (is_open e.note) None (option_or fate (decides role e.note)) → now ≡ latest_fate tested.role (e ∷ past)
-fate-next role tested fate now e past same_role same_fate is =
-    is ∙ ap (λ r. cond (is_open e.note) None (option_or fate (decides r e.note))) same_role
-    ∙ ap (λ o. cond (is_open e.note) None (option_or o (decides tested.role e.note))) same_fate ∙ sym (latest_fate-next tested.role e past)
+pub fate-next : (role : Role) (tested : Tested) (fate now : Option Fate) (kept : History) (e : Seen) (past : List Seen) → role ≡ tested.role → kept ≡ history tested.role past → fate ≡ latest_fate tested.role past
+    → now ≡ cond (is_open e.note) None (option_or fate (gives_now role kept e.note)) → now ≡ latest_fate tested.role (e ∷ past)
+fate-next role tested fate now kept e past same_role same_history same_fate is =
+    is ∙ ap (λ r. cond (is_open e.note) None (option_or fate (gives_now r kept e.note))) same_role
+    ∙ ap (λ h. cond (is_open e.note) None (option_or fate (gives_now tested.role h e.note))) same_history
+    ∙ ap (λ g. cond (is_open e.note) None (option_or fate g)) (sym (gives-is tested.role e past))
+    ∙ ap (λ o. cond (is_open e.note) None (option_or o (gives_fate tested.role (newest e past)))) same_fate ∙ sym (latest_fate-next tested.role e past)
+
+-- and the history
+pub history-goes : (role : Role) (tested : Tested) (kept then : History) (e : Seen) (past : List Seen) → role ≡ tested.role → kept ≡ history tested.role past
+    → then ≡ history_after role kept e.note → then ≡ history tested.role (e ∷ past)
+history-goes role tested kept then e past same_role same_history grown =
+    grown ∙ ap (λ r. history_after r kept e.note) same_role ∙ ap (λ h. history_after tested.role h e.note) same_history ∙ sym (history-next tested.role e past)
 
 settled-undecided : (role : Role) (e : Seen) (past : List Seen) → latest_fate role (e ∷ past) ≡ None → settled role (e ∷ past) ≡ settled role past
 settled-undecided role e past h = ap (λ o. cond (is_some {T = Fate} o) (e ∷ past) (settled role past)) h
@@ -36,20 +46,21 @@ opens-first : (role : Role) (e : Seen) (hs base : List Seen) → AreHeld role hs
     → latest_fate role (e ∷ (hs ++ base)) ≡ None → is_open e.note ≡ is_nothing hs
 opens-first role e [] base held known in_turn none = go (is_open e.note) (there (latest_fate role base) known) (sym (latest_fate-next role e base) ∙ none)
   where
-    go : (b : Bool) → (g : Fate) × (latest_fate role base ≡ Some g) → cond b None (option_or (latest_fate role base) (decides role e.note)) ≡ None → b ≡ true
+    go : (b : Bool) → (g : Fate) × (latest_fate role base ≡ Some g) → cond b None (option_or (latest_fate role base) (gives_fate role (newest e base))) ≡ None → b ≡ true
     go true g h = refl
-    go false g h = absurd (let bad : Some g.0 ≡ None = ap (λ o. option_or o (decides role e.note)) (sym g.1) ∙ h in cc)
+    go false g h = absurd (let bad : Some g.0 ≡ None = ap (λ o. option_or o (gives_fate role (newest e base))) (sym g.1) ∙ h in cc)
 opens-first role e (d ∷ hs) base held known in_turn none = go (is_open e.note) in_turn
   where
     go : (b : Bool) → (b ≡ true → is_some (latest_fate role (d ∷ (hs ++ base))) ≡ true) → b ≡ false
     go false h = refl
     go true h = absurd (let bad : is_some {T = Fate} None ≡ true = sym (ap is_some held.1) ∙ h refl in cc)
 
-pub holds-more : (agrees : Option Fate → List Seen → Type 0) (role : Role) (fate now : Option Fate) (held more : List Seen) (tested : Tested) (e : Seen) (past : List Seen)
-    → Holds agrees role fate held tested past → Follows tested e past → now ≡ cond (is_open e.note) None (option_or fate (decides role e.note)) → now ≡ None → more ≡ held ++ (e ∷ [])
-    → Holds agrees role now more tested (e ∷ past)
-holds-more agrees role fate now held more tested e past h follows is none grown = record {
+pub holds-more : (agrees : Option Fate → List Seen → Type 0) (role : Role) (fate now : Option Fate) (kept then : History) (held more : List Seen) (tested : Tested) (e : Seen) (past : List Seen)
+    → Holds agrees role fate kept held tested past → Follows tested e past → now ≡ cond (is_open e.note) None (option_or fate (gives_now role kept e.note)) → then ≡ history_after role kept e.note
+    → now ≡ None → more ≡ held ++ (e ∷ []) → Holds agrees role now then more tested (e ∷ past)
+holds-more agrees role fate now kept then held more tested e past h follows is after none grown = record {
   same_role = h.same_role;
+  same_history = history-goes role tested kept then e past h.same_role h.same_history after;
   same_fate = latest;
   known = subst (λ log. is_some (latest_fate tested.role log) ≡ true) (sym base) h.known;
   joined = ap (λ log. e ∷ log) h.joined ∙ ap (λ hs. hs ++ settled tested.role past) (sym pushed) ∙ ap (λ log. reverse more ++ log) (sym base);
@@ -59,7 +70,7 @@ holds-more agrees role fate now held more tested e past h follows is none grown 
 }
   where
     latest : now ≡ latest_fate tested.role (e ∷ past)
-    latest = fate-next role tested fate now e past h.same_role h.same_fate is
+    latest = fate-next role tested fate now kept e past h.same_role h.same_history h.same_fate is
 
     base : settled tested.role (e ∷ past) ≡ settled tested.role past
     base = settled-undecided tested.role e past (sym latest ∙ none)
@@ -70,12 +81,12 @@ holds-more agrees role fate now held more tested e past h follows is none grown 
     undecided : latest_fate tested.role (e ∷ (reverse held ++ settled tested.role past)) ≡ None
     undecided = ap (λ log. latest_fate tested.role (e ∷ log)) (sym h.joined) ∙ sym latest ∙ none
 
-pub holding-gains : (agrees : Option Fate → List Seen → Type 0) (judges : Rule → Bool) (role : Role) (fate now : Option Fate) (held : List Seen) (tested : Tested) (e : Seen) (past : List Seen) (m : FaultMap)
-    → Holds agrees role fate held tested past → now ≡ cond (is_open e.note) None (option_or fate (decides role e.note)) → now ≡ None
+pub holding-gains : (agrees : Option Fate → List Seen → Type 0) (judges : Rule → Bool) (role : Role) (fate now : Option Fate) (kept : History) (held : List Seen) (tested : Tested) (e : Seen) (past : List Seen) (m : FaultMap)
+    → Holds agrees role fate kept held tested past → now ≡ cond (is_open e.note) None (option_or fate (gives_now role kept e.note)) → now ≡ None
     → Gains (λ k r. judges r && turns_session tested e past k r) tested (e ∷ past) (length past + 1) m m
-holding-gains agrees judges role fate now held tested e past m h is none =
+holding-gains agrees judges role fate now kept held tested e past m h is none =
     gains_nothing (λ k r. judges r && turns_session tested e past k r) tested (e ∷ past) (length past + 1) m
-    (λ k r. ap (λ b. judges r && b) (undecided-turns tested e past (sym (fate-next role tested fate now e past h.same_role h.same_fate is) ∙ none) k r) ∙ and_false (judges r))
+    (λ k r. ap (λ b. judges r && b) (undecided-turns tested e past (sym (fate-next role tested fate now kept e past h.same_role h.same_history h.same_fate is) ∙ none) k r) ∙ and_false (judges r))
 
 -- what the step needs to know where the connection is decided
 pub record Ready (agrees : Option Fate → List Seen → Type 0) (tested : Tested) (f : Fate) (e : Seen) (past hs : List Seen) : Type 0 where
@@ -86,10 +97,10 @@ pub record Ready (agrees : Option Fate → List Seen → Type 0) (tested : Teste
   pub after : latest_fate tested.role (e ∷ past) ≡ Some f
   pub position : e.place.position ≡ length past + 1
 
-pub ready : (agrees : Option Fate → List Seen → Type 0) (role : Role) (fate now : Option Fate) (held given : List Seen) (tested : Tested) (f : Fate) (e : Seen) (past : List Seen)
-    → Holds agrees role fate held tested past → Follows tested e past → now ≡ cond (is_open e.note) None (option_or fate (decides role e.note)) → now ≡ Some f → given ≡ held
+pub ready : (agrees : Option Fate → List Seen → Type 0) (role : Role) (fate now : Option Fate) (kept : History) (held given : List Seen) (tested : Tested) (f : Fate) (e : Seen) (past : List Seen)
+    → Holds agrees role fate kept held tested past → Follows tested e past → now ≡ cond (is_open e.note) None (option_or fate (gives_now role kept e.note)) → now ≡ Some f → given ≡ held
     → Ready agrees tested f e past (reverse given)
-ready agrees role fate now held given tested f e past h follows is some same = record {
+ready agrees role fate now kept held given tested f e past h follows is some same = record {
   base = base;
   can = record {
     hand = record { later = subst (λ log. length log < e.place.position) joined (let p = follows.placed.0 in omega arith); are_held = subst (λ hs. AreHeld tested.role (reverse hs) base) (sym same) h.are_held; placed = subst IsPlaced joined follows.placed.1; in_turn = subst (IsInTurn tested.role) joined follows.in_turn.1; on_connections = subst AreOnConnections joined follows.on_connections.1 };
@@ -110,12 +121,13 @@ ready agrees role fate now held given tested f e past h follows is some same = r
     joined = h.joined ∙ ap (λ hs. reverse hs ++ base) (sym same)
 
     after : latest_fate tested.role (e ∷ past) ≡ Some f
-    after = sym (fate-next role tested fate now e past h.same_role h.same_fate is) ∙ some
+    after = sym (fate-next role tested fate now kept e past h.same_role h.same_history h.same_fate is) ∙ some
 
-pub holds-none : (agrees : Option Fate → List Seen → Type 0) (role : Role) (now : Option Fate) (left : List Seen) (tested : Tested) (f : Fate) (e : Seen) (past hs : List Seen) (r : Ready agrees tested f e past hs)
-    → role ≡ tested.role → now ≡ Some f → left ≡ [] → (others : Option Fate → List Seen → Type 0) → others (Some f) (e ∷ (hs ++ r.base)) → Holds others role now left tested (e ∷ past)
-holds-none agrees role now left tested f e past hs r same_role some empty others turns_held = record {
+pub holds-none : (agrees : Option Fate → List Seen → Type 0) (role : Role) (now : Option Fate) (then : History) (left : List Seen) (tested : Tested) (f : Fate) (e : Seen) (past hs : List Seen) (r : Ready agrees tested f e past hs)
+    → role ≡ tested.role → then ≡ history tested.role (e ∷ past) → now ≡ Some f → left ≡ [] → (others : Option Fate → List Seen → Type 0) → others (Some f) (e ∷ (hs ++ r.base)) → Holds others role now then left tested (e ∷ past)
+holds-none agrees role now then left tested f e past hs r same_role same_history some empty others turns_held = record {
   same_role = same_role;
+  same_history = same_history;
   same_fate = some ∙ sym r.after;
   known = ap (λ log. is_some (latest_fate tested.role log)) all ∙ ap is_some r.after;
   joined = sym all ∙ ap (λ ds. reverse ds ++ settled tested.role (e ∷ past)) (sym empty);

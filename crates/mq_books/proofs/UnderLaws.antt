@@ -8,9 +8,9 @@ use Rattle.mq_rules.specs.declared.fate.Fate.{Fate}
 use Rattle.mq_rules.specs.declared.rule.Rule.{Rule}
 use Rattle.mq_rules.specs.declared.note.Seen.{Seen}
 use Rattle.mq_rules.specs.Words.{is_some_and}
-use Rattle.mq_rules.specs.Notes.{is_open, decides}
+use Rattle.mq_rules.specs.Notes.{is_open}
 use Rattle.mq_rules.specs.Moments.{Moment, newest, position, moments, moment, is_next, is_after, some}
-use Rattle.mq_rules.specs.Connections.{begun, number, fate, fate_under, latest_fate, accepts, is_binding}
+use Rattle.mq_rules.specs.Connections.{begun, number, fate, fate_under, latest_fate, accepts, is_binding, gives_fate}
 use Rattle.mq_rules.specs.Rules.{binds}
 use Rattle.mq_rules.specs.Statements.{Statement, on_bytes, on_past, in_session, at_release, at_rest, statement, is_false, is_false_under, where_accepted, fails, fails_under}
 use Rattle.mq_rules.specs.Steps.{turns}
@@ -71,7 +71,7 @@ under-step tested f at e past k r under session = go (is_open e.note) refl (late
     go true h o is = fated-open tested f e past k r h ∙ ap (λ b. fails tested past k r || b) (newest-under tested f e past k r session (unbound-open tested.role e past h))
     go false h None is = fated-on tested f e past k r h is ∙ ap (λ b. fails_under tested f past k r || b) (newest-under tested f e past k r session (unbound-undecided tested.role e past is))
     go false h (Some g) is =
-        let now : latest_fate tested.role (e ∷ past) ≡ Some g = latest_fate-same tested.role e past h ∙ ap (λ o. option_or o (decides tested.role e.note)) is in
+        let now : latest_fate tested.role (e ∷ past) ≡ Some g = latest_fate-same tested.role e past h ∙ ap (λ o. option_or o (gives_fate tested.role (newest e past))) is in
         let same : g ≡ f = (under.fits g now).0 in
         let known : latest_fate tested.role past ≡ Some f = is ∙ ap (λ x. Some x) same in
         let later : latest_fate tested.role (e ∷ past) ≡ Some f = now ∙ ap (λ x. Some x) same in

@@ -15,7 +15,7 @@ use Rattle.mq_rules.specs.declared.note.Note.{Note}
 use Rattle.mq_rules.specs.declared.note.Seen.{Seen}
 use Rattle.mq_rules.specs.Words.{is_some_and, is_id}
 use Rattle.mq_rules.specs.Notes.{is_open, is_close, is_boundary, is_rest, sent_as, received_as, delivery_of, closer_of, opener_of, resend_of, pubrel_in, accepting_pubrec_in, subscribe_in, suback_in, unsubscribe_in, unsuback_in}
-use Rattle.mq_rules.specs.Connections.{accepts, begins, resumes}
+use Rattle.mq_rules.specs.Connections.{accepts, begins, resumes, is_void}
 use Rattle.mq_rules.specs.Identifiers.{taken_by}
 use Rattle.mq_rules.specs.FaultKeys.{FaultMap}
 use Rattle.mq_rules.specs.Under.{IsUnder, fate_before, turns_with}
@@ -30,6 +30,7 @@ use Rattle.mq_books.specs.Pingings.{ends_by}
 use Rattle.mq_books.specs.Quotas.{announced, may_count, flown}
 use Rattle.mq_books.specs.Resending.{bounds_by, excuses, settles}
 use Rattle.mq_books.specs.Using.{delivering, waits_next, void_next, resent_next, greater, resent_by, takes_busy, unopened, past_pubrel, out_of_order, breaks, is_inflight, IsUsing}
+use Rattle.mq_books.specs.Knowing.{all_excused}
 use Rattle.mq_books.proofs.ConcernLaws.{nothing, neither, same_cond, some-same, and2_false, closed-before}
 use Rattle.mq_books.proofs.StrayLaws.{stray-stays}
 use Rattle.mq_books.proofs.InflightLaws.{inflight-next, inflight-gains}
@@ -167,7 +168,7 @@ inflight-passes tested s f at e past h under before =
       inflight-next tested s s f at e past under before refl (sym (some-same f s.fate u.same_fate)) refl u.distinct
           (λ i. sym (entry-stays tested f n e.place i (get nat_eq s.entries i) q))
           (λ i. sym (stray-stays f n (get nat_eq s.entries) i (contains nat_eq s.stray i) q.inside q.delivery q.closer))
-          (λ i. sym (ap (λ o. (is_id i o && not (accepts f)) || contains nat_eq s.void i) q.delivery))
+          (λ i. sym (ap (λ o. (is_id i o && is_void f) || contains nat_eq s.void i) q.delivery))
           (λ i. sym (wait-stays (sent_as subscribe_in n) (received_as suback_in n) (is_boundary n) i (contains nat_eq s.subscribing i) q.subscribe q.suback q.inside))
           (λ i. sym (wait-stays (sent_as unsubscribe_in n) (received_as unsuback_in n) (is_boundary n) i (contains nat_eq s.unsubscribing i) q.unsubscribe q.unsuback q.inside))
           (sym (resent-stays n (get nat_eq s.entries) s.resent q.closed q.resend))
@@ -178,7 +179,7 @@ inflight-passes tested s f at e past h under before =
           (sym (ap (λ o. option_or (cond (is_open n) None s.bounds) o) bounds ∙ ap (λ b. option_or (cond b None s.bounds) None) q.closed ∙ option_or-none s.bounds))
           u.resent_are,
       λ m. inflight-gains tested s f at e past m (record { takes_busy = false; unopened = false; twice = false; past_pubrel = false; out_of_order = false }) false (excuses s.peer s.in_flight s.bounds) under before
-          (unbroken tested s f n q)
+          (ap (all_excused f (at == e.place.position)) (unbroken tested s f n q))
           (sym (ap (λ b. resumes f && (b && ((at == e.place.position) && (accepts f && not s.ended)))) q.awake ∙ and_false (resumes f)))
           refl,
     )

@@ -1,5 +1,5 @@
 -- S01 to S05.
-use Rattle.std.proofs.Common.{◌≡◌, ℕ, ◌<◌, ◌≤◌, nat_eq, nat_lt, arith, Bool, true, false, cond, ◌&&◌, ◌||◌, not, List, [], ◌∷◌, Option, Some, None, refl, ap, sym, subst, ◌∙◌, ◌⊎◌, inl, inr}
+use Rattle.std.proofs.Common.{◌≡◌, ℕ, ◌<◌, ◌≤◌, ◌==◌, nat_eq, nat_lt, arith, Bool, true, false, cond, ◌&&◌, ◌||◌, not, List, [], ◌∷◌, Option, Some, None, refl, ap, sym, subst, ◌∙◌, ◌⊎◌, inl, inr}
 use Rattle.std.specs.Prelude.{is_some}
 use Rattle.std.proofs.lemmas.Bool.{ltb-true, ltb-false, lt-ltb}
 use Rattle.indexmap.specs.IndexMap.{get}
@@ -17,12 +17,12 @@ use Rattle.mq_rules.specs.declared.note.Seen.{Seen}
 use Rattle.mq_rules.specs.Words.{is_some_and, is_id}
 use Rattle.mq_rules.specs.Notes.{is_open, is_close, is_boundary, delivery_of, closer_of, resend_of, sent_as, received_as, subscribe_in, suback_in, unsubscribe_in, unsuback_in}
 use Rattle.mq_rules.specs.Moments.{Moment, newest, note, position, some, since, latest, is_next, IsPlaced, IsDescending}
-use Rattle.mq_rules.specs.Connections.{is_connected, connection, needs_connection, IsOnConnection, latest_fate, accepts, session}
+use Rattle.mq_rules.specs.Connections.{is_connected, connection, needs_connection, IsOnConnection, latest_fate, accepts, session, is_unasked, surprises, couldnt_know, couldnt_know_resumed}
 use Rattle.mq_rules.specs.Identifiers.{opens_id, closes_id, delivers, is_open_at, latest_opener, awaits_suback, is_busy_at, taken_by, was_sent_on_void, opens_exactly_once, sends_pubrel, comes_after, breaks_S01, breaks_S02, breaks_S03, breaks_S04, breaks_S05}
 use Rattle.mq_rules.specs.Rules.{binds, found_line, line_of, lines}
-use Rattle.mq_rules.specs.Statements.{in_session, statement}
+use Rattle.mq_rules.specs.Statements.{in_session, statement, knowing, knowing_resumed}
 use Rattle.mq_rules.specs.FaultKeys.{FaultMap}
-use Rattle.mq_rules.proofs.Exports.{among-moment, and_false, has_item, moment-placed, not_true, on_open-connected, on_open-fold, or_false, or_left, or_parts, or_right, same_test, session-descend, session-members, some-next}
+use Rattle.mq_rules.proofs.Exports.{among-moment, and_false, both_true, has_item, moment-placed, not_true, on_open-connected, on_open-fold, or_false, or_left, or_parts, or_right, resend-needs, same_test, session-descend, session-members, some-next, taken-needs}
 use Rattle.mq_books.specs.declared.inflight.Inflight.{Inflight}
 use Rattle.mq_books.specs.declared.inflight.broken.Broken.{Broken}
 use Rattle.mq_books.specs.declared.inflight.entry.Entry.{Entry}
@@ -35,6 +35,8 @@ use Rattle.mq_books.proofs.OpenedLaws.{entry-there, entry-is, IsEntry}
 use Rattle.mq_books.proofs.StrayLaws.{boundary-opens}
 use Rattle.mq_books.proofs.VoidLaws.{void_sent-read}
 use Rattle.mq_books.proofs.BrokenLaws.{all-gains}
+use Rattle.mq_books.proofs.KnowingLaws.{and-apart, excused-known}
+use Rattle.mq_books.specs.Knowing.{excused, all_excused}
 
 -- ---- whom the statements bind
 
@@ -218,14 +220,22 @@ out_of_order-is role f i e past placed = go (entry_in i ms) refl
 
 -- ---- the pairs
 
-S01-turns : (tested : Tested) (s : Inflight) (f : Fate) (e : Seen) (past : List Seen) → IsOnConnection e past → IsUsing s tested (fate_before tested f e past) past → (k : ℕ) → turns_with tested f e past k S01 ≡ (is_next past k && (breaks s f e.note).takes_busy)
+S01-turns : (tested : Tested) (s : Inflight) (f : Fate) (at : ℕ) (e : Seen) (past : List Seen) → IsUnder tested f at e past → IsOnConnection e past → IsUsing s tested (fate_before tested f e past) past
+    → (k : ℕ) → turns_with tested f e past k S01 ≡ (is_next past k && excused (is_unasked f) (at == e.place.position) (breaks s f e.note).takes_busy)
 unfolding breaks_S01
-S01-turns tested s f e past on u k =
-    session-turns_with tested S01 (breaks_S01 tested.role) refl f e past k
-    ∙ ap (λ b. is_next past k && (b && (accepts f && breaks_S01 tested.role f (newest e past)))) (binds-S01 tested.role tested.releases)
-    ∙ ap (λ b. is_next past k && (accepts f && b)) (sym (go (has_item e.note) refl))
-    ∙ ap (λ r. is_next past k && (accepts f && is_some_and busy (taken_by r e.note))) (sym u.same_role)
+S01-turns tested s f at e past under on u k =
+    session-turns_with tested S01 (knowing_resumed tested.role (breaks_S01 tested.role)) refl f e past k
+    ∙ ap (λ b. is_next past k && (b && (accepts f && (breaks_S01 tested.role f (newest e past) && not (couldnt_know_resumed tested.role f (newest e past)))))) (binds-S01 tested.role tested.releases)
+    ∙ ap (λ b. is_next past k && b) (and-apart (accepts f) (breaks_S01 tested.role f (newest e past)) (not (couldnt_know_resumed tested.role f (newest e past))))
+    ∙ ap (λ b. is_next past k && ((accepts f && b) && not (couldnt_know_resumed tested.role f (newest e past)))) (sym (go (has_item e.note) refl))
+    ∙ ap (λ r. is_next past k && ((accepts f && is_some_and busy (taken_by r e.note)) && not (couldnt_know_resumed tested.role f (newest e past)))) (sym u.same_role)
+    ∙ ap (λ b. is_next past k && b) (excused-known tested f at e past (is_unasked f) (accepts f && is_some_and busy (taken_by s.role e.note)) under
+    (λ t. taken-needs s.role e.note (there_in busy (taken_by s.role e.note) (both_true (accepts f) (is_some_and busy (taken_by s.role e.note)) t).1)))
   where
+    there_in : (p : ℕ → Bool) (o : Option ℕ) → is_some_and p o ≡ true → is_some o ≡ true
+    there_in p None h = absurd (cc)
+    there_in p (Some i) h = refl
+
     busy : ℕ → Bool
     busy i = is_some (get nat_eq s.entries i) || (contains nat_eq s.subscribing i || contains nat_eq s.unsubscribing i)
 
@@ -254,11 +264,34 @@ resend-turns tested rule breaks says bound b f e past p q is same k =
     go true t false h = ap (is_some_and p) (resend-none e.note h) ∙ sym (ap (is_some_and q) (resend-none e.note h))
     go true t true h = sym (same_some q p (resend_of e.note) (same h t))
 
-S02-turns : (tested : Tested) (s : Inflight) (f : Fate) (at : ℕ) (e : Seen) (past : List Seen) → IsUnder tested f at e past → IsUsing s tested (fate_before tested f e past) past → (k : ℕ) → turns_with tested f e past k S02 ≡ (is_next past k && (breaks s f e.note).unopened)
+-- a statement on a PUBLISH that is sent again, which an end may not know of yet
+known-resend-turns : (tested : Tested) (rule : Rule) (breaks : Fate → Moment → Bool) → statement tested.role rule ≡ in_session (knowing tested.role breaks) → binds rule tested ≡ true → (f : Fate) (at : ℕ) (e : Seen) (past : List Seen) (p q : ℕ → Bool)
+    → IsUnder tested f at e past → breaks f (newest e past) ≡ is_some_and p (resend_of e.note) → (has_item e.note ≡ true → accepts f ≡ true → (i : ℕ) → q i ≡ p i)
+    → (k : ℕ) → turns_with tested f e past k rule ≡ (is_next past k && excused (surprises f) (at == e.place.position) (accepts f && is_some_and q (resend_of e.note)))
+known-resend-turns tested rule breaks says b f at e past p q under is same k =
+    session-turns_with tested rule (knowing tested.role breaks) says f e past k
+    ∙ ap (λ t. is_next past k && (t && (accepts f && (breaks f (newest e past) && not (couldnt_know tested.role f (newest e past)))))) b
+    ∙ ap (λ t. is_next past k && (accepts f && (t && not (couldnt_know tested.role f (newest e past))))) is
+    ∙ ap (λ t. is_next past k && t) (and-apart (accepts f) (is_some_and p (resend_of e.note)) (not (couldnt_know tested.role f (newest e past))))
+    ∙ ap (λ t. is_next past k && (t && not (couldnt_know tested.role f (newest e past)))) (go (accepts f) refl (has_item e.note) refl)
+    ∙ ap (λ t. is_next past k && t) (excused-known tested f at e past (surprises f) (accepts f && is_some_and q (resend_of e.note)) under
+    (λ t. resend-needs e.note (there_in q (resend_of e.note) (both_true (accepts f) (is_some_and q (resend_of e.note)) t).1)))
+  where
+    there_in : (r : ℕ → Bool) (o : Option ℕ) → is_some_and r o ≡ true → is_some o ≡ true
+    there_in r None h = absurd (cc)
+    there_in r (Some i) h = refl
+
+    go : (a : Bool) → accepts f ≡ a → (c : Bool) → has_item e.note ≡ c → (a && is_some_and p (resend_of e.note)) ≡ (a && is_some_and q (resend_of e.note))
+    go false t c h = refl
+    go true t false h = ap (is_some_and p) (resend-none e.note h) ∙ sym (ap (is_some_and q) (resend-none e.note h))
+    go true t true h = sym (same_some q p (resend_of e.note) (same h t))
+
+S02-turns : (tested : Tested) (s : Inflight) (f : Fate) (at : ℕ) (e : Seen) (past : List Seen) → IsUnder tested f at e past → IsUsing s tested (fate_before tested f e past) past
+    → (k : ℕ) → turns_with tested f e past k S02 ≡ (is_next past k && excused (surprises f) (at == e.place.position) (breaks s f e.note).unopened)
 unfolding breaks_S02
 S02-turns tested s f at e past under u =
-    resend-turns tested S02 (breaks_S02 tested.role) refl true (binds-S02 tested.role tested.releases) f e past (λ i. not (is_open_at tested.role f i (newest e past) || was_sent_on_void tested.role i (newest e past)))
-    (unopened (get nat_eq s.entries) (contains nat_eq s.void)) refl
+    known-resend-turns tested S02 (breaks_S02 tested.role) refl (binds-S02 tested.role tested.releases) f at e past (λ i. not (is_open_at tested.role f i (newest e past) || was_sent_on_void tested.role i (newest e past)))
+    (unopened (get nat_eq s.entries) (contains nat_eq s.void)) under refl
     (λ item accepted i.
     let n = now s tested f e past (item-closed e.note item) u in
     ap (λ x. not (is_some x || contains nat_eq s.void i)) (n.entries_are i)
@@ -291,11 +324,11 @@ S05-turns tested s f at e past under u =
     ∙ ap (is_some_and (λ (o : Entry). nat_lt o.place.position (resent_in tested.role (Some f) past))) (n.entries_are i)
     ∙ out_of_order-is tested.role f i e past under.follows.placed.1)
 
-pub using-gains : (tested : Tested) (s : Inflight) (f : Fate) (at : ℕ) (e : Seen) (past : List Seen) (m : FaultMap) (b : Broken) → IsUnder tested f at e past → IsUsing s tested (fate_before tested f e past) past → b ≡ breaks s f e.note
+pub using-gains : (tested : Tested) (s : Inflight) (f : Fate) (at : ℕ) (e : Seen) (past : List Seen) (m : FaultMap) (b : Broken) → IsUnder tested f at e past → IsUsing s tested (fate_before tested f e past) past → b ≡ all_excused f (at == e.place.position) (breaks s f e.note)
     → Gains (λ k r. is_at_once r && turns_with tested f e past k r) tested (e ∷ past) at m (judged_all b e.place at m)
 using-gains tested s f at e past m b under u is =
     subst (λ (b : Broken). Gains (λ k r. is_at_once r && turns_with tested f e past k r) tested (e ∷ past) at m (judged_all b e.place at m)) (sym is)
-    (all-gains tested f e past at m (breaks s f e.note) under.follows.placed.0 (S01-turns tested s f e past under.follows.on_connections.0 u) (S02-turns tested s f at e past under u) (S03-turns tested s f e past under.follows.on_connections.0 u) (S04-turns tested s f e past u) (S05-turns tested s f at e past under u))
+    (all-gains tested f e past at m (all_excused f (at == e.place.position) (breaks s f e.note)) under.follows.placed.0 (S01-turns tested s f at e past under under.follows.on_connections.0 u) (S02-turns tested s f at e past under u) (S03-turns tested s f e past under.follows.on_connections.0 u) (S04-turns tested s f e past u) (S05-turns tested s f at e past under u))
 
 -- ---- the state, with one event more
 

@@ -5,10 +5,11 @@ use Rattle.std.proofs.lemmas.Bool.{eqb-true, eq-eqb}
 use Rattle.mq_rules.specs.declared.role.Role.{Role}
 use Rattle.mq_rules.specs.declared.role.Tested.{Tested}
 use Rattle.mq_rules.specs.declared.fate.Fate.{Fate}
+use Rattle.mq_rules.specs.declared.fate.Fate.TheVariants.{Void, Adrift, New, Forgotten, Resumed, Unasked, Unknown}
 use Rattle.mq_rules.specs.declared.note.Seen.{Seen}
-use Rattle.mq_rules.specs.Notes.{is_open, decides}
+use Rattle.mq_rules.specs.Notes.{is_open}
 use Rattle.mq_rules.specs.Moments.{Moment, newest, moments, some, Among}
-use Rattle.mq_rules.specs.Connections.{begun, number, fate, fate_under, latest_fate, accepts, voided}
+use Rattle.mq_rules.specs.Connections.{begun, number, fate, fate_under, latest_fate, accepts, voided, gives_fate, is_void}
 use Rattle.mq_rules.specs.Identifiers.{delivers, was_sent_on_void}
 use Rattle.mq_rules.proofs.Exports.{begun-closed, begun-open-of-given as begun-open, differ, fate-step, latest_fate-same, option_or-none}
 use Rattle.mq_rules.specs.Under.{IsUnder, fate_before}
@@ -33,8 +34,8 @@ going role c f e past closed = ap (λ n. cond (c == n) (Some f) (fate role c (e 
     go true t = refl
     go false t =
         fate-step role c e past
-        ∙ ap (λ n. option_or (fate role c past) (cond (n == c) (decides role e.note) None)) same
-        ∙ ap (λ b. option_or (fate role c past) (cond b (decides role e.note) None)) (differ (begun past) c (λ is. let bad : (c == begun past) ≡ true = eq-eqb c (begun past) (sym is) in absurd (cc)))
+        ∙ ap (λ n. option_or (fate role c past) (cond (n == c) (gives_fate role (newest e past)) None)) same
+        ∙ ap (λ b. option_or (fate role c past) (cond b (gives_fate role (newest e past)) None)) (differ (begun past) c (λ is. let bad : (c == begun past) ≡ true = eq-eqb c (begun past) (sym is) in absurd (cc)))
         ∙ option_or-none (fate role c past)
 
 opened : (role : Role) (c : ℕ) (f : Fate) (e : Seen) (past : List Seen) → is_open e.note ≡ true → c ≤ begun past → fate_under role (Some f) (e ∷ past) c ≡ fate_under role (latest_fate role past) past c
@@ -42,7 +43,7 @@ opened role c f e past opens le =
     let more : begun (e ∷ past) ≡ 1 + begun past = begun-open e past opens in
     ap (λ b. cond b (Some f) (fate role c (e ∷ past))) (differ c (begun (e ∷ past)) (λ is. omega arith))
     ∙ fate-step role c e past
-    ∙ ap (λ b. option_or (fate role c past) (cond b (decides role e.note) None)) (differ (begun (e ∷ past)) c (λ is. omega arith))
+    ∙ ap (λ b. option_or (fate role c past) (cond b (gives_fate role (newest e past)) None)) (differ (begun (e ∷ past)) c (λ is. omega arith))
     ∙ option_or-none (fate role c past)
     ∙ go (c == begun past) refl
   where
@@ -52,17 +53,27 @@ opened role c f e past opens le =
 
 -- the state, with one event more
 pub void_sent-next : (tested : Tested) (i : ℕ) (f : Fate) (e : Seen) (past : List Seen)
-    → void_sent tested.role i (Some f) (e ∷ past) ≡ ((delivers i (newest e past) && not (accepts f)) || void_sent tested.role i (fate_before tested f e past) past)
+    → void_sent tested.role i (Some f) (e ∷ past) ≡ ((delivers i (newest e past) && is_void f) || void_sent tested.role i (fate_before tested f e past) past)
 void_sent-next tested i f e past =
     ap (λ b. (delivers i (newest e past) && voided (cond b (Some f) (fate tested.role (begun (e ∷ past)) (e ∷ past)))) || some (λ j. delivers i j && voided (fate_under tested.role (Some f) (e ∷ past) (number j))) (moments past))
     (eq-eqb (begun (e ∷ past)) (begun (e ∷ past)) refl)
-    ∙ ap (λ b. (delivers i (newest e past) && not (accepts f)) || b) (go (is_open e.note) refl)
+    ∙ ap (λ b. (delivers i (newest e past) && is_void f) || b) (go (is_open e.note) refl)
   where
     go : (b : Bool) → is_open e.note ≡ b → some (λ j. delivers i j && voided (fate_under tested.role (Some f) (e ∷ past) (number j))) (moments past) ≡ void_sent tested.role i (cond b (latest_fate tested.role past) (Some f)) past
     go true h = some-same (λ j. delivers i j && voided (fate_under tested.role (Some f) (e ∷ past) (number j))) (λ j. delivers i j && voided (fate_under tested.role (latest_fate tested.role past) past (number j))) (moments past)
         (λ m a. ap (λ o. delivers i m && voided o) (opened tested.role (number m) f e past h (numbers past m a)))
     go false h = some-same (λ j. delivers i j && voided (fate_under tested.role (Some f) (e ∷ past) (number j))) (λ j. delivers i j && voided (fate_under tested.role (Some f) past (number j))) (moments past)
         (λ m a. ap (λ o. delivers i m && voided o) (going tested.role (number m) f e past h))
+
+-- what is accepted isn't void
+pub accepted-unvoided : (f : Fate) → accepts f ≡ true → is_void f ≡ false
+accepted-unvoided Void h = absurd (cc)
+accepted-unvoided Adrift h = absurd (cc)
+accepted-unvoided New h = refl
+accepted-unvoided Forgotten h = refl
+accepted-unvoided Resumed h = refl
+accepted-unvoided Unasked h = refl
+accepted-unvoided Unknown h = absurd (cc)
 
 -- what the statement reads, at an event of an accepted connection
 pub void_sent-read : (tested : Tested) (i : ℕ) (f : Fate) (at : ℕ) (e : Seen) (past : List Seen) → IsUnder tested f at e past → is_open e.note ≡ false → accepts f ≡ true
@@ -72,7 +83,7 @@ void_sent-read tested i f at e past under closed accepted = some-same (λ j. del
   where
     go : (c : ℕ) (b : Bool) → (c == begun past) ≡ b → (o : Option Fate) → latest_fate tested.role past ≡ o → voided (fate tested.role c past) ≡ voided (cond b (Some f) (fate tested.role c past))
     go c false t o is = refl
-    go c true t None is = ap (λ n. voided (fate tested.role n past)) (eqb-true c (begun past) t) ∙ ap voided is ∙ sym (ap not accepted)
+    go c true t None is = ap (λ n. voided (fate tested.role n past)) (eqb-true c (begun past) t) ∙ ap voided is ∙ sym (accepted-unvoided f accepted)
     go c true t (Some g) is =
-        let now : latest_fate tested.role (e ∷ past) ≡ Some g = latest_fate-same tested.role e past closed ∙ ap (λ o. option_or o (decides tested.role e.note)) is in
-        ap (λ n. voided (fate tested.role n past)) (eqb-true c (begun past) t) ∙ ap voided is ∙ ap (λ x. not (accepts x)) (under.fits g now).0
+        let now : latest_fate tested.role (e ∷ past) ≡ Some g = latest_fate-same tested.role e past closed ∙ ap (λ o. option_or o (gives_fate tested.role (newest e past))) is in
+        ap (λ n. voided (fate tested.role n past)) (eqb-true c (begun past) t) ∙ ap voided is ∙ ap is_void (under.fits g now).0

@@ -8,6 +8,7 @@ use Rattle.mq_rules.specs.declared.role.Role.{Role}
 use Rattle.mq_rules.specs.declared.role.Tested.{Tested}
 use Rattle.mq_rules.specs.declared.fate.Fate.{Fate}
 use Rattle.mq_rules.specs.declared.note.Note.{Note}
+use Rattle.mq_rules.specs.declared.history.History.{History}
 use Rattle.mq_rules.specs.declared.note.Seen.{Seen}
 use Rattle.mq_rules.specs.Moments.{newest, note}
 use Rattle.mq_rules.specs.Connections.{latest_fate, connection}
@@ -45,9 +46,9 @@ held-sum number role e (d ∷ hs) base held =
     let more = sum-more (λ d. number d.note) e (d ∷ hs) in
     omega (arith, first, rest, more)
 
-pub held-waiting : (agrees : Option Fate → List Seen → Type 0) (role : Role) (fate : Option Fate) (held : List Seen) (tested : Tested) (past : List Seen) → Holds agrees role fate held tested past → sum_by (λ e. event_size e.note) held ≡ waiting tested.role past
+pub held-waiting : (agrees : Option Fate → List Seen → Type 0) (role : Role) (fate : Option Fate) (kept : History) (held : List Seen) (tested : Tested) (past : List Seen) → Holds agrees role fate kept held tested past → sum_by (λ e. event_size e.note) held ≡ waiting tested.role past
 unfolding waiting
-held-waiting agrees role fate held tested past h = sym (sum-reverse (λ e. event_size e.note) held) ∙ go (reverse held) h.joined h.are_held
+held-waiting agrees role fate kept held tested past h = sym (sum-reverse (λ e. event_size e.note) held) ∙ go (reverse held) h.joined h.are_held
   where
     base : List Seen
     base = settled tested.role past

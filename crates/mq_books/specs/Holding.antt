@@ -3,12 +3,14 @@ use Rattle.std.specs.Prelude.{ℕ, ◌≡◌, ◌<◌, ◌+◌, Bool, true, fals
 use Rattle.mq_rules.specs.declared.role.Role.{Role}
 use Rattle.mq_rules.specs.declared.role.Tested.{Tested}
 use Rattle.mq_rules.specs.declared.fate.Fate.{Fate}
+use Rattle.mq_rules.specs.declared.history.History.{History}
 use Rattle.mq_rules.specs.declared.rule.Rule.{Rule}
 use Rattle.mq_rules.specs.declared.note.Note.{Note}
 use Rattle.mq_rules.specs.declared.note.Seen.{Seen}
 use Rattle.mq_rules.specs.Notes.{is_open, received_subscription, sent_grant}
 use Rattle.mq_rules.specs.Moments.{note, IsPlaced}
 use Rattle.mq_rules.specs.Connections.{latest_fate, connection, AreOnConnections}
+use Rattle.mq_rules.specs.Histories.{history}
 use Rattle.mq_rules.specs.Steps.{turns}
 use Rattle.mq_rules.specs.Under.{is_on_session, turns_with, IsInTurn, Follows}
 use Rattle.mq_books.specs.Standings.{total}
@@ -49,8 +51,9 @@ settled role [] = []
 settled role (e ∷ past) = cond (is_some (latest_fate role (e ∷ past))) (e ∷ past) (settled role past)
 
 -- These events lead to what is kept: the watcher has been told those up to the undecided connection, and the others are held.
-pub record Holds (agrees : Option Fate → List Seen → Type 0) (role : Role) (fate : Option Fate) (held : List Seen) (tested : Tested) (past : List Seen) : Type 0 where
+pub record Holds (agrees : Option Fate → List Seen → Type 0) (role : Role) (fate : Option Fate) (kept : History) (held : List Seen) (tested : Tested) (past : List Seen) : Type 0 where
   pub same_role : role ≡ tested.role
+  pub same_history : kept ≡ history tested.role past
   pub same_fate : fate ≡ latest_fate tested.role past
   pub known : is_some (latest_fate tested.role (settled tested.role past)) ≡ true
   pub joined : past ≡ reverse held ++ settled tested.role past

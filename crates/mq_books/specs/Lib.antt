@@ -1,4 +1,5 @@
 pub mod Quotas
+pub mod Knowing
 pub mod Holding
 pub mod Pingings
 pub mod Judging

@@ -8,7 +8,7 @@ use Rattle.mq_rules.specs.declared.note.Seen.{Seen}
 use Rattle.mq_rules.specs.Words.{is_some_and, is_id, only}
 use Rattle.mq_rules.specs.Notes.{is_open, is_release, released_id, received_publish, received_exactly_once, sent_as, ended_in, unmatched_pubrec_in, success_pubcomp_in}
 use Rattle.mq_rules.specs.Moments.{Moment, note, is_same, since, earliest_since}
-use Rattle.mq_rules.specs.Connections.{accepts, begins, any_accepted, session}
+use Rattle.mq_rules.specs.Connections.{accepts, is_void, begins, any_accepted, session}
 use Rattle.mq_rules.specs.Folds.{gained}
 use Rattle.mq_rules.specs.Releases.{brings, releases_message, ends}
 
@@ -26,7 +26,7 @@ needs_release i ms = is_some_and (λ first. not (expires (note first) || not (si
 
 -- the event is in a session, where some connection was accepted before it or not
 abbrev pub is_inside : Fate → Note → Bool → Bool
-is_inside f n any = accepts f || (is_release n && any)
+is_inside f n any = accepts f || (is_release n && (is_void f && any))
 
 -- the session starts over with this event
 abbrev pub starts_over : Fate → Note → Bool

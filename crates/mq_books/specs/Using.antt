@@ -13,7 +13,7 @@ use Rattle.mq_rules.specs.declared.note.Seen.{Seen}
 use Rattle.mq_rules.specs.Words.{is_some_and, is_id}
 use Rattle.mq_rules.specs.Notes.{is_open, is_boundary, closer_of, delivery_of, resend_of, sent_as, received_as, subscribe_in, suback_in, unsubscribe_in, unsuback_in}
 use Rattle.mq_rules.specs.Moments.{note, moments, some, since, those}
-use Rattle.mq_rules.specs.Connections.{number, is_connected, connection, on_open, accepts, voided, fate_under, session, ends_binding}
+use Rattle.mq_rules.specs.Connections.{number, is_connected, connection, on_open, accepts, is_void, voided, fate_under, session, ends_binding}
 use Rattle.mq_rules.specs.Identifiers.{delivers, taken_by, counts}
 use Rattle.mq_rules.specs.Counter.{in_flight}
 use Rattle.mq_rules.specs.Rules.{same_rule, binds}
@@ -54,7 +54,7 @@ abbrev pub void_sent : Role → ℕ → Option Fate → List Seen → Bool
 void_sent role i taken past = some (λ j. delivers i j && voided (fate_under role taken past (number j))) (moments past)
 
 abbrev pub void_next : Fate → Note → ℕ → Bool → Bool
-void_next f n i old = (is_id i (delivery_of n) && not (accepts f)) || old
+void_next f n i old = (is_id i (delivery_of n) && is_void f) || old
 
 -- ---- the order in which PUBLISH packets are sent again
 

@@ -3,6 +3,7 @@ ghost use Rattle.std.specs.Prelude.{◌≡◌, ◌&&◌, ℕ, OnOk, cond, nat_eq
 ghost use Rattle.indexmap.specs.IndexMap.{get};
 ghost use Rattle.mq_rules.specs.declared.fate.Fate.TheVariants.{Void};
 ghost use Rattle.mq_rules.specs.Notes.{is_open};
+ghost use Rattle.mq_rules.specs.Connections.{surprises as surprising};
 ghost use Rattle.mq_rules.specs.Rules.{same_rule, binds as is_bound};
 ghost use Rattle.mq_rules.specs.Under.{IsKnown, turns_known};
 ghost use Rattle.mq_books.specs.Burden.{caused_ids};
@@ -12,7 +13,7 @@ ghost use Rattle.mq_books.specs.Concerns.{concerns_asked};
 
 use crate::exchange::Exchange;
 use crate::fated::Fated;
-use crate::known::judge_by;
+use crate::known::{excuse, judge_by};
 use crate::selective::Selective;
 use crate::sizes::map_size;
 use indexmap::IndexMap;
@@ -49,7 +50,7 @@ fn take_answered(
     ensures { OnOk result ((i : ℕ) → get nat_eq answered.new i ≡ answered_by fate opens cause answer position i (get nat_eq answered.old i)) }
 {
     if opens {
-        if matches!(fate, Fate::New) {
+        if fate.begins() {
             // A large map that is cleared costs its size each time.
             *answered = IndexMap::new(alloc);
         }
@@ -95,6 +96,13 @@ fn is_unasked(
             },
             None => false,
         }
+}
+
+// Whether the end may be surprised by the fate of a connection on which it has sent an answer.
+fn surprises<X: Exchange>(fate: Fate) -> bool
+    ensures { result ≡ (X.early && surprising fate) }
+{
+    X::may_be_early() && fate.surprises()
 }
 
 impl<X: Exchange> Asked<X> {
@@ -147,7 +155,8 @@ impl<X: Exchange> Fated for Asked<X> {
     ) -> Result<(), Memory> {
         let cause = X::cause(note);
         let answer = X::answer(note);
-        let broken = is_unasked(self.binds, fate, self.opened, answer, &self.answered);
+        let unasked = is_unasked(self.binds, fate, self.opened, answer, &self.answered);
+        let broken = excuse(surprises::<X>(fate), decided == at.position, unasked);
         let alloc = self.alloc;
         take_answered(
             &mut self.answered,

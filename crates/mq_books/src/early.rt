@@ -6,15 +6,17 @@ ghost use Rattle.std.specs.List.{sum_by};
 ghost use Rattle.mq_rules.specs.declared.role.Tested.{Tested as TheTested};
 ghost use Rattle.mq_rules.specs.declared.fate.Fate.TheVariants as fates;
 ghost use Rattle.mq_rules.specs.declared.note.Seen.{Seen as TheSeen};
-ghost use Rattle.mq_rules.specs.Notes.{is_open, decides, received_subscription, sent_grant};
+ghost use Rattle.mq_rules.specs.Notes.{is_open, note_of_bare, received_subscription, sent_grant};
 ghost use Rattle.mq_rules.specs.Connections.{latest_fate};
+ghost use Rattle.mq_rules.specs.Histories.{gives_now, is_left_by};
 ghost use Rattle.mq_rules.specs.Under.{seen, Follows, turns_with};
 ghost use Rattle.mq_rules.specs.Growing.{Gains, GainsWithin};
 ghost use Rattle.mq_books.specs.Holding.{is_nothing, CanHand, CanPass, fate_after, turns_held, turns_session, settled, number_in, event_size as size_of, waiting, Holds};
 
 use crate::fated::Fated;
 use mq_rules::{
-    Bare, Brisk, Fate, Faults, Memory, Note, PacketFields, Role, Seen, Tested, Watch, step_apart,
+    Bare, Brisk, Fate, Faults, History, Memory, Note, PacketFields, Role, Seen, Tested, Watch,
+    step_apart,
 };
 use mq_trace::Place3;
 use std::alloc::Global;
@@ -26,6 +28,7 @@ pub struct Early<W> {
     alloc: Global,
     role: Role,
     fate: Option<Fate>,
+    history: History,
     held: Vec<Seen>,
     watcher: W,
 }
@@ -67,13 +70,13 @@ fn pass<W: Fated>(
 }
 
 // The fate of the latest connection after an event.
-fn fate_next(role: Role, fate: Option<Fate>, note: &Note) -> Option<Fate>
-    ensures { result ≡ cond (is_open note.now) None (option_or fate (decides role note.now)) }
+fn fate_next(role: Role, fate: Option<Fate>, history: &History, note: &Note) -> Option<Fate>
+    ensures { result ≡ cond (is_open note.now) None (option_or fate (gives_now role history.now note.now)) }
 {
     if note.is_open() {
         return None;
     }
-    fate.or(note.decides(role))
+    fate.or(history.gives(role, note))
 }
 
 // Holds an event.
@@ -132,6 +135,7 @@ impl<W: Fated> Early<W> {
             alloc,
             role: tested.role,
             fate: Some(Fate::Void),
+            history: History::new(),
             held: Vec::new(alloc),
             watcher,
         }
@@ -139,17 +143,18 @@ impl<W: Fated> Early<W> {
 }
 
 impl<W> Early<W> {
-    // Whether the latest connection is decided. No events are held then.
+    // Whether a packet without properties goes on to the watcher, and changes nothing here: the latest
+    // connection is decided, so that no events are held, and its history stays as it is.
     #[inline(always)]
-    fn is_decided(&self) -> bool
-        ensures { result ≡ (is_some self.now.fate && is_nothing self.now.held.items) }
+    fn goes_on(&self, bare: Bare<'_>) -> bool
+        ensures { result ≡ (is_left_by self.now.history (note_of_bare bare.entry) && (is_some self.now.fate && is_nothing self.now.held.items)) }
     {
-        self.fate.is_some() && self.held.is_empty()
+        self.history.is_left_by(bare) && (self.fate.is_some() && self.held.is_empty())
     }
 }
 
 impl<W: Fated> Watch for Early<W> {
-    ghost agrees = { λ s tested taken past. Holds (W.agrees s.watcher tested) s.role s.fate s.held.items tested past };
+    ghost agrees = { λ s tested taken past. Holds (W.agrees s.watcher tested) s.role s.fate s.history s.held.items tested past };
 
     ghost takes = { λ tested taken e past. Unit {0} };
 
@@ -158,7 +163,8 @@ impl<W: Fated> Watch for Early<W> {
     ghost bound = { λ tested taken past. waiting tested.role past + W.bound tested (latest_fate tested.role (settled tested.role past)) (settled tested.role past) };
 
     fn step(&mut self, at: Place3, note: &Note, faults: &mut Faults) -> Result<(), Memory> {
-        self.fate = fate_next(self.role, self.fate, note);
+        self.fate = fate_next(self.role, self.fate, &self.history, note);
+        self.history.consume(self.role, note);
         match self.fate {
             None => hold(self.alloc, &mut self.held, at, note)?,
             Some(fate) => {
@@ -178,7 +184,7 @@ impl<W: Fated> Watch for Early<W> {
 impl<W: Fated + Brisk> Brisk for Early<W> {
     #[inline(always)]
     fn step_bare(&mut self, at: Place3, bare: Bare<'_>, faults: &mut Faults) -> Result<(), Memory> {
-        if !self.is_decided() {
+        if !self.goes_on(bare) {
             step_apart(self, at, bare, faults)?;
             return Ok(());
         }

@@ -12,13 +12,14 @@ use mq_trace::Direction;
 /// An exchange: under which Packet Identifier an event is a cause, and under which one it is an
 /// answer.
 pub trait Exchange {
-    ghost use Rattle.std.specs.Prelude.{◌≡◌, Option, Some};
+    ghost use Rattle.std.specs.Prelude.{◌≡◌, Bool, Option, Some};
     ghost use Rattle.mq_rules.specs.declared.role.Role.{Role};
     ghost use Rattle.mq_rules.specs.declared.rule.Rule.{Rule};
     ghost use Rattle.mq_rules.specs.Exchanges as exchanges;
     ghost use Rattle.mq_rules.specs.Statements.{statement, in_session, at_rest};
     ghost use Rattle.mq_rules.specs.Notes.{note_of_bare};
     ghost use Rattle.mq_books.specs.Answering.{IsApart};
+    ghost use Rattle.mq_books.specs.Knowing.{if_early};
 
     // The cause, and the answer.
     ghost exchange: { exchanges.Exchange };
@@ -28,6 +29,9 @@ pub trait Exchange {
     ghost settled: { Rule };
     // The statement on the order of answers, if there is one.
     ghost ordered: { Option Rule };
+    // Whether an answer may be sent before the CONNACK, by an end that can't know yet which session it
+    // will have.
+    ghost early: { Bool };
 
     /// The Packet Identifier under which an event is a cause.
     fn cause(note: &Note) -> Option<u16>
@@ -49,6 +53,11 @@ pub trait Exchange {
     fn asked_rule() -> Rule
         ensures { result ≡ asked };
 
+    /// Whether an answer may be sent before the CONNACK, by an end that can't know yet which session it
+    /// will have (MQTT 5.0, section 3.1.4).
+    fn may_be_early() -> bool
+        ensures { result ≡ early };
+
     /// The statement that each cause is answered before a REST.
     fn settled_rule() -> Rule
         ensures { result ≡ settled };
@@ -62,7 +71,7 @@ pub trait Exchange {
     ghost apart: { IsApart exchange };
 
     // They are the statements of these rules.
-    ghost says_asked: { (role : Role) → statement role asked ≡ in_session (exchanges.breaks_A exchange role) };
+    ghost says_asked: { (role : Role) → statement role asked ≡ in_session (if_early early role (exchanges.breaks_A exchange role)) };
 
     ghost says_settled: { (role : Role) → statement role settled ≡ at_rest (exchanges.shows_R exchange) };
 
@@ -107,7 +116,7 @@ fn accepted(identifier: u16, code: u8) -> Option<u16>
 pub struct E1;
 
 impl Exchange for E1 {
-    ghost use Rattle.std.specs.Prelude.{refl, Some, None};
+    ghost use Rattle.std.specs.Prelude.{refl, Some, None, true};
     ghost use Rattle.mq_rules.specs.declared.rule.Rule.TheVariants.{E1A, E1R, E1O};
     ghost use Rattle.mq_rules.specs.Exchanges.{publish_puback};
     ghost use Rattle.mq_books.specs.Answering.{puback_apart, ordered_says};
@@ -115,6 +124,8 @@ impl Exchange for E1 {
     ghost exchange = { publish_puback };
 
     ghost asked = { E1A };
+
+    ghost early = { true };
 
     ghost settled = { E1R };
 
@@ -160,6 +171,10 @@ impl Exchange for E1 {
         Rule::E1A
     }
 
+    fn may_be_early() -> bool {
+        true
+    }
+
     fn settled_rule() -> Rule {
         Rule::E1R
     }
@@ -182,7 +197,7 @@ impl Exchange for E1 {
 pub struct E2;
 
 impl Exchange for E2 {
-    ghost use Rattle.std.specs.Prelude.{refl, Some, None};
+    ghost use Rattle.std.specs.Prelude.{refl, Some, None, true};
     ghost use Rattle.mq_rules.specs.declared.rule.Rule.TheVariants.{E2A, E2R, E2O};
     ghost use Rattle.mq_rules.specs.Exchanges.{publish_pubrec};
     ghost use Rattle.mq_books.specs.Answering.{pubrec_apart, ordered_says};
@@ -190,6 +205,8 @@ impl Exchange for E2 {
     ghost exchange = { publish_pubrec };
 
     ghost asked = { E2A };
+
+    ghost early = { true };
 
     ghost settled = { E2R };
 
@@ -235,6 +252,10 @@ impl Exchange for E2 {
         Rule::E2A
     }
 
+    fn may_be_early() -> bool {
+        true
+    }
+
     fn settled_rule() -> Rule {
         Rule::E2R
     }
@@ -257,15 +278,17 @@ impl Exchange for E2 {
 pub struct E3;
 
 impl Exchange for E3 {
-    ghost use Rattle.std.specs.Prelude.{refl, Some, None};
+    ghost use Rattle.std.specs.Prelude.{refl, Some, None, true};
     ghost use Rattle.mq_rules.specs.declared.rule.Rule.TheVariants.{E3A, E3R, E3O};
     ghost use Rattle.mq_rules.specs.Exchanges.{pubrec_pubrel};
     ghost use Rattle.mq_rules.specs.Notes.{accepting_pubrec_in, pubrel_in};
-    ghost use Rattle.mq_books.specs.Answering.{packets_apart, ordered_says};
+    ghost use Rattle.mq_books.specs.Answering.{packets_apart, ordered_says, pubrel_session};
 
     ghost exchange = { pubrec_pubrel };
 
     ghost asked = { E3A };
+
+    ghost early = { true };
 
     ghost settled = { E3R };
 
@@ -307,6 +330,10 @@ impl Exchange for E3 {
         Rule::E3A
     }
 
+    fn may_be_early() -> bool {
+        true
+    }
+
     fn settled_rule() -> Rule {
         Rule::E3R
     }
@@ -315,7 +342,7 @@ impl Exchange for E3 {
         Some(Rule::E3O)
     }
 
-    ghost apart = { packets_apart accepting_pubrec_in pubrel_in };
+    ghost apart = { packets_apart accepting_pubrec_in pubrel_in pubrel_session };
 
     ghost says_asked = { λ role. refl };
 
@@ -329,15 +356,17 @@ impl Exchange for E3 {
 pub struct E4;
 
 impl Exchange for E4 {
-    ghost use Rattle.std.specs.Prelude.{refl, Some, None};
+    ghost use Rattle.std.specs.Prelude.{refl, Some, None, false};
     ghost use Rattle.mq_rules.specs.declared.rule.Rule.TheVariants.{E4A, E4R};
     ghost use Rattle.mq_rules.specs.Exchanges.{pubrel_pubcomp};
     ghost use Rattle.mq_rules.specs.Notes.{pubrel_in, pubcomp_in};
-    ghost use Rattle.mq_books.specs.Answering.{packets_apart, no_order};
+    ghost use Rattle.mq_books.specs.Answering.{packets_apart, no_order, pubcomp_session};
 
     ghost exchange = { pubrel_pubcomp };
 
     ghost asked = { E4A };
+
+    ghost early = { false };
 
     ghost settled = { E4R };
 
@@ -379,6 +408,10 @@ impl Exchange for E4 {
         Rule::E4A
     }
 
+    fn may_be_early() -> bool {
+        false
+    }
+
     fn settled_rule() -> Rule {
         Rule::E4R
     }
@@ -387,7 +420,7 @@ impl Exchange for E4 {
         None
     }
 
-    ghost apart = { packets_apart pubrel_in pubcomp_in };
+    ghost apart = { packets_apart pubrel_in pubcomp_in pubcomp_session };
 
     ghost says_asked = { λ role. refl };
 
@@ -401,15 +434,17 @@ impl Exchange for E4 {
 pub struct E5;
 
 impl Exchange for E5 {
-    ghost use Rattle.std.specs.Prelude.{refl, Some, None};
+    ghost use Rattle.std.specs.Prelude.{refl, Some, None, false};
     ghost use Rattle.mq_rules.specs.declared.rule.Rule.TheVariants.{E5A, E5R};
     ghost use Rattle.mq_rules.specs.Exchanges.{subscribe_suback};
     ghost use Rattle.mq_rules.specs.Notes.{subscribe_in, suback_in};
-    ghost use Rattle.mq_books.specs.Answering.{packets_apart, no_order};
+    ghost use Rattle.mq_books.specs.Answering.{packets_apart, no_order, suback_session};
 
     ghost exchange = { subscribe_suback };
 
     ghost asked = { E5A };
+
+    ghost early = { false };
 
     ghost settled = { E5R };
 
@@ -439,6 +474,10 @@ impl Exchange for E5 {
         Rule::E5A
     }
 
+    fn may_be_early() -> bool {
+        false
+    }
+
     fn settled_rule() -> Rule {
         Rule::E5R
     }
@@ -447,7 +486,7 @@ impl Exchange for E5 {
         None
     }
 
-    ghost apart = { packets_apart subscribe_in suback_in };
+    ghost apart = { packets_apart subscribe_in suback_in suback_session };
 
     ghost says_asked = { λ role. refl };
 
@@ -461,15 +500,17 @@ impl Exchange for E5 {
 pub struct E6;
 
 impl Exchange for E6 {
-    ghost use Rattle.std.specs.Prelude.{refl, Some, None};
+    ghost use Rattle.std.specs.Prelude.{refl, Some, None, false};
     ghost use Rattle.mq_rules.specs.declared.rule.Rule.TheVariants.{E6A, E6R};
     ghost use Rattle.mq_rules.specs.Exchanges.{unsubscribe_unsuback};
     ghost use Rattle.mq_rules.specs.Notes.{unsubscribe_in, unsuback_in};
-    ghost use Rattle.mq_books.specs.Answering.{packets_apart, no_order};
+    ghost use Rattle.mq_books.specs.Answering.{packets_apart, no_order, unsuback_session};
 
     ghost exchange = { unsubscribe_unsuback };
 
     ghost asked = { E6A };
+
+    ghost early = { false };
 
     ghost settled = { E6R };
 
@@ -499,6 +540,10 @@ impl Exchange for E6 {
         Rule::E6A
     }
 
+    fn may_be_early() -> bool {
+        false
+    }
+
     fn settled_rule() -> Rule {
         Rule::E6R
     }
@@ -507,7 +552,7 @@ impl Exchange for E6 {
         None
     }
 
-    ghost apart = { packets_apart unsubscribe_in unsuback_in };
+    ghost apart = { packets_apart unsubscribe_in unsuback_in unsuback_session };
 
     ghost says_asked = { λ role. refl };
 

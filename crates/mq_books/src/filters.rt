@@ -42,7 +42,7 @@ fn answer(
 pub fn goes_on(fate: Fate, note: &Note) -> bool
     ensures { result ≡ keeps_session fate note.now }
 {
-    !(note.is_open() && matches!(fate, Fate::New))
+    !(note.is_open() && fate.begins())
 }
 
 // Takes in an OPEN or a CLOSE, where the session is kept or a new one begins. For what waits no

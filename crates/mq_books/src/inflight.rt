@@ -16,6 +16,7 @@ ghost use Rattle.mq_rules.specs.Connections.{accepts};
 ghost use Rattle.mq_rules.specs.Words.{is_id};
 ghost use Rattle.mq_books.specs.Using.{IsUsing, breaks, is_inflight, waits_next, stray_next, void_next, resent_next};
 ghost use Rattle.mq_books.specs.Concerns.{concerns_flight};
+ghost use Rattle.mq_books.specs.Knowing.{all_excused};
 ghost use Rattle.mq_rules.specs.Notes.{note_of_bare};
 ghost use Rattle.mq_books.specs.Selecting as selecting;
 
@@ -32,7 +33,8 @@ use crate::quota::{flown, may_count, peer_after};
 use crate::selective::Selective;
 use crate::sizes::{map_size, set_size};
 use broken::{
-    Broken, is_out_of_order, is_past_pubrel, is_twice, is_unopened, judge_all, resent_after, takes,
+    Broken, all_excused, is_out_of_order, is_past_pubrel, is_twice, is_unopened, judge_all,
+    resent_after, takes,
 };
 use entry::{Entry, take_entries};
 use indexmap::{IndexMap, IndexSet};
@@ -107,7 +109,7 @@ fn await_answer(
 fn take_void(void: &mut IndexSet<u16>, fate: Fate, note: &Note) -> Result<(), Memory>
     ensures { OnOk result ((i : ℕ) → contains nat_eq void.new i ≡ void_next fate note.now i (contains nat_eq void.old i)) }
 {
-    if fate.accepts() {
+    if !fate.is_void() {
         return Ok(());
     }
     if let Some(i) = note.delivery() {
@@ -205,8 +207,15 @@ impl Inflight {
         }
     }
 
-    // What an event of a connection with this fate breaks.
-    fn broken_by(&self, fate: Fate, note: &Note) -> Broken
+    // What an event of a connection with this fate breaks, which is known or isn't yet.
+    fn broken_by(&self, fate: Fate, known: bool, note: &Note) -> Broken
+        ensures { result ≡ all_excused fate known (breaks self.now fate note.now) }
+    {
+        all_excused(fate, known, self.breaks(fate, note))
+    }
+
+    // What it breaks, if the end knows what it has to.
+    fn breaks(&self, fate: Fate, note: &Note) -> Broken
         ensures { result ≡ breaks self.now fate note.now }
     {
         Broken {
@@ -327,7 +336,7 @@ impl Fated for Inflight {
         note: &Note,
         faults: &mut Faults,
     ) -> Result<(), Memory> {
-        let broken = self.broken_by(fate, note);
+        let broken = self.broken_by(fate, decided == at.position, note);
         judge_all(&broken, at, decided, faults)?;
         let rests = rests_now(fate, decided == at.position, self.ended, note);
         let excused = is_excused(self.peer, self.in_flight, self.bounds);

@@ -18,7 +18,7 @@ ghost use Rattle.mq_books.specs.Selecting as selecting;
 mod receiving;
 
 use crate::fated::Fated;
-use crate::known::judge_by;
+use crate::known::{is_placed, judge_by, place};
 use crate::messages::is_acknowledged;
 use crate::selective::Selective;
 use crate::sizes::set_size;
@@ -52,7 +52,7 @@ pub struct Releases {
 fn is_inside(fate: Fate, note: &Note, has_accepted: bool) -> bool
     ensures { result ≡ keeping.is_inside fate note.now has_accepted }
 {
-    fate.accepts() || (note.is_release() && has_accepted)
+    fate.accepts() || (note.is_release() && (fate.is_void() && has_accepted))
 }
 
 // Whether some connection was accepted, after an event.
@@ -66,7 +66,7 @@ fn has_accepted(fate: Fate, note: &Note, before: bool) -> bool
 fn starts_over(fate: Fate, note: &Note) -> bool
     ensures { result ≡ keeping.starts_over fate note.now }
 {
-    note.is_open() && matches!(fate, Fate::New)
+    note.is_open() && fate.begins()
 }
 
 // Takes out what is lost by an event of the session, and puts in what is gained.
@@ -230,8 +230,9 @@ impl Fated for Releases {
         note: &Note,
         faults: &mut Faults,
     ) -> Result<(), Memory> {
-        let unreceived = is_unreceived(self.releases, note, &self.brought);
-        let repeated = is_repeated(self.releases, note, &self.released);
+        let placed = is_placed(fate, decided == at.position);
+        let unreceived = place(placed, is_unreceived(self.releases, note, &self.brought));
+        let repeated = place(placed, is_repeated(self.releases, note, &self.released));
         let completed = note.sent_success_pubcomp();
         let unreleased = is_unreleased(self.releases, fate, completed, &self.released, &self.due);
         let inside = is_inside(fate, note, self.has_accepted);

@@ -9,9 +9,9 @@ use Rattle.mq_rules.specs.declared.fate.Fate.{Fate}
 use Rattle.mq_rules.specs.declared.rule.Rule.{Rule}
 use Rattle.mq_rules.specs.declared.note.Seen.{Seen}
 use Rattle.mq_rules.specs.Words.{is_some_and}
-use Rattle.mq_rules.specs.Notes.{is_open, decides}
+use Rattle.mq_rules.specs.Notes.{is_open}
 use Rattle.mq_rules.specs.Moments.{Moment, newest, moment, is_next}
-use Rattle.mq_rules.specs.Connections.{latest_fate, accepts, is_binding}
+use Rattle.mq_rules.specs.Connections.{latest_fate, accepts, is_binding, gives_fate}
 use Rattle.mq_rules.specs.Rules.{binds}
 use Rattle.mq_rules.specs.Statements.{Statement, on_bytes, on_past, in_session, at_release, at_rest, statement}
 use Rattle.mq_rules.specs.Steps.{turns}
@@ -214,7 +214,7 @@ pub passed-grows : (chosen : Rule → Bool) (tested : Tested) (kept : Option Fat
 passed-grows chosen tested kept e past faults silent sessions kept_is decided closed quiet =
     decided-grows chosen tested f (length past + 1) (length past) e past faults faults faults sessions (record {
       placed = refl;
-      fate = latest_fate-same tested.role e past closed ∙ ap (λ o. option_or o (decides tested.role e.note)) was;
+      fate = latest_fate-same tested.role e past closed ∙ ap (λ o. option_or o (gives_fate tested.role (newest e past))) was;
       settled_so = sym (ap (λ o. cond (is_some {T = Fate} o) (length past) (opened_at past)) was);
     })
     (gains_nothing (λ k r. chosen r && turns_after tested f (length past) past k r) tested past (length past + 1) faults

@@ -5,7 +5,7 @@ use Rattle.mq_rules.specs.declared.fate.Fate.{Fate}
 use Rattle.mq_rules.specs.declared.note.Note.{Note}
 use Rattle.mq_rules.specs.declared.note.Note.TheVariants as notes
 use Rattle.mq_rules.specs.declared.note.Seen.{Seen}
-use Rattle.mq_rules.specs.Notes.{is_open, is_release, decides}
+use Rattle.mq_rules.specs.Notes.{is_open, is_release}
 use Rattle.mq_rules.specs.Moments.{Moment, newest, note, some, since}
 use Rattle.mq_rules.specs.Connections.{connection, latest_fate, session, has_session, with_first, begins, accepted, voided, any_accepted}
 use Rattle.mq_plain.specs.Lookback.{answer_by}
@@ -50,19 +50,6 @@ since-session starts ends role f e past = first (has_session role f e past) (is_
         ≡ ((b && starts (newest e past)) || (not (b && ends (newest e past)) && cond opens (not fresh && rest (session role (latest_fate role past) past)) (rest (session role f past))))
     first true opens fresh = ap (λ b. starts (newest e past) || (not (ends (newest e past)) && b)) (after opens fresh)
     first false opens fresh = after opens fresh
-
--- what later events of a connection decide, and what stands before them
-abbrev pub fate_back : Role → Option Fate → List Seen → Option Fate
-fate_back role found log = option_or (latest_fate role log) found
-
-pub fate_back-next : (role : Role) (found : Option Fate) (e : Seen) (past : List Seen)
-    → fate_back role found (e ∷ past) ≡ cond (is_open e.note) found (fate_back role (option_or (decides role e.note) found) past)
-fate_back-next role found e past = ap (λ f. option_or f found) (latest_fate-next role e past) ∙ go (is_open e.note) (latest_fate role past)
-  where
-    go : (b : Bool) (f : Option Fate) → option_or (cond b None (option_or f (decides role e.note))) found ≡ cond b found (option_or f (option_or (decides role e.note) found))
-    go true f = refl
-    go false (Some f) = refl
-    go false None = refl
 
 pub over_at_open : (starts ends opens rest : Bool) → starts ≡ false → ends ≡ false → opens ≡ true → (starts || (not ends && (not opens && rest))) ≡ false
 over_at_open starts ends opens rest p q s = rw (p, q, s) refl

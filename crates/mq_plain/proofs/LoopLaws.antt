@@ -7,9 +7,9 @@ use Rattle.mq_rules.specs.declared.role.Role.{Role}
 use Rattle.mq_rules.specs.declared.note.Note.{Note}
 use Rattle.mq_rules.specs.declared.note.Seen.{Seen}
 use Rattle.mq_rules.specs.declared.fate.Fate.{Fate}
-use Rattle.mq_rules.specs.Notes.{is_open, decides}
-use Rattle.mq_rules.specs.Moments.{IsPlaced}
-use Rattle.mq_rules.specs.Connections.{latest_fate}
+use Rattle.mq_rules.specs.Notes.{is_open}
+use Rattle.mq_rules.specs.Moments.{IsPlaced, newest}
+use Rattle.mq_rules.specs.Connections.{latest_fate, gives_fate}
 use Rattle.mq_rules.proofs.Exports.{latest_fate-next, newest-first, or-turn}
 use Rattle.mq_plain.specs.declared.pass.Kept.{Kept}
 use Rattle.mq_plain.specs.Events.{asks, some_asks}
@@ -45,9 +45,9 @@ unasked-beginning xs i h =
 -- ---- what is kept
 
 -- the fate of the latest connection with one event more
-pub kept-fate : (role : Role) (e : Seen) (past : List Seen) (kept : Kept) (after : Option Fate) → IsKept kept role past → after ≡ cond (is_open e.note) None (option_or kept.fate (decides role e.note))
+pub kept-fate : (role : Role) (e : Seen) (past : List Seen) (kept : Kept) (after : Option Fate) → IsKept kept role past → after ≡ cond (is_open e.note) None (option_or kept.fate (gives_fate role (newest e past)))
     → latest_fate role (e ∷ past) ≡ after
-kept-fate role e past kept after was is = latest_fate-next role e past ∙ ap (λ f. cond (is_open e.note) None (option_or f (decides role e.note))) (sym was.fate) ∙ sym is
+kept-fate role e past kept after was is = latest_fate-next role e past ∙ ap (λ f. cond (is_open e.note) None (option_or f (gives_fate role (newest e past)))) (sym was.fate) ∙ sym is
 
 -- how many events don't wait
 pub kept-settled : (role : Role) (before : List Seen) (kept : Kept) (n : ℕ) → IsKept kept role (reverse before) → n ≡ cond (is_some kept.fate) (length before) kept.opened → n ≡ settled role (reverse before)
@@ -60,10 +60,10 @@ pub kept-unasked : (role : Role) (past : List Seen) (kept : Kept) → IsKept kep
 kept-unasked role past kept was unasked = sym was.asked ∙ unasked
 
 pub kept-step : (role : Role) (seen : List Seen) (i : ℕ) (e : Seen) (kept after : Kept) → i < length seen → e ≡ get_or seen i e → IsKept kept role (reverse (take i seen))
-    → after.fate ≡ cond (is_open e.note) None (option_or kept.fate (decides role e.note)) → after.opened ≡ cond (is_open e.note) (length (take i seen)) kept.opened → after.asked ≡ (kept.asked || asks e.note)
+    → after.fate ≡ cond (is_open e.note) None (option_or kept.fate (gives_fate role (newest e (reverse (take i seen))))) → after.opened ≡ cond (is_open e.note) (length (take i seen)) kept.opened → after.asked ≡ (kept.asked || asks e.note)
     → IsKept after role (reverse (take (i + 1) seen))
 kept-step role seen i e kept after lt is was fate_so opened_so asked_so = record {
-  fate = fate_so ∙ ap (λ f. cond (is_open e.note) None (option_or f (decides role e.note))) was.fate ∙ sym (latest_fate-next role e (reverse (take i seen))) ∙ ap (latest_fate role) next;
+  fate = fate_so ∙ ap (λ f. cond (is_open e.note) None (option_or f (gives_fate role (newest e (reverse (take i seen)))))) was.fate ∙ sym (latest_fate-next role e (reverse (take i seen))) ∙ ap (latest_fate role) next;
   opened = opened_so ∙ ap (λ n. cond (is_open e.note) n kept.opened) (sym (length-reverse (take i seen))) ∙ ap (λ n. cond (is_open e.note) (length (reverse (take i seen))) n) was.opened ∙ ap opened_at next;
   asked = asked_so ∙ ap (λ b. b || asks e.note) was.asked ∙ or-turn (some_asks (reverse (take i seen))) (asks e.note) ∙ ap some_asks next;
 }
@@ -72,9 +72,9 @@ kept-step role seen i e kept after lt is was fate_so opened_so asked_so = record
     next = sym (newest-first seen i e lt is)
 
 -- an event that begins nothing leaves a fate that is decided
-pub fate-kept : (role : Role) (n : Note) (fate : Option Fate) → is_some fate ≡ true → is_open n ≡ false → fate ≡ cond (is_open n) None (option_or fate (decides role n))
-fate-kept role n None decided goes_on = absurd (cc)
-fate-kept role n (Some f) decided goes_on = sym (ap (λ b. cond b None (Some f)) goes_on)
+pub fate-kept : (given : Option Fate) (n : Note) (fate : Option Fate) → is_some fate ≡ true → is_open n ≡ false → fate ≡ cond (is_open n) None (option_or fate given)
+fate-kept given n None decided goes_on = absurd (cc)
+fate-kept given n (Some f) decided goes_on = sym (ap (λ b. cond b None (Some f)) goes_on)
 
 asked-kept : (n : Note) (asked : Bool) → asks n ≡ false → asked ≡ (asked || asks n)
 asked-kept n true unasked = refl
@@ -84,4 +84,4 @@ asked-kept n false unasked = sym unasked
 pub kept-stays : (role : Role) (seen : List Seen) (i : ℕ) (e : Seen) (kept : Kept) → i < length seen → e ≡ get_or seen i e → IsKept kept role (reverse (take i seen))
     → is_some kept.fate ≡ true → is_open e.note ≡ false → asks e.note ≡ false → IsKept kept role (reverse (take (i + 1) seen))
 kept-stays role seen i e kept lt is was decided goes_on unasked =
-    kept-step role seen i e kept kept lt is was (fate-kept role e.note kept.fate decided goes_on) (sym (ap (λ b. cond b (length (take i seen)) kept.opened) goes_on)) (asked-kept e.note kept.asked unasked)
+    kept-step role seen i e kept kept lt is was (fate-kept (gives_fate role (newest e (reverse (take i seen)))) e.note kept.fate decided goes_on) (sym (ap (λ b. cond b (length (take i seen)) kept.opened) goes_on)) (asked-kept e.note kept.asked unasked)

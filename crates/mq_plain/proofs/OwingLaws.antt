@@ -14,8 +14,8 @@ use Rattle.mq_rules.specs.Words.{is_id, is_some_and, only}
 use Rattle.mq_rules.specs.Notes.{is_open, is_release, opener_of, opener_in, delivery_of, delivery_in, sent_publish, sent_as, pubrel_in}
 use Rattle.mq_rules.specs.declared.packet_note.PublishNote.{PublishNote}
 use Rattle.mq_rules.specs.Moments.{Moment, newest, position, note, moments, moment, is_same, some, since, IsPlaced}
-use Rattle.mq_rules.specs.Connections.{begun, number, connection, session, has_session, begins, accepted, resumed, voided, any_accepted, latest_fate}
-use Rattle.mq_rules.specs.declared.fate.Fate.TheVariants.{Void, New, Resumed}
+use Rattle.mq_rules.specs.Connections.{begun, number, connection, session, has_session, begins, accepted, resumed, voided, any_accepted, latest_fate, accepts, resumes, with_first}
+use Rattle.mq_rules.specs.declared.fate.Fate.TheVariants.{Void, Adrift, New, Forgotten, Resumed, Unasked, Unknown}
 use Rattle.mq_rules.specs.Identifiers.{opens_id, closes_id, is_used_up, has_announced, shows_S06}
 use Rattle.mq_rules.proofs.Exports.{and_false, or_false, moment-newest, moment-older, moment-beginning, moment-placed, among-moment, those-among, some-among, among-some}
 use Rattle.mq_plain.specs.Owing.{moves, confirms, sends_under, is_owed, owes}
@@ -197,16 +197,40 @@ here-again past k i m at opener here =
     only_one : (a b : Moment) → ◌≡◌ {A = Option Moment} (Some a) (Some b) → a ≡ b
     only_one a b h = cc
 
-shows-owes : (role : Role) (d : Seen) (past : List Seen) (again : ℕ → Bool) (lenient : Bool) (k : ℕ) (m : Moment) → moment past k ≡ Some m → latest_fate role past ≡ Some Resumed
+-- whichever way a session is resumed, it has the same moments
+resumed-parts : (f : Fate) → resumes f ≡ true → (accepts f ≡ true) × (begins (Some f) ≡ false)
+resumed-parts Resumed h = (refl, refl)
+resumed-parts Unasked h = (refl, refl)
+resumed-parts Void h = absurd (cc)
+resumed-parts Adrift h = absurd (cc)
+resumed-parts New h = absurd (cc)
+resumed-parts Forgotten h = absurd (cc)
+resumed-parts Unknown h = absurd (cc)
+
+same-session : (role : Role) (f : Fate) (log : List Seen) → resumes f ≡ true → session role (Some f) log ≡ session role (Some Resumed) log
+same-session role f [] h = refl
+same-session role f (e ∷ past) h =
+    ap (λ a. with_first (a || (is_release e.note && (voided (Some f) && any_accepted role (Some f) past))) (newest e past) (cond (is_open e.note) (cond (begins (Some f)) [] (session role (latest_fate role past) past)) (session role (Some f) past))) (resumed-parts f h).0
+    ∙ ap (λ n. newest e past ∷ cond (is_open e.note) (cond n [] (session role (latest_fate role past) past)) (session role (Some f) past)) (resumed-parts f h).1
+    ∙ ap (λ ms. newest e past ∷ cond (is_open e.note) (session role (latest_fate role past) past) ms) (same-session role f past h)
+
+shows-owes : (role : Role) (d : Seen) (past : List Seen) (again : ℕ → Bool) (lenient : Bool) (k : ℕ) (m : Moment) (f : Fate) → moment past k ≡ Some m → latest_fate role past ≡ Some f → resumes f ≡ true
     → ((i : ℕ) → again i ≡ some (λ n. sends_under i (note n)) (connection past)) → lenient ≡ (is_used_up role (newest d past) || has_announced role (newest d past))
     → shows_S06 role (newest d past) m ≡ owes lenient again (session role (Some Resumed) past) m
 unfolding shows_S06
-shows-owes role d past again lenient k m at fate sent allowed =
+shows-owes role d past again lenient k m f at fate resumes_f sent allowed =
     ap (λ f. resumed f && is_some_and (λ i. since (is_same m) (λ n. opens_id i n || closes_id i n) (session role f past)
     && (not (some (is_same m) (connection past)) && (not (some (λ n. sends_under i (note n)) (connection past))
     && not (since (is_same m) (λ n. confirms i (note n)) (session role f past) && (is_used_up role (newest d past) || has_announced role (newest d past)))))) (opener_of (note m))) fate
+    ∙ ap (λ b. b && asked (session role (Some f) past)) resumes_f
+    ∙ ap asked (same-session role f past resumes_f)
     ∙ go (opener_of (note m)) refl
   where
+    asked : List Moment → Bool
+    asked ms = is_some_and (λ i. since (is_same m) (λ n. opens_id i n || closes_id i n) ms
+        && (not (some (is_same m) (connection past)) && (not (some (λ n. sends_under i (note n)) (connection past))
+        && not (since (is_same m) (λ n. confirms i (note n)) ms && (is_used_up role (newest d past) || has_announced role (newest d past)))))) (opener_of (note m))
+
     bits : (a h g x : Bool) → (h ≡ true → g ≡ true) → (a && (not h && (not g && x))) ≡ (a && (not g && x))
     bits a true true x so = refl
     bits a true false x so = absurd (let bad : false ≡ true = so refl in cc)
@@ -227,20 +251,18 @@ shows-owes role d past again lenient k m at fate sent allowed =
         ∙ ap (λ l. since (is_same m) (λ n. moves i (note n)) (session role (Some Resumed) past)
         && (not (again i) && not (since (is_same m) (λ n. confirms i (note n)) (session role (Some Resumed) past) && l))) (sym allowed)
 
-pub resumed-is : (o : Option Fate) → resumed o ≡ true → o ≡ Some Resumed
+pub resumed-is : (o : Option Fate) → resumed o ≡ true → (f : Fate) × (o ≡ Some f) × (resumes f ≡ true)
 resumed-is None h = absurd (cc)
-resumed-is (Some Void) h = absurd (cc)
-resumed-is (Some New) h = absurd (cc)
-resumed-is (Some Resumed) h = refl
+resumed-is (Some f) h = (f, refl, h)
 
-pub shown-owed : (role : Role) (d : Seen) (past : List Seen) (again : ℕ → Bool) (lenient : Bool) (places : List Place3) → latest_fate role past ≡ Some Resumed
+pub shown-owed : (role : Role) (d : Seen) (past : List Seen) (again : ℕ → Bool) (lenient : Bool) (places : List Place3) (f : Fate) → latest_fate role past ≡ Some f → resumes f ≡ true
     → ((i : ℕ) → again i ≡ some (λ n. sends_under i (note n)) (connection past)) → lenient ≡ (is_used_up role (newest d past) || has_announced role (newest d past))
     → IsShown (owes lenient again (session role (Some Resumed) past)) past places → IsShown (shows_S06 role (newest d past)) past places
-shown-owed role d past again lenient places fate sent allowed shown = record { each = λ k. shown.each k ∙ go k (moment past k) refl; own = shown.own }
+shown-owed role d past again lenient places f fate resumes_f sent allowed shown = record { each = λ k. shown.each k ∙ go k (moment past k) refl; own = shown.own }
   where
     go : (k : ℕ) (o : Option Moment) → moment past k ≡ o → is_some_and (owes lenient again (session role (Some Resumed) past)) o ≡ is_some_and (shows_S06 role (newest d past)) o
     go k None is = refl
-    go k (Some m) is = sym (shows-owes role d past again lenient k m is fate sent allowed)
+    go k (Some m) is = sym (shows-owes role d past again lenient k m f is fate resumes_f sent allowed)
 
 -- where no session is resumed
 first_none : (a b : Bool) → a ≡ false → (a && b) ≡ false

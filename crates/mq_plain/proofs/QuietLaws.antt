@@ -247,20 +247,20 @@ only-servers-B02 Server releases h = refl
 never : (role : Role) (releases : Bool) (rule : Rule) (e : Seen) (past : List Seen) → is_plain_rule rule ≡ true → IsIdle role e past
     → IsNever (binds rule (record { role = role; releases = releases })) (statement role rule) (newest e past)
 unfolding breaks_S01 breaks_S02 breaks_S03 breaks_S04 breaks_S05 breaks_S07 breaks_A breaks_O breaks_L1 breaks_L2 breaks_L3 breaks_B01 breaks_B02 breaks_B03 breaks_B04 shows_R shows_S06
-never role releases S01 e past chosen idle = λ bound f. none-passes _ _ (untaken role e.note idle.unspoken)
-never role releases S02 e past chosen idle = λ bound f. none-passes _ _ idle.unspoken.resend
+never role releases S01 e past chosen idle = λ bound f. and-first _ _ (none-passes _ _ (untaken role e.note idle.unspoken))
+never role releases S02 e past chosen idle = λ bound f. and-first _ _ (none-passes _ _ idle.unspoken.resend)
 never role releases S03 e past chosen idle = λ bound f. none-passes _ _ idle.unspoken.resend
 never role releases S04 e past chosen idle = λ bound f. none-passes _ _ idle.unspoken.resend
 never role releases S05 e past chosen idle = λ bound f. none-passes _ _ idle.unspoken.resend
 never role releases S06 e past chosen idle = λ k unasks. ap (λ b. resumed (latest_fate role past) && b) (none-passes _ _ (unasking (note k) unasks).opener) ∙ and_false (resumed (latest_fate role past))
 never role releases S07 e past chosen idle = λ bound f. and-first _ _ (ap is_some idle.unspoken.delivery)
-never role releases E1A e past chosen idle = λ bound f. none-passes _ _ idle.unspoken.puback
+never role releases E1A e past chosen idle = λ bound f. and-first _ _ (none-passes _ _ idle.unspoken.puback)
 never role releases E1R e past chosen idle = λ k unasks. none-passes _ _ (unasking (note k) unasks).once
 never role releases E1O e past chosen idle = λ bound f. none-passes _ _ idle.unspoken.puback
-never role releases E2A e past chosen idle = λ bound f. none-passes _ _ idle.unspoken.pubrec
+never role releases E2A e past chosen idle = λ bound f. and-first _ _ (none-passes _ _ idle.unspoken.pubrec)
 never role releases E2R e past chosen idle = λ k unasks. none-passes _ _ (unasking (note k) unasks).exactly
 never role releases E2O e past chosen idle = λ bound f. none-passes _ _ idle.unspoken.pubrec
-never role releases E3A e past chosen idle = λ bound f. none-passes _ _ idle.unspoken.pubrel
+never role releases E3A e past chosen idle = λ bound f. and-first _ _ (none-passes _ _ idle.unspoken.pubrel)
 never role releases E3R e past chosen idle = λ k unasks. none-passes _ _ (unasking (note k) unasks).pubrec
 never role releases E3O e past chosen idle = λ bound f. none-passes _ _ idle.unspoken.pubrel
 never role releases E4A e past chosen idle = λ bound f. none-passes _ _ idle.unspoken.pubcomp
@@ -270,8 +270,8 @@ never role releases E5R e past chosen idle = λ k unasks. none-passes _ _ (unask
 never role releases E6A e past chosen idle = λ bound f. none-passes _ _ idle.unspoken.unsuback
 never role releases E6R e past chosen idle = λ k unasks. none-passes _ _ (unasking (note k) unasks).unsubscribe
 never role releases E7R e past chosen idle = λ bound f. idle.unpinged
-never role releases L1 e past chosen idle = λ bound f. none-passes _ _ idle.unreleased
-never role releases L2 e past chosen idle = λ bound f. none-passes _ _ idle.unreleased
+never role releases L1 e past chosen idle = λ bound f. and-first _ _ (none-passes _ _ idle.unreleased)
+never role releases L2 e past chosen idle = λ bound f. and-first _ _ (none-passes _ _ idle.unreleased)
 never role releases L3 e past chosen idle = λ bound f. none-passes _ _ idle.unspoken.success
 never role releases B01 e past chosen idle = λ bound f. none-passes _ _ (idle.unspoken.publish (only-servers-B01 role releases bound))
 never role releases B02 e past chosen idle = λ bound f. none-passes _ _ (idle.unspoken.publish (only-servers-B02 role releases bound))

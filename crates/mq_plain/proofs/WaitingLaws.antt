@@ -10,9 +10,9 @@ use Rattle.mq_rules.specs.declared.fate.Fate.{Fate}
 use Rattle.mq_rules.specs.declared.rule.Rule.{Rule}
 use Rattle.mq_rules.specs.declared.note.Seen.{Seen}
 use Rattle.mq_rules.specs.Words.{is_some_and}
-use Rattle.mq_rules.specs.Notes.{is_open, is_rest, decides}
+use Rattle.mq_rules.specs.Notes.{is_open, is_rest}
 use Rattle.mq_rules.specs.Moments.{Moment, newest, moment, is_next, some}
-use Rattle.mq_rules.specs.Connections.{begun, number, connection, fate, latest_fate, accepted, ends_binding, is_binding}
+use Rattle.mq_rules.specs.Connections.{begun, number, connection, fate, latest_fate, accepted, ends_binding, is_binding, gives_fate}
 use Rattle.mq_rules.specs.Rules.{binds}
 use Rattle.mq_rules.specs.Statements.{Statement, on_bytes, on_past, in_session, at_release, at_rest, statement, is_false_under, where_accepted}
 use Rattle.mq_rules.specs.Steps.{given, shows_under, shows, turns}
@@ -67,7 +67,7 @@ opened-within (e ∷ past) = go (is_open e.note) (opened-within past)
 undecided-before : (role : Role) (e : Seen) (past : List Seen) → is_open e.note ≡ false → latest_fate role (e ∷ past) ≡ None → latest_fate role past ≡ None
 undecided-before role e past closed h = go (latest_fate role past) (sym (latest_fate-same role e past closed) ∙ h)
   where
-    go : (o : Option Fate) → option_or o (decides role e.note) ≡ None → o ≡ None
+    go : (o : Option Fate) → option_or o (gives_fate role (newest e past)) ≡ None → o ≡ None
     go None h = refl
     go (Some f) h = absurd (cc)
 
@@ -106,7 +106,7 @@ shows-nothing role breaks e past k none =
     ∙ ungiven breaks (given role e past) (moment past k) (λ m at. given-none role e past (number m) (λ f is.
     let g = given-gives role e past (number m) f is in
     let was : latest_fate role past ≡ None = undecided-before role e past g.1 none in
-    let now : latest_fate role (e ∷ past) ≡ Some f = latest_fate-same role e past g.1 ∙ ap (λ o. option_or o (decides role e.note)) was ∙ g.2 in
+    let now : latest_fate role (e ∷ past) ≡ Some f = latest_fate-same role e past g.1 ∙ ap (λ o. option_or o (gives_fate role (newest e past))) was ∙ g.2 in
     absurd (cc)))
 
 -- so no statement on sessions turns out false with it

@@ -17,12 +17,13 @@ pub use settling::Settled;
 /// An exchange: under which Packet Identifier an event is a cause, and under which one it is an
 /// answer.
 pub trait Exchange {
-    ghost use Rattle.std.specs.Prelude.{◌≡◌};
+    ghost use Rattle.std.specs.Prelude.{◌≡◌, Bool};
     ghost use Rattle.mq_rules.specs.declared.role.Role.{Role};
     ghost use Rattle.mq_rules.specs.declared.rule.Rule.{Rule};
     ghost use Rattle.mq_rules.specs.Exchanges as exchanges;
     ghost use Rattle.mq_rules.specs.Statements.{statement, in_session, at_rest};
     ghost use Rattle.mq_plain.specs.Received.{IsReceived, IsSent};
+    ghost use Rattle.mq_plain.specs.Knowing.{if_early};
 
     // The cause, and the answer.
     ghost exchange: { exchanges.Exchange };
@@ -30,6 +31,9 @@ pub trait Exchange {
     ghost asked: { Rule };
     // The statement that each cause is answered before a REST.
     ghost settled: { Rule };
+    // Whether an answer may be sent before the CONNACK, by an end that can't know yet which session it
+    // will have.
+    ghost early: { Bool };
 
     /// The Packet Identifier under which an event is a cause.
     fn cause(note: &Note) -> Option<u16>
@@ -43,6 +47,11 @@ pub trait Exchange {
     fn asked_rule() -> Rule
         ensures { result ≡ asked };
 
+    /// Whether an answer may be sent before the CONNACK, by an end that can't know yet which session it
+    /// will have (MQTT 5.0, section 3.1.4).
+    fn may_be_early() -> bool
+        ensures { result ≡ early };
+
     /// The statement that each cause is answered before a REST.
     fn settled_rule() -> Rule
         ensures { result ≡ settled };
@@ -54,7 +63,7 @@ pub trait Exchange {
     ghost is_sent: { IsSent exchange.answer };
 
     // They are the statements of these rules.
-    ghost says_asked: { (role : Role) → statement role asked ≡ in_session (exchanges.breaks_A exchange role) };
+    ghost says_asked: { (role : Role) → statement role asked ≡ in_session (if_early early role (exchanges.breaks_A exchange role)) };
 
     ghost says_settled: { (role : Role) → statement role settled ≡ at_rest (exchanges.shows_R exchange) };
 }
@@ -82,7 +91,7 @@ pub trait OrderedExchange: Exchange {
 pub struct PublishPuback;
 
 impl Exchange for PublishPuback {
-    ghost use Rattle.std.specs.Prelude.{refl};
+    ghost use Rattle.std.specs.Prelude.{refl, true};
     ghost use Rattle.mq_rules.specs.declared.rule.Rule.TheVariants.{E1A, E1R};
     ghost use Rattle.mq_rules.specs.Exchanges.{publish_puback};
     ghost use Rattle.mq_rules.specs.Notes.{puback_in};
@@ -94,6 +103,8 @@ impl Exchange for PublishPuback {
 
     ghost settled = { E1R };
 
+    ghost early = { true };
+
     fn cause(note: &Note) -> Option<u16> {
         note.received_at_least_once()
     }
@@ -104,6 +115,10 @@ impl Exchange for PublishPuback {
 
     fn asked_rule() -> Rule {
         Rule::E1A
+    }
+
+    fn may_be_early() -> bool {
+        true
     }
 
     fn settled_rule() -> Rule {
@@ -136,7 +151,7 @@ impl OrderedExchange for PublishPuback {
 pub struct PublishPubrec;
 
 impl Exchange for PublishPubrec {
-    ghost use Rattle.std.specs.Prelude.{refl};
+    ghost use Rattle.std.specs.Prelude.{refl, true};
     ghost use Rattle.mq_rules.specs.declared.rule.Rule.TheVariants.{E2A, E2R};
     ghost use Rattle.mq_rules.specs.Exchanges.{publish_pubrec};
     ghost use Rattle.mq_rules.specs.Notes.{pubrec_in};
@@ -148,6 +163,8 @@ impl Exchange for PublishPubrec {
 
     ghost settled = { E2R };
 
+    ghost early = { true };
+
     fn cause(note: &Note) -> Option<u16> {
         note.received_exactly_once()
     }
@@ -158,6 +175,10 @@ impl Exchange for PublishPubrec {
 
     fn asked_rule() -> Rule {
         Rule::E2A
+    }
+
+    fn may_be_early() -> bool {
+        true
     }
 
     fn settled_rule() -> Rule {
@@ -190,7 +211,7 @@ impl OrderedExchange for PublishPubrec {
 pub struct PubrecPubrel;
 
 impl Exchange for PubrecPubrel {
-    ghost use Rattle.std.specs.Prelude.{refl};
+    ghost use Rattle.std.specs.Prelude.{refl, true};
     ghost use Rattle.mq_rules.specs.declared.rule.Rule.TheVariants.{E3A, E3R};
     ghost use Rattle.mq_rules.specs.Exchanges.{pubrec_pubrel};
     ghost use Rattle.mq_rules.specs.Notes.{accepting_pubrec_in, pubrel_in};
@@ -202,6 +223,8 @@ impl Exchange for PubrecPubrel {
 
     ghost settled = { E3R };
 
+    ghost early = { true };
+
     fn cause(note: &Note) -> Option<u16> {
         note.received_accepting_pubrec()
     }
@@ -212,6 +235,10 @@ impl Exchange for PubrecPubrel {
 
     fn asked_rule() -> Rule {
         Rule::E3A
+    }
+
+    fn may_be_early() -> bool {
+        true
     }
 
     fn settled_rule() -> Rule {
@@ -244,7 +271,7 @@ impl OrderedExchange for PubrecPubrel {
 pub struct PubrelPubcomp;
 
 impl Exchange for PubrelPubcomp {
-    ghost use Rattle.std.specs.Prelude.{refl};
+    ghost use Rattle.std.specs.Prelude.{refl, false};
     ghost use Rattle.mq_rules.specs.declared.rule.Rule.TheVariants.{E4A, E4R};
     ghost use Rattle.mq_rules.specs.Exchanges.{pubrel_pubcomp};
     ghost use Rattle.mq_rules.specs.Notes.{pubrel_in, pubcomp_in};
@@ -256,6 +283,8 @@ impl Exchange for PubrelPubcomp {
 
     ghost settled = { E4R };
 
+    ghost early = { false };
+
     fn cause(note: &Note) -> Option<u16> {
         note.received_pubrel()
     }
@@ -266,6 +295,10 @@ impl Exchange for PubrelPubcomp {
 
     fn asked_rule() -> Rule {
         Rule::E4A
+    }
+
+    fn may_be_early() -> bool {
+        false
     }
 
     fn settled_rule() -> Rule {
@@ -285,7 +318,7 @@ impl Exchange for PubrelPubcomp {
 pub struct SubscribeSuback;
 
 impl Exchange for SubscribeSuback {
-    ghost use Rattle.std.specs.Prelude.{refl};
+    ghost use Rattle.std.specs.Prelude.{refl, false};
     ghost use Rattle.mq_rules.specs.declared.rule.Rule.TheVariants.{E5A, E5R};
     ghost use Rattle.mq_rules.specs.Exchanges.{subscribe_suback};
     ghost use Rattle.mq_rules.specs.Notes.{subscribe_in, suback_in};
@@ -297,6 +330,8 @@ impl Exchange for SubscribeSuback {
 
     ghost settled = { E5R };
 
+    ghost early = { false };
+
     fn cause(note: &Note) -> Option<u16> {
         note.received_subscribe()
     }
@@ -307,6 +342,10 @@ impl Exchange for SubscribeSuback {
 
     fn asked_rule() -> Rule {
         Rule::E5A
+    }
+
+    fn may_be_early() -> bool {
+        false
     }
 
     fn settled_rule() -> Rule {
@@ -326,7 +365,7 @@ impl Exchange for SubscribeSuback {
 pub struct UnsubscribeUnsuback;
 
 impl Exchange for UnsubscribeUnsuback {
-    ghost use Rattle.std.specs.Prelude.{refl};
+    ghost use Rattle.std.specs.Prelude.{refl, false};
     ghost use Rattle.mq_rules.specs.declared.rule.Rule.TheVariants.{E6A, E6R};
     ghost use Rattle.mq_rules.specs.Exchanges.{unsubscribe_unsuback};
     ghost use Rattle.mq_rules.specs.Notes.{unsubscribe_in, unsuback_in};
@@ -338,6 +377,8 @@ impl Exchange for UnsubscribeUnsuback {
 
     ghost settled = { E6R };
 
+    ghost early = { false };
+
     fn cause(note: &Note) -> Option<u16> {
         note.received_unsubscribe()
     }
@@ -348,6 +389,10 @@ impl Exchange for UnsubscribeUnsuback {
 
     fn asked_rule() -> Rule {
         Rule::E6A
+    }
+
+    fn may_be_early() -> bool {
+        false
     }
 
     fn settled_rule() -> Rule {

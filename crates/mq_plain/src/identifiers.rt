@@ -7,7 +7,7 @@ ghost use Rattle.mq_plain.specs.Lookback.{is_open_after, awaits_suback_after, aw
 use crate::connection::since_on_connection;
 use crate::judging::SessionStatement;
 use crate::lookback::NoteTest;
-use crate::session::{accepts, since_in_session};
+use crate::session::{accepts, couldnt_know_resumed, since_in_session, unless_unknown};
 use mq_rules::{Fate, Memory, Note, Role, Rule, Seen};
 use std::alloc::Global;
 
@@ -170,10 +170,11 @@ impl SessionStatement for TakenIdentifiers {
     ghost use Rattle.std.specs.Prelude.{refl};
     ghost use Rattle.mq_rules.specs.declared.rule.Rule.TheVariants.{S01};
     ghost use Rattle.mq_rules.specs.Identifiers.{breaks_S01};
+    ghost use Rattle.mq_rules.specs.Statements.{knowing_resumed};
 
     ghost judged = { S01 };
 
-    ghost breaks = { breaks_S01 };
+    ghost breaks = { λ role. knowing_resumed role (breaks_S01 role) };
 
     fn rule() -> Rule {
         Rule::S01
@@ -186,7 +187,8 @@ impl SessionStatement for TakenIdentifiers {
         event: &Seen,
         before: &[Seen],
     ) -> Result<bool, Memory> {
-        Ok(takes_busy(role, fate, event, before))
+        let unknown = couldnt_know_resumed(role, fate, before);
+        Ok(unless_unknown(takes_busy(role, fate, event, before), unknown))
     }
 
     ghost says = { λ role. refl };

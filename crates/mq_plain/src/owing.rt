@@ -153,7 +153,10 @@ fn is_excused(role: Role, before: &[Seen]) -> bool
 fn is_resumed(fate: Option<Fate>) -> bool
     ensures { result ≡ resumed fate }
 {
-    matches!(fate, Some(Fate::Resumed))
+    match fate {
+        Some(fate) => fate.resumes(),
+        None => false,
+    }
 }
 
 // The places of what is owed, as a REST after these events shows.

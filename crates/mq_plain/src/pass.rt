@@ -6,8 +6,9 @@
 //! looks back only if something before it asked for an answer.
 ghost use Rattle.std.specs.Prelude.{◌≡◌, ◌∷◌, ◌&&◌, ◌||◌, false, not, cond, None, is_some, length, reverse, OnOk, OnErr};
 ghost use Rattle.std.specs.Option.{option_or};
-ghost use Rattle.mq_rules.specs.Notes.{is_open, is_rest, decides};
-ghost use Rattle.mq_rules.specs.Moments.{IsPlaced};
+ghost use Rattle.mq_rules.specs.Notes.{is_open, is_rest};
+ghost use Rattle.mq_rules.specs.Moments.{newest, IsPlaced};
+ghost use Rattle.mq_rules.specs.Connections.{gives_fate};
 ghost use Rattle.mq_rules.specs.Under.{turns_with};
 ghost use Rattle.mq_rules.specs.Faults.{Grows, GrowsWithin};
 ghost use Rattle.mq_rules.specs.Growing.{Gains, GainsWithin, GrowsBy, GrowsByWithin};
@@ -15,6 +16,7 @@ ghost use Rattle.mq_plain.specs.Events.{AreSilent, asks as asks_for, is_asking a
 ghost use Rattle.mq_plain.specs.Waiting.{AreOnSessions, IsKept, turns_after};
 
 use crate::binding::is_binding_rest;
+use crate::connection::fate_after;
 use crate::evaluator::Evaluator;
 use crate::turn::Turn;
 use mq_packet::Qos;
@@ -51,7 +53,7 @@ pub fn judge_each<E: Evaluator>(
         }
         let before = &seen[..i];
         judge_event(&evaluator, alloc, tested, kept, event, before, faults)?;
-        kept = kept_after(kept, tested.role, &event.note, before);
+        kept = kept_after(kept, tested.role, event, before);
     }
     Ok(())
 }
@@ -130,7 +132,7 @@ fn judge_event<E: Evaluator>(
     ensures ok { E.is_for evaluator.now tested → IsPlaced (event.now ∷ reverse before.now) → IsKept kept tested.role (reverse before.now) → OnOk result (GrowsBy E.chosen tested event.now (reverse before.now) faults.old faults.new) }
     ensures memory { E.is_for evaluator.now tested → IsPlaced (event.now ∷ reverse before.now) → IsKept kept tested.role (reverse before.now) → OnErr result (GrowsByWithin E.chosen tested event.now (reverse before.now) faults.old faults.new) }
 {
-    let Some(fate) = fate_after(kept.fate, tested.role, &event.note) else {
+    let Some(fate) = fate_after(kept.fate, tested.role, event, before) else {
         return Ok(());
     };
     let decision = Decision {
@@ -258,15 +260,15 @@ fn finds_nothing(asked: bool, note: &Note) -> bool
 
 // What is kept after an event that has these events before it, of which this is kept.
 #[inline(always)]
-fn kept_after(kept: Kept, role: Role, note: &Note, before: &[Seen]) -> Kept
-    ensures fate { result.fate ≡ cond (is_open note.now) None (option_or kept.fate (decides role note.now)) }
-    ensures opened { result.opened ≡ cond (is_open note.now) (length before.now) kept.opened }
-    ensures asked { result.asked ≡ (kept.asked || asks_for note.now) }
+fn kept_after(kept: Kept, role: Role, event: &Seen, before: &[Seen]) -> Kept
+    ensures fate { result.fate ≡ cond (is_open event.now.note) None (option_or kept.fate (gives_fate role (newest event.now (reverse before.now)))) }
+    ensures opened { result.opened ≡ cond (is_open event.now.note) (length before.now) kept.opened }
+    ensures asked { result.asked ≡ (kept.asked || asks_for event.now.note) }
 {
     Kept {
-        fate: fate_after(kept.fate, role, note),
-        opened: opened_after(kept.opened, note, before),
-        asked: kept.asked || asks(note),
+        fate: fate_after(kept.fate, role, event, before),
+        opened: opened_after(kept.opened, &event.note, before),
+        asked: kept.asked || asks(&event.note),
     }
 }
 
@@ -305,19 +307,5 @@ fn is_asking(fields: &PacketFields) -> bool
         PacketFields::Pingreq => true,
         PacketFields::Publish(publish) => !matches!(publish.qos, Qos::AtMostOnce),
         _ => fields.is_session_packet(),
-    }
-}
-
-// The fate of the latest connection after an event, given the fate before it.
-#[inline(always)]
-fn fate_after(fate: Option<Fate>, role: Role, note: &Note) -> Option<Fate>
-    ensures { result ≡ cond (is_open note.now) None (option_or fate (decides role note.now)) }
-{
-    if note.is_open() {
-        return None;
-    }
-    match fate {
-        Some(fate) => Some(fate),
-        None => note.decides(role),
     }
 }

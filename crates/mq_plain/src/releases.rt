@@ -11,7 +11,7 @@ use crate::earliest::{Found, earliest_in_session, still_applies};
 use crate::judging::SessionStatement;
 use crate::lookback::NoteTest;
 use crate::releasing::ReleaseStatement;
-use crate::session::since_in_session;
+use crate::session::{is_placed, since_in_session, where_placed};
 use mq_rules::{Fate, Memory, Note, Role, Rule, Seen};
 use std::alloc::Global;
 
@@ -192,17 +192,21 @@ impl ReleaseStatement for ReceivedReleases {
     ghost use Rattle.std.specs.Prelude.{refl};
     ghost use Rattle.mq_rules.specs.declared.rule.Rule.TheVariants.{L1};
     ghost use Rattle.mq_rules.specs.Releases.{breaks_L1};
+    ghost use Rattle.mq_rules.specs.Statements.{where_placed};
 
     ghost judged = { L1 };
 
-    ghost breaks = { breaks_L1 };
+    ghost breaks = { λ role. where_placed role (breaks_L1 role) };
 
     fn rule() -> Rule {
         Rule::L1
     }
 
     fn is_broken(role: Role, fate: Fate, event: &Seen, before: &[Seen]) -> bool {
-        releases_nothing(role, fate, event, before)
+        where_placed(
+            releases_nothing(role, fate, event, before),
+            is_placed(role, fate, before),
+        )
     }
 
     ghost says = { λ role. refl };
@@ -215,17 +219,21 @@ impl ReleaseStatement for SingleReleases {
     ghost use Rattle.std.specs.Prelude.{refl};
     ghost use Rattle.mq_rules.specs.declared.rule.Rule.TheVariants.{L2};
     ghost use Rattle.mq_rules.specs.Releases.{breaks_L2};
+    ghost use Rattle.mq_rules.specs.Statements.{where_placed};
 
     ghost judged = { L2 };
 
-    ghost breaks = { breaks_L2 };
+    ghost breaks = { λ role. where_placed role (breaks_L2 role) };
 
     fn rule() -> Rule {
         Rule::L2
     }
 
     fn is_broken(role: Role, fate: Fate, event: &Seen, before: &[Seen]) -> bool {
-        releases_again(role, fate, event, before)
+        where_placed(
+            releases_again(role, fate, event, before),
+            is_placed(role, fate, before),
+        )
     }
 
     ghost says = { λ role. refl };

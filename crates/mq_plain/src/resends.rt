@@ -14,7 +14,7 @@ use crate::connection::{latest_fate_of, since_on_connection};
 use crate::identifiers::{Closes, Opens, is_open_id};
 use crate::judging::SessionStatement;
 use crate::lookback::NoteTest;
-use crate::session::{fate_before, is_voided, since_in_session};
+use crate::session::{couldnt_know, fate_before, is_voided, since_in_session, unless_unknown};
 use mq_packet::Qos;
 use mq_rules::{Fate, Memory, Note, Role, Rule, Seen};
 pub use order::ResendsInOrder;
@@ -195,10 +195,11 @@ impl SessionStatement for ResendsOpen {
     ghost use Rattle.std.specs.Prelude.{refl};
     ghost use Rattle.mq_rules.specs.declared.rule.Rule.TheVariants.{S02};
     ghost use Rattle.mq_rules.specs.Identifiers.{breaks_S02};
+    ghost use Rattle.mq_rules.specs.Statements.{knowing};
 
     ghost judged = { S02 };
 
-    ghost breaks = { breaks_S02 };
+    ghost breaks = { λ role. knowing role (breaks_S02 role) };
 
     fn rule() -> Rule {
         Rule::S02
@@ -211,7 +212,8 @@ impl SessionStatement for ResendsOpen {
         event: &Seen,
         before: &[Seen],
     ) -> Result<bool, Memory> {
-        Ok(resends_unopened(role, fate, event, before))
+        let unknown = couldnt_know(role, fate, before);
+        Ok(unless_unknown(resends_unopened(role, fate, event, before), unknown))
     }
 
     ghost says = { λ role. refl };

@@ -1,8 +1,10 @@
 //! Looking back over a session.
-ghost use Rattle.std.specs.Prelude.{◌≡◌, ◌∷◌, ◌&&◌, cond, reverse};
+ghost use Rattle.std.specs.Prelude.{◌≡◌, ◌∷◌, ◌&&◌, not, cond, reverse};
 ghost use Rattle.mq_rules.specs.Notes.{is_open};
-ghost use Rattle.mq_rules.specs.Moments.{note, since};
-ghost use Rattle.mq_rules.specs.Connections.{accepts as is_accepting, any_accepted, accepted, begins, has_session, latest_fate, session, voided};
+ghost use Rattle.mq_rules.specs.declared.note.Seen.{Seen as TheSeen};
+ghost use Rattle.mq_rules.specs.Moments.{newest, note, since};
+ghost use Rattle.mq_rules.specs.Connections.{accepts as is_accepting, any_accepted, accepted, begins, comes_early, has_session, is_placed_release, latest_fate, session, voided};
+ghost use Rattle.mq_rules.specs.Connections as connections;
 ghost use Rattle.mq_plain.specs.Lookback.{answer_by};
 
 use crate::connection::latest_fate_of;
@@ -61,7 +63,7 @@ fn answer_at<S: NoteTest, E: NoteTest>(
 pub fn begins_at(fate: Option<Fate>, note: &Note) -> bool
     ensures { result ≡ (is_open note.now && begins fate) }
 {
-    note.is_open() && matches!(fate, Some(Fate::New))
+    note.is_open() && is_begun(fate)
 }
 
 /// The fate of the latest connection before an event, given the fate of the latest one after it.
@@ -112,14 +114,30 @@ pub fn any_before(role: Role, fate: Option<Fate>, any: bool, note: &Note, before
 pub fn is_accepted(fate: Option<Fate>) -> bool
     ensures { result ≡ accepted fate }
 {
-    matches!(fate, Some(Fate::New | Fate::Resumed))
+    match fate {
+        Some(fate) => fate.accepts(),
+        None => false,
+    }
+}
+
+// Whether the connection is accepted, and a session begins with it.
+fn is_begun(fate: Option<Fate>) -> bool
+    ensures { result ≡ begins fate }
+{
+    match fate {
+        Some(fate) => fate.begins(),
+        None => false,
+    }
 }
 
 /// Whether the connection is decided, and not accepted.
 pub fn is_voided(fate: Option<Fate>) -> bool
     ensures { result ≡ voided fate }
 {
-    matches!(fate, Some(Fate::Void))
+    match fate {
+        Some(fate) => fate.is_void(),
+        None => false,
+    }
 }
 
 /// Whether some connection of these events is accepted, if the latest one has this fate.
@@ -145,9 +163,64 @@ fn accepts_at(fate: Option<Fate>, note: &Note) -> bool
     note.is_open() && is_accepted(fate)
 }
 
+/// Whether an event after these comes before the CONNACK of its connection, though it is no OPEN.
+pub fn is_early(role: Role, before: &[Seen]) -> bool
+    ensures { (e : TheSeen) → result ≡ comes_early role (newest e (reverse before.now)) }
+{
+    latest_fate_of(role, before).is_none()
+}
+
+/// Whether a client couldn't know, at an event after these, that a session would be resumed, if its
+/// connection has this fate.
+pub fn couldnt_know_resumed(role: Role, fate: Fate, before: &[Seen]) -> bool
+    ensures { (e : TheSeen) → result ≡ connections.couldnt_know_resumed role fate (newest e (reverse before.now)) }
+{
+    both(fate.is_unasked(), is_early(role, before))
+}
+
+/// Whether a client couldn't know, at an event after these, which session it would have, if its
+/// connection has this fate.
+pub fn couldnt_know(role: Role, fate: Fate, before: &[Seen]) -> bool
+    ensures { (e : TheSeen) → result ≡ connections.couldnt_know role fate (newest e (reverse before.now)) }
+{
+    both(fate.surprises(), is_early(role, before))
+}
+
+/// Whether it is known, at a RELEASE after these events, to which session the message belongs, if
+/// the latest connection has this fate.
+pub fn is_placed(role: Role, fate: Fate, before: &[Seen]) -> bool
+    ensures { (e : TheSeen) → result ≡ is_placed_release role fate (newest e (reverse before.now)) }
+{
+    both(
+        !fate.is_untold(),
+        !both(fate.begins(), is_early(role, before)),
+    )
+}
+
+// Whether both hold, of which the second is found out in any case.
+fn both(first: bool, second: bool) -> bool
+    ensures { result ≡ (first && second) }
+{
+    first && second
+}
+
+/// What is broken, unless the end couldn't know.
+pub fn unless_unknown(broken: bool, unknown: bool) -> bool
+    ensures { result ≡ (broken && not unknown) }
+{
+    broken && !unknown
+}
+
+/// What is broken, where it is placed.
+pub fn where_placed(broken: bool, placed: bool) -> bool
+    ensures { result ≡ (broken && placed) }
+{
+    broken && placed
+}
+
 /// Whether a connection with this fate is accepted.
 pub fn accepts(fate: Fate) -> bool
     ensures { result ≡ is_accepting fate }
 {
-    matches!(fate, Fate::New | Fate::Resumed)
+    fate.accepts()
 }

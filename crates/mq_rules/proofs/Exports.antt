@@ -10,7 +10,7 @@ pub use Rattle.mq_rules.proofs.FatedLaws.{fated-known, fated-on, fated-open}
 pub use Rattle.mq_rules.proofs.FaultKeyLaws.{fault_at-judged, fault_at-with_fault, on_err}
 pub use Rattle.mq_rules.proofs.FoldLaws.{session_since-next, under-next}
 pub use Rattle.mq_rules.proofs.GainLaws.{gains_either, gains_in, gains_nothing, gains_same, gains_then, within_all, within_either_first, within_either_second, within_first, within_in, within_nothing, within_same, within_second}
-pub use Rattle.mq_rules.proofs.GivenLaws.{begun-closed, begun-open as begun-open-of-given, given-gives, number-within, rest-opens-nothing, rest-undecided}
+pub use Rattle.mq_rules.proofs.GivenLaws.{begun-closed, begun-open as begun-open-of-given, given-gives, number-within, rest-gives, rest-opens-nothing, rest-undecided}
 pub use Rattle.mq_rules.proofs.GrowLaws.{grows-start}
 pub use Rattle.mq_rules.proofs.ListingLaws.{entries-listed}
 pub use Rattle.mq_rules.proofs.OnOpenLaws.{has_item, on_open-connected, on_open-fold}
@@ -20,5 +20,6 @@ pub use Rattle.mq_rules.proofs.PlainLaws.{beginning, grows-next, newest-first, w
 pub use Rattle.mq_rules.proofs.PositionLaws.{among-moment, among-some, among-within, earliest_since-is, earliest_since-there, latest-is, moment-among, moment-beginning, moment-newest, moment-older, moment-placed, moments-descend, none-first_found, session-descend, since-stands, some-among, stands-since, those-among, those-descend}
 pub use Rattle.mq_rules.proofs.SessionLaws.{session-members}
 pub use Rattle.mq_rules.proofs.StepLaws.{fails-step, fate-step, moment-newest as moment-newest-of-step, moment-next, moment-stays, moment-within}
-pub use Rattle.mq_rules.proofs.SubjectLaws.{in_order-releases, in_order-turns}
+pub use Rattle.mq_rules.proofs.SubjectLaws.{in_order-releases, in_order-turns, release-needs, resend-needs, taken-needs}
 pub use Rattle.mq_rules.proofs.TurnLaws.{turned, turned_for}
+pub use Rattle.mq_rules.proofs.HistoryLaws.{gives-is, history-left, history-next, session-gives, session-opens}

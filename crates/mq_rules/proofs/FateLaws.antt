@@ -6,13 +6,13 @@ use Rattle.std.specs.Option.{option_or}
 use Rattle.mq_rules.specs.declared.role.Role.{Role}
 use Rattle.mq_rules.specs.declared.role.Role.TheVariants.{Client, Server}
 use Rattle.mq_rules.specs.declared.fate.Fate.{Fate}
-use Rattle.mq_rules.specs.declared.fate.Fate.TheVariants.{Void}
+use Rattle.mq_rules.specs.declared.fate.Fate.TheVariants.{Void, Adrift, New, Forgotten, Resumed, Unasked, Unknown}
 use Rattle.mq_rules.specs.declared.note.Note.{Note}
 use Rattle.mq_rules.specs.declared.note.Note.TheVariants as notes
 use Rattle.mq_rules.specs.declared.note.Seen.{Seen}
 use Rattle.mq_rules.specs.Notes.{is_open, is_close, decides, fate_by, connack_of}
-use Rattle.mq_rules.specs.Moments.{newest, note, first_found}
-use Rattle.mq_rules.specs.Connections.{begun, of_connection, connection, fate, latest_fate, is_connected}
+use Rattle.mq_rules.specs.Moments.{Moment, newest, note, first_given}
+use Rattle.mq_rules.specs.Connections.{begun, of_connection, connection, first_fate, outcome, latest_outcome, fate, latest_fate, fate_by_answer, gives_fate, begins, is_adrift, asks_to_resume, resumes_unknown, has_none, is_connected}
 use Rattle.mq_rules.proofs.BoolLaws.{differ, option_or-none, option_or-other, option_or-there}
 
 -- ---- connections
@@ -55,17 +55,24 @@ connection-next e past =
 -- ---- fates
 
 -- one event more decides its own connection alone, where that is undecided
-pub fate-next : (role : Role) (c : ℕ) (e : Seen) (past : List Seen) → fate role c (e ∷ past) ≡ option_or (fate role c past) (cond (begun (e ∷ past) == c) (decides role e.note) None)
-fate-next role c e past = go (c == 0) (begun (e ∷ past) == c)
+first_fate-next : (gives : Moment → Option Fate) (c : ℕ) (e : Seen) (past : List Seen)
+    → first_fate gives c (e ∷ past) ≡ option_or (first_fate gives c past) (cond (begun (e ∷ past) == c) (gives (newest e past)) None)
+first_fate-next gives c e past = go (c == 0) (begun (e ∷ past) == c)
   where
-    go : (zeroth own : Bool) → cond zeroth (Some Void) (first_found (decides role) (cond own (newest e past ∷ of_connection c past) (of_connection c past)))
-        ≡ option_or (cond zeroth (Some Void) (first_found (decides role) (of_connection c past))) (cond own (decides role e.note) None)
+    go : (zeroth own : Bool) → cond zeroth (Some Void) (first_given gives (cond own (newest e past ∷ of_connection c past) (of_connection c past)))
+        ≡ option_or (cond zeroth (Some Void) (first_given gives (of_connection c past))) (cond own (gives (newest e past)) None)
     go true own = refl
     go false true = refl
-    go false false = sym (option_or-none (first_found (decides role) (of_connection c past)))
+    go false false = sym (option_or-none (first_given gives (of_connection c past)))
+
+pub fate-next : (role : Role) (c : ℕ) (e : Seen) (past : List Seen) → fate role c (e ∷ past) ≡ option_or (fate role c past) (cond (begun (e ∷ past) == c) (gives_fate role (newest e past)) None)
+fate-next role c e past = first_fate-next (gives_fate role) c e past
+
+pub outcome-next : (role : Role) (c : ℕ) (e : Seen) (past : List Seen) → outcome role c (e ∷ past) ≡ option_or (outcome role c past) (cond (begun (e ∷ past) == c) (decides role e.note) None)
+outcome-next role c e past = first_fate-next (λ m. decides role (note m)) c e past
 
 pub fate-kept : (role : Role) (c : ℕ) (f : Fate) (e : Seen) (past : List Seen) → fate role c past ≡ Some f → fate role c (e ∷ past) ≡ Some f
-fate-kept role c f e past h = fate-next role c e past ∙ ap (λ o. option_or o (cond (begun (e ∷ past) == c) (decides role e.note) None)) h
+fate-kept role c f e past h = fate-next role c e past ∙ ap (λ o. option_or o (cond (begun (e ∷ past) == c) (gives_fate role (newest e past)) None)) h
 
 -- a fate, once decided, is the same in every longer log
 pub fate-stays : (role : Role) (c : ℕ) (f : Fate) (later past : List Seen) → fate role c past ≡ Some f → fate role c (later ++ past) ≡ Some f
@@ -76,7 +83,7 @@ fate-stays role c f (e ∷ later) past h = fate-kept role c f e (later ++ past) 
 pub fate-elsewhere : (role : Role) (c : ℕ) (e : Seen) (past : List Seen) → c < begun (e ∷ past) → fate role c (e ∷ past) ≡ fate role c past
 fate-elsewhere role c e past h =
     let other : (begun (e ∷ past) == c) ≡ false = differ (begun (e ∷ past)) c (λ q. omega arith) in
-    fate-next role c e past ∙ ap (λ b. option_or (fate role c past) (cond b (decides role e.note) None)) other ∙ option_or-none (fate role c past)
+    fate-next role c e past ∙ ap (λ b. option_or (fate role c past) (cond b (gives_fate role (newest e past)) None)) other ∙ option_or-none (fate role c past)
 
 pub begun-later : (later past : List Seen) → begun past ≤ begun (later ++ past)
 begun-later [] past = omega arith
@@ -90,10 +97,14 @@ fate-followed role c (e ∷ later) past h =
     fate-elsewhere role c e (later ++ past) (omega arith) ∙ fate-followed role c later past h
 
 -- a connection that has not begun has no fate
+first_fate-none : (gives : Moment → Option Fate) (c : ℕ) (log : List Seen) → begun log < c → first_fate gives c log ≡ None
+first_fate-none gives c log h =
+    let later : (c == 0) ≡ false = differ c 0 (λ q. omega arith) in
+    ap (λ b. cond b (Some Void) (first_given gives (of_connection c log))) later ∙ ap (first_given gives) (of_connection-none c log h)
+
 pub fate-none : (role : Role) (c : ℕ) (log : List Seen) → begun log < c → fate role c log ≡ None
 fate-none role c log h =
-    let later : (c == 0) ≡ false = differ c 0 (λ q. omega arith) in
-    ap (λ b. cond b (Some Void) (first_found (decides role) (of_connection c log))) later ∙ ap (first_found (decides role)) (of_connection-none c log h)
+    first_fate-none (gives_fate role) c log h
 
 -- ---- the fate of the latest connection
 
@@ -107,43 +118,116 @@ open-decides role (notes.Release identifier) h = absurd (cc)
 open-decides role (notes.Sent item) h = absurd (cc)
 open-decides role (notes.Recv item) h = absurd (cc)
 
-pub latest_fate-open : (role : Role) (e : Seen) (past : List Seen) → is_open e.note ≡ true → latest_fate role (e ∷ past) ≡ None
-latest_fate-open role e past h =
-    ap (λ n. fate role n (e ∷ past)) (begun-open e past h)
-    ∙ fate-next role (1 + begun past) e past
-    ∙ ap (λ o. option_or o (cond (begun (e ∷ past) == 1 + begun past) (decides role e.note) None)) (fate-none role (1 + begun past) past (omega arith))
-    ∙ nothing (begun (e ∷ past) == 1 + begun past) (decides role e.note) (open-decides role e.note h)
+-- nor does what it gives
+pub open-gives : (role : Role) (e : Seen) (past : List Seen) → is_open e.note ≡ true → gives_fate role (newest e past) ≡ None
+unfolding gives_fate
+open-gives role e past h = ap (option_map (fate_by_answer role (newest e past))) (open-decides role e.note h)
+
+-- what gives something is what decides, and begins a session where that does
+pub gives-decides : (role : Role) (e : Seen) (past : List Seen) → is_some (gives_fate role (newest e past)) ≡ is_some (decides role e.note)
+unfolding gives_fate
+gives-decides role e past = go (decides role e.note)
+  where
+    go : (o : Option Fate) → is_some (option_map (fate_by_answer role (newest e past)) o) ≡ is_some o
+    go None = refl
+    go (Some f) = refl
+
+pub begins-gives : (role : Role) (m : Moment) → begins (gives_fate role m) ≡ begins (decides role (note m))
+unfolding gives_fate
+begins-gives role m = go (decides role (note m))
+  where
+    void : (b : Bool) → begins (Some (cond b Adrift Void)) ≡ false
+    void true = refl
+    void false = refl
+
+    new : (b : Bool) → begins (Some (cond b Forgotten New)) ≡ true
+    new true = refl
+    new false = refl
+
+    old : (b c : Bool) → begins (Some (cond b Unknown (cond c Unasked Resumed))) ≡ false
+    old true c = refl
+    old false true = refl
+    old false false = refl
+
+    go : (o : Option Fate) → begins (option_map (fate_by_answer role m) o) ≡ begins o
+    go None = refl
+    go (Some Void) = void (is_adrift role (m.event ∷ m.past))
+    go (Some New) = new (asks_to_resume role m)
+    go (Some Resumed) = old (resumes_unknown role m) (has_none role m)
+    go (Some Adrift) = refl
+    go (Some Forgotten) = refl
+    go (Some Unasked) = refl
+    go (Some Unknown) = refl
+
+latest-open : (gives : Moment → Option Fate) (e : Seen) (past : List Seen) → is_open e.note ≡ true → gives (newest e past) ≡ None → first_fate gives (begun (e ∷ past)) (e ∷ past) ≡ None
+latest-open gives e past h none =
+    ap (λ n. first_fate gives n (e ∷ past)) (begun-open e past h)
+    ∙ first_fate-next gives (1 + begun past) e past
+    ∙ ap (λ o. option_or o (cond (begun (e ∷ past) == 1 + begun past) (gives (newest e past)) None)) (first_fate-none gives (1 + begun past) past (omega arith))
+    ∙ nothing (begun (e ∷ past) == 1 + begun past) (gives (newest e past)) none
   where
     nothing : (b : Bool) (o : Option Fate) → o ≡ None → cond b o None ≡ None
     nothing true o h = h
     nothing false o h = refl
 
-pub latest_fate-same : (role : Role) (e : Seen) (past : List Seen) → is_open e.note ≡ false → latest_fate role (e ∷ past) ≡ option_or (latest_fate role past) (decides role e.note)
-latest_fate-same role e past h =
+latest-same : (gives : Moment → Option Fate) (e : Seen) (past : List Seen) → is_open e.note ≡ false
+    → first_fate gives (begun (e ∷ past)) (e ∷ past) ≡ option_or (first_fate gives (begun past) past) (gives (newest e past))
+latest-same gives e past h =
     let same = begun-same e past h in
-    ap (λ n. fate role n (e ∷ past)) same
-    ∙ fate-next role (begun past) e past
-    ∙ ap (λ b. option_or (latest_fate role past) (cond b (decides role e.note) None)) (eq-eqb (begun (e ∷ past)) (begun past) same)
+    ap (λ n. first_fate gives n (e ∷ past)) same
+    ∙ first_fate-next gives (begun past) e past
+    ∙ ap (λ b. option_or (first_fate gives (begun past) past) (cond b (gives (newest e past)) None)) (eq-eqb (begun (e ∷ past)) (begun past) same)
 
-pub latest_fate-next : (role : Role) (e : Seen) (past : List Seen) → latest_fate role (e ∷ past) ≡ cond (is_open e.note) None (option_or (latest_fate role past) (decides role e.note))
-latest_fate-next role e past = go (is_open e.note) refl
+latest-next : (gives : Moment → Option Fate) (e : Seen) (past : List Seen) → (is_open e.note ≡ true → gives (newest e past) ≡ None)
+    → first_fate gives (begun (e ∷ past)) (e ∷ past) ≡ cond (is_open e.note) None (option_or (first_fate gives (begun past) past) (gives (newest e past)))
+latest-next gives e past none = go (is_open e.note) refl
   where
-    go : (b : Bool) → is_open e.note ≡ b → latest_fate role (e ∷ past) ≡ cond b None (option_or (latest_fate role past) (decides role e.note))
-    go true h = latest_fate-open role e past h
-    go false h = latest_fate-same role e past h
+    go : (b : Bool) → is_open e.note ≡ b → first_fate gives (begun (e ∷ past)) (e ∷ past) ≡ cond b None (option_or (first_fate gives (begun past) past) (gives (newest e past)))
+    go true h = latest-open gives e past h (none h)
+    go false h = latest-same gives e past h
+
+pub latest_fate-open : (role : Role) (e : Seen) (past : List Seen) → is_open e.note ≡ true → latest_fate role (e ∷ past) ≡ None
+latest_fate-open role e past h = latest-open (gives_fate role) e past h (open-gives role e past h)
+
+pub latest_fate-same : (role : Role) (e : Seen) (past : List Seen) → is_open e.note ≡ false → latest_fate role (e ∷ past) ≡ option_or (latest_fate role past) (gives_fate role (newest e past))
+latest_fate-same role e past h = latest-same (gives_fate role) e past h
+
+pub latest_fate-next : (role : Role) (e : Seen) (past : List Seen) → latest_fate role (e ∷ past) ≡ cond (is_open e.note) None (option_or (latest_fate role past) (gives_fate role (newest e past)))
+latest_fate-next role e past = latest-next (gives_fate role) e past (open-gives role e past)
+
+pub latest_outcome-next : (role : Role) (e : Seen) (past : List Seen) → latest_outcome role (e ∷ past) ≡ cond (is_open e.note) None (option_or (latest_outcome role past) (decides role e.note))
+latest_outcome-next role e past = latest-next (λ m. decides role (note m)) e past (open-decides role e.note)
+
+-- a connection is decided where the server answered, or it closed
+pub fate-outcome : (role : Role) (log : List Seen) → is_some (latest_fate role log) ≡ is_some (latest_outcome role log)
+fate-outcome role [] = refl
+fate-outcome role (e ∷ past) =
+    ap is_some (latest_fate-next role e past)
+    ∙ go (is_open e.note) (latest_fate role past) (latest_outcome role past) (gives_fate role (newest e past)) (decides role e.note) (fate-outcome role past) (gives-decides role e past)
+    ∙ sym (ap is_some (latest_outcome-next role e past))
+  where
+    go : (b : Bool) (f o g d : Option Fate) → is_some f ≡ is_some o → is_some g ≡ is_some d → is_some (cond b None (option_or f g)) ≡ is_some (cond b None (option_or o d))
+    go true f o g d p q = refl
+    go false (Some a) (Some b) g d p q = refl
+    go false (Some a) None g d p q = absurd (cc)
+    go false None (Some b) g d p q = absurd (cc)
+    go false None None g d p q = q
 
 -- ---- what is not connected is decided
 
 pub close-decides : (role : Role) (note : Note) → is_close note ≡ true → is_some (decides role note) ≡ true
 close-decides role note h = ap (λ b. is_some (cond b (Some Void) (option_map fate_by (connack_of role note)))) h
 
+pub close-gives : (role : Role) (e : Seen) (past : List Seen) → is_close e.note ≡ true → is_some (gives_fate role (newest e past)) ≡ true
+close-gives role e past h = gives-decides role e past ∙ close-decides role e.note h
+
 pub closed-decided : (role : Role) (log : List Seen) → is_connected log ≡ false → is_some (latest_fate role log) ≡ true
 closed-decided role [] h = refl
-closed-decided role (e ∷ past) h = ap is_some (latest_fate-next role e past) ∙ go (is_open e.note) (is_close e.note) (is_connected past) h (closed-decided role past) (close-decides role e.note)
+closed-decided role (e ∷ past) h = ap is_some (latest_fate-next role e past) ∙ go (is_open e.note) (is_close e.note) (is_connected past) h (closed-decided role past) (close-gives role e past)
   where
-    go : (opens closes was : Bool) → (opens || (not closes && was)) ≡ false → (was ≡ false → is_some (latest_fate role past) ≡ true) → (closes ≡ true → is_some (decides role e.note) ≡ true)
-        → is_some (cond opens None (option_or (latest_fate role past) (decides role e.note))) ≡ true
+    go : (opens closes was : Bool) → (opens || (not closes && was)) ≡ false → (was ≡ false → is_some (latest_fate role past) ≡ true) → (closes ≡ true → is_some (gives_fate role (newest e past)) ≡ true)
+        → is_some (cond opens None (option_or (latest_fate role past) (gives_fate role (newest e past)))) ≡ true
     go true closes was h before now = absurd (cc)
-    go false true was h before now = option_or-other (latest_fate role past) (decides role e.note) (now refl)
+    go false true was h before now = option_or-other (latest_fate role past) (gives_fate role (newest e past)) (now refl)
     go false false true h before now = absurd (cc)
-    go false false false h before now = option_or-there (latest_fate role past) (decides role e.note) (before refl)
+    go false false false h before now = option_or-there (latest_fate role past) (gives_fate role (newest e past)) (before refl)

@@ -8,14 +8,14 @@ use Rattle.mq_rules.specs.declared.fate.Fate.{Fate}
 use Rattle.mq_rules.specs.declared.rule.Rule.{Rule}
 use Rattle.mq_rules.specs.declared.note.Seen.{Seen}
 use Rattle.mq_rules.specs.Words.{is_some_and}
-use Rattle.mq_rules.specs.Notes.{is_open, is_rest, decides}
+use Rattle.mq_rules.specs.Notes.{is_open, is_rest}
 use Rattle.mq_rules.specs.Moments.{Moment, newest, moments, moment, is_next, is_after, some}
-use Rattle.mq_rules.specs.Connections.{number, begun, connection, fate, latest_fate, fate_under, accepted, ends_binding, is_binding}
+use Rattle.mq_rules.specs.Connections.{number, begun, connection, fate, latest_fate, gives_fate, fate_under, accepted, ends_binding, is_binding}
 use Rattle.mq_rules.specs.Rules.{binds}
 use Rattle.mq_rules.specs.Statements.{Statement, on_bytes, on_past, in_session, at_release, at_rest, statement, breaks_bytes, is_false_under, where_accepted, is_false, fails, fails_under}
 use Rattle.mq_rules.proofs.BoolLaws.{and_false, or_false, option_or-none, not_true, differ}
 use Rattle.mq_rules.proofs.StepLaws.{moment-next, moment-older, fate-step, false-nowhere}
-use Rattle.mq_rules.proofs.GivenLaws.{decides-closed, rest-undecided, rest-opens-nothing, begun-open, begun-closed, number-within}
+use Rattle.mq_rules.proofs.GivenLaws.{gives-closed, rest-gives, rest-opens-nothing, begun-open, begun-closed, number-within}
 
 -- ---- what is false at older positions
 
@@ -60,11 +60,11 @@ fated-alike role bound fates others s e past k same unbound = go (is_next past k
 
 -- ---- which events are no binding REST
 
-unbound-deciding : (role : Role) (e : Seen) (past : List Seen) (f : Fate) → decides role e.note ≡ Some f → is_binding role (newest e past) ≡ false
+unbound-deciding : (role : Role) (e : Seen) (past : List Seen) (f : Fate) → gives_fate role (newest e past) ≡ Some f → is_binding role (newest e past) ≡ false
 unfolding is_binding
 unbound-deciding role e past f h =
     ap (λ b. b && (accepted (latest_fate role past) && not (some ends_binding (connection past))))
-    (not_true (is_rest e.note) (λ t. let none : decides role e.note ≡ None = rest-undecided role e.note t in absurd (cc)))
+    (not_true (is_rest e.note) (λ t. let none : gives_fate role (newest e past) ≡ None = rest-gives role e past t in absurd (cc)))
 
 unbound-undecided : (role : Role) (e : Seen) (past : List Seen) → latest_fate role past ≡ None → is_binding role (newest e past) ≡ false
 unfolding is_binding
@@ -79,10 +79,10 @@ unbound-open role e past h =
 -- ---- the fates
 
 -- with the event that decides, each connection has the fate that it had where the latest one is taken to have that fate
-deciding-fates : (role : Role) (c : ℕ) (f : Fate) (e : Seen) (past : List Seen) → latest_fate role past ≡ None → decides role e.note ≡ Some f → fate role c (e ∷ past) ≡ fate_under role (Some f) past c
+deciding-fates : (role : Role) (c : ℕ) (f : Fate) (e : Seen) (past : List Seen) → latest_fate role past ≡ None → gives_fate role (newest e past) ≡ Some f → fate role c (e ∷ past) ≡ fate_under role (Some f) past c
 deciding-fates role c f e past undecided h =
     fate-step role c e past
-    ∙ ap (λ n. option_or (fate role c past) (cond (n == c) (decides role e.note) None)) (begun-closed e past (decides-closed role e.note f h))
+    ∙ ap (λ n. option_or (fate role c past) (cond (n == c) (gives_fate role (newest e past)) None)) (begun-closed e past (gives-closed role e past f h))
     ∙ ap (λ o. option_or (fate role c past) (cond (begun past == c) o None)) h
     ∙ go (c == begun past) refl
   where
@@ -108,8 +108,8 @@ going-fates role c f e past closed =
     go true t = refl
     go false t =
         fate-step role c e past
-        ∙ ap (λ n. option_or (fate role c past) (cond (n == c) (decides role e.note) None)) number-is
-        ∙ ap (λ b. option_or (fate role c past) (cond b (decides role e.note) None)) (differ (begun past) c (λ is. let same : (c == begun past) ≡ true = eq-eqb c (begun past) (sym is) in absurd (cc)))
+        ∙ ap (λ n. option_or (fate role c past) (cond (n == c) (gives_fate role (newest e past)) None)) number-is
+        ∙ ap (λ b. option_or (fate role c past) (cond b (gives_fate role (newest e past)) None)) (differ (begun past) c (λ is. let same : (c == begun past) ≡ true = eq-eqb c (begun past) (sym is) in absurd (cc)))
         ∙ option_or-none (fate role c past)
 
 opened-fates : (role : Role) (c : ℕ) (f : Fate) (e : Seen) (past : List Seen) → is_open e.note ≡ true → c ≤ begun past → fate_under role (Some f) (e ∷ past) c ≡ fate role c past
@@ -117,13 +117,13 @@ opened-fates role c f e past opens le =
     let more : begun (e ∷ past) ≡ 1 + begun past = begun-open e past opens in
     ap (λ b. cond b (Some f) (fate role c (e ∷ past))) (differ c (begun (e ∷ past)) (λ is. omega arith))
     ∙ fate-step role c e past
-    ∙ ap (λ b. option_or (fate role c past) (cond b (decides role e.note) None)) (differ (begun (e ∷ past)) c (λ is. omega arith))
+    ∙ ap (λ b. option_or (fate role c past) (cond b (gives_fate role (newest e past)) None)) (differ (begun (e ∷ past)) c (λ is. omega arith))
     ∙ option_or-none (fate role c past)
 
 -- ---- what fails
 
 -- with the event that decides the latest connection, what failed under that fate fails, and else the newest position alone
-pub decided-under : (tested : Tested) (f : Fate) (e : Seen) (past : List Seen) (k : ℕ) (rule : Rule) → latest_fate tested.role past ≡ None → decides tested.role e.note ≡ Some f
+pub decided-under : (tested : Tested) (f : Fate) (e : Seen) (past : List Seen) (k : ℕ) (rule : Rule) → latest_fate tested.role past ≡ None → gives_fate tested.role (newest e past) ≡ Some f
     → fails tested (e ∷ past) k rule ≡ (fails_under tested f past k rule || (is_next past k && fails tested (e ∷ past) k rule))
 unfolding fails fails_under
 decided-under tested f e past k rule undecided h =

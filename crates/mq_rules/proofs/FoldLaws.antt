@@ -1,19 +1,18 @@
 -- What is kept of a session, with one event more.
-use Rattle.std.proofs.Common.{◌≡◌, Bool, true, false, cond, ◌&&◌, not, List, [], ◌∷◌, Option, Some, None, refl, ap, sym, ◌∙◌}
+use Rattle.std.proofs.Common.{◌≡◌, Bool, true, false, cond, ◌&&◌, ◌||◌, not, List, [], ◌∷◌, Option, Some, None, refl, ap, sym, ◌∙◌}
 use Rattle.std.specs.Prelude.{is_some}
 use Rattle.std.proofs.lemmas.Bool.{false_from_ne_true}
 use Rattle.std.specs.Option.{option_or}
 use Rattle.mq_rules.specs.declared.role.Role.{Role}
 use Rattle.mq_rules.specs.declared.fate.Fate.{Fate}
-use Rattle.mq_rules.specs.declared.fate.Fate.TheVariants.{Void, New, Resumed}
 use Rattle.mq_rules.specs.declared.note.Note.{Note}
 use Rattle.mq_rules.specs.declared.note.Note.TheVariants as notes
 use Rattle.mq_rules.specs.declared.note.Seen.{Seen}
 use Rattle.mq_rules.specs.Notes.{is_open, is_release, decides, needs_session}
 use Rattle.mq_rules.specs.Moments.{Moment, newest, some, since, latest}
-use Rattle.mq_rules.specs.Connections.{latest_fate, accepts, begins, any_accepted, has_session, with_first, session, IsInOrder}
+use Rattle.mq_rules.specs.Connections.{latest_fate, gives_fate, accepts, is_void, begins, any_accepted, has_session, with_first, session, IsInOrder}
 use Rattle.mq_rules.specs.Folds.{folded, ByPackets, where_in, kept_by, session_since, gained, since_by, some_by, latest_by}
-use Rattle.mq_rules.proofs.FateLaws.{latest_fate-next}
+use Rattle.mq_rules.proofs.FateLaws.{latest_fate-next, begins-gives}
 
 -- ---- the words on moments are folds
 
@@ -102,7 +101,7 @@ module _ {A : Type 0} (g : Moment → A → A) (z : A) (packets : ByPackets g) (
       new true = refl
       new false = refl
 
-      go : (b : Bool) → is_open e.note ≡ b → cond b None (option_or (latest_fate role past) (decides role e.note)) ≡ None → Before
+      go : (b : Bool) → is_open e.note ≡ b → cond b None (option_or (latest_fate role past) (gives_fate role (newest e past))) ≡ None → Before
           → folded g z (with_first (has_session role f e past) (newest e past) (rest b f)) ≡ cond (begins f) z (folded g z (with_first (has_session role None e past) (newest e past) (rest b None)))
       go true t h before =
           let idle : (a : A) → g (newest e past) a ≡ a = λ a. packets.idle (newest e past) a (open-idle e.note t) in
@@ -110,7 +109,7 @@ module _ {A : Type 0} (g : Moment → A → A) (z : A) (packets : ByPackets g) (
           ∙ new (begins f)
           ∙ ap (cond (begins f) z) (sym (with_first-idle g z (has_session role None e past) (newest e past) (session role (latest_fate role past) past) idle))
       go false t h before =
-          let none = option_or-left (latest_fate role past) (decides role e.note) h in
+          let none = option_or-left (latest_fate role past) (gives_fate role (newest e past)) h in
           let idle : (a : A) → g (newest e past) a ≡ a = λ a. packets.idle (newest e past) a (undecided-idle (needs_session e.note) (latest_fate role past) order.0 none) in
           with_first-idle g z (has_session role f e past) (newest e past) (session role f past) idle
           ∙ before none f
@@ -118,14 +117,13 @@ module _ {A : Type 0} (g : Moment → A → A) (z : A) (packets : ByPackets g) (
 
   -- a RELEASE on a void connection changes nothing, and no other event there is in a session
   kept-where : (e : Seen) (past : List Seen) (f : Fate) (a : A) → where_in (has_session role (Some f) e past) (g (newest e past)) a ≡ cond (accepts f) (g (newest e past) a) a
-  kept-where e past New a = refl
-  kept-where e past Resumed a = refl
-  kept-where e past Void a = go (is_release e.note) (any_accepted role (Some Void) past) refl
+  kept-where e past f a = go (accepts f) (is_release e.note) (is_void f && any_accepted role (Some f) past) refl
     where
-      go : (released any : Bool) → is_release e.note ≡ released → where_in (released && any) (g (newest e past)) a ≡ a
-      go true true h = packets.no_release (newest e past) a h
-      go true false h = refl
-      go false any h = refl
+      go : (inside released any : Bool) → is_release e.note ≡ released → where_in (inside || (released && any)) (g (newest e past)) a ≡ cond inside (g (newest e past) a) a
+      go true released any h = refl
+      go false true true h = packets.no_release (newest e past) a h
+      go false true false h = refl
+      go false false any h = refl
 
   -- the latest connection was decided
   next-decided : (e : Seen) (past : List Seen) (f : Fate) → is_open e.note ≡ false
@@ -140,15 +138,16 @@ module _ {A : Type 0} (g : Moment → A → A) (z : A) (packets : ByPackets g) (
 
   -- it was not, and this event may decide it
   next-undecided : (e : Seen) (past : List Seen) → is_open e.note ≡ false → IsInOrder role (e ∷ past) → latest_fate role past ≡ None
-      → folded g z (session role (decides role e.note) (e ∷ past)) ≡ kept_by role None e.note (g (newest e past)) z (folded g z (session role None past))
+      → folded g z (session role (gives_fate role (newest e past)) (e ∷ past)) ≡ kept_by role None e.note (g (newest e past)) z (folded g z (session role None past))
   next-undecided e past t order none =
-      let d : Option Fate = decides role e.note in
+      let d : Option Fate = gives_fate role (newest e past) in
       let old : A = folded g z (session role None past) in
       let idle : (a : A) → g (newest e past) a ≡ a = λ a. packets.idle (newest e past) a (undecided-idle (needs_session e.note) (latest_fate role past) order.0 none) in
       with_first-idle g z (has_session role d e past) (newest e past) (cond (is_open e.note) (cond (begins d) [] (session role (latest_fate role past) past)) (session role d past)) idle
       ∙ ap (λ b. folded g z (cond b (cond (begins d) [] (session role (latest_fate role past) past)) (session role d past))) t
       ∙ undecided past order.1 none d
-      ∙ sym (ap (λ b. cond b old (cond (begins d) z old)) t)
+      ∙ ap (λ b. cond b z old) (begins-gives role (newest e past))
+      ∙ sym (ap (λ b. cond b old (cond (begins (decides role e.note)) z old)) t)
 
   next-opened : (e : Seen) (past : List Seen) → is_open e.note ≡ true
       → folded g z (session role None (e ∷ past)) ≡ folded g z (session role (latest_fate role past) past)
@@ -166,15 +165,15 @@ module _ {A : Type 0} (g : Moment → A → A) (z : A) (packets : ByPackets g) (
       ap (λ f. folded g z (session role f (e ∷ past))) (latest_fate-next role e past) ∙ go (is_open e.note) (latest_fate role past) refl refl
     where
       go : (b : Bool) (o : Option Fate) → is_open e.note ≡ b → latest_fate role past ≡ o
-          → folded g z (session role (cond b None (option_or (latest_fate role past) (decides role e.note))) (e ∷ past))
+          → folded g z (session role (cond b None (option_or (latest_fate role past) (gives_fate role (newest e past)))) (e ∷ past))
           ≡ kept_by role (latest_fate role past) e.note (g (newest e past)) z (folded g z (session role (latest_fate role past) past))
       go true o t is =
           next-opened e past t ∙ sym (kept-open (latest_fate role past) e.note (g (newest e past)) (folded g z (session role (latest_fate role past) past)) t)
       go false (Some f) t is =
-          ap (λ o. folded g z (session role (option_or o (decides role e.note)) (e ∷ past))) is
+          ap (λ o. folded g z (session role (option_or o (gives_fate role (newest e past))) (e ∷ past))) is
           ∙ next-decided e past f t
           ∙ sym (ap (λ o. kept_by role o e.note (g (newest e past)) z (folded g z (session role o past))) is)
       go false None t is =
-          ap (λ o. folded g z (session role (option_or o (decides role e.note)) (e ∷ past))) is
+          ap (λ o. folded g z (session role (option_or o (gives_fate role (newest e past))) (e ∷ past))) is
           ∙ next-undecided e past t order is
           ∙ sym (ap (λ o. kept_by role o e.note (g (newest e past)) z (folded g z (session role o past))) is)

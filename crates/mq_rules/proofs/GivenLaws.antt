@@ -2,6 +2,7 @@
 use Rattle.std.proofs.Common.{◌≡◌, ℕ, ◌+◌, ◌<◌, ◌≤◌, ◌==◌, Bool, true, false, cond, List, [], ◌∷◌, Option, Some, None, is_some, refl, ap, sym, ◌∙◌, arith}
 use Rattle.std.proofs.lemmas.Bool.{eqb-true, eq-eqb}
 use Rattle.std.specs.Option.{option_or}
+use Rattle.std.specs.Prelude.{option_map}
 use Rattle.mq_rules.specs.declared.role.Role.{Role}
 use Rattle.mq_rules.specs.declared.role.Role.TheVariants.{Client, Server}
 use Rattle.mq_rules.specs.declared.fate.Fate.{Fate}
@@ -10,11 +11,12 @@ use Rattle.mq_rules.specs.declared.note.Note.{Note}
 use Rattle.mq_rules.specs.declared.note.Note.TheVariants as notes
 use Rattle.mq_rules.specs.declared.note.Seen.{Seen}
 use Rattle.mq_rules.specs.Notes.{is_open, is_rest, decides, needs_session}
-use Rattle.mq_rules.specs.Moments.{Moment, newest, moment, is_next, first_found}
-use Rattle.mq_rules.specs.Connections.{number, begun, of_connection, fate, latest_fate}
+use Rattle.mq_rules.specs.Moments.{Moment, newest, moment, is_next}
+use Rattle.mq_rules.specs.Connections.{number, begun, fate, fate_by_answer, gives_fate}
 use Rattle.mq_rules.specs.Steps.{given}
 use Rattle.mq_rules.proofs.BoolLaws.{differ, not_true}
 use Rattle.mq_rules.proofs.StepLaws.{fate-step, fate-kept}
+use Rattle.mq_rules.proofs.FateLaws.{open-gives}
 
 -- ---- one event
 
@@ -54,9 +56,14 @@ rest-opens-nothing (notes.Release i) h = refl
 rest-opens-nothing (notes.Sent item) h = refl
 rest-opens-nothing (notes.Recv item) h = refl
 
--- so an event that decides is no OPEN
-pub decides-closed : (role : Role) (n : Note) (f : Fate) → decides role n ≡ Some f → is_open n ≡ false
-decides-closed role n f h = not_true (is_open n) (λ t. let none : decides role n ≡ None = open-undecided role n t in absurd (cc))
+-- so an event that gives a fate is no OPEN
+pub gives-closed : (role : Role) (e : Seen) (past : List Seen) (f : Fate) → gives_fate role (newest e past) ≡ Some f → is_open e.note ≡ false
+gives-closed role e past f h = not_true (is_open e.note) (λ t. let none : gives_fate role (newest e past) ≡ None = open-gives role e past t in absurd (cc))
+
+-- nor does what a REST gives
+pub rest-gives : (role : Role) (e : Seen) (past : List Seen) → is_rest e.note ≡ true → gives_fate role (newest e past) ≡ None
+unfolding gives_fate
+rest-gives role e past h = ap (option_map (fate_by_answer role (newest e past))) (rest-undecided role e.note h)
 
 -- ---- numbers of connections
 
@@ -90,13 +97,13 @@ fate-from role c f (e ∷ past) k m at h = fate-kept role c f e past (go (is_nex
 
 -- an event gives a fate to the latest connection alone, which is undecided before it, as it decides it
 pub given-gives : (role : Role) (e : Seen) (past : List Seen) (c : ℕ) (f : Fate) → given role e past c ≡ Some f
-    → (c ≡ begun past) × (is_open e.note ≡ false) × (decides role e.note ≡ Some f) × (fate role c past ≡ None)
+    → (c ≡ begun past) × (is_open e.note ≡ false) × (gives_fate role (newest e past) ≡ Some f) × (fate role c past ≡ None)
 given-gives role e past c f h = go (fate role c past) refl (begun (e ∷ past) == c) refl (ap (cond (is_some (fate role c past)) None) (sym (fate-step role c e past)) ∙ h)
   where
-    go : (o : Option Fate) → fate role c past ≡ o → (b : Bool) → (begun (e ∷ past) == c) ≡ b → cond (is_some o) None (option_or o (cond b (decides role e.note) None)) ≡ Some f
-        → (c ≡ begun past) × (is_open e.note ≡ false) × (decides role e.note ≡ Some f) × (fate role c past ≡ None)
+    go : (o : Option Fate) → fate role c past ≡ o → (b : Bool) → (begun (e ∷ past) == c) ≡ b → cond (is_some o) None (option_or o (cond b (gives_fate role (newest e past)) None)) ≡ Some f
+        → (c ≡ begun past) × (is_open e.note ≡ false) × (gives_fate role (newest e past) ≡ Some f) × (fate role c past ≡ None)
     go (Some g) is b t h = absurd (cc)
     go None is false t h = absurd (cc)
     go None is true t h =
-        let closed : is_open e.note ≡ false = decides-closed role e.note f h in
+        let closed : is_open e.note ≡ false = gives-closed role e past f h in
         (sym (eqb-true (begun (e ∷ past)) c t) ∙ begun-closed e past closed, closed, h, is)

@@ -16,10 +16,10 @@ use Rattle.mq_rules.specs.declared.packet_note.PacketFields.{PacketFields}
 use Rattle.mq_rules.specs.declared.packet_note.PacketFields.TheVariants.{Connect, Connack, Disconnect}
 use Rattle.mq_rules.specs.declared.conn.state.ConnectionState.{ConnectionState}
 use Rattle.mq_rules.specs.Words.{is_id, is_some_and}
-use Rattle.mq_rules.specs.Notes.{is_open, is_close, is_typed, fields_type, sent_item, sent_connack, sent_disconnect, connect_in, connack_in, disconnect_in, connect_of, connack_of, client_disconnect, fate_by, decides, refuses, sends_type, receives_type}
+use Rattle.mq_rules.specs.Notes.{is_open, is_close, is_typed, fields_type, sent_item, sent_connack, sent_disconnect, connect_in, connack_in, disconnect_in, connect_of, connack_of, client_disconnect, fate_by, decides, refuses, sends_type, receives_type, is_session_packet, needs_session}
 use Rattle.mq_rules.specs.Pasts.{is_sent_disconnect, is_sent_refusal}
 use Rattle.mq_rules.specs.Keeping.{begun_if, followed, connection_after, is_ordinary_in, is_ordinary}
-use Rattle.mq_rules.proofs.BoolLaws.{both_true, or_false, option_or-none}
+use Rattle.mq_rules.proofs.BoolLaws.{both_true, or_false, or_left, option_or-none}
 
 -- ---- what an ordinary packet is not
 
@@ -96,6 +96,37 @@ ordinary Server s (notes.Recv (items.Packet p)) h t =
     settled Server s (notes.Recv (items.Packet p)) h refl refl (no-connect p.fields t) refl (no-disconnect p.fields t)
     refl refl (not-connect p.fields t) refl refl
 ordinary role s _ h t = absurd (cc)
+
+-- an ordinary packet begins, ends and decides no connection
+pub record IsQuiet (role : Role) (n : Note) : Type 0 where
+  pub opens : is_open n ≡ false
+  pub closes : is_close n ≡ false
+  pub decides_not : decides role n ≡ None
+
+pub ordinary-quiet : (role : Role) (n : Note) → is_ordinary n ≡ true → IsQuiet role n
+ordinary-quiet Client (notes.Sent (items.Packet p)) t = record { opens = refl; closes = refl; decides_not = refl }
+ordinary-quiet Server (notes.Sent (items.Packet p)) t =
+    let u : is_ordinary_in p.fields ≡ true = sym (or_false (is_ordinary_in p.fields)) ∙ t in
+    record { opens = refl; closes = refl; decides_not = ap (λ (o : Option ConnackNote). option_map fate_by o) (no-connack p.fields u) }
+ordinary-quiet Client (notes.Recv (items.Packet p)) t =
+    record { opens = refl; closes = refl; decides_not = ap (λ (o : Option ConnackNote). option_map fate_by o) (no-connack p.fields t) }
+ordinary-quiet Server (notes.Recv (items.Packet p)) t = record { opens = refl; closes = refl; decides_not = refl }
+ordinary-quiet role _ t = absurd (cc)
+
+-- what needs a session begins no connection, and decides none
+session-ordinary : (fields : PacketFields) → is_session_packet fields ≡ true → is_ordinary_in fields ≡ true
+session-ordinary (Connect c) h = absurd (cc)
+session-ordinary (Connack c) h = absurd (cc)
+session-ordinary (Disconnect d) h = absurd (cc)
+session-ordinary _ h = refl
+
+pub session-quiet : (role : Role) (n : Note) → needs_session n ≡ true → IsQuiet role n
+session-quiet Client (notes.Release i) h = record { opens = refl; closes = refl; decides_not = refl }
+session-quiet Server (notes.Release i) h = record { opens = refl; closes = refl; decides_not = refl }
+session-quiet role (notes.Sent (items.Packet p)) h =
+    ordinary-quiet role (notes.Sent (items.Packet p)) (or_left (is_ordinary_in p.fields) false (session-ordinary p.fields (sym (or_false (is_session_packet p.fields)) ∙ h)))
+session-quiet role (notes.Recv (items.Packet p)) h = ordinary-quiet role (notes.Recv (items.Packet p)) (session-ordinary p.fields h)
+session-quiet role _ h = absurd (cc)
 
 -- once the tested end has sent, an ordinary packet changes nothing
 pub unchanged : (role : Role) (s : ConnectionState) (n : Note) → (s.has_sent && is_ordinary n) ≡ true → s ≡ connection_after role s n

@@ -8,9 +8,9 @@ use Rattle.mq_rules.specs.declared.fate.Fate.{Fate}
 use Rattle.mq_rules.specs.declared.rule.Rule.{Rule}
 use Rattle.mq_rules.specs.declared.note.Seen.{Seen}
 use Rattle.mq_rules.specs.Words.{is_some_and}
-use Rattle.mq_rules.specs.Notes.{is_open, is_rest, decides, needs_session, is_sent_pingresp, is_received_pingreq}
+use Rattle.mq_rules.specs.Notes.{is_open, is_rest, needs_session, is_sent_pingresp, is_received_pingreq}
 use Rattle.mq_rules.specs.Moments.{Moment, newest, note, moment, is_next, some, count}
-use Rattle.mq_rules.specs.Connections.{begun, number, connection, fate, latest_fate, accepts, accepted, ends_binding, is_binding, IsInOrder}
+use Rattle.mq_rules.specs.Connections.{begun, number, connection, fate, latest_fate, gives_fate, accepts, accepted, ends_binding, is_binding, IsInOrder}
 use Rattle.mq_rules.specs.Rules.{binds}
 use Rattle.mq_rules.specs.Statements.{on_bytes, on_past, in_session, at_release, statement, breaks_bytes, is_false_under, where_accepted}
 use Rattle.mq_rules.specs.Steps.{given, shows_under, shows, turns, JudgedAtOnce, IsLate}
@@ -78,10 +78,10 @@ late-newest role breaks e past late = ap (is_false_under breaks (newest e past))
     undecided (Some f) h = not_true (breaks f (newest e past)) (λ t. let some : is_some (latest_fate role past) ≡ true = late.decided (length past + 1) (newest e past) f there t in absurd (cc))
 
     go : (b : Bool) → is_open e.note ≡ b → (o : Option Fate) → latest_fate role past ≡ o
-        → is_false_under breaks (newest e past) (cond b None (option_or o (decides role e.note))) ≡ is_false_under breaks (newest e past) o
+        → is_false_under breaks (newest e past) (cond b None (option_or o (gives_fate role (newest e past)))) ≡ is_false_under breaks (newest e past) o
     go true h o is = sym (at_open o h)
     go false h (Some f) is = refl
-    go false h None is = undecided (decides role e.note) is
+    go false h None is = undecided (gives_fate role (newest e past)) is
 
 late-shows : (role : Role) (breaks : Fate → Moment → Bool) (e : Seen) (past : List Seen) (k : ℕ) → IsLate role breaks (e ∷ past)
     → shows_under role breaks e past k ≡ (is_next past k && is_false_under breaks (newest e past) (latest_fate role past))

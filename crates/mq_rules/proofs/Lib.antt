@@ -35,3 +35,4 @@ pub mod IdleLaws
 pub mod HarmlessLaws
 pub mod Exports
 pub mod DropLaws
+pub mod HistoryLaws

@@ -28,9 +28,9 @@ use Rattle.mq_rules.specs.declared.packet_note.PacketFields.TheVariants.{Connack
 use Rattle.mq_rules.specs.declared.packet_note.ConnackNote.{ConnackNote}
 use Rattle.mq_rules.specs.Notes.{tested_as, tested_by, note_of, seen, seen_in, packet_fields, fields_type, connack_in, connack_of, is_open, is_close, fate_by, decides}
 use Rattle.mq_rules.specs.Moments.{Moment, newest, note, moments, since, IsPlaced}
-use Rattle.mq_rules.specs.Connections.{connection, latest_fate, is_connected}
+use Rattle.mq_rules.specs.Connections.{connection, latest_fate, gives_fate, is_connected}
 use Rattle.mq_rules.proofs.BoolLaws.{option_or-there, option_or-other}
-use Rattle.mq_rules.proofs.FateLaws.{connection-next, latest_fate-next, closed-decided, close-decides, open-decides}
+use Rattle.mq_rules.proofs.FateLaws.{connection-next, latest_fate-next, closed-decided, close-gives, gives-decides, open-gives}
 
 -- ---- what the log's reader knows of an event is what the statements look at of it
 
@@ -120,19 +120,22 @@ connack-decides role note h = go (is_close note) (connack_of role note) h
     go false (Some c) h = refl
     go false None h = absurd (cc)
 
+connack-gives : (role : Role) (e : Seen) (past : List Seen) → is_some (connack_of role e.note) ≡ true → is_some (gives_fate role (newest e past)) ≡ true
+connack-gives role e past h = gives-decides role e past ∙ connack-decides role e.note h
+
 -- the latest connection's CONNACK decides it
 connack_seen-decided : (role : Role) (log : List Seen) → is_connack_seen role log ≡ true → is_some (latest_fate role log) ≡ true
 connack_seen-decided role [] h = absurd (cc)
 connack_seen-decided role (e ∷ past) h =
     ap is_some (latest_fate-next role e past)
-    ∙ go (is_open e.note) (is_some (connack_of role e.note)) (is_connack_seen role past) h (open-decides role e.note) (connack-decides role e.note) (connack_seen-decided role past)
+    ∙ go (is_open e.note) (is_some (connack_of role e.note)) (is_connack_seen role past) h (open-gives role e past) (connack-gives role e past) (connack_seen-decided role past)
   where
-    go : (opens answers was : Bool) → (answers || (not opens && was)) ≡ true → (opens ≡ true → decides role e.note ≡ None) → (answers ≡ true → is_some (decides role e.note) ≡ true)
-        → (was ≡ true → is_some (latest_fate role past) ≡ true) → is_some (cond opens None (option_or (latest_fate role past) (decides role e.note))) ≡ true
+    go : (opens answers was : Bool) → (answers || (not opens && was)) ≡ true → (opens ≡ true → gives_fate role (newest e past) ≡ None) → (answers ≡ true → is_some (gives_fate role (newest e past)) ≡ true)
+        → (was ≡ true → is_some (latest_fate role past) ≡ true) → is_some (cond opens None (option_or (latest_fate role past) (gives_fate role (newest e past)))) ≡ true
     go true true was h none now before = absurd (let a = none refl in let b = now refl in cc)
     go true false was h none now before = absurd (cc)
-    go false true was h none now before = option_or-other (latest_fate role past) (decides role e.note) (now refl)
-    go false false was h none now before = option_or-there (latest_fate role past) (decides role e.note) (before h)
+    go false true was h none now before = option_or-other (latest_fate role past) (gives_fate role (newest e past)) (now refl)
+    go false false was h none now before = option_or-there (latest_fate role past) (gives_fate role (newest e past)) (before h)
 
 -- ---- a byte that is not refused
 
@@ -258,17 +261,17 @@ few-next role e past in_time none =
     room true false true false false h open_yet unseen goes_on unanswered = absurd (cc)
     room true false false false false h open_yet unseen goes_on unanswered = refl
 
-    go : (opens : Bool) → cond opens None (option_or (latest_fate role past) (decides role e.note)) ≡ None
+    go : (opens : Bool) → cond opens None (option_or (latest_fate role past) (gives_fate role (newest e past))) ≡ None
         → length (cond opens (newest e past ∷ []) (newest e past ∷ connection past)) ≤ most_early_events
     go true h = omega arith
     go false h =
-        let undecided = both_none (latest_fate role past) (decides role e.note) h in
+        let undecided = both_none (latest_fate role past) (gives_fate role (newest e past)) h in
         let full : nat_le most_early_events (length (connection past)) ≡ false =
         room (is_connected past) (is_connack_seen role past) (nat_le most_early_events (length (connection past))) (is_close e.note) (is_some (connack_of role e.note)) in_time
         (λ closed. (let some = closed-decided role past closed in let never = undecided.0 in cc))
         (λ answered. (let some = connack_seen-decided role past answered in let never = undecided.0 in cc))
-        (λ closes. (let some = close-decides role e.note closes in let never = undecided.1 in cc))
-        (λ answers. (let some = connack-decides role e.note answers in let never = undecided.1 in cc)) in
+        (λ closes. (let some = close-gives role e past closes in let never = undecided.1 in cc))
+        (λ answers. (let some = connack-gives role e past answers in let never = undecided.1 in cc)) in
         let few : length (connection past) < most_early_events = leb-false most_early_events (length (connection past)) full in
         omega arith
 

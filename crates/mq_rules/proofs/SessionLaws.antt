@@ -1,15 +1,15 @@
 -- Which moments a session has.
-use Rattle.std.proofs.Common.{◌≡◌, ℕ, ◌+◌, ◌<◌, ◌≤◌, ◌==◌, nat_le, Bool, true, false, cond, ◌&&◌, ◌||◌, List, [], ◌∷◌, Option, Some, None, refl, ap, sym, ◌∙◌, subst, arith, ◌⊎◌, inl, inr}
+use Rattle.std.proofs.Common.{◌≡◌, ℕ, ◌+◌, ◌<◌, ◌≤◌, ◌==◌, nat_le, Bool, true, false, cond, ◌&&◌, ◌||◌, not, List, [], ◌∷◌, Option, Some, None, refl, ap, sym, ◌∙◌, subst, arith, ◌⊎◌, inl, inr}
 use Rattle.std.proofs.lemmas.Bool.{eq-eqb, eqb-true, leb-true, leb-false}
 use Rattle.mq_rules.specs.declared.role.Role.{Role}
 use Rattle.mq_rules.specs.declared.fate.Fate.{Fate}
-use Rattle.mq_rules.specs.declared.fate.Fate.TheVariants.{Void, New, Resumed}
+use Rattle.mq_rules.specs.declared.fate.Fate.TheVariants.{Void, Adrift, New, Forgotten, Resumed, Unasked, Unknown}
 use Rattle.mq_rules.specs.declared.note.Note.{Note}
 use Rattle.mq_rules.specs.declared.note.Note.TheVariants as notes
 use Rattle.mq_rules.specs.declared.note.Seen.{Seen}
 use Rattle.mq_rules.specs.Notes.{is_open, is_release}
 use Rattle.mq_rules.specs.Moments.{Moment, newest, moments, Among}
-use Rattle.mq_rules.specs.Connections.{begun, number, fate, latest_fate, accepted, resumed, begins, voided, any_accepted, has_session, with_first, session, fate_under, IsLoose, IsInSession}
+use Rattle.mq_rules.specs.Connections.{begun, number, fate, latest_fate, accepts, resumes, accepted, resumed, begins, voided, any_accepted, has_session, with_first, session, fate_under, IsLoose, IsInSession}
 use Rattle.mq_rules.proofs.BoolLaws.{differ, both_true, or_parts, or_left, or_right}
 use Rattle.mq_rules.proofs.FateLaws.{begun-least, begun-open, begun-same, fate-elsewhere}
 
@@ -212,20 +212,30 @@ release-open (notes.Recv item) h = absurd (cc)
 accepted_not_voided : (f : Option Fate) → accepted f ≡ true → voided f ≡ false
 accepted_not_voided None h = absurd (cc)
 accepted_not_voided (Some Void) h = absurd (cc)
+accepted_not_voided (Some Adrift) h = absurd (cc)
 accepted_not_voided (Some New) h = refl
+accepted_not_voided (Some Forgotten) h = refl
 accepted_not_voided (Some Resumed) h = refl
+accepted_not_voided (Some Unasked) h = refl
+accepted_not_voided (Some Unknown) h = absurd (cc)
 
 begins_resumes : (f : Option Fate) → begins f ≡ false → accepted f ≡ true → resumed f ≡ true
 begins_resumes None h is = absurd (cc)
-begins_resumes (Some Void) h is = absurd (cc)
-begins_resumes (Some New) h is = absurd (cc)
-begins_resumes (Some Resumed) h is = refl
+begins_resumes (Some f) h is = go (accepts f) (resumes f) h is
+  where
+    go : (a r : Bool) → (a && not r) ≡ false → a ≡ true → r ≡ true
+    go true true h is = refl
+    go true false h is = absurd (cc)
+    go false r h is = absurd (cc)
 
 resumes_begins : (f : Option Fate) → (accepted f ≡ true → resumed f ≡ true) → begins f ≡ false
 resumes_begins None h = refl
-resumes_begins (Some Void) h = refl
-resumes_begins (Some New) h = absurd (let never = h refl in cc)
-resumes_begins (Some Resumed) h = refl
+resumes_begins (Some f) h = go (accepts f) (resumes f) h
+  where
+    go : (a r : Bool) → (a ≡ true → r ≡ true) → (a && not r) ≡ false
+    go false r h = refl
+    go true true h = refl
+    go true false h = absurd (let never = h refl in cc)
 
 -- the newest moment is in the session exactly where `has_session` says so
 newest-belongs : (role : Role) (f : Option Fate) (e : Seen) (past : List Seen) → has_session role f e past ≡ true

@@ -5,16 +5,15 @@ use Rattle.std.specs.Option.{option_or}
 use Rattle.mq_rules.specs.declared.role.Role.{Role}
 use Rattle.mq_rules.specs.declared.role.Tested.{Tested}
 use Rattle.mq_rules.specs.declared.fate.Fate.{Fate}
-use Rattle.mq_rules.specs.declared.fate.Fate.TheVariants.{Void}
 use Rattle.mq_rules.specs.declared.rule.Rule.{Rule}
 use Rattle.mq_rules.specs.declared.note.Seen.{Seen}
 use Rattle.mq_rules.specs.Words.{is_some_and}
-use Rattle.mq_rules.specs.Notes.{decides}
-use Rattle.mq_rules.specs.Moments.{Moment, newest, position, moments, moment, is_next, is_after, some, first_found}
-use Rattle.mq_rules.specs.Connections.{number, of_connection, fate, is_binding}
+use Rattle.mq_rules.specs.Moments.{Moment, newest, position, moments, moment, is_next, is_after, some}
+use Rattle.mq_rules.specs.Connections.{number, fate, gives_fate, is_binding}
 use Rattle.mq_rules.specs.Rules.{binds}
 use Rattle.mq_rules.specs.Statements.{Statement, on_bytes, on_past, in_session, at_release, at_rest, statement, breaks_bytes, is_false_under, where_accepted, is_false, fails}
 use Rattle.mq_rules.specs.Steps.{given, shows_under, shows, turns}
+use Rattle.mq_rules.proofs.FateLaws.{fate-next}
 use Rattle.mq_rules.proofs.BoolLaws.{and_false, or_false, and-over, or-last, or-turn, not_true, differ}
 
 -- ---- the moment of a position
@@ -53,24 +52,12 @@ moment-within (e ∷ past) k m h = go (is_next past k) h (moment-within past k m
 -- ---- fates
 
 -- a connection's fate with one event more
-pub fate-step : (role : Role) (c : ℕ) (e : Seen) (past : List Seen) → fate role c (e ∷ past) ≡ option_or (fate role c past) (cond (number (newest e past) == c) (decides role e.note) None)
-fate-step role c e past = go (c == 0) (number (newest e past) == c)
-  where
-    older : List Moment
-    older = of_connection c past
-
-    none : (o : Option Fate) → o ≡ option_or o None
-    none None = refl
-    none (Some f) = refl
-
-    go : (z b : Bool) → cond z (Some Void) (first_found (decides role) (cond b (newest e past ∷ older) older)) ≡ option_or (cond z (Some Void) (first_found (decides role) older)) (cond b (decides role e.note) None)
-    go true b = refl
-    go false true = refl
-    go false false = none (first_found (decides role) older)
+pub fate-step : (role : Role) (c : ℕ) (e : Seen) (past : List Seen) → fate role c (e ∷ past) ≡ option_or (fate role c past) (cond (number (newest e past) == c) (gives_fate role (newest e past)) None)
+fate-step role c e past = fate-next role c e past
 
 -- once decided, it stays
 pub fate-kept : (role : Role) (c : ℕ) (f : Fate) (e : Seen) (past : List Seen) → fate role c past ≡ Some f → fate role c (e ∷ past) ≡ Some f
-fate-kept role c f e past h = fate-step role c e past ∙ ap (λ o. option_or o (cond (number (newest e past) == c) (decides role e.note) None)) h
+fate-kept role c f e past h = fate-step role c e past ∙ ap (λ o. option_or o (cond (number (newest e past) == c) (gives_fate role (newest e past)) None)) h
 
 -- ---- each shape
 

@@ -1,5 +1,5 @@
 -- What a statement of a session is about needs a session; so in a log in order each such statement is judged at once.
-use Rattle.std.proofs.Common.{◌≡◌, ℕ, Bool, true, false, ◌&&◌, ◌||◌, List, ◌∷◌, Option, Some, None, is_some, refl, subst}
+use Rattle.std.proofs.Common.{◌≡◌, ℕ, Bool, true, false, ◌&&◌, ◌||◌, List, ◌∷◌, Option, Some, None, is_some, refl, subst, not}
 use Rattle.std.specs.Option.{option_and_then, option_or}
 use Rattle.mq_rules.specs.declared.role.Role.{Role}
 use Rattle.mq_rules.specs.declared.role.Role.TheVariants.{Client, Server}
@@ -15,13 +15,13 @@ use Rattle.mq_rules.specs.declared.packet_note.PacketFields.TheVariants.{Publish
 use Rattle.mq_rules.specs.Words.{is_some_and}
 use Rattle.mq_rules.specs.Notes.{sent_fields, received_fields, sent_publish, is_release, released_id, publish_in, puback_in, pubrec_in, pubrel_in, pubcomp_in, success_pubcomp_in, subscribe_in, unsubscribe_in, suback_in, unsuback_in, grant_in, unsuback_count_in, sent_as, delivery_in, delivery_of, opener_in, opener_of, resend_in, resend_of, is_session_packet, needs_session}
 use Rattle.mq_rules.specs.Moments.{Moment, newest, note}
-use Rattle.mq_rules.specs.Connections.{latest_fate, accepts, IsInOrder}
+use Rattle.mq_rules.specs.Connections.{latest_fate, accepts, IsInOrder, couldnt_know, couldnt_know_resumed, is_placed_release}
 use Rattle.mq_rules.specs.Rules.{binds}
 use Rattle.mq_rules.specs.Identifiers.{taken_by, breaks_S01, breaks_S02, breaks_S03, breaks_S04, breaks_S05, is_delivery, breaks_S07}
 use Rattle.mq_rules.specs.Exchanges.{Exchange, publish_puback, publish_pubrec, pubrec_pubrel, pubrel_pubcomp, subscribe_suback, unsubscribe_unsuback, breaks_A, breaks_O}
 use Rattle.mq_rules.specs.Releases.{breaks_L1, breaks_L2, breaks_L3}
 use Rattle.mq_rules.specs.Subscriptions.{breaks_B01, breaks_B02, breaks_B03, breaks_B04}
-use Rattle.mq_rules.specs.Statements.{Statement, on_bytes, on_past, in_session, at_release, at_rest, statement}
+use Rattle.mq_rules.specs.Statements.{Statement, on_bytes, on_past, in_session, at_release, at_rest, statement, knowing, knowing_resumed, where_placed}
 use Rattle.mq_rules.specs.Steps.{JudgedAtOnce, IsLate}
 use Rattle.mq_rules.proofs.BoolLaws.{both_true}
 use Rattle.mq_rules.proofs.LateLaws.{in_order-late, rest-late, late-turns, release-turns}
@@ -155,26 +155,42 @@ in_turn : (role : Role) (x : Exchange) → ((n : Note) → is_some (x.answer n) 
 unfolding breaks_O
 in_turn role x needs = by_subject role (λ f. breaks_O x) x.answer needs (λ f m t. is_there _ (x.answer (note m)) t)
 
+-- a predicate that is true less often is late too
+late_less : (role : Role) (breaks less : Fate → Moment → Bool) → ((f : Fate) (m : Moment) → less f m ≡ true → breaks f m ≡ true)
+    → ((log : List Seen) → IsInOrder role log → IsLate role breaks log) → (log : List Seen) → IsInOrder role log → IsLate role less log
+late_less role breaks less fewer late log order =
+    let is = late log order in
+    record { decided = λ k m f at t. is.decided k m f at (fewer f m t); no_open = λ k m f at t. is.no_open k m f at (fewer f m t) }
+
+known : (role : Role) (breaks : Fate → Moment → Bool) → ((log : List Seen) → IsInOrder role log → IsLate role breaks log) → (log : List Seen) → IsInOrder role log → IsLate role (knowing role breaks) log
+known role breaks = late_less role breaks (knowing role breaks) (λ f m t. (both_true (breaks f m) (not (couldnt_know role f m)) t).0)
+
+known_resumed : (role : Role) (breaks : Fate → Moment → Bool) → ((log : List Seen) → IsInOrder role log → IsLate role breaks log) → (log : List Seen) → IsInOrder role log → IsLate role (knowing_resumed role breaks) log
+known_resumed role breaks = late_less role breaks (knowing_resumed role breaks) (λ f m t. (both_true (breaks f m) (not (couldnt_know_resumed role f m)) t).0)
+
+placed : (role : Role) (breaks : Fate → Moment → Bool) → ((log : List Seen) → IsInOrder role log → IsLate role breaks log) → (log : List Seen) → IsInOrder role log → IsLate role (where_placed role breaks) log
+placed role breaks = late_less role breaks (where_placed role breaks) (λ f m t. (both_true (breaks f m) (is_placed_release role f m) t).0)
+
 all_late : (role : Role) (rule : Rule) → IsLateInOrder role (statement role rule)
 unfolding breaks_S01 breaks_S02 breaks_S03 breaks_S04 breaks_S05 breaks_S07 breaks_L1 breaks_L2 breaks_L3 breaks_B01 breaks_B02 breaks_B03 breaks_B04
-all_late role S01 = by_subject role (breaks_S01 role) (taken_by role) (taken-needs role) (λ f m t. is_there _ (taken_by role (note m)) t)
-all_late role S02 = by_subject role (breaks_S02 role) resend_of resend-needs (λ f m t. is_there _ (resend_of (note m)) t)
+all_late role S01 = known_resumed role (breaks_S01 role) (by_subject role (breaks_S01 role) (taken_by role) (taken-needs role) (λ f m t. is_there _ (taken_by role (note m)) t))
+all_late role S02 = known role (breaks_S02 role) (by_subject role (breaks_S02 role) resend_of resend-needs (λ f m t. is_there _ (resend_of (note m)) t))
 all_late role S03 = by_subject role (λ f. breaks_S03) resend_of resend-needs (λ f m t. is_there _ (resend_of (note m)) t)
 all_late role S04 = by_subject role (breaks_S04 role) resend_of resend-needs (λ f m t. is_there _ (resend_of (note m)) t)
 all_late role S05 = by_subject role (breaks_S05 role) resend_of resend-needs (λ f m t. is_there _ (resend_of (note m)) t)
 all_late role S07 = by_subject role (λ f. breaks_S07 role) delivery_of delivery-needs (λ f m t. (both_true (is_delivery m) _ t).0)
-all_late role E1A = answered role publish_puback (sent-needs puback_in puback-session)
+all_late role E1A = known role (breaks_A publish_puback role) (answered role publish_puback (sent-needs puback_in puback-session))
 all_late role E1O = in_turn role publish_puback (sent-needs puback_in puback-session)
-all_late role E2A = answered role publish_pubrec (sent-needs pubrec_in pubrec-session)
+all_late role E2A = known role (breaks_A publish_pubrec role) (answered role publish_pubrec (sent-needs pubrec_in pubrec-session))
 all_late role E2O = in_turn role publish_pubrec (sent-needs pubrec_in pubrec-session)
-all_late role E3A = answered role pubrec_pubrel (sent-needs pubrel_in pubrel-session)
+all_late role E3A = known role (breaks_A pubrec_pubrel role) (answered role pubrec_pubrel (sent-needs pubrel_in pubrel-session))
 all_late role E3O = in_turn role pubrec_pubrel (sent-needs pubrel_in pubrel-session)
 all_late role E4A = answered role pubrel_pubcomp (sent-needs pubcomp_in pubcomp-session)
 all_late role E5A = answered role subscribe_suback (sent-needs suback_in suback-session)
 all_late role E6A = answered role unsubscribe_unsuback (sent-needs unsuback_in unsuback-session)
 all_late role E7R = λ log order. rest-late role log
-all_late role L1 = by_subject role (breaks_L1 role) released_id release-needs (λ f m t. is_there _ (released_id (note m)) t)
-all_late role L2 = by_subject role (breaks_L2 role) released_id release-needs (λ f m t. is_there _ (released_id (note m)) t)
+all_late role L1 = placed role (breaks_L1 role) (by_subject role (breaks_L1 role) released_id release-needs (λ f m t. is_there _ (released_id (note m)) t))
+all_late role L2 = placed role (breaks_L2 role) (by_subject role (breaks_L2 role) released_id release-needs (λ f m t. is_there _ (released_id (note m)) t))
 all_late role L3 = by_subject role (breaks_L3 role) (sent_as success_pubcomp_in) (sent-needs success_pubcomp_in success-session) (λ f m t. is_there _ (sent_as success_pubcomp_in (note m)) t)
 all_late role B01 = by_subject role (breaks_B01 role) sent_publish publish-needs (λ f m t. is_there _ (sent_publish (note m)) t)
 all_late role B02 = by_subject role (breaks_B02 role) sent_publish publish-needs (λ f m t. is_there _ (sent_publish (note m)) t)

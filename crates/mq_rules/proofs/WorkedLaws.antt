@@ -14,7 +14,7 @@ use Rattle.mq_rules.specs.Statements.{fails}
 use Rattle.mq_rules.specs.Rules.{found_line, lines, line_of}
 use Rattle.mq_rules.specs.Identifiers.{breaks_S01}
 use Rattle.mq_rules.specs.Exchanges.{shows_R}
-use Rattle.mq_rules.specs.Connections.{is_binding}
+use Rattle.mq_rules.specs.Connections.{is_binding, gives_fate}
 
 abbrev pub sends : PacketFields → Note
 sends f = notes.Sent (items.Packet (record { size = 9; has_reason_string = false; has_user_property = false; fields = f }))
@@ -44,11 +44,11 @@ abbrev pub twice : List Seen
 twice = placed 5 (sends (publish false 1) ∷ sends (publish false 1) ∷ gets (connack false) ∷ sends connect ∷ notes.Open ∷ [])
 
 pub twice_fails : fails client twice 5 S01 ≡ true
-unfolding fails found_line lines line_of breaks_S01
+unfolding gives_fate fails found_line lines line_of breaks_S01
 twice_fails = refl
 
 pub once_passes : fails client twice 4 S01 ≡ false
-unfolding fails found_line lines line_of breaks_S01
+unfolding gives_fate fails found_line lines line_of breaks_S01
 once_passes = refl
 
 -- a PUBLISH that isn't acknowledged at rest
@@ -56,5 +56,5 @@ abbrev pub owed : List Seen
 owed = placed 5 (notes.Rest ∷ gets (publish false 1) ∷ gets (connack false) ∷ sends connect ∷ notes.Open ∷ [])
 
 pub owed_fails : fails client owed 4 E1R ≡ true
-unfolding fails found_line lines line_of shows_R is_binding
+unfolding gives_fate fails found_line lines line_of shows_R is_binding
 owed_fails = refl

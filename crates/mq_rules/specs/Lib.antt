@@ -25,3 +25,4 @@ pub mod Worked
 pub mod Counter
 pub mod FirstRests
 pub mod Naming
+pub mod Histories

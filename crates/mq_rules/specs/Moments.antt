@@ -68,10 +68,14 @@ abbrev pub latest : (Moment → Bool) → List Moment → Option Moment
 latest test [] = None
 latest test (m ∷ ms) = cond (test m) (Some m) (latest test ms)
 
+-- what the earliest moment gives that gives something
+abbrev pub first_given : {A : Type 0} → (Moment → Option A) → List Moment → Option A
+first_given gives [] = None
+first_given gives (m ∷ ms) = option_or (first_given gives ms) (gives m)
+
 -- what is found at the earliest moment that has it
 abbrev pub first_found : {A : Type 0} → (Note → Option A) → List Moment → Option A
-first_found found [] = None
-first_found found (m ∷ ms) = option_or (first_found found ms) (found (note m))
+first_found found ms = first_given (λ m. found (note m)) ms
 
 -- the earliest moment that passes the first test with no later one that passes the second
 abbrev pub earliest_since : (Moment → Bool) → (Moment → Bool) → List Moment → Option Moment

@@ -1,5 +1,5 @@
 -- The chosen statements of MQTT 5.0: one line each, and where each is false.
-use Rattle.std.specs.Prelude.{ℕ, Bool, true, false, ◌&&◌, List, Option, Some}
+use Rattle.std.specs.Prelude.{ℕ, Bool, true, false, ◌&&◌, not, List, Option, Some}
 use denote.Enum.Bare.{sameb}
 use Rattle.mq_packet.specs.declared.rule.PacketRule.{PacketRule}
 use Rattle.mq_packet.specs.declared.rule.PacketRule.TheVariants as packets
@@ -13,7 +13,7 @@ use Rattle.mq_rules.specs.declared.note.Seen.{Seen}
 use Rattle.mq_rules.specs.Words.{is_some_and}
 use Rattle.mq_rules.specs.Notes.{sent_fault}
 use Rattle.mq_rules.specs.Moments.{Moment, note, moments, moment, some, is_after}
-use Rattle.mq_rules.specs.Connections.{number, fate, fate_under, accepts, is_binding}
+use Rattle.mq_rules.specs.Connections.{number, fate, fate_under, accepts, is_binding, couldnt_know, couldnt_know_resumed, is_placed_release}
 use Rattle.mq_rules.specs.Pasts.{breaks_C01, breaks_C02, breaks_C03, breaks_C04, breaks_C05, breaks_C06, breaks_C07, breaks_C08, breaks_C09, breaks_C10, breaks_C11, breaks_C12, breaks_C13, breaks_C14, breaks_C15, breaks_C16, breaks_C17, breaks_C18, breaks_C19, breaks_C20, breaks_C21, breaks_C22, breaks_C23}
 use Rattle.mq_rules.specs.Identifiers.{breaks_S01, breaks_S02, breaks_S03, breaks_S04, breaks_S05, shows_S06, breaks_S07}
 use Rattle.mq_rules.specs.Exchanges.{publish_puback, publish_pubrec, pubrec_pubrel, pubrel_pubcomp, subscribe_suback, unsubscribe_unsuback, breaks_A, breaks_O, shows_R, breaks_E7R}
@@ -37,6 +37,16 @@ pub data Statement : Type 0 where
   at_release : (Fate → Moment → Bool) → Statement
   -- by the past of a session, at the second moment, as the first one shows, which is a later binding REST
   at_rest : (Moment → Moment → Bool) → Statement
+
+-- a predicate on a session, but where a client couldn't know of what it breaks; or couldn't know that a session is resumed; or where it isn't known to which session a RELEASE belongs
+abbrev pub knowing : Role → (Fate → Moment → Bool) → Fate → Moment → Bool
+knowing role breaks f m = breaks f m && not (couldnt_know role f m)
+
+abbrev pub knowing_resumed : Role → (Fate → Moment → Bool) → Fate → Moment → Bool
+knowing_resumed role breaks f m = breaks f m && not (couldnt_know_resumed role f m)
+
+abbrev pub where_placed : Role → (Fate → Moment → Bool) → Fate → Moment → Bool
+where_placed role breaks f m = breaks f m && is_placed_release role f m
 
 -- The statements.
 abbrev pub statement : Role → Rule → Statement
@@ -84,20 +94,20 @@ statement role C20 = on_past breaks_C20
 statement role C21 = on_past breaks_C21
 statement role C22 = on_past breaks_C22
 statement role C23 = on_past (breaks_C23 role)
-statement role S01 = in_session (breaks_S01 role)
-statement role S02 = in_session (breaks_S02 role)
+statement role S01 = in_session (knowing_resumed role (breaks_S01 role))
+statement role S02 = in_session (knowing role (breaks_S02 role))
 statement role S03 = in_session (λ f. breaks_S03)
 statement role S04 = in_session (breaks_S04 role)
 statement role S05 = in_session (breaks_S05 role)
 statement role S06 = at_rest (shows_S06 role)
 statement role S07 = in_session (λ f. breaks_S07 role)
-statement role E1A = in_session (breaks_A publish_puback role)
+statement role E1A = in_session (knowing role (breaks_A publish_puback role))
 statement role E1R = at_rest (shows_R publish_puback)
 statement role E1O = in_session (λ f. breaks_O publish_puback)
-statement role E2A = in_session (breaks_A publish_pubrec role)
+statement role E2A = in_session (knowing role (breaks_A publish_pubrec role))
 statement role E2R = at_rest (shows_R publish_pubrec)
 statement role E2O = in_session (λ f. breaks_O publish_pubrec)
-statement role E3A = in_session (breaks_A pubrec_pubrel role)
+statement role E3A = in_session (knowing role (breaks_A pubrec_pubrel role))
 statement role E3R = at_rest (shows_R pubrec_pubrel)
 statement role E3O = in_session (λ f. breaks_O pubrec_pubrel)
 statement role E4A = in_session (breaks_A pubrel_pubcomp role)
@@ -107,8 +117,8 @@ statement role E5R = at_rest (shows_R subscribe_suback)
 statement role E6A = in_session (breaks_A unsubscribe_unsuback role)
 statement role E6R = at_rest (shows_R unsubscribe_unsuback)
 statement role E7R = in_session (λ f. breaks_E7R role)
-statement role L1 = at_release (breaks_L1 role)
-statement role L2 = at_release (breaks_L2 role)
+statement role L1 = at_release (where_placed role (breaks_L1 role))
+statement role L2 = at_release (where_placed role (breaks_L2 role))
 statement role L3 = in_session (breaks_L3 role)
 statement role B01 = in_session (breaks_B01 role)
 statement role B02 = in_session (breaks_B02 role)

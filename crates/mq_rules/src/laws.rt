@@ -16,7 +16,7 @@ ghost use Rattle.mq_rules.specs.declared.faults.FaultKey.{FaultKey};
 ghost use Rattle.mq_rules.specs.Words.{is_some_and};
 ghost use Rattle.mq_rules.specs.Notes.{is_open, decides, needs_session};
 ghost use Rattle.mq_rules.specs.Moments.{Moment, newest, note, moment, is_next};
-ghost use Rattle.mq_rules.specs.Connections.{begun, fate, latest_fate, accepts, IsInOrder};
+ghost use Rattle.mq_rules.specs.Connections.{begun, fate, latest_fate, gives_fate, accepts, IsInOrder};
 ghost use Rattle.mq_rules.specs.Rules.{binds};
 ghost use Rattle.mq_rules.specs.Statements.{on_bytes, on_past, in_session, at_release, statement, breaks_bytes, fails, fails_under};
 ghost use Rattle.mq_rules.specs.Steps.{given, turns, JudgedAtOnce, IsLate};
@@ -64,13 +64,13 @@ pub fn decided_is_shortest()
 /// After an OPEN the latest connection is undecided. After any other event it has the fate that it
 /// had, or else the one that the event decides.
 pub fn latest_fate_goes_on()
-    ensures { (role : Role) (e : Seen) (past : List Seen) → latest_fate role (e ∷ past) ≡ cond (is_open e.note) None (option_or (latest_fate role past) (decides role e.note)) }
+    ensures { (role : Role) (e : Seen) (past : List Seen) → latest_fate role (e ∷ past) ≡ cond (is_open e.note) None (option_or (latest_fate role past) (gives_fate role (newest e past))) }
 {}
 
 /// An event gives a fate only to the latest connection, if that is undecided before it, and gives
 /// the fate that it decides. An OPEN gives none.
 pub fn given_fate_is_decided()
-    ensures { (role : Role) (e : Seen) (past : List Seen) (c : ℕ) (f : Fate) → given role e past c ≡ Some f → (c ≡ begun past) × (is_open e.note ≡ false) × (decides role e.note ≡ Some f) × (fate role c past ≡ None) }
+    ensures { (role : Role) (e : Seen) (past : List Seen) (c : ℕ) (f : Fate) → given role e past c ≡ Some f → (c ≡ begun past) × (is_open e.note ≡ false) × (gives_fate role (newest e past) ≡ Some f) × (fate role c past ≡ None) }
 {}
 
 /// An OPEN doesn't decide a connection, and doesn't need a session.
@@ -107,7 +107,7 @@ pub fn sessions_are_judged_at_once()
 /// with the event that decides that fate, with another event while the connection is undecided, and
 /// with its OPEN. If that connection has the fate already, what fails under it is what fails.
 pub fn fated_failing_turns()
-    ensures decides { (tested : Tested) (f : Fate) (e : Seen) (past : List Seen) (k : ℕ) (rule : Rule) → latest_fate tested.role past ≡ None → decides tested.role e.note ≡ Some f → fails tested (e ∷ past) k rule ≡ (fails_under tested f past k rule || (is_next past k && fails tested (e ∷ past) k rule)) }
+    ensures decides { (tested : Tested) (f : Fate) (e : Seen) (past : List Seen) (k : ℕ) (rule : Rule) → latest_fate tested.role past ≡ None → gives_fate tested.role (newest e past) ≡ Some f → fails tested (e ∷ past) k rule ≡ (fails_under tested f past k rule || (is_next past k && fails tested (e ∷ past) k rule)) }
     ensures goes_on { (tested : Tested) (f : Fate) (e : Seen) (past : List Seen) (k : ℕ) (rule : Rule) → is_open e.note ≡ false → latest_fate tested.role past ≡ None → fails_under tested f (e ∷ past) k rule ≡ (fails_under tested f past k rule || (is_next past k && fails_under tested f (e ∷ past) k rule)) }
     ensures opens { (tested : Tested) (f : Fate) (e : Seen) (past : List Seen) (k : ℕ) (rule : Rule) → is_open e.note ≡ true → fails_under tested f (e ∷ past) k rule ≡ (fails tested past k rule || (is_next past k && fails_under tested f (e ∷ past) k rule)) }
     ensures known { (tested : Tested) (f : Fate) (log : List Seen) (k : ℕ) (rule : Rule) → latest_fate tested.role log ≡ Some f → fails_under tested f log k rule ≡ fails tested log k rule }

@@ -14,6 +14,7 @@ mod copying;
 mod fate;
 mod fault;
 mod faults;
+mod history;
 mod laws;
 mod naming;
 mod note;
@@ -40,6 +41,7 @@ pub use conn::Conn;
 pub use fate::Fate;
 pub use fault::Fault;
 pub use faults::{FaultKey, Faults, Memory};
+pub use history::History;
 pub use laws::{
     decided_is_shortest, entries_are_listed, failing_is_decided, failing_stays, failing_turns,
     fated_failing_turns, faults_grow, given_fate_is_decided, late_is_judged_at_once,

@@ -6,9 +6,9 @@ ghost use Rattle.mq_trace.specs.Refusals.{refused};
 ghost use Rattle.mq_rules.specs.declared.role.Role.{Role};
 ghost use Rattle.mq_rules.specs.declared.fate.Fate.{Fate};
 ghost use Rattle.mq_rules.specs.declared.note.Seen.{Seen};
-ghost use Rattle.mq_rules.specs.Notes.{is_open, decides, seen_in, tested_by};
+ghost use Rattle.mq_rules.specs.Notes.{is_open, seen_in, tested_by};
 ghost use Rattle.mq_rules.specs.Moments.{Moment, newest, moments, some, since, latest, Among, IsPlaced};
-ghost use Rattle.mq_rules.specs.Connections.{begun, connection, fate, latest_fate, begins, has_session, session, fate_under, IsInSession, is_alive_after, IsAlive, IsInOrder, AreOnConnections};
+ghost use Rattle.mq_rules.specs.Connections.{begun, connection, fate, latest_fate, gives_fate, begins, has_session, session, fate_under, IsInSession, is_alive_after, IsAlive, IsInOrder, AreOnConnections};
 ghost use Rattle.mq_rules.specs.Under.{IsInTurn};
 ghost use Rattle.mq_rules.specs.Folds.{folded, ByPackets, where_in, kept_by, session_since, gained, since_by, some_by, latest_by};
 
@@ -27,8 +27,8 @@ pub fn fate_stays()
 /// One more event can decide only its own connection, if that is undecided. An OPEN begins an
 /// undecided one.
 pub fn event_decides_its_connection()
-    ensures any { (role : Role) (c : ℕ) (e : Seen) (past : List Seen) → fate role c (e ∷ past) ≡ option_or (fate role c past) (cond (begun (e ∷ past) == c) (decides role e.note) None) }
-    ensures latest { (role : Role) (e : Seen) (past : List Seen) → latest_fate role (e ∷ past) ≡ cond (is_open e.note) None (option_or (latest_fate role past) (decides role e.note)) }
+    ensures any { (role : Role) (c : ℕ) (e : Seen) (past : List Seen) → fate role c (e ∷ past) ≡ option_or (fate role c past) (cond (begun (e ∷ past) == c) (gives_fate role (newest e past)) None) }
+    ensures latest { (role : Role) (e : Seen) (past : List Seen) → latest_fate role (e ∷ past) ≡ cond (is_open e.note) None (option_or (latest_fate role past) (gives_fate role (newest e past))) }
 {}
 
 /// `since`, `some` and `latest` are folds.

@@ -6,10 +6,11 @@ ghost use Rattle.mq_rules.specs.Words.{is_some_and};
 ghost use Rattle.mq_rules.specs.Notes.{resend_of};
 ghost use Rattle.mq_rules.specs.Connections.{accepts};
 ghost use Rattle.mq_books.specs.Owings.{Keeps};
+ghost use Rattle.mq_books.specs.Knowing as knowing;
 ghost use Rattle.mq_books.specs.Using.{in_delivery, takes_busy, judged_all, unopened, past_pubrel, out_of_order, resent_by, resent_next};
 
 use super::entry::Entry;
-use crate::known::judge_by;
+use crate::known::{excuse, judge_by};
 use indexmap::{IndexMap, IndexSet};
 use mq_rules::{Fate, Faults, Memory, Note, Role, Rule};
 use mq_trace::Place3;
@@ -27,6 +28,20 @@ pub struct Broken {
     pub past_pubrel: bool,
     /// S05: it sends a PUBLISH again after one that was opened later.
     pub out_of_order: bool,
+}
+
+/// What an event breaks, but for what may surprise the end while the fate of the connection isn't
+/// known.
+pub fn all_excused(fate: Fate, known: bool, broken: Broken) -> Broken
+    ensures { result ≡ knowing.all_excused fate known broken }
+{
+    Broken {
+        takes_busy: excuse(fate.is_unasked(), known, broken.takes_busy),
+        unopened: excuse(fate.surprises(), known, broken.unopened),
+        twice: broken.twice,
+        past_pubrel: broken.past_pubrel,
+        out_of_order: broken.out_of_order,
+    }
 }
 
 // Whether an identifier is in use.

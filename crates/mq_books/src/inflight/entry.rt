@@ -140,7 +140,7 @@ pub fn take_entries(
     ensures unique { IsUnique nat_eq entries.old → OnOk result (IsUnique nat_eq entries.new) }
 {
     if note.is_open() {
-        if matches!(fate, Fate::New) {
+        if fate.begins() {
             // A large map that is cleared costs its size each time.
             *entries = IndexMap::new(alloc);
         }

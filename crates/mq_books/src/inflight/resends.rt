@@ -133,7 +133,7 @@ pub fn take_confirmed(
     ensures { OnOk result ((i : ℕ) → contains nat_eq confirmed.new i ≡ confirmed_next fate note.now (get nat_eq entries.now) i (contains nat_eq confirmed.old i)) }
 {
     if note.is_open() {
-        if matches!(fate, Fate::New) {
+        if fate.begins() {
             // A large set that is cleared costs its size each time.
             *confirmed = IndexSet::new(alloc);
         }

@@ -8,7 +8,8 @@ pub const E1A: &str = "E1A both MQTT-2.2.1-5\n\
     Judged: At a PUBACK, on a connection that the server accepted, whose identifier\n\
     has no unanswered PUBLISH of QoS 1 before it: none in the session, or only ones\n\
     that were answered on this connection. Decided at once, or at the CONNACK if\n\
-    that comes later.\n\n\
+    that comes later. Before a CONNACK it isn't judged if that begins a session\n\
+    though the client asked for its own, or resumes one that it couldn't expect.\n\n\
     In a client: A PUBACK is sent twice, once by the library and once by the\n\
     application, or with the identifier of another message. Keep a list of what is\n\
     to be acknowledged, and take each entry out as it is answered.\n\n\
@@ -55,7 +56,8 @@ pub const E2A: &str = "E2A both MQTT-2.2.1-5\n\
     Judged: At a PUBREC, on a connection that the server accepted, whose identifier\n\
     has no unanswered PUBLISH of QoS 2 before it: none in the session, or only ones\n\
     that were answered on this connection. Decided at once, or at the CONNACK if\n\
-    that comes later.\n\n\
+    that comes later. Before a CONNACK it isn't judged if that begins a session\n\
+    though the client asked for its own, or resumes one that it couldn't expect.\n\n\
     In a client: A PUBREC answers a PUBLISH of QoS 1, or is sent a second time.\n\
     Choose the answer by the QoS of the PUBLISH, and send it once for each.\n\n\
     In a server: A PUBREC answers a PUBLISH of QoS 1, or is sent again after a\n\
@@ -100,7 +102,8 @@ pub const E3A: &str = "E3A both MQTT-2.2.1-5\n\
     Judged: At a PUBREL, on a connection that the server accepted, whose identifier\n\
     has no unanswered PUBREC below 0x80 before it: none in the session, or only ones\n\
     that were answered on this connection. Decided at once, or at the CONNACK if\n\
-    that comes later.\n\n\
+    that comes later. Before a CONNACK it isn't judged if that begins a session\n\
+    though the client asked for its own, or resumes one that it couldn't expect.\n\n\
     In a client: A PUBREL follows a PUBREC of 0x80 or more, or is sent after a\n\
     reconnect for a message whose PUBREC never came. Look at the Reason Code, and\n\
     keep for each message whether its PUBREC came.\n\n\

@@ -8,7 +8,8 @@ pub const L1: &str = "L1 both sec-4.3.3\n\
     is over, delivers a message twice, or one that never came.\n\n\
     Judged: At a RELEASE. Decided at once; on a connection whose CONNACK hasn't\n\
     come, at the CONNACK or at the CLOSE. This is judged where the log's header says\n\
-    that releases are recorded.\n\n\
+    that releases are recorded, but not before a CONNACK that begins a session,\n\
+    where the message may be of the session before.\n\n\
     In a client: The message is handed to the application again from the store after\n\
     its PUBCOMP, or after a PUBREC that refused it. Delete the stored message when\n\
     it is handed on, or refused.\n\n\
@@ -25,7 +26,8 @@ pub const L2: &str = "L2 both MQTT-4.3.3-10\n\
     Judged: At the second RELEASE under the identifier in a session, with no PUBCOMP\n\
     and no PUBREC of 0x80 or more between. Decided at once; on a connection whose\n\
     CONNACK hasn't come, at the CONNACK or at the CLOSE. This is judged where the\n\
-    log's header says that releases are recorded.\n\n\
+    log's header says that releases are recorded, but not before a CONNACK that\n\
+    begins a session, where the message may be of the session before.\n\n\
     In a client: A PUBLISH with DUP 1 is handed on like a new one, or the message\n\
     goes out both at the PUBLISH and at the PUBREL. Keep the identifiers that were\n\
     received, and release a message at one point only.\n\n\

@@ -11,7 +11,8 @@ pub const S01: &str = "S01 both MQTT-2.2.1-3;MQTT-2.2.1-4\n\
     UNSUBSCRIBE, on a connection that the server accepted. Decided at once, or at\n\
     the CONNACK if that comes later. An identifier is in use in the whole session\n\
     until a PUBACK, a PUBCOMP or a PUBREC of 0x80 or more; that of a SUBSCRIBE or\n\
-    UNSUBSCRIBE until its answer.\n\n\
+    UNSUBSCRIBE until its answer. Before a CONNACK that resumes a session which the\n\
+    client couldn't expect it isn't judged.\n\n\
     In a client: The counter continues or starts over without regard to what is\n\
     unacknowledged, often after a reconnect or a restart. Keep the set of\n\
     identifiers in use with the session's store, and draw only free ones, for all\n\
@@ -29,7 +30,9 @@ pub const S02: &str = "S02 both MQTT-4.3.2-2,MQTT-4.3.3-2\n\
     Judged: At a PUBLISH with DUP 1 of QoS above 0, whose identifier isn't open in\n\
     the session and which wasn't sent before on a void connection (refused, or\n\
     closed without a CONNACK), on a connection that the server accepted. Decided at\n\
-    once, or at the CONNACK if that comes later.\n\n\
+    once, or at the CONNACK if that comes later. Before a CONNACK it isn't judged if\n\
+    that begins a session though the client asked for its own, or resumes one that\n\
+    it couldn't expect.\n\n\
     In a client: DUP is set for every message from the queue after a reconnect, also\n\
     for those that never left. Set it only where a PUBLISH was written before; and\n\
     drop a message when its acknowledgement comes.\n\n\

@@ -23,6 +23,7 @@ mod resends;
 mod shapes;
 mod subscriptions;
 pub mod suite;
+mod untold;
 mod worked;
 
 use super::harness::{FAULTY, PASSED, REFUSED, add_timed_record, is_reported, weight_of};
@@ -301,6 +302,12 @@ fn judges_sessions_over_several_connections(rt: HostRuntime) -> Result<(), Fail>
 #[test]
 fn judges_packets_before_the_connack(rt: HostRuntime) -> Result<(), Fail> {
     assert_eq!(rt; first_wrong(rt.alloc(), early::ROWS)?, None);
+    Ok(())
+}
+
+#[test]
+fn judges_what_an_end_cannot_know(rt: HostRuntime) -> Result<(), Fail> {
+    assert_eq!(rt; first_wrong(rt.alloc(), untold::ROWS)?, None);
     Ok(())
 }
 

@@ -9,7 +9,7 @@ ghost use Rattle.mq_plain.specs.Lookback.{answer_by};
 
 use crate::exchanges::Exchange;
 use crate::judging::SessionStatement;
-use crate::session::{begins_at, fate_before, is_accepted};
+use crate::session::{begins_at, couldnt_know, fate_before, is_accepted, unless_unknown};
 use mq_rules::{Fate, Memory, Note, Role, Rule, Seen};
 use std::alloc::Global;
 use std::marker::PhantomData;
@@ -20,10 +20,11 @@ pub struct Asked<X: Exchange>(PhantomData<X>);
 
 impl<X: Exchange> SessionStatement for Asked<X> {
     ghost use Rattle.mq_rules.specs.Exchanges.{breaks_A};
+    ghost use Rattle.mq_plain.specs.Knowing.{if_early};
 
     ghost judged = { X.asked };
 
-    ghost breaks = { breaks_A X.exchange };
+    ghost breaks = { λ role. if_early X.early role (breaks_A X.exchange role) };
 
     fn rule() -> Rule {
         X::asked_rule()
@@ -36,7 +37,11 @@ impl<X: Exchange> SessionStatement for Asked<X> {
         event: &Seen,
         before: &[Seen],
     ) -> Result<bool, Memory> {
-        Ok(lacks_cause::<X>(role, fate, event, before))
+        let unasked = lacks_cause::<X>(role, fate, event, before);
+        if !X::may_be_early() {
+            return Ok(unasked);
+        }
+        Ok(unless_unknown(unasked, couldnt_know(role, fate, before)))
     }
 
     ghost says = { X.says_asked };

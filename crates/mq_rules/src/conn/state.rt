@@ -143,8 +143,8 @@ impl ConnectionState {
             return false;
         }
         match self.fate {
-            Some(Fate::New | Fate::Resumed) => self.expiry() != 0,
-            Some(Fate::Void) | None => self.may_be_accepted() || self.was_alive,
+            Some(fate) if fate.accepts() => self.expiry() != 0,
+            _ => self.may_be_accepted() || self.was_alive,
         }
     }
 

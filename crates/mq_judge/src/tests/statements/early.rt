@@ -19,10 +19,11 @@ a PUBACK owed for a PUBLISH before the CONNACK | client OPEN >CONNECT <PUBLISH1:
 a PUBACK for nothing | client OPEN >CONNECT >PUBACK:1 <CONNACK | fault 3 E1A MQTT-2.2.1-5 decided 4 record 3 offset -; fail 1 faults 4 events
 two in another order | client OPEN >CONNECT <PUBLISH1:1 <PUBLISH1:2 >PUBACK:2 >PUBACK:1 <CONNACK | fault 5 E1O MQTT-4.6.0-2 decided 7 record 5 offset -; fail 1 faults 7 events
 a REST before the CONNACK doesn't bind | client OPEN >CONNECT <PUBLISH1:1 REST <CONNACK | pass 5 events
-a release of nothing, in an accepted connection | client OPEN >CONNECT RELEASE:1 <CONNACK | fault 3 L1 sec-4.3.3 decided 4 record 3 offset -; fail 1 faults 4 events
-in one that closes | client OPEN >CONNECT RELEASE:1 CLOSE | fault 3 L1 sec-4.3.3 decided 4 record 3 offset -; fail 1 faults 4 events
+a release of nothing, before the CONNACK of a new session | client OPEN >CONNECT RELEASE:1 <CONNACK | pass 4 events
+on a connection that closes, with Clean Start 1 | client OPEN >CONNECT RELEASE:1 CLOSE | pass 4 events
+with Clean Start 0 | client OPEN >RECONNECT RELEASE:1 CLOSE | fault 3 L1 sec-4.3.3 decided 4 record 3 offset -; fail 1 faults 4 events
 while it is undecided | client OPEN >CONNECT RELEASE:1 | pass 3 events
 a release of a message of the session before, on a connection that is refused | client OPEN >CONNECT-KEPT <CONNACK <PUBLISH2:1 CLOSE OPEN >RECONNECT RELEASE:1 <CONNACK-REFUSED | pass 9 events
-and in a new session | client OPEN >CONNECT-KEPT <CONNACK <PUBLISH2:1 CLOSE OPEN >RECONNECT RELEASE:1 <CONNACK | fault 8 L1 sec-4.3.3 decided 9 record 8 offset -; fail 1 faults 9 events
+and before the CONNACK of a new session | client OPEN >CONNECT-KEPT <CONNACK <PUBLISH2:1 CLOSE OPEN >RECONNECT RELEASE:1 <CONNACK | pass 9 events
 a topic of the session before, in a new one | server OPEN <CONNECT-KEPT >CONNACK <SUBSCRIBE:1 CLOSE OPEN <RECONNECT >PUBLISH0 >CONNACK | fault 8 C05 MQTT-3.2.0-1 decided 8 record 8 offset -; fault 8 B01 MQTT-3.3.2-3 decided 9 record 8 offset -; fail 2 faults 9 events
 in a resumed one | server OPEN <CONNECT-KEPT >CONNACK <SUBSCRIBE:1 CLOSE OPEN <RECONNECT >PUBLISH0 >CONNACK-RESUMED | fault 8 C05 MQTT-3.2.0-1 decided 8 record 8 offset -; fail 1 faults 9 events";

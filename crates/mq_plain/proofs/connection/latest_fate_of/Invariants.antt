@@ -1,11 +1,9 @@
-use Rattle.std.proofs.Common.{◌≡◌, None, length}
+use Rattle.std.proofs.Common.{◌≡◌, take}
 use Rattle.std.specs.Prelude.{reverse}
-use Rattle.mq_plain.proofs.LookbackLaws.{fate_back}
+use Rattle.mq_rules.specs.Connections.{latest_fate}
+use Rattle.mq_rules.specs.Histories.{history}
 use Rattle.mq_plain.proofs.connection.latest_fate_of.Given as goal
 
--- what is left to look at decides, where what was seen doesn't
+-- the fate after the events so far, and what is kept of them
 abbrev pub invariant-loop-event : goal.invariant-loop-event
-invariant-loop-event l = fate_back l.role l.found (reverse l.earlier) ≡ fate_back l.role None (reverse l.before)
-
-abbrev pub decreases-loop-event : goal.decreases-loop-event
-decreases-loop-event l = length l.earlier
+invariant-loop-event l = (l.fate ≡ latest_fate l.role (reverse (take l.event-index l.before))) × (l.history ≡ history l.role (reverse (take l.event-index l.before)))

@@ -22,8 +22,9 @@ pub returns : goal.returns
 returns c = λ rest placed.
     let past = reverse c.args.before.now in
     let is : c.is_resumed.result ≡ true = search rules in
-    let fate : latest_fate c.args.role past ≡ Some Resumed = sym c.latest_fate_of.ensures ∙ resumed-is c.latest_fate_of.result (sym c.is_resumed.ensures ∙ is) in
+    let f = resumed-is c.latest_fate_of.result (sym c.is_resumed.ensures ∙ is) in
+    let fate : latest_fate c.args.role past ≡ Some f.0 = sym c.latest_fate_of.ensures ∙ f.1 in
     IfOk-weaker c.owed_in_session.result (λ places. IsShown (owes c.is_excused.result (at c.in_ok-again.again) (session c.args.role (Some Resumed) past)) past places.items)
     (λ places. IsShown (shows_S06 c.args.role (newest rest past)) past places.items)
-    (λ places shown. shown-owed c.args.role rest past (at c.in_ok-again.again) c.is_excused.result places.items fate c.in_ok-again.ensures (c.is_excused.ensures rest) shown)
+    (λ places shown. shown-owed c.args.role rest past (at c.in_ok-again.again) c.is_excused.result places.items f.0 fate f.2 c.in_ok-again.ensures (c.is_excused.ensures rest) shown)
     (c.owed_in_session.ensures placed)

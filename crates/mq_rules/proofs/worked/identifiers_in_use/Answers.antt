@@ -3,47 +3,48 @@ use Rattle.mq_rules.specs.Rules.{found_line, lines, line_of}
 use Rattle.mq_rules.specs.Statements.{fails}
 use Rattle.mq_rules.specs.Identifiers.{breaks_S01}
 use Rattle.mq_rules.proofs.worked.identifiers_in_use.Goals as goal
+use Rattle.mq_rules.specs.Connections.{gives_fate}
 
 pub returns-clause-client_breaks : goal.returns-clause-client_breaks
-unfolding fails found_line lines line_of breaks_S01
+unfolding gives_fate fails found_line lines line_of breaks_S01
 returns-clause-client_breaks c = refl
 
 pub returns-clause-client_keeps : goal.returns-clause-client_keeps
-unfolding fails found_line lines line_of breaks_S01
+unfolding gives_fate fails found_line lines line_of breaks_S01
 returns-clause-client_keeps c = refl
 
 pub returns-clause-client_breaks_pubrec : goal.returns-clause-client_breaks_pubrec
-unfolding fails found_line lines line_of breaks_S01
+unfolding gives_fate fails found_line lines line_of breaks_S01
 returns-clause-client_breaks_pubrec c = refl
 
 pub returns-clause-client_keeps_refused : goal.returns-clause-client_keeps_refused
-unfolding fails found_line lines line_of breaks_S01
+unfolding gives_fate fails found_line lines line_of breaks_S01
 returns-clause-client_keeps_refused c = refl
 
 pub returns-clause-client_breaks_resumed : goal.returns-clause-client_breaks_resumed
-unfolding fails found_line lines line_of breaks_S01
+unfolding gives_fate fails found_line lines line_of breaks_S01
 returns-clause-client_breaks_resumed c = refl
 
 pub returns-clause-client_keeps_anew : goal.returns-clause-client_keeps_anew
-unfolding fails found_line lines line_of breaks_S01
+unfolding gives_fate fails found_line lines line_of breaks_S01
 returns-clause-client_keeps_anew c = refl
 
 pub returns-clause-client_subscribes_breaks : goal.returns-clause-client_subscribes_breaks
-unfolding fails found_line lines line_of breaks_S01
+unfolding gives_fate fails found_line lines line_of breaks_S01
 returns-clause-client_subscribes_breaks c = refl
 
 pub returns-clause-client_subscribes_keeps : goal.returns-clause-client_subscribes_keeps
-unfolding fails found_line lines line_of breaks_S01
+unfolding gives_fate fails found_line lines line_of breaks_S01
 returns-clause-client_subscribes_keeps c = refl
 
 pub returns-clause-client_breaks_void_closer : goal.returns-clause-client_breaks_void_closer
-unfolding fails found_line lines line_of breaks_S01
+unfolding gives_fate fails found_line lines line_of breaks_S01
 returns-clause-client_breaks_void_closer c = refl
 
 pub returns-clause-server_breaks : goal.returns-clause-server_breaks
-unfolding fails found_line lines line_of breaks_S01
+unfolding gives_fate fails found_line lines line_of breaks_S01
 returns-clause-server_breaks c = refl
 
 pub returns-clause-server_keeps : goal.returns-clause-server_keeps
-unfolding fails found_line lines line_of breaks_S01
+unfolding gives_fate fails found_line lines line_of breaks_S01
 returns-clause-server_keeps c = refl

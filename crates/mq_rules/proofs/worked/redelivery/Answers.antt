@@ -1,26 +1,26 @@
 use Rattle.std.proofs.Common.{refl}
 use Rattle.mq_rules.specs.Rules.{found_line, lines, line_of}
 use Rattle.mq_rules.specs.Statements.{fails}
-use Rattle.mq_rules.specs.Connections.{is_binding}
+use Rattle.mq_rules.specs.Connections.{is_binding, gives_fate}
 use Rattle.mq_rules.specs.Identifiers.{shows_S06}
 use Rattle.mq_rules.proofs.worked.redelivery.Goals as goal
 
 pub returns-clause-breaks : goal.returns-clause-breaks
-unfolding fails found_line lines line_of shows_S06 is_binding
+unfolding gives_fate fails found_line lines line_of shows_S06 is_binding
 returns-clause-breaks c = refl
 
 pub returns-clause-keeps : goal.returns-clause-keeps
-unfolding fails found_line lines line_of shows_S06 is_binding
+unfolding gives_fate fails found_line lines line_of shows_S06 is_binding
 returns-clause-keeps c = refl
 
 pub returns-clause-keeps_announced : goal.returns-clause-keeps_announced
-unfolding fails found_line lines line_of shows_S06 is_binding
+unfolding gives_fate fails found_line lines line_of shows_S06 is_binding
 returns-clause-keeps_announced c = refl
 
 pub returns-clause-server_breaks : goal.returns-clause-server_breaks
-unfolding fails found_line lines line_of shows_S06 is_binding
+unfolding gives_fate fails found_line lines line_of shows_S06 is_binding
 returns-clause-server_breaks c = refl
 
 pub returns-clause-server_keeps : goal.returns-clause-server_keeps
-unfolding fails found_line lines line_of shows_S06 is_binding
+unfolding gives_fate fails found_line lines line_of shows_S06 is_binding
 returns-clause-server_keeps c = refl

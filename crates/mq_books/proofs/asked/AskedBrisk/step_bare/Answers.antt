@@ -9,6 +9,8 @@ use Rattle.mq_rules.proofs.Exports.{bare-closed}
 use Rattle.mq_books.specs.Quotas.{judged_by}
 use Rattle.mq_books.specs.Askings.{answered_by, is_unasked, IsAsked}
 use Rattle.mq_books.proofs.KnownLaws.{knows, known-gains}
+use Rattle.mq_rules.specs.Connections.{surprises}
+use Rattle.mq_books.proofs.KnowingLaws.{excused-late}
 use Rattle.mq_books.proofs.AskedLaws.{asked-next, asked-gains}
 use Rattle.mq_books.proofs.asked.AskedBrisk.step_bare.Goals as goal
 
@@ -40,6 +42,7 @@ returns-clause-grows g c = λ tested taken past follows known q.
     known-gains tested s.fate taken (λ r. same_rule r g.X.Exchange.asked) e past m c.judge_by.new.faults k
     (subst (λ (n : FaultMap). Gains (λ k r. same_rule r g.X.Exchange.asked && turns_with tested s.fate e past k r) tested (e ∷ past) e.place.position m n)
     (sym (c.in_ok-judge_by.ensures.ok ∙ ap (λ r. judged_by c.is_unasked-broken.result r e.place e.place.position m) c.asked_rule.ensures))
-    (asked-gains tested g.X.Exchange.asked x g.met.X.Exchange.apart (g.met.X.Exchange.says_asked tested.role) s.fate s.fate s.opened (get nat_eq s.answered) e.place.position e past m s.binds c.is_unasked-broken.result
-    follows.placed.0 (subst (λ o. IsAsked x s.fate s.opened (get nat_eq s.answered) tested o past) k.before q.1) q.0
-    (c.is_unasked-broken.ensures ∙ ap (λ o. s.binds && is_unasked s.fate s.opened o (get nat_eq s.answered)) c.bare_answer-answer.ensures)))
+    (asked-gains tested g.X.Exchange.asked x g.X.Exchange.early g.met.X.Exchange.apart (g.met.X.Exchange.says_asked tested.role) s.fate s.fate s.opened (get nat_eq s.answered) e.place.position e past m s.binds c.is_unasked-broken.result
+    k.under (subst (λ o. IsAsked x s.fate s.opened (get nat_eq s.answered) tested o past) k.before q.1) q.0
+    (c.is_unasked-broken.ensures ∙ ap (λ o. s.binds && is_unasked s.fate s.opened o (get nat_eq s.answered)) c.bare_answer-answer.ensures
+    ∙ excused-late (g.X.Exchange.early && surprises s.fate) (s.binds && is_unasked s.fate s.opened (x.answer e.note) (get nat_eq s.answered)) e.place.position)))

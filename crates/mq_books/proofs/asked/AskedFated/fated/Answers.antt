@@ -1,4 +1,4 @@
-use Rattle.std.proofs.Common.{◌&&◌, ◌∷◌, nat_eq, subst, sym, ap, ◌∙◌}
+use Rattle.std.proofs.Common.{◌&&◌, ◌∷◌, nat_eq, subst, sym, ap, ◌∙◌, ◌==◌}
 use Rattle.indexmap.specs.IndexMap.{get}
 use Rattle.mq_rules.specs.Rules.{same_rule}
 use Rattle.mq_rules.specs.FaultKeys.{FaultMap}
@@ -6,6 +6,8 @@ use Rattle.mq_rules.specs.Under.{seen, turns_with}
 use Rattle.mq_rules.specs.Growing.{Gains}
 use Rattle.mq_books.specs.Quotas.{judged_by}
 use Rattle.mq_books.specs.Askings.{answered_by, answered_next, is_unasked}
+use Rattle.mq_rules.specs.Connections.{surprises}
+use Rattle.mq_books.specs.Knowing.{excused}
 use Rattle.mq_books.proofs.AskedLaws.{asked-next, asked-gains}
 use Rattle.mq_books.proofs.asked.AskedFated.fated.Goals as goal
 
@@ -27,6 +29,8 @@ returns-clause-grows g c = λ tested past under q.
     let e = seen c.args.at c.args.note.now in
     let m = c.args.faults.now in
     subst (λ (n : FaultMap). Gains (λ k r. same_rule r g.X.Exchange.asked && turns_with tested c.args.fate e past k r) tested (e ∷ past) c.args.decided m n)
-    (sym (c.in_ok-judge_by.ensures.ok ∙ ap (λ r. judged_by c.is_unasked-broken.result r e.place c.args.decided m) c.asked_rule.ensures))
-    (asked-gains tested g.X.Exchange.asked g.X.Exchange.exchange g.met.X.Exchange.apart (g.met.X.Exchange.says_asked tested.role) c.args.fate s.fate s.opened (get nat_eq s.answered) c.args.decided e past m s.binds c.is_unasked-broken.result
-    under.follows.placed.0 q.1 q.0 (c.is_unasked-broken.ensures ∙ ap (λ o. s.binds && is_unasked c.args.fate s.opened o (get nat_eq s.answered)) c.answer-answer.ensures))
+    (sym (c.in_ok-judge_by.ensures.ok ∙ ap (λ r. judged_by c.excuse-broken.result r e.place c.args.decided m) c.asked_rule.ensures))
+    (asked-gains tested g.X.Exchange.asked g.X.Exchange.exchange g.X.Exchange.early g.met.X.Exchange.apart (g.met.X.Exchange.says_asked tested.role) c.args.fate s.fate s.opened (get nat_eq s.answered) c.args.decided e past m s.binds c.excuse-broken.result
+    under q.1 q.0 (c.excuse-broken.ensures
+    ∙ ap (λ b. excused b (c.args.decided == c.args.at.position) c.is_unasked-unasked.result) c.surprises.ensures
+    ∙ ap (excused (g.X.Exchange.early && surprises c.args.fate) (c.args.decided == c.args.at.position)) (c.is_unasked-unasked.ensures ∙ ap (λ o. s.binds && is_unasked c.args.fate s.opened o (get nat_eq s.answered)) c.answer-answer.ensures)))

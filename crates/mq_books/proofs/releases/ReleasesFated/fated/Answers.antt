@@ -3,7 +3,7 @@ use Rattle.indexmap.specs.IndexSet.{contains}
 use Rattle.mq_rules.specs.Notes.{received_exactly_once, released_id, sent_as, unmatched_pubrec_in}
 use Rattle.mq_rules.proofs.Exports.{on_err}
 use Rattle.mq_rules.specs.Under.{seen}
-use Rattle.mq_books.specs.Releasing.{kept_next, lasting, lasting_of, due_by, completes_unreleased}
+use Rattle.mq_books.specs.Releasing.{kept_next, lasting, lasting_of, due_by, completes_unreleased, is_unreceived, is_repeated}
 use Rattle.mq_books.proofs.ReleaseLaws.{releasing-next, within-first, within-both, releases-gains}
 use Rattle.mq_books.proofs.releases.ReleasesFated.fated.Goals as goal
 
@@ -35,8 +35,8 @@ returns-clause-grows c = λ tested past under u.
     let s = c.args.self.now in
     releases-gains tested s.role s.releases s.fate c.args.fate s.has_accepted (contains nat_eq s.brought) (contains nat_eq s.released) (contains nat_eq s.due)
     c.args.decided (seen c.args.at c.args.note.now) past c.args.faults.now c.judge_by.new.faults c.judge_by-2.new.faults c.judge_by-3.new.faults
-    c.is_unreceived-unreceived.result c.is_repeated-repeated.result c.is_unreleased-unreleased.result under u
-    c.is_unreceived-unreceived.ensures c.in_ok-judge_by.ensures.ok c.is_repeated-repeated.ensures c.in_ok-judge_by-2.ensures.ok
+    c.place-unreceived.result c.place-repeated.result c.is_unreleased-unreleased.result under u
+    (c.place-unreceived.ensures ∙ ap (λ b. b && c.is_placed-placed.result) c.is_unreceived.ensures ∙ ap (λ b. (s.releases && is_unreceived c.args.note.now (contains nat_eq s.brought)) && b) c.is_placed-placed.ensures) c.in_ok-judge_by.ensures.ok (c.place-repeated.ensures ∙ ap (λ b. b && c.is_placed-placed.result) c.is_repeated.ensures ∙ ap (λ b. (s.releases && is_repeated c.args.note.now (contains nat_eq s.released)) && b) c.is_placed-placed.ensures) c.in_ok-judge_by-2.ensures.ok
     (c.is_unreleased-unreleased.ensures ∙ ap (λ o. s.releases && completes_unreleased c.args.fate o (contains nat_eq s.released) (contains nat_eq s.due)) c.sent_success_pubcomp-completed.ensures) c.in_ok-judge_by-3.ensures.ok
 
 pub returns-in_err-judge_by-2-clause-memory : goal.returns-in_err-judge_by-2-clause-memory
@@ -44,13 +44,13 @@ returns-in_err-judge_by-2-clause-memory c =
     on_err c.from_residual-in_err-judge_by-2.result _ (λ tested past under u.
     let s = c.args.self.now in
     within-first tested s.role s.releases s.fate c.args.fate s.has_accepted (contains nat_eq s.brought) (contains nat_eq s.released) (contains nat_eq s.due)
-    c.args.decided (seen c.args.at c.args.note.now) past c.args.faults.now c.judge_by-2.new.faults c.is_unreceived-unreceived.result under u
-    c.is_unreceived-unreceived.ensures (c.in_err-judge_by-2.ensures.unchanged ∙ c.in_ok-judge_by.ensures.ok))
+    c.args.decided (seen c.args.at c.args.note.now) past c.args.faults.now c.judge_by-2.new.faults c.place-unreceived.result under u
+    (c.place-unreceived.ensures ∙ ap (λ b. b && c.is_placed-placed.result) c.is_unreceived.ensures ∙ ap (λ b. (s.releases && is_unreceived c.args.note.now (contains nat_eq s.brought)) && b) c.is_placed-placed.ensures) (c.in_err-judge_by-2.ensures.unchanged ∙ c.in_ok-judge_by.ensures.ok))
 
 pub returns-in_err-judge_by-3-clause-memory : goal.returns-in_err-judge_by-3-clause-memory
 returns-in_err-judge_by-3-clause-memory c =
     on_err c.from_residual-in_err-judge_by-3.result _ (λ tested past under u.
     let s = c.args.self.now in
     within-both tested s.role s.releases s.fate c.args.fate s.has_accepted (contains nat_eq s.brought) (contains nat_eq s.released) (contains nat_eq s.due)
-    c.args.decided (seen c.args.at c.args.note.now) past c.args.faults.now c.judge_by.new.faults c.judge_by-3.new.faults c.is_unreceived-unreceived.result c.is_repeated-repeated.result under u
-    c.is_unreceived-unreceived.ensures c.in_ok-judge_by.ensures.ok c.is_repeated-repeated.ensures (c.in_err-judge_by-3.ensures.unchanged ∙ c.in_ok-judge_by-2.ensures.ok))
+    c.args.decided (seen c.args.at c.args.note.now) past c.args.faults.now c.judge_by.new.faults c.judge_by-3.new.faults c.place-unreceived.result c.place-repeated.result under u
+    (c.place-unreceived.ensures ∙ ap (λ b. b && c.is_placed-placed.result) c.is_unreceived.ensures ∙ ap (λ b. (s.releases && is_unreceived c.args.note.now (contains nat_eq s.brought)) && b) c.is_placed-placed.ensures) c.in_ok-judge_by.ensures.ok (c.place-repeated.ensures ∙ ap (λ b. b && c.is_placed-placed.result) c.is_repeated.ensures ∙ ap (λ b. (s.releases && is_repeated c.args.note.now (contains nat_eq s.released)) && b) c.is_placed-placed.ensures) (c.in_err-judge_by-3.ensures.unchanged ∙ c.in_ok-judge_by-2.ensures.ok))

@@ -1,0 +1,9 @@
+use Rattle.std.proofs.Common.{◌&&◌, not, ap, ◌∙◌, reverse}
+use Rattle.mq_rules.specs.Moments.{newest}
+use Rattle.mq_rules.specs.Releases.{breaks_L2}
+use Rattle.mq_plain.proofs.releases.SingleReleasesReleaseStatement.is_broken.Goals as goal
+
+pub returns : goal.returns
+returns c =
+    c.where_placed.ensures ∙ ap (λ b. b && c.is_placed.result) c.releases_again.ensures
+    ∙ ap (λ b. breaks_L2 c.args.role c.args.fate (newest c.args.event.now (reverse c.args.before.now)) && b) (c.is_placed.ensures c.args.event.now)
