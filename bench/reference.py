@@ -2,9 +2,9 @@
 """Judges a log of one end of an MQTT 5.0 session, and prints what `mqjudge check` is to print.
 
 This is a second opinion, and no part of the program. It was written from the words of the statements alone (statements.py), and
-reads logs by the standard and docs/LOG_FORMAT.md (reading.py). It looks at the whole log for each position and each statement that
-can be false there: it keeps no state from one position to the next, so it takes time that grows with the square of the log's length.
-What it shares with the program is nothing but the standard: where the two differ, one of them is wrong.
+reads logs by the standard and docs/LOG_FORMAT.md (reading.py, sessions.py). It looks at the whole log for each position and each
+statement that can be false there: it keeps no state from one position to the next, so it takes time that grows with the square of
+the log's length. What it shares with the program is nothing but the standard: where the two differ, one of them is wrong.
 
 Packets before the CONNACK need no words of their own here. Whether their connection is accepted, and which session they are in, is
 looked up in the whole log, so it doesn't matter where the CONNACK is; and `decided` is found by trying the log's beginnings.
@@ -16,7 +16,8 @@ import sys
 from pathlib import Path
 
 sys.dont_write_bytecode = True  # the repository stays as it is
-from reading import Bad, DEFAULT_LIMIT, Log, RELEASE, Recording
+from reading import Bad, DEFAULT_LIMIT, RELEASE, Recording
+from sessions import Log
 from statements import CITATIONS, STATEMENTS, about
 
 
