@@ -2,11 +2,11 @@
 """Makes sessions in which the tested end does right, and writes one to standard output. The same seed and number always give the
 same bytes.
 
-A log has one to four connections of a client or of a server. They are accepted, with a new session or the one before, or refused,
-or closed without a CONNACK. There are messages of all QoS in both directions, PUBLISHes and PUBRELs that are sent again,
-subscriptions, Topic Aliases, what the peer announces, packets before the CONNACK, RELEASEs and RESTs; and packets are split over
-records anywhere. A judge must pass each log: `bench/fuzz.py` looks at that, and at what it says of these logs when changed. A third
-of the logs are of version 2.
+A log has one to six connections of a client or of a server. They are accepted, with a new session or the one before, or refused,
+or closed without a CONNACK, which may have begun a session all the same. There are messages of all QoS in both directions, PUBLISHes
+and PUBRELs that are sent again, PUBLISHes that a bound of the peer forbids, subscriptions, Topic Aliases, what the peer announces, packets before the CONNACK, also where that then says of the
+session what the client didn't expect, RELEASEs and RESTs; and packets are split over records anywhere. A judge must pass each log:
+`bench/fuzz.py` looks at that, and at what it says of these logs when changed. A third of the logs are of version 2.
 
 usage: bench/honest_logs.py SEED NUMBER > FILE
 """
@@ -41,6 +41,8 @@ class Message:
     identifier: int
     qos: int
     topic: str
+    retain: bool = False
+    size: int = 0  # of the first PUBLISH, in bytes
     is_received: bool = False
 
 
@@ -52,10 +54,15 @@ class State:
     of_peer: list[Message] = field(default_factory=list)
     to_complete: dict[int, bool] = field(default_factory=dict)  # received messages of QoS 2, and whether they were released
     filters: dict[str, int] = field(default_factory=dict)  # that the client subscribed to, each with the QoS
+    # Identifiers that were released before the session began: L2 would take the next release of each for the second one.
+    released_before: set[int] = field(default_factory=set)
 
     def copy(self) -> "State":
         messages = [replace(one) for one in self.own], [replace(one) for one in self.of_peer]
-        return State(*messages, dict(self.to_complete), dict(self.filters))
+        return State(*messages, dict(self.to_complete), dict(self.filters), set(self.released_before))
+
+    def to_release(self) -> list[int]:
+        return [one for one, is_released in self.to_complete.items() if not is_released]
 
 
 @dataclass
@@ -66,6 +73,10 @@ class Limits:
     aliases: int = 0
     qos: int = 2
     size: int = 0  # 0: any
+
+    def forbid(self, message: Message) -> bool:
+        """Whether the message may be passed over."""
+        return message.qos > self.qos or 0 < self.size < message.size
 
     def properties(self) -> bytes:
         found = b"\x21" + number(self.in_flight) if self.in_flight < 65_535 else b""
@@ -90,6 +101,10 @@ class Line:
     asked: set[int] = field(default_factory=set)  # SUBSCRIBEs and UNSUBSCRIBEs without an answer
     requests: dict[int, list[tuple[str, int]]] = field(default_factory=dict)  # the filters in each of them
     topics: dict[int, str] = field(default_factory=dict)  # of the tested end's Topic Aliases
+    unanswered: set[int] = field(default_factory=set)  # PUBLISHes and PUBRELs that the tested end sent
+    is_filled: bool = False  # the peer sent what changes a session
+    resent: list[Message] = field(default_factory=list)  # by the tested end
+    released: set[int] = field(default_factory=set)  # before the CONNACK
 
 
 class Honest:
@@ -100,10 +115,17 @@ class Honest:
         self.role = draw.randrange(2)
         self.has_releases = self.chance(0.8)
         self.is_named = self.chance(0.8)
+        self.is_hurried = self.chance(0.4)  # connections are short, and leave much open
+        self.bounds = self.draw.choice(((), (), (), ("size",), ("qos",)))  # that the peer announces often
         self.is_kept = False  # there is a session that may be resumed
+        self.is_alive = False  # as far as the log tells
+        self.has_accepted = False  # a connection was accepted
+        self.is_misled = False  # a client to which a session that it doesn't have was resumed
+        self.has_left = False  # a client that went no further when it was told that a new session begins
         self.state, self.line = State(), Line()
+        self.left: list[int] = []  # to be released, of a session that is over
         self.events: list[tuple[int, bytes]] = []
-        count = draw.choice((1, 1, 2, 2, 3, 4))
+        count = draw.choice((3, 4, 5, 6) if self.is_hurried else (1, 1, 2, 2, 3, 4))
         for n in range(count):
             self._connection(is_last=n == count - 1)
 
@@ -130,12 +152,14 @@ class Honest:
     # -- connections
 
     def _connection(self, is_last: bool) -> None:
-        wants_session, keeps = self.chance(0.8), self.chance(0.8)
-        resumes = self.is_kept and wants_session and self.chance(0.85)
-        before = self.state.copy()
-        if not resumes:
-            self.state = State()
-        fate = self.draw.choices(("accepted", "refused", "closed"), (0.88, 0.06, 0.06))[0]
+        fate = self.draw.choices(("accepted", "refused", "closed"), (0.8, 0.05, 0.15))[0]
+        wants_session, keeps = self.chance(0.6 if fate == "closed" else 0.85) and not self.is_misled, self.chance(0.8)
+        resumes = self.is_kept and wants_session and (fate == "closed" or self.chance(0.7))
+        is_surprised = self.is_kept and wants_session and not resumes and self.role == CLIENT
+        before = self.state.copy(), self.is_kept
+        self.left = []
+        if not (resumes or is_surprised):
+            self.left, self.state = self.state.to_release(), State()
         self.line = Line(is_accepted=fate == "accepted", again=list(self.state.own))
         for one in self.state.of_peer:
             kind = Type.PUBREL if one.is_received and self.chance(0.8) else Type.PUBLISH
@@ -143,19 +167,71 @@ class Honest:
         limits = self._limits()
         self._mark(OPEN)
         wants_information = self._connect(not wants_session, keeps, limits)
-        self._before_connack()
+        misleads = fate == "accepted" and self._may_be_misled(wants_session, is_surprised) and self.chance(0.3)
+        self._before_connack(misleads, has_much=misleads or is_surprised or fate == "closed")
         if fate == "accepted":
-            self._accept(resumes, keeps, limits, wants_information)
-            for _ in range(self.draw.randint(0, 20)):
-                self._step()
-            if self.chance(0.5):
-                self._come_to_rest()
+            self._accept(resumes or misleads, keeps, limits, wants_information)
+            may_change = self._go_on(resumes, is_surprised, misleads) and keeps
         else:
-            self.state = before
-            if fate == "refused":
-                self._say(SERVER, packet(0x20, bytes([0, self.draw.choice((0x80, 0x87, 0x97)), 0])))
+            may_change = False
+            self._be_turned_away(fate, wants_session, keeps, *before)
         if not is_last or self.chance(0.7):
-            self._close(keeps and fate == "accepted")
+            self._close(may_change)
+
+    def _may_be_misled(self, wants_session: bool, has_state: bool) -> bool:
+        """Whether the client has no session, as the log tells too."""
+        return self.role == CLIENT and not has_state and (not wants_session or not self.is_alive)
+
+    def _go_on(self, resumes: bool, is_surprised: bool, is_misled: bool) -> bool:
+        """What happens after the CONNACK that accepts. It returns whether the client goes on."""
+        self.is_alive = self.is_kept
+        self.has_accepted, self.is_misled, self.has_left = True, is_misled, False
+        if is_misled:
+            self.state = State()
+            return False
+        if is_surprised and self.chance(0.3):
+            self.has_left = True
+            return False
+        if is_surprised:
+            self._begin_anew()
+        if resumes:
+            self._pass_over()
+        for _ in range(self.draw.randint(0, 6 if self.is_hurried else 20)):
+            self._hurry() if self.is_hurried and self.chance(0.6) else self._step()
+        if self.chance(0.5):
+            self._come_to_rest()
+        return True
+
+    def _begin_anew(self) -> None:
+        """The client discards its session. What it sent anew before the CONNACK is in the new one; what it had sent again it forgets."""
+        line, old = self.line, self.state
+        kept = [one for one in old.own if one.identifier in line.unanswered and one not in line.resent]
+        self.state = State(own=kept, released_before=line.released)
+        line.again, numbers = [], {one.identifier for one in kept}
+        others = (Type.SUBACK, Type.UNSUBACK, Type.PINGRESP)
+        of_kept = [one for one in line.to_come if one[0] in ANSWERS.values() and one[1] in numbers]
+        line.to_come = [one for one in line.to_come if one[0] in others] + of_kept
+
+    def _pass_over(self) -> None:
+        """What the peer's bounds forbid isn't sent again on this connection."""
+        line = self.line
+        line.again = [one for one in line.again if one.is_received or not line.limits.forbid(one)]
+
+    def _be_turned_away(self, fate: str, wants_session: bool, keeps: bool, before: State, was_kept: bool) -> None:
+        """The connection isn't accepted. What the ends make of what was sent on it the log can't tell."""
+        self.is_kept = was_kept
+        if fate == "refused":
+            self._say(SERVER, packet(0x20, bytes([0, self.draw.choice((0x80, 0x87, 0x97)), 0])))
+            takes_in = self.role == CLIENT and wants_session
+        else:
+            may_begin = not wants_session or (self.role == SERVER and self.line.is_filled)
+            self.is_alive = True
+            self.is_kept = was_kept or (keeps and may_begin)
+            takes_in = self.role == CLIENT and (wants_session or self.chance(0.7))
+            if self.role == SERVER and self.has_accepted:
+                takes_in = may_begin and (not was_kept or self.chance(0.6))
+        if not takes_in:
+            self.state = before
 
     def _limits(self) -> Limits:
         limits = Limits()
@@ -163,11 +239,14 @@ class Honest:
             limits.in_flight = self.draw.randint(1, 3)
         if self.chance(0.4):
             limits.aliases = self.draw.randint(1, 3)
-        if self.role == CLIENT and self.chance(0.1):
+        if self.role == CLIENT and self._is_bounded("qos"):
             limits.qos = self.draw.randrange(2)
-        if self.chance(0.1):
+        if self._is_bounded("size"):
             limits.size = self.draw.randint(LONGEST, 300)
         return limits
+
+    def _is_bounded(self, bound: str) -> bool:
+        return self.chance(0.5 if bound in self.bounds else 0.08)
 
     def _connect(self, is_clean: bool, keeps: bool, limits: Limits) -> bool:
         """The CONNECT. It returns whether the client wants Response Information."""
@@ -187,12 +266,28 @@ class Honest:
         self.is_kept = False
         return wants_information
 
-    def _before_connack(self) -> None:
-        steps = (self._publish, self._request, self._ping, self._send_again, self._auth)
+    def _before_connack(self, is_misled: bool, has_much: bool) -> None:
+        steps = [self._publish, self._request, self._ping, self._send_again, self._send_again, self._auth, self._answer_before]
         if self.role == SERVER:
-            steps = (self._peer_publish, self._request, self._ping, self._release, self._auth)
-        for _ in range(self.draw.randint(1, 6) if self.chance(0.35) else 0):
+            steps = [self._peer_publish, self._request, self._ping, self._auth]
+        steps += [] if is_misled else [self._release, self._release_left]
+        for _ in range(self.draw.randint(1, 6) if has_much or self.chance(0.4) else 0):
             self.draw.choice(steps)()
+
+    def _answer_before(self) -> None:
+        """The client answers a message of the connection before, though it doesn't come again."""
+        waiting = [one for one in self.state.of_peer if not one.is_received]
+        if waiting and self.line.is_accepted:
+            one = self.draw.choice(waiting)
+            self._answer_message(ANSWERS[one.qos], one.identifier)
+
+    def _release_left(self) -> None:
+        """A message of the session before is passed on."""
+        left = [one for one in self.left if one not in self.state.to_complete]
+        if left and self.has_releases and self.line.is_accepted:
+            self.left.remove(left[0])
+            self._mark(RELEASE, number(left[0]))
+            self.state.released_before.add(left[0])
 
     def _accept(self, resumes: bool, keeps: bool, limits: Limits, wants_information: bool) -> None:
         """The CONNACK of a connection that is accepted."""
@@ -204,28 +299,32 @@ class Honest:
         if self.role == CLIENT:
             properties += limits.properties()
             self.line.limits = limits
-            self.line.again = [one for one in self.line.again if one.is_received or one.qos <= limits.qos]
         properties += b"\x1a" + text("i") if wants_information and self.chance(0.5) else b""
         self._say(SERVER, packet(0x20, bytes([resumes, 0]) + listed(properties)))
         self.line.is_early = False
 
     def _close(self, may_change: bool) -> None:
         """The connection ends. A client whose CONNECT kept the session may change that in its DISCONNECT."""
+        goes_on = not (self.is_misled or self.has_left)
         if self.line.is_accepted and self.chance(0.35):
             end = self.draw.randrange(2)
             change = self.draw.choice((EXPIRY_0, EXPIRY_60)) if end == CLIENT and may_change and self.chance(0.3) else b""
-            self.is_kept = change == EXPIRY_60 if change else self.is_kept
+            self.is_kept = self.is_alive = change == EXPIRY_60 if change else self.is_kept
             self._say(end, packet(0xE0, b"\0" + listed(change) if change else b""))
         elif self.line.is_accepted and self.chance(0.15):
             self._peer(b"\x30\x05\x00")  # a packet that the connection's end cuts off
         self._mark(CLOSE)
-        while self.line.is_accepted and self.chance(0.3):
+        while self.line.is_accepted and goes_on and self.chance(0.3):
             self._release()
 
     # -- what happens on a connection
 
     def _step(self) -> None:
         self.draw.choices(STEPS, cum_weights=SUMS)[0](self)
+
+    def _hurry(self) -> None:
+        """The tested end sends messages, to be answered later; to a server the client has to subscribe before."""
+        self._publish() if self.role == CLIENT or self.state.filters else self._request()
 
     def _come_to_rest(self) -> None:
         """The tested end does all that it owes."""
@@ -236,7 +335,15 @@ class Honest:
             self._send_again()
             if self.line.again and not self._has_quota():
                 self._peer_answer()
+        if self.chance(0.5):
+            self._be_answered()
         self._rest()
+
+    def _be_answered(self) -> None:
+        """The peer does what it has to, and the tested end answers."""
+        for _ in range(60):
+            self._peer_answer()
+            self._answer()
 
     def _is_at_rest(self) -> bool:
         waits_for_quota = not self._has_quota() and not any(one.is_received for one in self.line.again)
@@ -278,16 +385,25 @@ class Honest:
         one = self.draw.choice(filters)
         return self.draw.choice(FILTERS.get(one, ("",))), self.state.filters.get(one, 0)
 
-    def _publish(self) -> None:
+    def _next_message(self) -> Message | None:
+        """What the tested end may publish now. At QoS 0 it has the identifier 0."""
         (topic, most), identifier = self._topic(), self._free_identifier()
         qos = min(self.draw.choice((0, 1, 1, 2, 2)), most)
         if topic == "" or (qos > 0 and (identifier is None or not self._has_quota())):
+            return None
+        retain = self.chance(0.4)
+        return Message(identifier or 0, qos, topic, retain) if qos > 0 else Message(0, 0, topic, retain)
+
+    def _publish(self) -> None:
+        message = self._next_message()
+        if message is None:
             return
-        if qos > 0:
-            message = Message(identifier, qos, topic)
+        said = self._publish_packet(message, *self._aliased(message.topic))
+        if message.qos > 0:
+            message.size = len(said)
             self.state.own.append(message)
             self._sent(message)
-        self._own(self._publish_packet(qos, identifier or 0, *self._aliased(topic)))
+        self._own(said)
 
     def _aliased(self, topic: str) -> tuple[str, bytes]:
         """What stands for the topic, and the property of its Topic Alias."""
@@ -299,17 +415,18 @@ class Honest:
         line.topics[alias] = topic
         return "" if is_known else topic, b"\x23" + number(alias)
 
-    def _publish_packet(self, qos: int, identifier: int, topic: str, alias: bytes = b"", dup: bool = False) -> bytes:
+    def _publish_packet(self, message: Message, topic: str, alias: bytes = b"", dup: bool = False) -> bytes:
         properties = alias + (b"\1\1" if self.chance(0.1) else b"") + (b"\2\0\0\0\x3c" if self.chance(0.1) else b"")
         if self.role == SERVER and self.chance(0.1):
             properties += b"\x0b\1"
-        length = 1 if self.line.limits.size else self.draw.choice(PAYLOADS)
-        body = text(topic) + (number(identifier) if qos else b"") + listed(properties) + b"x" * length
-        return packet(0x30 | dup << 3 | qos << 1, body)
+        length = 1 if self.line.limits.size else 300 if "size" in self.bounds and self.chance(0.6) else self.draw.choice(PAYLOADS)
+        identifier = number(message.identifier) if message.qos else b""
+        return packet(0x30 | dup << 3 | message.qos << 1 | message.retain, text(topic) + identifier + listed(properties) + b"x" * length)
 
     def _sent(self, message: Message) -> None:
         if not (self.line.is_early and self.role == CLIENT):
             self.line.used += 1
+        self.line.unanswered.add(message.identifier)
         self._expect(1 - self.role, ANSWERS[message.qos], message.identifier)
 
     def _send_again(self) -> None:
@@ -318,14 +435,19 @@ class Honest:
             return
         message = line.again[0 if self.role == CLIENT else self.draw.randrange(len(line.again))]
         if message.is_received:
-            self._acknowledge(self._own, Type.PUBREL, message.identifier)
-            self._expect(1 - self.role, Type.PUBCOMP, message.identifier)
+            self._send_pubrel(message.identifier)
         elif self._has_quota():
-            self._own(self._publish_packet(message.qos, message.identifier, message.topic, dup=True))
+            self._own(self._publish_packet(message, message.topic, dup=True))
             self._sent(message)
         else:
             return
         line.again.remove(message)
+        line.resent.append(message)
+
+    def _send_pubrel(self, identifier: int) -> None:
+        self._acknowledge(self._own, Type.PUBREL, identifier)
+        self.line.unanswered.add(identifier)
+        self._expect(1 - self.role, Type.PUBCOMP, identifier)
 
     def _peer_answer(self) -> None:
         """What the peer sends of what it has to."""
@@ -354,12 +476,14 @@ class Honest:
             self._expect(self.role, Type.PUBREL, identifier)
         else:
             self.state.own.remove(message)
+            self.line.unanswered.discard(identifier)
             self.line.used = max(0, self.line.used - 1)
 
     # -- the peer's messages
 
     def _peer_publish(self) -> None:
         taken = {one.identifier for one in self.state.of_peer} | (self.line.asked if self.role == SERVER else set())
+        taken |= self.state.released_before
         identifier = self.draw.choice([one for one in IDENTIFIERS if one not in taken] or [0])
         qos = self.draw.choice((0, 1, 1, 2, 2)) if identifier else 0
         message = Message(identifier, qos, self.draw.choice(TOPICS))
@@ -368,20 +492,23 @@ class Honest:
         self._peer_message(message)
 
     def _peer_message(self, message: Message, dup: bool = False) -> None:
-        self._peer(self._publish_packet(message.qos, message.identifier, message.topic, dup=dup))
+        self._peer(self._publish_packet(message, message.topic, dup=dup))
+        self.line.is_filled |= message.qos > 0
         if message.qos > 0:
             self._expect(self.role, ANSWERS[message.qos], message.identifier)
         if message.qos == 2:
             self.state.to_complete.setdefault(message.identifier, False)
 
     def _release(self) -> None:
-        waiting = [one for one, is_released in self.state.to_complete.items() if not is_released]
+        waiting = self.state.to_release()
         if waiting and self.has_releases and self.line.is_accepted:
             self._release_one(self.draw.choice(waiting))
 
     def _release_one(self, identifier: int) -> None:
         self._mark(RELEASE, number(identifier))
         self.state.to_complete[identifier] = True
+        if self.line.is_early:
+            self.line.released.add(identifier)
 
     def _answer(self) -> None:
         """What the tested end sends of what it owes: a client the first, since it answers in order."""
@@ -393,8 +520,7 @@ class Honest:
             case Type.PUBACK | Type.PUBREC:
                 self._answer_message(kind, identifier)
             case Type.PUBREL:
-                self._acknowledge(self._own, kind, identifier)
-                self._expect(1 - self.role, Type.PUBCOMP, identifier)
+                self._send_pubrel(identifier)
             case Type.PUBCOMP:
                 self._complete(identifier)
             case Type.SUBACK | Type.UNSUBACK:
@@ -446,6 +572,7 @@ class Honest:
         identifier, subscribes = self.draw.choice(free), self.chance(0.75)
         filters = [(one, self.draw.randrange(3)) for one in self.draw.sample(list(FILTERS), self.draw.randint(1, 2))]
         self.line.asked.add(identifier)
+        self.line.is_filled = True
         self.line.requests[identifier] = filters
         body = b"".join(text(one) + (bytes([qos]) if subscribes else b"") for one, qos in filters)
         self._say(CLIENT, packet(0x82 if subscribes else 0xA2, number(identifier) + b"\0" + body))

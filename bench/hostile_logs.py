@@ -33,6 +33,7 @@ WORKED = [row.log for row in check_rows.rows() if len(row.log) < 1_000]
 # Packets of all types, and those of the worked logs, which break and keep each statement.
 PACKETS = sorted({*EXAMPLES, *(one for log in WORKED for one in packets(log))})
 BROKEN = [one for one in PACKETS if showing.packet(one)[1].startswith("BAD")]
+PUBLISHES = [one for one in PACKETS if one[0] >> 4 == 3 and len(one) > 1]
 DISCONNECTS = [one for one in PACKETS if one[0] == 0xE0]
 CROWDED = [log for _, log, _ in crowded()]
 Parts = list[bytes]
@@ -157,6 +158,32 @@ def change_identifier(draw: random.Random, parts: Parts) -> None:
         parts[at] = parts[at][:one] + bytes([draw.randint(0, 5)]) + parts[at][one + 1 :]
 
 
+def change_session(draw: random.Random, parts: Parts) -> None:
+    """A CONNECT asks otherwise for a new session, or a CONNACK says otherwise whether one is resumed, or it doesn't come."""
+    places = [n for n, part in enumerate(parts) if part[5:6] in (b"\x10", b"\x20") and len(part) > 9]
+    if not places:
+        return
+    at = draw.choice(places)
+    flag = 14 if parts[at][5] == 0x10 else 7  # after the record's head: the Connect Flags, the Connect Acknowledge Flags
+    if flag == 7 and draw.random() < 0.4:
+        del parts[at]
+    elif flag < len(parts[at]):
+        parts[at] = parts[at][:flag] + bytes([parts[at][flag] ^ (2 if flag == 14 else 1)]) + parts[at][flag + 1 :]
+
+
+def break_off(draw: random.Random, parts: Parts) -> None:
+    """A connection ends in the middle of a packet: one that is sent last, or one more."""
+    ends = [n for n, part in enumerate(parts) if part[0] == CLOSE]
+    if not ends:
+        return
+    at = draw.choice(ends)
+    if parts[at - 1][0] == SENT and len(parts[at - 1]) > 6 and draw.random() < 0.5:
+        parts[at - 1] = record(SENT, parts[at - 1][5 : draw.randrange(6, len(parts[at - 1]))])
+    else:
+        said = draw.choice(PUBLISHES)
+        parts.insert(at, record(SENT, said[: draw.randrange(1, len(said))]))
+
+
 def put_remaining_length(draw: random.Random, parts: Parts) -> None:
     at = draw.randrange(len(parts))
     if parts[at][0] in (SENT, RECV) and len(parts[at]) > 6:
@@ -177,7 +204,8 @@ def cut(draw: random.Random, parts: Parts) -> None:
 
 GENTLE: tuple[Callable[[random.Random, Parts], None], ...] = (
     drop, drop, drop, double, double, move, swap, swap, swap_alike, swap_alike, put_mark, put_packet, put_packet, put_packet,
-    put_disconnect, turn, cut_record, change_packet, change_packet, change_identifier, change_identifier, change_flags,
+    put_disconnect, turn, cut_record, change_packet, change_packet, change_identifier, change_identifier, change_flags, change_session,
+    change_session, break_off,
 )
 ROUGH = (change_body, put_remaining_length, put_length, cut)
 

@@ -4,7 +4,10 @@
 In a session both ends do right and wrong. There are few Packet Identifiers, topics and filters, so that exchanges meet, and some
 packets are changed in a byte or cut over records. In about half of the sessions packets and RELEASEs come before the CONNACK, on
 connections that are then accepted, refused or closed without a CONNACK, or that end with the log. In the others only what belongs
-to no session comes before it. `bench/check_random.py` compares the reports on them.
+to no session comes before it. On some connections little happens: the client leaves at once, or the tested end comes to rest with
+nothing or one thing done, or the connection ends in the middle of a PUBLISH. And some sessions are calm: most are resumed on each
+connection after the first one, and what the tested end has in flight is sent again, or not. `bench/check_random.py` compares the
+reports on them.
 
 `streams` are for `bench/compare.py`, which looks at what is shown: packets of all kinds, those of packets.txt, in records that are
 cut anywhere. `crowded` gives both as many events before a CONNACK as there may be, and one more.
@@ -91,14 +94,17 @@ REASONS = {
 }
 # Properties that may be in a list: the values of each.
 Choices = tuple[tuple[bytes, ...], ...]
-SESSION_EXPIRY_INTERVAL = (b"\x11\0\0\0\0", b"\x11\0\0\0\x3c", b"\x11\0\0\0\x3c")
+EXPIRY_60 = b"\x11\0\0\0\x3c"
+SESSION_EXPIRY_INTERVAL = (b"\x11\0\0\0\0", EXPIRY_60, EXPIRY_60)
 RECEIVE_MAXIMUM = (b"\x21\0\1", b"\x21\0\2")
 TOPIC_ALIAS_MAXIMUM = (b"\x22\0\1", b"\x22\0\2")
 MAXIMUM_PACKET_SIZE = (b"\x27\0\0\0\x0b",)
 EXPLANATIONS = ((b"\x1f\0\1r",), (b"\x26\0\1k\0\1v",))  # Reason String, User Property
 OF_CONNECT: Choices = ((b"\x17\0", b"\x17\1"), (b"\x19\0", b"\x19\1"), RECEIVE_MAXIMUM, TOPIC_ALIAS_MAXIMUM, MAXIMUM_PACKET_SIZE)
 MAXIMUM_QOS = (b"\x24\0", b"\x24\1")
-OF_CONNACK: Choices = ((b"\x12\0\1c",), (b"\x1a\0\1i",), RECEIVE_MAXIMUM, TOPIC_ALIAS_MAXIMUM, MAXIMUM_QOS, MAXIMUM_PACKET_SIZE)
+RETAIN_AVAILABLE = (b"\x25\0", b"\x25\0", b"\x25\1")
+OF_CONNACK: Choices = ((b"\x12\0\1c",), (b"\x1a\0\1i",), RECEIVE_MAXIMUM, TOPIC_ALIAS_MAXIMUM)
+BOUNDS: Choices = (MAXIMUM_QOS, RETAIN_AVAILABLE, RETAIN_AVAILABLE, MAXIMUM_PACKET_SIZE)  # a CONNACK has at most one of them
 OF_PUBLISH: Choices = ((b"\2\0\0\0\x3c",), (b"\x0b\1",), (b"\x23\0\1", b"\x23\0\2"))
 
 # What an end says of its own accord, each as often as it is in the list.
@@ -153,14 +159,19 @@ class Session:
         self.is_early = self.chance(0.5)
         self.is_broken = self.chance(0.3)
         self.takes_all = False  # any packet may come now
+        self.is_left = False  # the connection, by the client
         self.shares = self.chance(0.1)
+        self.retains = draw.choice((0.1, 0.1, 0.9))  # how often a PUBLISH has RETAIN 1
         self.tape = Tape(draw, self.role, self.has_releases)
         self.owed: dict[int, list[Owed]] = {CLIENT: [], SERVER: []}
         self.in_flight: dict[int, list[Owed]] = {CLIENT: [], SERVER: []}  # PUBLISHes to be sent again
         self.to_release: list[int] = []
-        count = draw.choice((1, 2, 2, 3, 3, 4))
-        for n in range(count):
-            self._connection(is_first=n == 0, is_last=n == count - 1)
+        is_calm, count = self.chance(0.2), draw.choice((1, 2, 2, 3, 3, 4))
+        for n in range(count + is_calm):
+            if is_calm:
+                self._calm_connection(is_first=n == 0)
+            else:
+                self._connection(is_first=n == 0, is_last=n == count - 1)
 
     def log(self) -> bytes:
         return bytes(self.tape.log)
@@ -184,8 +195,7 @@ class Session:
             if not self.is_early:
                 self.tape.flush()
             self.takes_all = True
-            for _ in range(self.draw.randint(0, 12)):
-                self._step()
+            self._go_on()
         if not is_last or self.chance(0.5):
             self._close()
 
@@ -209,15 +219,76 @@ class Session:
         elif self.chance(0.1):
             self.tape.mark(REST)
 
+    def _go_on(self) -> None:
+        """After the CONNACK. Little may happen, so that it shows what is left undone."""
+        match self.draw.randrange(10):
+            case 0:
+                self.is_left = True
+            case 1 | 2 | 3:
+                for _ in range(self.draw.choice((0, 0, 1, 2))):
+                    self._say(self.role, self._answer(self.role) if self.owed[self.role] else self._news(self.role))
+                self.tape.mark(REST)
+            case _:
+                for _ in range(self.draw.randint(0, 12)):
+                    self._step()
+
     def _close(self) -> None:
-        if self.chance(0.2):
+        if self.is_left:
+            self._leave()
+        elif self.chance(0.2):
             self._say(self.draw.randrange(2), self._disconnect())
         if self.chance(0.9):
             self.tape.flush()
+        if not self.is_left and self.chance(0.2):
+            self._begin_publish()
         self.tape.drop()
         self.tape.mark(CLOSE)
         while self.has_releases and self.chance(0.2):
             self._release()
+
+    def _leave(self) -> None:
+        """The client sends at most a DISCONNECT."""
+        self.is_left = False
+        if self.chance(0.5):
+            self._say(CLIENT, packet(0xE0, b""))
+
+    def _begin_publish(self) -> None:
+        """A packet of the tested end that the connection's end cuts off, mostly a PUBLISH that is to be sent again."""
+        self.tape.flush()
+        identifier, qos = self.draw.choice(IDENTIFIERS), self.draw.choice((0, 1, 1, 2, 2))
+        said = self._publish(self.role, identifier, qos, dup=self.chance(0.3)) if self.chance(0.8) else self._news(self.role)
+        self.tape.mark(SENT, said[: self.draw.randrange(1, len(said))])
+
+    def _calm_connection(self, is_first: bool) -> None:
+        self.tape.mark(OPEN)
+        self.takes_all = True
+        of_client = EXPIRY_60 + (self._chosen(0.4, MAXIMUM_PACKET_SIZE) if self.role == SERVER else b"")
+        of_server = self._chosen(0.5, self.draw.choice(BOUNDS)) if self.role == CLIENT else b""
+        resumes = not is_first and self.chance(0.7)
+        self._say(CLIENT, connect(is_first, of_client))
+        for _ in range(self.draw.randrange(3) if self.role == CLIENT and self.chance(0.8) else 0):
+            self._calm_step()
+        self._say(SERVER, packet(0x20, bytes([resumes, 0, len(of_server)]) + of_server))
+        if is_first and self.role == SERVER:
+            self._say(CLIENT, packet(0x82, number(9) + b"\0" + text("#") + b"\2"))
+            self._say(SERVER, packet(0x90, number(9) + b"\0\2"))
+        for _ in range(2):
+            if not is_first and self.chance(0.6):
+                self.tape.flush()
+                self.tape.mark(REST)
+            for _ in range(self.draw.randint(1, 2)):
+                self._calm_step()
+        self._close()
+
+    def _calm_step(self) -> None:
+        sent, peer = self.in_flight[self.role], 1 - self.role
+        if self.owed[peer] and self.chance(0.4):
+            self._say(peer, self._answer(peer))
+        elif sent and self.chance(0.4):
+            _, identifier, qos = self.draw.choice(sent)
+            self._say(self.role, self._publish(self.role, identifier, qos, dup=True))
+        else:
+            self._say(self.role, self._publish(self.role, self.draw.choice(IDENTIFIERS), self.draw.choice((1, 2)), dup=False))
 
     # -- what happens on a connection
 
@@ -297,13 +368,13 @@ class Session:
 
     def _connect(self, is_clean: bool) -> bytes:
         properties = self._chosen(0.8, SESSION_EXPIRY_INTERVAL) + self._chosen(0.15, *OF_CONNECT)
-        flags = bytes([2 if is_clean else 0])
-        name = text("c" if self.chance(0.9) else "")
-        return packet(0x10, text("MQTT") + b"\5" + flags + number(60) + varint(len(properties)) + properties + name)
+        return connect(is_clean, properties, "c" if self.chance(0.9) else "")
 
     def _connack(self, session_present: bool) -> bytes:
         code = 0x87 if self.chance(0.1) else 0x00
-        return packet(0x20, bytes([session_present, code]) + self._properties(0.12, SESSION_EXPIRY_INTERVAL, *OF_CONNACK))
+        chosen = self._chosen(0.12, SESSION_EXPIRY_INTERVAL, *OF_CONNACK)
+        chosen += self._chosen(0.4 if session_present else 0.25, self.draw.choice(BOUNDS))
+        return packet(0x20, bytes([session_present, code]) + varint(len(chosen)) + chosen)
 
     def _publish(self, end: int, identifier: int, qos: int, dup: bool) -> bytes:
         dup = dup and qos > 0
@@ -317,7 +388,7 @@ class Session:
         has_alias = properties[-3:-1] == b"\x23\0"  # the Topic Alias is the last property
         topic = "" if has_alias and self.chance(0.5) else self.draw.choice(TOPICS)
         body = text(topic) + (number(identifier) if qos > 0 else b"") + properties + b"x"
-        return packet(0x30 | dup << 3 | qos << 1, body)
+        return packet(0x30 | dup << 3 | qos << 1 | self.chance(self.retains), body)
 
     def _acknowledgement(self, end: int, kind: Type, identifier: int) -> bytes:
         code = 0x00 if self.chance(0.75) else self.draw.choice(REASONS[kind])
@@ -349,6 +420,11 @@ class Session:
 
     def _disconnect(self) -> bytes:
         return packet(0xE0, b"" if self.chance(0.5) else b"\0" + self._properties(0.5, SESSION_EXPIRY_INTERVAL))
+
+
+def connect(is_clean: bool, properties: bytes, name: str = "c") -> bytes:
+    flags = bytes([2 if is_clean else 0])
+    return packet(0x10, text("MQTT") + b"\5" + flags + number(60) + varint(len(properties)) + properties + text(name))
 
 
 def session(seed: int, which: int) -> bytes:

@@ -84,6 +84,7 @@ class Packet:
     code: int = 0
     qos: int = 0
     dup: bool = False
+    retain: bool = False
     topic: bytes = b""
     filters: list[tuple[bytes, int]] = field(default_factory=list)
     codes: list[int] = field(default_factory=list)
@@ -241,7 +242,7 @@ def decode_fields(first: int, reader: Reader) -> Packet:
     if kind == 0:
         raise Bad("W02", 0)
     if kind == PUBLISH:
-        p.qos, p.dup = flags >> 1 & 3, flags >= 8
+        p.qos, p.dup, p.retain = flags >> 1 & 3, flags >= 8, flags & 1 == 1
         if p.qos == 3:
             raise Bad("W07", 0)
         if p.dup and p.qos == 0:
@@ -396,6 +397,7 @@ class Event:
     record: int
     item: Packet | Bad | Lost | None = None
     released: int = 0
+    begun: int | None = None  # at a CLOSE: the first byte of the packet that the tested end had begun and not ended
     moment: int = 0
 
     def subject(self) -> Subject:
@@ -504,7 +506,8 @@ class Recording:
             self.is_open, self.has_connack, self.begun_after = True, False, len(self.events)
             self.streams = {SENT: bytearray(), RECV: bytearray()}
         released = int.from_bytes(self.log[begin:end], "big")
-        self.add(Event(kind, record, None, released), end - 1)
+        unfinished = self.streams[SENT] if kind == CLOSE else None
+        self.add(Event(kind, record, None, released, unfinished[0] if unfinished else None), end - 1)
         if kind == CLOSE:
             self.is_open = False
 

@@ -23,12 +23,15 @@ from statements import CITATIONS, STATEMENTS, about
 
 def is_judged(log: Log, k: int, rule: str) -> bool:
     """Whether a statement that binds this end is judged there."""
+    c = log.places[k]
     if rule[0] == "L" and not log.releases:
         return False
-    if rule[0] in "WC" or log.is_accepted(log.places[k]):
+    if rule[0] in "WC":
         return True
-    is_loose = log.event(k).kind == RELEASE and (log.places[k] == 0 or log.fates[log.places[k]] is not None)
-    return rule[0] == "L" and is_loose
+    if log.is_accepted(c):
+        return not log.are_unknown[c]
+    is_loose = log.event(k).kind == RELEASE and (c == 0 or log.fates[c] is not None)
+    return rule[0] == "L" and is_loose and not log.is_loose_in_unknown(k)
 
 
 def fails(log: Log, k: int, rule: str) -> bool:

@@ -6,11 +6,14 @@ the whole log, so it doesn't matter where a CONNACK is.
 from bisect import bisect_left
 from functools import cached_property
 
-from reading import Bad, CLOSE, CONNACK, CONNECT, DISCONNECT, Event, Lost, OPEN, Packet, RECV, RELEASE, REST, SENT
+from reading import (
+    Bad, CLOSE, CONNACK, CONNECT, DISCONNECT, Event, Lost, OPEN, PUBLISH, PUBREL, Packet, RECV, RELEASE, REST, SENT, SUBSCRIBE,
+    UNSUBSCRIBE,
+)
 
 VOID, NEW, RESUMED = "void", "new", "resumed"
-RECEIVE_MAXIMUM, TOPIC_ALIAS_MAXIMUM, MAXIMUM_QOS, MAXIMUM_PACKET_SIZE = 0x21, 0x22, 0x24, 0x27
-DEFAULTS = {0x21: 65_535, 0x22: 0, 0x24: 2, 0x27: None, 0x17: 1, 0x19: 0}
+RECEIVE_MAXIMUM, TOPIC_ALIAS_MAXIMUM, MAXIMUM_QOS, RETAIN_AVAILABLE, MAXIMUM_PACKET_SIZE = 0x21, 0x22, 0x24, 0x25, 0x27
+DEFAULTS = {0x21: 65_535, 0x22: 0, 0x24: 2, 0x25: 1, 0x27: None, 0x17: 1, 0x19: 0}
 
 
 class Log:
@@ -122,8 +125,14 @@ class Log:
         if k is not None:
             connack = self.connack_code(k)
             return VOID if connack.code != 0 else RESUMED if connack.session_present else NEW
-        is_closed = any(self.event(k).kind == CLOSE for k in self.connection_positions[c])
-        return VOID if is_closed else None
+        return VOID if self.is_closed(c) else None
+
+    def is_closed(self, c: int) -> bool:
+        return any(self.event(k).kind == CLOSE for k in self.connection_positions[c])
+
+    def begun(self, c: int) -> int | None:
+        """The first byte of the packet that the tested end had begun and not ended when the connection closed."""
+        return next((e.begun for e in map(self.event, self.connection_positions[c]) if e.kind == CLOSE), None)
 
     def is_accepted(self, c: int) -> bool:
         return self.fates[c] in (NEW, RESUMED)
@@ -146,20 +155,61 @@ class Log:
         if last is not None and self.expiry(last) != 0:
             return True
         return any(
-            self.first_connect(d) is not None and self.first_connacks[d] is None
-            and any(self.event(k).kind == CLOSE for k in self.connection_positions[d])
-            for d in range((last or 0) + 1, c)
+            self.first_connect(d) is not None and self.first_connacks[d] is None and self.is_closed(d) for d in range((last or 0) + 1, c)
         )
 
     # -- sessions
 
     @cached_property
+    def are_disturbing(self) -> list[bool]:
+        return [self.disturbs(c) for c in range(len(self.spans))]
+
+    def disturbs(self, c: int) -> bool:
+        """Whether the session after this connection can't be known: it closed without a CONNACK, and the server may have begun a new
+        session on it, or taken in packets of one."""
+        connect, connack = self.first_connect(c), self.first_connacks[c]
+        if connect is None or connack is not None or not self.is_closed(c):
+            return False
+        may_take_in = self.role == "server" and any(self.brings(k) for k in self.connection_positions[c])
+        return self.from_client(connect, CONNECT).clean_start or may_take_in
+
+    def brings(self, k: int) -> bool:
+        """A packet is received that changes a session."""
+        p = self.received_packet(k, SUBSCRIBE, UNSUBSCRIBE, PUBREL, PUBLISH)
+        return p is not None and (p.type != PUBLISH or p.qos > 0)
+
+    @cached_property
+    def are_unknown(self) -> list[bool]:
+        """For each connection whether it is accepted and its session unknown."""
+        out: list[bool] = []
+        for c in range(len(self.spans)):
+            latest = self.latest_accepted(c) if self.fates[c] == RESUMED else None
+            is_disturbed = latest is not None and (self.leaves_at_once(latest) or any(self.are_disturbing[latest + 1 : c]))
+            out.append(is_disturbed or (latest is not None and out[latest]))
+        return out
+
+    def leaves_at_once(self, c: int) -> bool:
+        """Whether a client that asked for its session was told that a new one begins, and went no further: it may have kept what it
+        had."""
+        connack = self.first_connacks[c]
+        if self.role == "server" or self.fates[c] != NEW:
+            return False
+        connect = self.connect_before(connack)
+        said = [self.sent_packet(k, DISCONNECT) for k in self.connection_positions[c] if k > connack and self.event(k).kind == SENT]
+        return connect is not None and not connect.clean_start and all(said)
+
+    def is_loose_in_unknown(self, k: int) -> bool:
+        """Whether the session of a RELEASE between connections or on a void one can't be known."""
+        latest = self.latest_accepted(self.numbers[k] + 1) or 0
+        return self.are_unknown[latest] or any(self.are_disturbing[latest + 1 : self.numbers[k] + 1])
+
+    @cached_property
     def sessions_of_connections(self) -> list[int | None]:
-        """For each accepted connection, the number of the first connection of its session."""
+        """For each accepted connection whose session is known, the number of the first connection of that session."""
         out: list[int | None] = []
         first = None
         for c in range(len(self.spans)):
-            if self.is_accepted(c):
+            if self.is_accepted(c) and not self.are_unknown[c]:
                 if self.fates[c] == NEW or first is None:
                     first = c
                 out.append(first)
@@ -208,10 +258,10 @@ class Log:
         value = (self.from_server(at, CONNACK) or self.from_client(at, CONNECT)).get(identifier)
         return DEFAULTS[identifier] if value is None else value
 
-    def announced(self, identifier: int, k: int) -> bool:
-        c = self.places[k]
+    def announced(self, identifier: int, c: int, t: int) -> bool:
+        """Whether the tested end's peer has asked for anything of this kind on connection c before t."""
         at = self.first_connacks[c] if self.role == "client" else self.first_connect(c)
-        return at is not None and at < k and (self.from_server(at, CONNACK) or self.from_client(at, CONNECT)).get(identifier) is not None
+        return at is not None and at < t and (self.from_server(at, CONNACK) or self.from_client(at, CONNECT)).get(identifier) is not None
 
     def is_after_connack(self, k: int) -> bool:
         at = self.first_connacks[self.places[k]]

@@ -11,7 +11,7 @@ from reading import (
     PINGREQ, PINGRESP, PUBACK, PUBCOMP, PUBLISH, PUBREC, PUBREL,
     Packet, RECV, RELEASE, REST, SENT, SUBACK, SUBSCRIBE, Subject, UNSUBACK, UNSUBSCRIBE,
 )
-from sessions import Log, MAXIMUM_PACKET_SIZE, MAXIMUM_QOS, RECEIVE_MAXIMUM, RESUMED, TOPIC_ALIAS_MAXIMUM, VOID
+from sessions import Log, MAXIMUM_PACKET_SIZE, MAXIMUM_QOS, NEW, RECEIVE_MAXIMUM, RESUMED, TOPIC_ALIAS_MAXIMUM, VOID
 
 # ---- names and citations, in the order of reports: code, citation for a client, citation for a server (None: isn't bound)
 
@@ -244,13 +244,18 @@ def sends_after_refusing(log: Log, k: int) -> bool:
     return is_subject(log.sent(k)) and has_refused(log, k)
 
 
+def lacks_session(log: Log, k: int) -> bool:
+    """At k the client has no session that may be resumed: it asked for a new one, or none was alive."""
+    connect = log.connect_before(k)
+    return (connect is not None and connect.clean_start) or not log.alive_before(log.places[k])
+
+
 @says("C13", sent(ANY))
 def goes_on_without_its_session(log: Log, k: int) -> bool:
-    p, c = log.sent_packet(k), log.places[k]
-    if p is None or p.type == DISCONNECT or not log.is_after_connack(k) or log.fates[c] != RESUMED:
+    p = log.sent_packet(k)
+    if p is None or p.type == DISCONNECT or not log.is_after_connack(k) or log.fates[log.places[k]] != RESUMED:
         return False
-    connect = log.connect_before(k)
-    return (connect is not None and connect.clean_start) or not log.alive_before(c)
+    return lacks_session(log, k)
 
 
 def is_bound_by_peer(log: Log, k: int) -> bool:
@@ -328,10 +333,38 @@ def rests_unclosed(log: Log, k: int) -> bool:
 # -- S, on packet identifiers. All that follow are judged on accepted connections, L also at each RELEASE that is on no undecided one.
 
 
+def is_sent_unknowing(log: Log, k: int) -> bool:
+    """A client sent it before the CONNACK, which then said of the session what the client couldn't know: that a new one begins, to
+    Clean Start 0; or that one is resumed, where it has none."""
+    return begins_anew_unasked(log, k) or resumes_unasked(log, k)
+
+
+def begins_anew_unasked(log: Log, k: int) -> bool:
+    connack = connack_to_come(log, k)
+    connect = connack and log.connect_before(connack)
+    return connect is not None and not connect.clean_start and log.fates[log.places[k]] == NEW
+
+
+def resumes_unasked(log: Log, k: int) -> bool:
+    connack = connack_to_come(log, k)
+    return connack is not None and log.fates[log.places[k]] == RESUMED and lacks_session(log, connack)
+
+
+def connack_to_come(log: Log, k: int) -> int | None:
+    """The CONNACK of a client's connection, if it comes after k."""
+    return None if log.role == "server" or log.is_after_connack(k) else log.first_connacks[log.places[k]]
+
+
 def publish_id(log: Log, k: int, dup: bool | None = None) -> int | None:
     """The identifier of a sent PUBLISH of QoS above 0."""
     p = log.sent_packet(k, PUBLISH)
     return p.identifier if p is not None and p.qos > 0 and dup in (None, p.dup) else None
+
+
+def in_flight(log: Log, j: int) -> int | None:
+    """The identifier of a PUBLISH of QoS above 0 or a PUBREL that is sent."""
+    p = log.sent_packet(j, PUBREL)
+    return publish_id(log, j) if p is None else p.identifier
 
 
 def opener(log: Log, k: int) -> int | None:
@@ -370,20 +403,35 @@ def is_busy(log: Log, k: int, i: int) -> bool:
     return open_by(log, k, i) is not None
 
 
+def is_received(log: Log, k: int, t: int, i: int) -> bool:
+    """A PUBREC i below 0x80 came between an opener of i at k and t."""
+    return any(log.receives(j, PUBREC, i) and log.received_packet(j).code < 0x80 for j in log.before_in(t) if j > k)
+
+
+def sends_on(log: Log, c: int, t: int, i: int) -> bool:
+    """A PUBLISH i of QoS above 0 or a PUBREL i was sent on connection c before t."""
+    return any(in_flight(log, j) == i for j in log.connection_positions[c] if j < t)
+
+
 @says("S01", sent((PUBLISH, SUBSCRIBE, UNSUBSCRIBE)))
 def takes_a_used_identifier(log: Log, k: int) -> bool:
     i = opener(log, k)
     if i is None and log.role == "client" and (p := log.sent_packet(k, SUBSCRIBE, UNSUBSCRIBE)):
         i = p.identifier
-    return i is not None and is_busy(log, k, i)
+    return i is not None and not resumes_unasked(log, k) and is_busy(log, k, i)
 
 
 @says("S02", sent([PUBLISH]))
 def resends_what_is_not_open(log: Log, k: int) -> bool:
     i = resend(log, k)
-    if i is None or open_by(log, k, i) is not None:
+    if i is None or open_by(log, k, i) is not None or is_sent_unknowing(log, k):
         return False
-    return not any(publish_id(log, j) == i and log.fates[log.places[j]] == VOID for j in range(1, k) if log.places[j] > 0)
+    return not was_sent_in_vain(log, k, i)
+
+
+def was_sent_in_vain(log: Log, k: int, i: int) -> bool:
+    """A PUBLISH i was sent on a void connection."""
+    return any(publish_id(log, j) == i and log.fates[log.places[j]] == VOID for j in range(1, k) if log.places[j] > 0)
 
 
 @says("S03", sent([PUBLISH]))
@@ -434,13 +482,12 @@ def is_owed_again(log: Log, k: int, i: int, t: int) -> bool:
         return False
     if latest_opener(log, t, i) != k or open_by(log, t, i) is None:
         return False
-    if any(publish_id(log, j) == i or log.sends(j, PUBREL, i) for j in log.before_on(t)):
+    if sends_on(log, c, t, i):
         return False
-    between = [j for j in log.before_in(t) if j > k]
-    if any(log.receives(j, PUBREC, i) and log.received_packet(j).code < 0x80 for j in between):
+    if is_received(log, k, t, i):
         return True
     quota = log.parameter(RECEIVE_MAXIMUM, t) - stretches_used(log, t)
-    return not (quota <= 0 or log.announced(MAXIMUM_PACKET_SIZE, t) or log.announced(MAXIMUM_QOS, t))
+    return not (quota <= 0 or log.announced(MAXIMUM_PACKET_SIZE, c, t) or log.announced(MAXIMUM_QOS, c, t))
 
 
 @says("S07", sent([PUBLISH]))
@@ -485,6 +532,7 @@ EXCHANGES: dict[str, tuple[Named, Named]] = {
     "E5": (received_of(SUBSCRIBE), sent_of(SUBACK)),
     "E6": (received_of(UNSUBSCRIBE), sent_of(UNSUBACK)),
 }
+OF_PUBLISHES = ("E1", "E2", "E3")  # up to the PUBREL
 # The packets' types in them.
 CAUSES_AND_ANSWERS = {
     "E1": (PUBLISH, PUBACK),
@@ -513,7 +561,7 @@ def breaks_answered(exchange: str) -> Statement:
 
     def breaks(log: Log, k: int) -> bool:
         i = answer(log, k)
-        if i is None:
+        if i is None or (exchange in OF_PUBLISHES and is_sent_unknowing(log, k)):
             return False
         answers = [j for j in log.before_on(k) if answer(log, j) == i]
         last_answer = answers[-1] if answers else 0
@@ -553,7 +601,7 @@ def breaks_order(exchange: str) -> Statement:
 for exchange, (cause, answer) in CAUSES_AND_ANSWERS.items():
     keep(exchange + "A", sent([answer]), breaks_answered(exchange))
     keep(exchange + "R", received([cause]), breaks_owed(exchange))
-    if exchange in ("E1", "E2", "E3"):
+    if exchange in OF_PUBLISHES:
         keep(exchange + "O", sent([answer]), breaks_order(exchange))
 
 
@@ -589,16 +637,24 @@ def is_release(log: Log, k: int, i: int) -> bool:
     return log.event(k).kind == RELEASE and log.event(k).released == i
 
 
+def is_of_session_before(log: Log, k: int) -> bool:
+    """A RELEASE before the CONNACK that begins a new session: its message may be of the session before."""
+    c = log.places[k]
+    return log.fates[c] == NEW and not log.is_after_connack(k)
+
+
 @says("L1", mark(RELEASE))
 def releases_nothing(log: Log, k: int) -> bool:
     i = log.event(k).released
-    return log.event(k).kind == RELEASE and not any(is_brought(log, j, i) for j in not_ended(log, k, i))
+    is_judged = log.event(k).kind == RELEASE and not is_of_session_before(log, k)
+    return is_judged and not any(is_brought(log, j, i) for j in not_ended(log, k, i))
 
 
 @says("L2", mark(RELEASE))
 def releases_twice(log: Log, k: int) -> bool:
     i = log.event(k).released
-    return log.event(k).kind == RELEASE and any(is_release(log, j, i) for j in not_ended(log, k, i))
+    is_judged = log.event(k).kind == RELEASE and not is_of_session_before(log, k)
+    return is_judged and any(is_release(log, j, i) for j in not_ended(log, k, i))
 
 
 @says("L3", sent([PUBCOMP]))
