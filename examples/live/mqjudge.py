@@ -82,6 +82,12 @@ class Judge:
         if status := self.ask(name, *arguments):
             raise Trouble(status, self.refusal() if status == REFUSED else None)
 
+    def finds(self, name: str, *arguments: object) -> bool:
+        """Whether there is what is asked for."""
+        if (status := self.ask(name, *arguments)) not in (0, ABSENT):
+            raise Trouble(status)
+        return status == 0
+
     def feed(self, log: bytes) -> None:
         self.call("feed", log, ctypes.c_size_t(len(log)))
 
@@ -114,13 +120,13 @@ class Judge:
 
     def faults(self) -> list[Fault]:
         """All faults that are known, in the order of reports."""
-        return [fault for row in self.rows() for fault in [self.fault(row)]]
+        return [self.fault(row) for row in self.rows()]
 
     def rows(self) -> list[Row]:
         found, first, row = [], 0, Row()
-        while self.ask("fault_from", ctypes.c_uint32(first), ctypes.byref(row)) != ABSENT:
+        while self.finds("fault_from", ctypes.c_uint32(first), ctypes.byref(row)):
             first, index = row.position + 1, 0
-            while self.ask("fault_at", ctypes.c_uint32(row.position), ctypes.c_size_t(index), ctypes.byref(row)) != ABSENT:
+            while self.finds("fault_at", ctypes.c_uint32(row.position), ctypes.c_size_t(index), ctypes.byref(row)):
                 found.append(Row.from_buffer_copy(row))
                 index += 1
         return found
@@ -141,7 +147,7 @@ class Judge:
     def refusal(self) -> tuple[int, str, int] | None:
         """The number of the refusal, its name and its byte, if the log is refused."""
         number, byte = ctypes.c_uint32(), ctypes.c_uint64()
-        if self.ask("refusal", ctypes.byref(number), ctypes.byref(byte)) == ABSENT:
+        if not self.finds("refusal", ctypes.byref(number), ctypes.byref(byte)):
             return None
         return number.value, self.text("refusal_name", ctypes.byref(self.handle)), byte.value
 

@@ -204,6 +204,10 @@ class Misuse(unittest.TestCase):
             ("fault", (ctypes.c_size_t(0), ctypes.byref(row))), ("refusal", (ctypes.byref(number), ctypes.byref(byte))),
         ):
             self.assertEqual(self.answers(name, judge, *arguments), "no judge", name)
+        for asked in (judge.faults, judge.count, judge.refusal, judge.finish):
+            with self.subTest(asked.__name__), self.assertRaises(Trouble) as said:
+                asked()
+            self.assertEqual(str(said.exception), "no judge")
 
     def test_no_bytes(self) -> None:
         with Judge() as judge:
