@@ -16,6 +16,25 @@
  *     assert(faults == 0);
  *     mqjudge_free(&judge);
  *
+ * What one judge is told. It judges one end under one Client Identifier: a client; or a server, as one client sees it. A
+ * server, or a process with several clients, has a judge for each Client Identifier. A server that doesn't know yet which
+ * one a connection has keeps what came on it until the CONNECT is whole, and then tells that connection's judge all of
+ * it; where the server assigns the identifier, until it has. A judge begins where a session begins: tell it all
+ * connections under its identifier from the first one on, or from one whose CONNECT has Clean Start 1. Connections don't
+ * overlap: tell the end of one before the next one begins, also where a server takes over a session (section 3.1.4).
+ *
+ * Wrong calls. After MQJUDGE_NULL, NO_JUDGE, HELD, VALUE, ORDER or LENGTH nothing has changed: the right call may come
+ * next. But what can't have happened is refused for ever, as in a log: an mqjudge_open while a connection is open (7,
+ * `Nested`); an mqjudge_sent, mqjudge_received, mqjudge_close or mqjudge_rest while none is (8, `NotOpen`); an
+ * mqjudge_release where mqjudge_begin said that releases aren't told (9, `ReleaseUnrecorded`). So is what can't be
+ * judged: a packet over the limit (11), a CONNECT of another version (12), 4,097 events of a connection without its
+ * CONNACK (13). Refusal 14, `TooLong`, comes at record or event number 4,294,967,296: at 1,000 events a second after 49
+ * days. Make a new judge before that, where a session begins. docs/LOG_FORMAT.md has all refusals.
+ *
+ * Want of memory. A call that answers MQJUDGE_MEMORY has changed nothing that can be asked for, and may be made again. No
+ * other may: where a judge has no memory for what it is told, its log is refused (16, `Memory`), at the byte that was
+ * being taken in, and stays so. Whatever is answered, the faults that are known can still be asked for.
+ *
  * To build: `rt lib` in crates/mq_ffi makes crates/mq_ffi/out/libmq_ffi.a; README.md has the line of gcc that links it.
  *
  * Threads. There is no state but what a handle holds, so different judges may be used by different threads at once. One
@@ -37,6 +56,12 @@
 #ifdef __cplusplus
 extern "C" {
 #endif
+
+/* The version of this header. mqjudge_version is that of the library: where the two differ, a program was built with
+ * another header than the library, and must call nothing else. It grows with each change that a caller can see, which
+ * CHANGELOG.md then describes: of a function, of when an answer comes, or of a type's layout. What a number of
+ * mqjudge_status names doesn't change. */
+#define MQJUDGE_VERSION 1
 
 /* What each call answers. After each of them the judge can still be asked, and freed. */
 enum mqjudge_status {
@@ -146,7 +171,7 @@ uint32_t mqjudge_citation(uint32_t statement, uint32_t end, char *buffer, size_t
 /* What the statement says, in one sentence, likewise. OK, ABSENT, ROOM. */
 uint32_t mqjudge_sentence(uint32_t statement, char *buffer, size_t room, size_t *length);
 
-/* The version of this interface: 1. */
+/* The version of the library's interface: MQJUDGE_VERSION of its header. */
 uint32_t mqjudge_version(void);
 
 /* The same functions, with a test for NULL. */

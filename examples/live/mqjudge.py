@@ -13,6 +13,7 @@ import subprocess
 from pathlib import Path
 from typing import NamedTuple
 
+VERSION = 1  # MQJUDGE_VERSION
 CLIENT, SERVER = 0, 1
 STATUS = ("ok", "null", "no judge", "held", "value", "memory", "refused", "order", "length", "absent", "room")
 REFUSED, ABSENT = STATUS.index("refused"), STATUS.index("absent")
@@ -31,6 +32,14 @@ def library() -> Path:
         whole = ["-Wl,--whole-archive", ARCHIVE, "-Wl,--no-whole-archive", heap]
         subprocess.run([os.environ.get("CC", "cc"), "-shared", "-o", shared, *whole], check=True)
     return shared
+
+
+def loaded() -> ctypes.CDLL:
+    """The library, if its interface has this module's version."""
+    found = ctypes.CDLL(str(library()))
+    if (version := found.mqjudge_version()) != VERSION:
+        raise ImportError(f"the interface of {library()} has version {version}, and this module is for {VERSION}")
+    return found
 
 
 class Handle(ctypes.Structure):
@@ -65,7 +74,7 @@ class Judge:
     """A judge of the bytes of a log; with `of`, of the events of a client or a server."""
 
     def __init__(self, limit: int = 0) -> None:
-        self.library, self.handle, self.end = ctypes.CDLL(str(library())), Handle(), CLIENT
+        self.library, self.handle, self.end = loaded(), Handle(), CLIENT
         self.call("new", ctypes.c_uint32(limit))
 
     @classmethod

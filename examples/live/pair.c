@@ -128,6 +128,10 @@ int main(int argc, char **argv) {
         fprintf(stderr, "usage: pair [--reuse]\n");
         return 3;
     }
+    if (mqjudge_version() != MQJUDGE_VERSION) {
+        fprintf(stderr, "pair: the library's interface has version %u, the header's %u\n", mqjudge_version(), MQJUDGE_VERSION);
+        return 2;
+    }
     if (socketpair(AF_UNIX, SOCK_STREAM, 0, pair) != 0) {
         perror("pair: socketpair");
         return 2;

@@ -4,7 +4,9 @@ from __future__ import annotations
 import ctypes
 import unittest
 from pathlib import Path
+from unittest import mock
 
+import mqjudge
 from mqjudge import CLIENT, SERVER, STATUS, Handle, Judge, Row, Trouble, library
 
 EXAMPLES = Path(__file__).resolve().parent.parent
@@ -208,6 +210,10 @@ class Misuse(unittest.TestCase):
             with self.subTest(asked.__name__), self.assertRaises(Trouble) as said:
                 asked()
             self.assertEqual(str(said.exception), "no judge")
+
+    def test_another_version(self) -> None:
+        with mock.patch.object(mqjudge, "VERSION", mqjudge.VERSION + 1), self.assertRaises(ImportError):
+            Judge()
 
     def test_no_bytes(self) -> None:
         with Judge() as judge:
