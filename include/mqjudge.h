@@ -3,8 +3,8 @@
  * A judge is fed the bytes of a log (docs/LOG_FORMAT.md), of version 1 or 2, in any pieces; or, without a log, it is
  * told what happens at the end that it judges: mqjudge_begin, and then mqjudge_open, mqjudge_sent, mqjudge_received,
  * mqjudge_close, mqjudge_rest and mqjudge_release, whose verdict is that of the log that these events make: a log of
- * version 1, which has no moments. After each call the faults so far are known: mqjudge_faults counts them, at no cost.
- * A fault that is known stays.
+ * version 1, which has no moments. After each call the faults so far are known: mqjudge_faults counts them, at no cost,
+ * and mqjudge_next_fault tells each of them once. A fault that is known stays.
  *
  *     mqjudge judge = MQJUDGE_EMPTY;
  *     mqjudge_new(&judge, 0);
@@ -23,17 +23,17 @@
  * connections under its identifier from the first one on, or from one whose CONNECT has Clean Start 1. Connections don't
  * overlap: tell the end of one before the next one begins, also where a server takes over a session (section 3.1.4).
  *
- * Wrong calls. After MQJUDGE_NULL, NO_JUDGE, HELD, VALUE, ORDER or LENGTH nothing has changed: the right call may come
- * next. But what can't have happened is refused for ever, as in a log: an mqjudge_open while a connection is open (7,
- * `Nested`); an mqjudge_sent, mqjudge_received, mqjudge_close or mqjudge_rest while none is (8, `NotOpen`); an
- * mqjudge_release where mqjudge_begin said that releases aren't told (9, `ReleaseUnrecorded`). So is what can't be
- * judged: a packet over the limit (11), a CONNECT of another version (12), 4,097 events of a connection without its
- * CONNACK (13). Refusal 14, `TooLong`, comes at record or event number 4,294,967,296: at 1,000 events a second after 49
- * days. Make a new judge before that, where a session begins. docs/LOG_FORMAT.md has all refusals.
+ * Wrong calls. MQJUDGE_NULL, NO_JUDGE, HELD, VALUE and ORDER change nothing: the right call may come next. But what
+ * can't have happened is refused for ever, as in a log: an mqjudge_open while a connection is open (7, `Nested`); an
+ * mqjudge_sent, mqjudge_received, mqjudge_close or mqjudge_rest while none is (8, `NotOpen`); an mqjudge_release where
+ * mqjudge_begin said that releases aren't told (9, `ReleaseUnrecorded`). So is a log that can't be judged: a packet over
+ * the limit (11), a CONNECT of another version (12), 4,097 events of a connection without its CONNACK (13). Refusal 14,
+ * `TooLong`, comes at record or event number 4,294,967,296: at 1,000 events a second after 49 days; make a new judge
+ * before that, where a session begins. docs/LOG_FORMAT.md has all of them.
  *
- * Want of memory. A call that answers MQJUDGE_MEMORY has changed nothing that can be asked for, and may be made again. No
- * other may: where a judge has no memory for what it is told, its log is refused (16, `Memory`), at the byte that was
- * being taken in, and stays so. Whatever is answered, the faults that are known can still be asked for.
+ * Want of memory. Only mqjudge_new answers MQJUDGE_MEMORY: then it may be called again. Where a judge has no memory for
+ * what it is told, its log is refused (16, `Memory`), at the byte that was being taken in, and stays so. Whatever is
+ * answered, the faults that are known can still be asked for.
  *
  * To build: `rt lib` in crates/mq_ffi makes crates/mq_ffi/out/libmq_ffi.a; README.md has the line of gcc that links it.
  *
@@ -60,21 +60,25 @@ extern "C" {
 /* The version of this header. mqjudge_version is that of the library: where the two differ, a program was built with
  * another header than the library, and must call nothing else. It grows with each change that a caller can see, which
  * CHANGELOG.md then describes: of a function, of when an answer comes, or of a type's layout. What a number of
- * mqjudge_status names doesn't change. */
-#define MQJUDGE_VERSION 1
+ * mqjudge_status names doesn't change.
+ */
+#define MQJUDGE_VERSION 2
 
-/* What each call answers. After each of them the judge can still be asked, and freed. */
+/* What each call answers. After each of them the judge can still be asked, and freed. Where several apply, it is the
+ * first of NULL, NO_JUDGE, REFUSED, VALUE, ORDER.
+ */
 enum mqjudge_status {
     MQJUDGE_OK = 0,       /* it is done */
     MQJUDGE_NULL = 1,     /* a pointer is NULL, other than that of no bytes; nothing was done */
     MQJUDGE_NO_JUDGE = 2, /* the handle holds no judge: none was made, or it was freed; nothing was done */
     MQJUDGE_HELD = 3,     /* mqjudge_new: the handle holds a judge already, which stays */
     MQJUDGE_VALUE = 4,    /* a limit, an end or a flag has no such value; nothing was done */
-    MQJUDGE_MEMORY = 5,   /* there is no memory: no judge was made, or the event wasn't taken in, and may be told again */
-    MQJUDGE_REFUSED = 6,  /* the log is refused: mqjudge_refusal says why. Each later call that tells more answers this too */
+    MQJUDGE_MEMORY = 5,   /* mqjudge_new: there is no memory, and no judge was made; it may be called again */
+    MQJUDGE_REFUSED = 6,  /* the log is refused: mqjudge_refusal says why. Each later call that tells more answers this
+                             too, whatever else is wrong with it, and changes nothing */
     MQJUDGE_ORDER = 7,    /* not now: bytes and events are mixed, an event comes before mqjudge_begin, a second
                              mqjudge_begin, or anything after mqjudge_finish; nothing was done */
-    MQJUDGE_LENGTH = 8,   /* more than 1,048,576 bytes in one event; nothing was done */
+    MQJUDGE_LENGTH = 8,   /* no call answers this since version 2; in version 1, for more than 1,048,576 bytes */
     MQJUDGE_ABSENT = 9,   /* there is no such fault or statement, or the log isn't refused; nothing was written */
     MQJUDGE_ROOM = 10     /* the buffer is too short for the text and its zero byte; only the length was written */
 };
@@ -110,21 +114,22 @@ uint32_t mqjudge_new(mqjudge *judge, uint32_t limit);
 /* Frees the judge. The handle is then empty, and may be used for another one. OK, NO_JUDGE. */
 uint32_t mqjudge_free(mqjudge *judge);
 
-/* Takes in the next bytes of a log. It doesn't matter how the log is cut. No bytes change nothing, and may be NULL.
- * OK, NO_JUDGE, REFUSED, ORDER. */
+/* Takes in the next bytes of a log. It doesn't matter how the log is cut. No bytes change nothing, and may be NULL: after
+ * them mqjudge_begin may still come. OK, NO_JUDGE, REFUSED, ORDER. */
 uint32_t mqjudge_feed(mqjudge *judge, const uint8_t *bytes, size_t length);
 
 /* Says which end is judged, MQJUDGE_CLIENT or MQJUDGE_SERVER, and whether its releases of QoS 2 messages are told: 0 or
- * 1. OK, NO_JUDGE, VALUE, MEMORY, REFUSED, ORDER. */
+ * 1. OK, NO_JUDGE, REFUSED, VALUE, ORDER. */
 uint32_t mqjudge_begin(mqjudge *judge, uint32_t end, uint32_t releases);
 
-/* A network connection begins. OK, NO_JUDGE, MEMORY, REFUSED, ORDER, as for the events below. */
+/* A network connection begins. OK, NO_JUDGE, REFUSED, ORDER, as for the events below. */
 uint32_t mqjudge_open(mqjudge *judge);
 
-/* The end sent these bytes: at most 1,048,576 in one call. Tell it before they can be answered. LENGTH too. */
+/* The end sent these bytes, which may be any part of a packet, or several. Tell it before they can be answered. Each
+ * 1,048,576 bytes are a record of their own. */
 uint32_t mqjudge_sent(mqjudge *judge, const uint8_t *bytes, size_t length);
 
-/* The end received these bytes: at most 1,048,576 in one call. Tell it before the end gets them. LENGTH too. */
+/* The end received these bytes, likewise. Tell it before the end gets them. */
 uint32_t mqjudge_received(mqjudge *judge, const uint8_t *bytes, size_t length);
 
 /* The network connection ended, whoever ended it. */
@@ -139,6 +144,18 @@ uint32_t mqjudge_release(mqjudge *judge, uint16_t identifier);
 /* How many faults are known. OK, NO_JUDGE. */
 uint32_t mqjudge_faults(mqjudge *judge, size_t *count);
 
+/* The next fault, of those that this call hasn't told yet. They come by `decided`, and those that one event shows in the
+ * order of reports. An event shows faults at its own position and at earlier ones, as where an answer is missing; what
+ * it shows is known as a whole once it is taken in, and later events show others. So whatever is told between the calls,
+ * each fault is told once, and after ABSENT only what later events show is to come:
+ *
+ *     while (mqjudge_next_fault(&judge, &fault) == MQJUDGE_OK) {
+ *         say(&fault);
+ *     }
+ *
+ * It takes time in proportion to how many faults are known. OK, NO_JUDGE, ABSENT. */
+uint32_t mqjudge_next_fault(mqjudge *judge, mqjudge_fault_row *fault);
+
 /* The fault at an index, counted from 0, in the order of reports: by position, and then by statement. It takes time in
  * proportion to the index. OK, NO_JUDGE, ABSENT. */
 uint32_t mqjudge_fault(mqjudge *judge, size_t index, mqjudge_fault_row *fault);
@@ -149,6 +166,11 @@ uint32_t mqjudge_fault_from(mqjudge *judge, uint32_t position, mqjudge_fault_row
 
 /* The fault at an index among those at a position, counted from 0, as quickly. OK, NO_JUDGE, ABSENT. */
 uint32_t mqjudge_fault_at(mqjudge *judge, uint32_t position, size_t index, mqjudge_fault_row *fault);
+
+/* How much the judge keeps: how many Packet Identifiers, filters, Topic Aliases and events of a connection that isn't
+ * decided yet; not the faults, nor the bytes of unfinished packets. It is bounded by what is open in the log, so a weight
+ * that grows says that the end leaves more and more open. OK, NO_JUDGE. */
+uint32_t mqjudge_weight(mqjudge *judge, size_t *weight);
 
 /* Why the log is refused: the number of the refusal (docs/LOG_FORMAT.md), and the offset in the log of the refused byte.
  * OK, NO_JUDGE, ABSENT. */
@@ -253,6 +275,20 @@ static inline uint32_t mqjudge_checked_faults(mqjudge *judge, size_t *count) {
     return mqjudge_faults(judge, count);
 }
 
+static inline uint32_t mqjudge_checked_next_fault(mqjudge *judge, mqjudge_fault_row *fault) {
+    if (judge == NULL || fault == NULL) {
+        return MQJUDGE_NULL;
+    }
+    return mqjudge_next_fault(judge, fault);
+}
+
+static inline uint32_t mqjudge_checked_weight(mqjudge *judge, size_t *weight) {
+    if (judge == NULL || weight == NULL) {
+        return MQJUDGE_NULL;
+    }
+    return mqjudge_weight(judge, weight);
+}
+
 static inline uint32_t mqjudge_checked_fault(mqjudge *judge, size_t index, mqjudge_fault_row *fault) {
     if (judge == NULL || fault == NULL) {
         return MQJUDGE_NULL;
@@ -329,6 +365,8 @@ static inline uint32_t mqjudge_checked_sentence(uint32_t statement, char *buffer
 #define mqjudge_rest(judge) mqjudge_checked_rest(judge)
 #define mqjudge_release(judge, identifier) mqjudge_checked_release(judge, identifier)
 #define mqjudge_faults(judge, count) mqjudge_checked_faults(judge, count)
+#define mqjudge_next_fault(judge, fault) mqjudge_checked_next_fault(judge, fault)
+#define mqjudge_weight(judge, weight) mqjudge_checked_weight(judge, weight)
 #define mqjudge_fault(judge, index, fault) mqjudge_checked_fault(judge, index, fault)
 #define mqjudge_fault_from(judge, position, fault) mqjudge_checked_fault_from(judge, position, fault)
 #define mqjudge_fault_at(judge, position, index, fault) mqjudge_checked_fault_at(judge, position, index, fault)

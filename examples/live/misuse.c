@@ -17,7 +17,8 @@ static void expect(const char *call, uint32_t answer, uint32_t wanted) {
 #define EXPECT(wanted, call) expect(#call, call, MQJUDGE_##wanted)
 
 static const uint8_t garbage[] = {0xff, 0xfe, 0, 1};
-static const uint8_t many[1048577];
+/* one CONNECT, of one byte more than a record can have */
+static const uint8_t many[1048577] = {0x10, 0xfd, 0xff, 0x3f};
 
 int main(void) {
     mqjudge judge = MQJUDGE_EMPTY;
@@ -33,6 +34,8 @@ int main(void) {
     EXPECT(NO_JUDGE, mqjudge_free(&judge));
     EXPECT(NO_JUDGE, mqjudge_feed(&judge, NULL, 0));
     EXPECT(NO_JUDGE, mqjudge_faults(&judge, &size));
+    EXPECT(NO_JUDGE, mqjudge_next_fault(&judge, &fault));
+    EXPECT(NO_JUDGE, mqjudge_weight(&judge, &size));
     EXPECT(VALUE, mqjudge_new(&judge, 4));
     EXPECT(VALUE, mqjudge_new(&judge, 268435461));
 
@@ -43,6 +46,11 @@ int main(void) {
     EXPECT(OK, mqjudge_feed(&judge, NULL, 0));
     EXPECT(NULL, mqjudge_faults(&judge, NULL));
     EXPECT(NULL, mqjudge_fault(&judge, 0, NULL));
+    EXPECT(NULL, mqjudge_next_fault(&judge, NULL));
+    EXPECT(ABSENT, mqjudge_next_fault(&judge, &fault));
+    EXPECT(NULL, mqjudge_weight(&judge, NULL));
+    EXPECT(OK, mqjudge_weight(&judge, &size));
+    expect("the weight of nothing", (uint32_t)size, 0);
     EXPECT(ABSENT, mqjudge_fault(&judge, 0, &fault));
     EXPECT(ABSENT, mqjudge_fault_from(&judge, 0, &fault));
     EXPECT(ABSENT, mqjudge_fault_at(&judge, 1, 0, &fault));
@@ -60,6 +68,9 @@ int main(void) {
     EXPECT(REFUSED, mqjudge_feed(&judge, garbage, sizeof garbage));
     EXPECT(REFUSED, mqjudge_feed(&judge, NULL, 0));
     EXPECT(REFUSED, mqjudge_open(&judge));
+    EXPECT(REFUSED, mqjudge_begin(&judge, 2, 0));
+    EXPECT(REFUSED, mqjudge_begin(&judge, MQJUDGE_CLIENT, 2));
+    EXPECT(REFUSED, mqjudge_sent(&judge, many, sizeof many));
     EXPECT(REFUSED, mqjudge_finish(&judge, &number));
     EXPECT(OK, mqjudge_refusal(&judge, &number, &byte));
     EXPECT(OK, mqjudge_free(&judge));
@@ -67,14 +78,17 @@ int main(void) {
     /* events in a wrong order */
     EXPECT(OK, mqjudge_new(&judge, 0));
     EXPECT(ORDER, mqjudge_open(&judge));
+    EXPECT(ORDER, mqjudge_received(&judge, many, sizeof many));
+    EXPECT(OK, mqjudge_feed(&judge, NULL, 0)); /* no bytes change nothing */
     EXPECT(VALUE, mqjudge_begin(&judge, 2, 0));
     EXPECT(OK, mqjudge_begin(&judge, MQJUDGE_SERVER, 0));
     EXPECT(ORDER, mqjudge_begin(&judge, MQJUDGE_SERVER, 0));
     EXPECT(ORDER, mqjudge_feed(&judge, garbage, sizeof garbage));
+    EXPECT(ORDER, mqjudge_feed(&judge, NULL, 0));
     EXPECT(OK, mqjudge_open(&judge));
     EXPECT(OK, mqjudge_sent(&judge, NULL, 0));
     EXPECT(NULL, mqjudge_received(&judge, NULL, 1));
-    EXPECT(LENGTH, mqjudge_received(&judge, many, sizeof many));
+    EXPECT(OK, mqjudge_received(&judge, many, sizeof many)); /* in two records */
     EXPECT(REFUSED, mqjudge_release(&judge, 1)); /* its header said that releases aren't told */
     EXPECT(OK, mqjudge_free(&judge));
     EXPECT(NO_JUDGE, mqjudge_free(&judge));

@@ -13,11 +13,10 @@ import subprocess
 from pathlib import Path
 from typing import NamedTuple
 
-VERSION = 1  # MQJUDGE_VERSION
+VERSION = 2  # of include/mqjudge.h
 CLIENT, SERVER = 0, 1
 STATUS = ("ok", "null", "no judge", "held", "value", "memory", "refused", "order", "length", "absent", "room")
 REFUSED, ABSENT = STATUS.index("refused"), STATUS.index("absent")
-LARGEST_EVENT = 1_048_576
 ARCHIVE = Path(__file__).resolve().parents[2] / "crates/mq_ffi/out/libmq_ffi.a"
 
 
@@ -35,10 +34,10 @@ def library() -> Path:
 
 
 def loaded() -> ctypes.CDLL:
-    """The library, if its interface has this module's version."""
+    """The library, if it is of this module's version."""
     found = ctypes.CDLL(str(library()))
     if (version := found.mqjudge_version()) != VERSION:
-        raise ImportError(f"the interface of {library()} has version {version}, and this module is for {VERSION}")
+        raise ImportError(f"{library()} has version {version} of its interface, and this module is for {VERSION}")
     return found
 
 
@@ -113,23 +112,32 @@ class Judge:
         self.call("release", ctypes.c_uint16(identifier))
 
     def sent(self, data: bytes) -> None:
-        for at in range(0, len(data), LARGEST_EVENT):
-            part = data[at : at + LARGEST_EVENT]
-            self.call("sent", part, ctypes.c_size_t(len(part)))
+        self.call("sent", data, ctypes.c_size_t(len(data)))
 
     def received(self, data: bytes) -> None:
-        for at in range(0, len(data), LARGEST_EVENT):
-            part = data[at : at + LARGEST_EVENT]
-            self.call("received", part, ctypes.c_size_t(len(part)))
+        self.call("received", data, ctypes.c_size_t(len(data)))
 
     def count(self) -> int:
         count = ctypes.c_size_t()
         self.call("faults", ctypes.byref(count))
         return count.value
 
+    def weight(self) -> int:
+        """How much the judge keeps beside the faults."""
+        weight = ctypes.c_size_t()
+        self.call("weight", ctypes.byref(weight))
+        return weight.value
+
     def faults(self) -> list[Fault]:
         """All faults that are known, in the order of reports."""
         return [self.fault(row) for row in self.rows()]
+
+    def new_faults(self) -> list[Fault]:
+        """The faults that this hasn't returned yet, by the event that shows them."""
+        found, row = [], Row()
+        while self.finds("next_fault", ctypes.byref(row)):
+            found.append(self.fault(row))
+        return found
 
     def rows(self) -> list[Row]:
         found, first, row = [], 0, Row()

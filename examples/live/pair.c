@@ -16,8 +16,7 @@
 #include <unistd.h>
 
 static mqjudge judge = MQJUDGE_EMPTY;
-static size_t known;     /* how many faults were said */
-static uint32_t decided; /* the last event that showed one of them */
+static size_t known; /* how many faults were said */
 
 /* Ends the program where the judge can't go on. */
 static void done(uint32_t status, const char *call) {
@@ -36,25 +35,13 @@ static void say(const mqjudge_fault_row *fault) {
     printf("event %u breaks %s (%s): %s\n", fault->position, code, citation, sentence);
 }
 
-/* Says each fault that the last call has shown: those that were decided after all that were said. */
+/* Says each fault that was found since the last call. */
 static void look(void) {
-    size_t faults;
-    uint32_t last = decided;
     mqjudge_fault_row fault;
-    done(mqjudge_faults(&judge, &faults), "mqjudge_faults");
-    if (faults == known) {
-        return;
+    while (mqjudge_next_fault(&judge, &fault) == MQJUDGE_OK) {
+        say(&fault);
+        known++;
     }
-    for (uint32_t from = 1; mqjudge_fault_from(&judge, from, &fault) == MQJUDGE_OK; from = fault.position + 1) {
-        for (size_t i = 0; mqjudge_fault_at(&judge, fault.position, i, &fault) == MQJUDGE_OK; i++) {
-            if (fault.decided > decided) {
-                say(&fault);
-                last = fault.decided > last ? fault.decided : last;
-            }
-        }
-    }
-    known = faults;
-    decided = last;
 }
 
 static void send_packet(int fd, const char *packet, size_t length) {
@@ -129,7 +116,7 @@ int main(int argc, char **argv) {
         return 3;
     }
     if (mqjudge_version() != MQJUDGE_VERSION) {
-        fprintf(stderr, "pair: the library's interface has version %u, the header's %u\n", mqjudge_version(), MQJUDGE_VERSION);
+        fprintf(stderr, "pair: the library has version %u of its interface, the header %u\n", mqjudge_version(), MQJUDGE_VERSION);
         return 2;
     }
     if (socketpair(AF_UNIX, SOCK_STREAM, 0, pair) != 0) {

@@ -43,6 +43,14 @@ def tell(judge: Judge, log: bytes) -> None:
             {1: judge.open, 4: judge.close, 5: judge.rest}[kind]()
 
 
+def publish_of(size: int) -> bytes:
+    """A PUBLISH of QoS 1 under the Packet Identifier 7, of so many bytes."""
+    digits = 3 if size <= 2_097_155 else 4
+    remaining = size - 1 - digits
+    length = bytes((remaining >> 7 * n) & 127 | (128 if n < digits - 1 else 0) for n in range(digits))
+    return b"\x32" + length + b"\x00\x01a\x00\x07\x00" + bytes(remaining - 6)
+
+
 def report(judge: Judge) -> str:
     """The report on all that a judge was told, as `mqjudge check` writes it."""
     events, lines = judge.finish(), []
@@ -147,13 +155,75 @@ class Events(unittest.TestCase):
         self.assertTrue(told)
 
     def test_an_event_of_many_bytes_is_split(self) -> None:
+        """After a PUBLISH of so many bytes, the number of the record that takes its identifier again."""
+        most = 1_048_576
+        for size, records in ((most - 1, 1), (most, 1), (most + 1, 2), (2 * most, 2), (2 * most + 1, 3), (5 * most + 1, 6)):
+            packet = publish_of(size)
+            self.assertEqual(len(packet), size)
+            with self.subTest(size), Judge.of(CLIENT) as judge:
+                judge.open()
+                judge.sent(CONNECT)
+                judge.received(CONNACK)
+                judge.sent(packet)
+                self.assertEqual(judge.count(), 0)
+                judge.sent(b"\x32\x07\x00\x01a\x00\x07\x00x")
+                [fault] = judge.faults()
+                self.assertEqual((fault.code, fault.record), ("S01", 3 + records + 1))
+
+    def test_a_direction_is_lost_in_the_middle_of_many_bytes(self) -> None:
         with Judge.of(CLIENT) as judge:
             judge.open()
-            with self.assertRaises(Trouble) as said:
-                judge.call("sent", bytes(1_048_577), ctypes.c_size_t(1_048_577))
-            self.assertEqual(str(said.exception), "length")
             judge.sent(b"\x10\xff\xff\x7f" + bytes(2_097_151))
             self.assertEqual(judge.count(), 1)
+
+    def test_a_new_fault_is_given_once(self) -> None:
+        publish = b"\x32\x07\x00\x01a\x00\x01\x00x"
+        with Judge.of(CLIENT) as judge:
+            judge.open()
+            judge.sent(CONNECT)
+            self.assertEqual(judge.new_faults(), [])
+            judge.received(CONNACK)
+            judge.received(publish)
+            judge.sent(SUBSCRIBE)
+            judge.sent(SUBSCRIBE)
+            self.assertEqual([(fault.position, fault.code, fault.decided) for fault in judge.new_faults()], [(6, "S01", 6)])
+            self.assertEqual(judge.new_faults(), [])
+            judge.rest()
+            self.assertEqual([(fault.position, fault.code, fault.decided) for fault in judge.new_faults()], [(4, "E1R", 7)])
+            judge.sent(SUBSCRIBE)
+            with self.assertRaises(Trouble):
+                judge.open()
+            self.assertEqual([(fault.position, fault.code, fault.decided) for fault in judge.new_faults()], [(8, "S01", 8)])
+            self.assertEqual(judge.new_faults(), [])
+            self.assertEqual([fault.position for fault in judge.faults()], [4, 6, 8])
+
+    def test_each_fault_is_given_once_in_each_log(self) -> None:
+        for path in sorted(EXAMPLES.glob("suite/*.log")) + sorted(EXAMPLES.glob("*.log")):
+            log, given = path.read_bytes(), []
+            with self.subTest(path.name), Judge() as judge:
+                for at in range(0, len(log), 3):
+                    try:
+                        judge.feed(log[at : at + 3])
+                    except Trouble:
+                        pass
+                    given += judge.new_faults()
+                self.assertEqual(given, sorted(given, key=lambda fault: fault.decided))
+                self.assertEqual(sorted(given), sorted(judge.faults()))
+                self.assertEqual(len(given), len(set(given)))
+
+    def test_a_weight_is_what_is_open(self) -> None:
+        with Judge.of(CLIENT) as judge:
+            self.assertEqual(judge.weight(), 0)
+            judge.open()
+            judge.sent(CONNECT)
+            judge.received(CONNACK)
+            empty = judge.weight()
+            for identifier in range(1, 101):
+                judge.sent(b"\x32\x07\x00\x01a" + identifier.to_bytes(2, "big") + b"\x00x")
+            self.assertGreaterEqual(judge.weight(), empty + 100)
+            for identifier in range(1, 101):
+                judge.received(b"\x40\x02" + identifier.to_bytes(2, "big"))
+            self.assertEqual(judge.weight(), empty)
 
     def test_two_judges_are_independent(self) -> None:
         with Judge.of(CLIENT) as one, Judge.of(CLIENT) as other:
@@ -190,6 +260,10 @@ class Misuse(unittest.TestCase):
         with Judge() as judge:
             self.assertEqual(self.answers("begin", judge, 2, 0), "value")
             self.assertEqual(self.answers("begin", judge, 0, 2), "value")
+            with self.assertRaises(Trouble):
+                judge.feed(b"?")
+            self.assertEqual(self.answers("begin", judge, 2, 0), "refused")
+            self.assertEqual(self.answers("begin", judge, 0, 2), "refused")
             self.assertEqual(self.answers("new", judge, 0), "held")
             with self.assertRaises(Trouble):
                 judge.text("code", 74)
@@ -206,10 +280,18 @@ class Misuse(unittest.TestCase):
             ("fault", (ctypes.c_size_t(0), ctypes.byref(row))), ("refusal", (ctypes.byref(number), ctypes.byref(byte))),
         ):
             self.assertEqual(self.answers(name, judge, *arguments), "no judge", name)
-        for asked in (judge.faults, judge.count, judge.refusal, judge.finish):
+        for asked in (judge.faults, judge.new_faults, judge.count, judge.weight, judge.refusal, judge.finish):
             with self.subTest(asked.__name__), self.assertRaises(Trouble) as said:
                 asked()
             self.assertEqual(str(said.exception), "no judge")
+
+    def test_no_bytes_before_events(self) -> None:
+        with Judge() as judge:
+            self.assertEqual(self.answers("feed", judge, None, ctypes.c_size_t(0)), "ok")
+            self.assertEqual(self.answers("begin", judge, 0, 0), "ok")
+            self.assertEqual(self.answers("feed", judge, None, ctypes.c_size_t(0)), "order")
+            judge.open()
+            self.assertEqual(judge.finish(), 1)
 
     def test_another_version(self) -> None:
         with mock.patch.object(mqjudge, "VERSION", mqjudge.VERSION + 1), self.assertRaises(ImportError):

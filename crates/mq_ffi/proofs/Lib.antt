@@ -1,5 +1,8 @@
 mod AskingLaws
 mod CallingLaws
+mod GivingLaws
 mod LivingLaws
 mod LooseValues
 mod PointerValues
+mod ShownLaws
+mod TakingLaws

@@ -1,5 +1,5 @@
 -- What taking bytes in says of a judge that was told a log.
-use Rattle.std.proofs.Common.{◌≡◌, ℕ, Bool, true, false, List, Option, Some, None, is_some, Ok, Err, sym, ap, ◌∙◌}
+use Rattle.std.proofs.Common.{◌≡◌, ℕ, Bool, true, false, ◌==◌, ◌⊎◌, inl, inr, List, [], ◌∷◌, length, subst, Option, Some, None, is_some, Ok, Err, sym, ap, ◌∙◌}
 use Rattle.std.proofs.lemmas.Bool.{false≢true}
 use Rattle.std.specs.Option.{IfSome}
 use Rattle.std.specs.Prelude.{Result}
@@ -7,7 +7,7 @@ use Rattle.mq_ffi.specs.declared.answer.Trouble.{Trouble}
 use Rattle.mq_ffi.specs.declared.live.Live.{Live}
 use Rattle.mq_ffi.specs.declared.live.Source.{Source}
 use Rattle.mq_ffi.specs.declared.live.Source.TheVariants as sources
-use Rattle.mq_ffi.specs.Living.{Answer, IsTold, Takes, TakesIn, Ends, EndsFrom, is_end}
+use Rattle.mq_ffi.specs.Living.{Answer, IsTold, FeedsBytes, FeedsFrom, Takes, TakesIn, Ends, EndsFrom, is_end}
 
 pub if_none : {A : Type 0} (o : Option A) (P : A → Type 0) → is_some o ≡ false → IfSome o P
 if_none None P is = tt
@@ -35,3 +35,15 @@ ends_from sources.Ended log old new answer is ends = absurd (false≢true (sym i
 ends_from sources.Nothing log old new answer is ends = ends
 ends_from sources.Log log old new answer is ends = ends
 ends_from sources.Events log old new answer is ends = ends
+
+pub log_follows : sources.Log ≡ sources.Nothing → ⊥
+log_follows e = false≢true (ap is_first e)
+
+-- bytes that aren't none
+pub feeds_some : (piece log : List ℕ) (old new : Live) (answer : Answer) → (length piece == 0) ≡ false → Takes sources.Log log piece new answer → FeedsBytes piece log old new answer
+feeds_some [] log old new answer some taken = absurd (false≢true (sym some))
+feeds_some (byte ∷ later) log old new answer some taken = taken
+
+pub feeds_from : (s : Source) (piece log : List ℕ) (old new : Live) (answer : Answer) → (s ≡ sources.Nothing) ⊎ (s ≡ sources.Log) → FeedsBytes piece log old new answer → FeedsFrom s log piece old new answer
+feeds_from s piece log old new answer (inl is) fed = subst (λ (s : Source). FeedsFrom s log piece old new answer) (sym is) fed
+feeds_from s piece log old new answer (inr is) fed = subst (λ (s : Source). FeedsFrom s log piece old new answer) (sym is) fed

@@ -1,5 +1,5 @@
 -- Asking for one fault of those that are known.
-use Rattle.std.specs.Prelude.{◌≡◌, ℕ, zero, suc, nat_le, List, [], ◌∷◌, Option, Some, None, is_some, if◌then◌else◌}
+use Rattle.std.specs.Prelude.{◌≡◌, ◌≤◌, ◌*◌, ℕ, zero, suc, nat_le, List, [], ◌∷◌, Option, Some, None, is_some, if◌then◌else◌}
 use Rattle.std.specs.List.{find}
 use Rattle.std.specs.Option.{unwrap_or}
 use Rattle.std.specs.FinMap as map
@@ -10,7 +10,9 @@ use Rattle.mq_rules.specs.declared.fault.Fault.{Fault}
 use Rattle.mq_rules.specs.declared.faults.FaultKey.{FaultKey}
 use Rattle.mq_rules.specs.FaultKeys.{FaultMap, faults_at}
 use Rattle.mq_rules.specs.Rules.{all_rules}
-use Rattle.mq_judge.specs.Judging.{Knows, AreFaultsOf}
+use Rattle.mq_rules.specs.Notes.{seen_in}
+use Rattle.mq_books.specs.Burden.{burden}
+use Rattle.mq_judge.specs.Judging.{Knows, Follows, AreFaultsOf}
 use Rattle.mq_ffi.specs.declared.asking.Choice.{Choice}
 use Rattle.mq_ffi.specs.declared.asking.Choice.TheVariants as choices
 use Rattle.mq_ffi.specs.declared.fault.FaultRow.{FaultRow}
@@ -85,3 +87,9 @@ pub record CountsFaults (after : ℕ) (old new : Live) (code : ℕ) : Type 0 whe
   pub faults : FaultMap
   pub known : (taken : List ℕ) → Knows old.judge taken → AreFaultsOf taken faults
   pub counted : after ≡ map.len faults
+
+-- It weighs what the judge keeps, which is bounded by what is open in the log.
+pub record Weighs (after : ℕ) (old new : Live) (code : ℕ) : Type 0 where
+  pub same : new ≡ old
+  pub answer : code ≡ 0
+  pub bounded : (log : List ℕ) → Follows old.judge log → after ≤ 4 * burden old.judge.judging.watching.tested (seen_in log)

@@ -8,7 +8,7 @@ use Rattle.mq_ffi.specs.declared.answer.Trouble.TheVariants as troubles
 use Rattle.mq_ffi.specs.declared.event.Event.{Event}
 use Rattle.mq_ffi.specs.declared.live.Live.{Live}
 use Rattle.mq_ffi.specs.Answers.{answer_code}
-use Rattle.mq_ffi.specs.Living.{Answer, IsTold, Feeds, Begins, Tells, Finishes}
+use Rattle.mq_ffi.specs.Living.{Answer, IsTold, StaysRefused, Declines, Feeds, Begins, Tells, Finishes}
 use Rattle.mq_ffi.specs.Texts.{PutsTextAs}
 
 -- The call reaches the judge that the handle holds, and the handle holds it afterwards. A handle that holds none says so, and stays empty.
@@ -39,9 +39,14 @@ TellsAs event = ByCode (Tells event)
 abbrev pub header_by : ℕ → ℕ → Header
 header_by server releases = record { version = 1; server = server == 1; releases = releases == 1 }
 
+-- One of the two numbers is neither 0 nor 1. Once the log is refused the call says that, whatever the numbers are.
+pub record Misnames (old new : Live) (answer : Answer) : Type 0 where
+  pub for_ever : StaysRefused old new answer
+  pub declined : old.refusal ≡ None → Declines troubles.Value old new answer
+
 -- Each of the two numbers is 0 or 1, or the call is declined.
 abbrev pub BeginsIf : Bool → Header → Live → Live → Answer → Type 0
-BeginsIf true header old new answer = (answer ≡ Err troubles.Value) × (new ≡ old)
+BeginsIf true header old new answer = Misnames old new answer
 BeginsIf false header old new answer = Begins header old new answer
 
 abbrev pub BeginsWith : ℕ → ℕ → Live → Live → Answer → Type 0
@@ -54,9 +59,9 @@ BeginsAs server releases = ByCode (BeginsWith server releases)
 abbrev pub limit_by : ℕ → Option ℕ
 limit_by limit = if limit == 0 then Some 16777216 else (if nat_lt limit 5 then None else (if nat_lt 268435460 limit then None else Some limit))
 
--- A judge with this limit is made, which was told nothing, if there is memory.
+-- A judge with this limit is made, which was told nothing, and has given no fault, if there is memory.
 abbrev pub MakesWith : ℕ → Option Live → ℕ → Type 0
-MakesWith limit (Some live) code = (code ≡ 0) × IsTold live [] × (live.judge.limit ≡ limit)
+MakesWith limit (Some live) code = (code ≡ 0) × IsTold live [] × (live.judge.limit ≡ limit) × (live.turn ≡ record { event = 0; given = 0 })
 MakesWith limit None code = code ≡ 5
 
 abbrev pub MakesFor : Option ℕ → Option Live → ℕ → Type 0

@@ -1,6 +1,7 @@
 pub mod Answers
 pub mod Asking
 pub mod Calling
+pub mod Giving
 pub mod Holding
 pub mod Living
 pub mod Owning

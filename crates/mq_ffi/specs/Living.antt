@@ -1,5 +1,5 @@
 -- What a judge answers that is told what happens while it happens, and its state then.
-use Rattle.std.specs.Prelude.{◌≡◌, ℕ, ◌⊎◌, Bool, true, false, List, [], ◌++◌, length, Option, Some, None, Result, Ok, Err, IfSome}
+use Rattle.std.specs.Prelude.{◌≡◌, ℕ, Bool, true, false, List, [], ◌∷◌, ◌++◌, length, Option, Some, None, Result, Ok, Err, IfSome}
 use Rattle.mq_trace.specs.declared.refusal.Refusal.{Refusal}
 use Rattle.mq_trace.specs.declared.header.Header.{Header}
 use Rattle.mq_trace.specs.Events.{events}
@@ -14,7 +14,7 @@ use Rattle.mq_ffi.specs.declared.event.Event.{Event}
 use Rattle.mq_ffi.specs.declared.live.Live.{Live}
 use Rattle.mq_ffi.specs.declared.live.Source.{Source}
 use Rattle.mq_ffi.specs.declared.live.Source.TheVariants as sources
-use Rattle.mq_ffi.specs.Telling.{bytes_of, fits}
+use Rattle.mq_ffi.specs.Telling.{bytes_of}
 
 -- what a call answers
 abbrev pub Answer : Type 0
@@ -29,13 +29,6 @@ pub record IsTold (live : Live) (log : List ℕ) : Type 0 where
 -- The call is refused for this reason, and changes nothing.
 abbrev pub Declines : Trouble → Live → Live → Answer → Type 0
 Declines trouble old new answer = (answer ≡ Err trouble) × (new ≡ old)
-
--- There was no memory for the event's bytes. The judge wasn't told of it.
-pub record LacksMemory (old new : Live) (answer : Answer) : Type 0 where
-  pub is : answer ≡ Err troubles.Memory
-  pub judge : new.judge ≡ old.judge
-  pub refusal : new.refusal ≡ old.refusal
-  pub source : new.source ≡ old.source
 
 -- A log that wasn't refused so far is refused, and why. The judge knows the faults of the events before the refused byte.
 pub record IsStopped (limit : ℕ) (log piece : List ℕ) (new : Live) : Type 0 where
@@ -58,39 +51,43 @@ TakesIn piece old new before after (Err trouble) =
 abbrev pub StaysRefused : Live → Live → Answer → Type 0
 StaysRefused old new answer = IfSome old.refusal (λ _. Declines troubles.Refused old new answer)
 
+-- No bytes change nothing: not even that nothing was told yet.
+abbrev pub FeedsBytes : List ℕ → List ℕ → Live → Live → Answer → Type 0
+FeedsBytes [] log old new answer = (answer ≡ Ok tt) × (new ≡ old)
+FeedsBytes (byte ∷ later) log old new answer = Takes sources.Log log (byte ∷ later) new answer
+
 -- Bytes come only where no events came, and before the end.
 abbrev pub FeedsFrom : Source → List ℕ → List ℕ → Live → Live → Answer → Type 0
-FeedsFrom sources.Nothing log piece old new answer = Takes sources.Log log piece new answer
-FeedsFrom sources.Log log piece old new answer = Takes sources.Log log piece new answer
+FeedsFrom sources.Nothing log piece old new answer = FeedsBytes piece log old new answer
+FeedsFrom sources.Log log piece old new answer = FeedsBytes piece log old new answer
 FeedsFrom _ log piece old new answer = Declines troubles.Order old new answer
 
 -- what feeding bytes answers
 pub record Feeds (piece : List ℕ) (old new : Live) (answer : Answer) : Type 0 where
   pub for_ever : StaysRefused old new answer
+  pub given : new.turn ≡ old.turn
   pub taken : (log : List ℕ) → IsTold old log → FeedsFrom old.source log piece old new answer
 
 -- The header comes first.
 abbrev pub BeginsFrom : Source → List ℕ → Header → Live → Live → Answer → Type 0
-BeginsFrom sources.Nothing log header old new answer = LacksMemory old new answer ⊎ Takes sources.Events log (header_bytes header) new answer
+BeginsFrom sources.Nothing log header old new answer = Takes sources.Events log (header_bytes header) new answer
 BeginsFrom _ log header old new answer = Declines troubles.Order old new answer
 
 -- what saying which end is judged answers
 pub record Begins (header : Header) (old new : Live) (answer : Answer) : Type 0 where
   pub for_ever : StaysRefused old new answer
+  pub given : new.turn ≡ old.turn
   pub taken : (log : List ℕ) → IsTold old log → BeginsFrom old.source log header old new answer
 
--- An event comes after the header, and a record can have all of it.
-abbrev pub TellsIf : Bool → List ℕ → Event → Live → Live → Answer → Type 0
-TellsIf false log event old new answer = Declines troubles.Length old new answer
-TellsIf true log event old new answer = LacksMemory old new answer ⊎ Takes sources.Events log (bytes_of event) new answer
-
+-- An event comes after the header.
 abbrev pub TellsFrom : Source → List ℕ → Event → Live → Live → Answer → Type 0
-TellsFrom sources.Events log event old new answer = TellsIf (fits event) log event old new answer
+TellsFrom sources.Events log event old new answer = Takes sources.Events log (bytes_of event) new answer
 TellsFrom _ log event old new answer = Declines troubles.Order old new answer
 
 -- what telling an event answers
 pub record Tells (event : Event) (old new : Live) (answer : Answer) : Type 0 where
   pub for_ever : StaysRefused old new answer
+  pub given : new.turn ≡ old.turn
   pub taken : (log : List ℕ) → IsTold old log → TellsFrom old.source log event old new answer
 
 -- The log ends: it is whole, and has so many events, or is refused as cut short. The faults stay known.
@@ -110,5 +107,6 @@ EndsFrom _ log old new answer = Ends log new answer
 
 -- what ending the log answers
 pub record Finishes (old new : Live) (answer : Result ℕ Trouble) : Type 0 where
+  pub given : new.turn ≡ old.turn
   pub for_ever : IfSome old.refusal (λ _. (answer ≡ Err troubles.Refused) × (new ≡ old))
   pub taken : (log : List ℕ) → IsTold old log → EndsFrom old.source log old new answer

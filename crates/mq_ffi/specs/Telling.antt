@@ -1,24 +1,31 @@
 -- Events as records of a log.
-use Rattle.std.specs.Prelude.{ℕ, nat_le, Bool, true, List, length}
+use Rattle.std.specs.Prelude.{ℕ, zero, suc, ◌-◌, ◌/◌, List, ◌++◌, length, take, drop}
 use Rattle.mq_trace.specs.Writing.{Record, open_record, close_record, rest_record, sent_record, received_record, release_record, record_bytes}
 use Rattle.mq_ffi.specs.declared.event.Event.{Event}
 use Rattle.mq_ffi.specs.declared.event.Event.TheVariants as happened
 
--- the record of an event
-abbrev pub record_of : Event → Record
-record_of happened.Open = open_record
-record_of (happened.Sent bytes) = sent_record bytes.now
-record_of (happened.Received bytes) = received_record bytes.now
-record_of happened.Close = close_record
-record_of happened.Rest = rest_record
-record_of (happened.Release identifier) = release_record identifier
+-- These bytes in records, each written so: so many that have 1,048,576 of them, the most that a record of version 1 may have, and one with what is left.
+abbrev pub in_parts : (List ℕ → List ℕ) → ℕ → List ℕ → List ℕ
+in_parts written zero bytes = written bytes
+in_parts written (suc full) bytes = written (take 1048576 bytes) ++ in_parts written full (drop 1048576 bytes)
 
--- its bytes in a log of version 1, which has no moments
+-- how many full records come before the last one, if there are so many bytes
+abbrev pub full_before : ℕ → ℕ
+full_before size = (size - 1) / 1048576
+
+-- these bytes in as few records as can have them: one for up to 1,048,576 of them, also for none
+abbrev pub in_records : (List ℕ → List ℕ) → List ℕ → List ℕ
+in_records written bytes = in_parts written (full_before (length bytes)) bytes
+
+-- a record's bytes in a log of version 1, which has no moments
+abbrev pub bytes_in : Record → List ℕ
+bytes_in entry = record_bytes 1 0 entry
+
+-- an event's bytes in a log of version 1
 abbrev pub bytes_of : Event → List ℕ
-bytes_of event = record_bytes 1 0 (record_of event)
-
--- whether a record of version 1 can have all of it: at most 1,048,576 bytes
-abbrev pub fits : Event → Bool
-fits (happened.Sent bytes) = nat_le (length bytes.now) 1048576
-fits (happened.Received bytes) = nat_le (length bytes.now) 1048576
-fits _ = true
+bytes_of happened.Open = bytes_in open_record
+bytes_of (happened.Sent bytes) = in_records (λ part. bytes_in (sent_record part)) bytes.now
+bytes_of (happened.Received bytes) = in_records (λ part. bytes_in (received_record part)) bytes.now
+bytes_of happened.Close = bytes_in close_record
+bytes_of happened.Rest = bytes_in rest_record
+bytes_of (happened.Release identifier) = bytes_in (release_record identifier)

@@ -18,8 +18,6 @@ pub enum Trouble {
     /// The call may not come here: bytes of a log and events are mixed, events come before `begin`,
     /// or the log has ended.
     Order,
-    /// More bytes than a record can have.
-    Length,
     /// There is no such fault, statement or refusal.
     Absent,
     /// The buffer is too short for the text.
@@ -38,7 +36,6 @@ pub fn code_of(answer: Result<(), Trouble>) -> u32
         Err(Trouble::Memory) => 5,
         Err(Trouble::Refused) => 6,
         Err(Trouble::Order) => 7,
-        Err(Trouble::Length) => 8,
         Err(Trouble::Absent) => 9,
         Err(Trouble::Room) => 10,
     }

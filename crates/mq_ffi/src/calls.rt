@@ -1,8 +1,9 @@
 //! What the exported functions do: each takes the judge out of the handle, asks it, and puts it
 //! back.
 ghost use Rattle.std.specs.Prelude.{◌≡◌, ℕ, None};
-ghost use Rattle.mq_ffi.specs.Asking.{AsksFault, CountsFaults, ShowsFound, chosen_fault};
+ghost use Rattle.mq_ffi.specs.Asking.{AsksFault, CountsFaults, ShowsFound, Weighs, chosen_fault};
 ghost use Rattle.mq_ffi.specs.Calling.{Asked, AskedInto, Makes, MakesWith, limit_by as limit_for, Frees, FeedsAs, BeginsAs, TellsAs, AsksRefusal, AsksName, FinishesAs, BeginsWith};
+ghost use Rattle.mq_ffi.specs.Giving.{AsksNext};
 ghost use Rattle.mq_ffi.specs.Holding.{held};
 
 use crate::about::put_text;
@@ -95,7 +96,7 @@ pub fn begin(alloc: Global, judge: &mut Handle, server: u32, releases: u32) -> u
     let Some(mut live) = judge.take(alloc) else {
         return code_of(Err(Trouble::NoJudge));
     };
-    let answer = begin_with(alloc, &mut live, server, releases);
+    let answer = begin_with(&mut live, server, releases);
     judge.put(live);
     code_of(answer)
 }
@@ -107,7 +108,7 @@ pub fn tell(alloc: Global, judge: &mut Handle, event: Event<'_>) -> u32
     let Some(mut live) = judge.take(alloc) else {
         return code_of(Err(Trouble::NoJudge));
     };
-    let answer = live.tell(alloc, event);
+    let answer = live.tell(event);
     judge.put(live);
     code_of(answer)
 }
@@ -134,6 +135,30 @@ pub fn ask_fault(alloc: Global, judge: &mut Handle, choice: Choice, fault: &mut 
     let answer = show(choose(live.known(), choice), fault);
     judge.put(live);
     answer
+}
+
+/// Asks for the fault that comes after those that were asked for so.
+pub fn ask_next(alloc: Global, judge: &mut Handle, fault: &mut FaultRow) -> u32
+    ensures { AskedInto (fault.new ≡ fault.old) (AsksNext fault.old fault.new) (held judge.old) (held judge.new) result }
+{
+    let Some(mut live) = judge.take(alloc) else {
+        return code_of(Err(Trouble::NoJudge));
+    };
+    let answer = show(live.next_fault(), fault);
+    judge.put(live);
+    answer
+}
+
+/// Weighs what the judge keeps.
+pub fn weigh(alloc: Global, judge: &mut Handle, weight: &mut usize) -> u32
+    ensures { AskedInto (weight.new ≡ weight.old) (Weighs weight.new) (held judge.old) (held judge.new) result }
+{
+    let Some(live) = judge.take(alloc) else {
+        return code_of(Err(Trouble::NoJudge));
+    };
+    *weight = live.weight();
+    judge.put(live);
+    code_of(Ok(()))
 }
 
 /// Asks why the log is refused.
@@ -189,9 +214,12 @@ pub fn finish(alloc: Global, judge: &mut Handle, events: &mut u32) -> u32
 }
 
 // Says which end is judged, by two numbers that are 0 or 1.
-fn begin_with(alloc: Global, live: &mut Live, server: u32, releases: u32) -> Result<(), Trouble>
+fn begin_with(live: &mut Live, server: u32, releases: u32) -> Result<(), Trouble>
     ensures { BeginsWith server releases live.old live.new result }
 {
+    if live.refusal().is_some() {
+        return Err(Trouble::Refused);
+    }
     if server > 1 {
         return Err(Trouble::Value);
     }
@@ -203,7 +231,7 @@ fn begin_with(alloc: Global, live: &mut Live, server: u32, releases: u32) -> Res
         server: server == 1,
         releases: releases == 1,
     };
-    live.begin(alloc, header)
+    live.begin(header)
 }
 
 // Writes a fault for the caller, if there is one.

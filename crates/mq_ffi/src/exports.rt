@@ -6,14 +6,17 @@ ghost use Rattle.mq_rules.specs.FaultKeys.{faults_at};
 ghost use Rattle.mq_rules.specs.Rules.{code_of as code_text, citation_of};
 ghost use Rattle.mq_rules.specs.Naming.{sentence_of};
 ghost use Rattle.mq_ffi.specs.declared.event.Event.TheVariants as happened;
-ghost use Rattle.mq_ffi.specs.Asking.{AsksFault, CountsFaults, first_fault_from, nth, statement_at as statement_of, role_at as role_of};
+ghost use Rattle.mq_ffi.specs.Asking.{AsksFault, CountsFaults, Weighs, first_fault_from, nth, statement_at as statement_of, role_at as role_of};
 ghost use Rattle.mq_ffi.specs.Calling.{Asked, AskedInto, Makes, Frees, FeedsAs, BeginsAs, TellsAs, AsksRefusal, AsksName, FinishesAs};
+ghost use Rattle.mq_ffi.specs.Giving.{AsksNext};
 ghost use Rattle.mq_ffi.specs.Holding.{held};
 ghost use Rattle.mq_ffi.specs.Texts.{TellsText, TellsCitation};
 
 use crate::about::{tell_citation, tell_text};
 use crate::asking::Choice;
-use crate::calls::{ask_fault, begin, count, feed, finish, free, make, name, refuse, tell};
+use crate::calls::{
+    ask_fault, ask_next, begin, count, feed, finish, free, make, name, refuse, tell, weigh,
+};
 use crate::event::Event;
 use crate::fault::{FaultRow, statement_at};
 use crate::handle::Handle;
@@ -152,6 +155,23 @@ pub extern "C" fn mqjudge_fault_from(
     ensures { AskedInto (fault.new ≡ fault.old) (AsksFault (first_fault_from position) fault.old fault.new) (held judge.old) (held judge.new) result }
 {
     ask_fault(alloc, judge, Choice::From(position), fault)
+}
+
+/// The fault that comes after those that this call has told: by the event that shows them, and
+/// those that one event shows in the order of reports. So each is told once.
+#[unsafe(no_mangle)]
+pub extern "C" fn mqjudge_next_fault(alloc: Global, judge: &mut Handle, fault: &mut FaultRow) -> u32
+    ensures { AskedInto (fault.new ≡ fault.old) (AsksNext fault.old fault.new) (held judge.old) (held judge.new) result }
+{
+    ask_next(alloc, judge, fault)
+}
+
+/// How much the judge keeps of the log.
+#[unsafe(no_mangle)]
+pub extern "C" fn mqjudge_weight(alloc: Global, judge: &mut Handle, weight: &mut usize) -> u32
+    ensures { AskedInto (weight.new ≡ weight.old) (Weighs weight.new) (held judge.old) (held judge.new) result }
+{
+    weigh(alloc, judge, weight)
 }
 
 /// Why the log is refused: the number of the refusal, and the offset in the log of the refused

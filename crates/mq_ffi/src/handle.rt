@@ -14,11 +14,22 @@ const HOLDS: u64 = 1;
 /// A caller's handle. C's `mqjudge` has the same fields, in this order, and its caller never writes
 /// them.
 #[repr(C)]
-#[derive(Drop)]
 pub struct Handle {
     pointer: Pointer,
     holds: u64,
     ghost made: { holds ≡ 1 → is_some pointer.live ≡ true },
+}
+
+// A handle is let go only if it holds no judge: so what a caller held was freed, or is held on.
+impl Drop for Handle {
+    fn drop(self)
+        requires { held_by self.holds self.pointer.live ≡ None }
+    {
+        let Handle {
+            pointer: _pointer,
+            holds: _holds,
+        } = self;
+    }
 }
 
 impl Handle {
@@ -54,15 +65,23 @@ impl Handle {
         ensures taken { option_map (λ live. live.value) result ≡ held_by self.old.holds self.old.pointer.live }
         ensures empty { held_by self.new.holds self.new.pointer.live ≡ None }
     {
-        let Handle { pointer, holds } = replace(self, Handle::empty());
+        replace(self, Handle::empty()).into_judge(alloc)
+    }
+
+    // The judge, if there is one.
+    fn into_judge(self, alloc: Global) -> Option<Box<Live>>
+        ensures { option_map (λ live. live.value) result ≡ held_by self.holds self.pointer.live }
+    {
+        let Handle { pointer, holds } = self;
         if holds != HOLDS {
             return None;
         }
         Some(pointer.into_loose(alloc).into_box())
     }
 
-    /// Puts a judge in.
+    /// Puts a judge into an empty handle.
     pub fn put(&mut self, live: Box<Live>)
+        requires { held_by self.old.holds self.old.pointer.live ≡ None }
         ensures { held_by self.new.holds self.new.pointer.live ≡ Some live.value }
     {
         *self = Handle::of(live);

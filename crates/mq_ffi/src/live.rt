@@ -1,16 +1,21 @@
 //! A judge that is told what happens while it happens.
-ghost use Rattle.std.specs.Prelude.{◌≡◌, ℕ, List, [], Some, None, Ok, Err};
-ghost use Rattle.mq_judge.specs.Judging.{Knows, Follows, AreFaultsOf, JudgesPiece};
+ghost use Rattle.std.specs.Prelude.{◌≡◌, ◌≤◌, ◌*◌, ℕ, List, []};
+ghost use Rattle.mq_books.specs.Burden.{burden};
+ghost use Rattle.mq_judge.specs.Judging.{Knows, Follows, AreFaultsOf};
+ghost use Rattle.mq_rules.specs.Notes.{seen_in};
+ghost use Rattle.mq_ffi.specs.Giving.{GivesNext};
 ghost use Rattle.mq_ffi.specs.declared.live.Source.TheVariants as sources;
-ghost use Rattle.mq_ffi.specs.Living.{IsTold, TakesIn, is_end, Feeds, Begins, Tells, Finishes};
+ghost use Rattle.mq_ffi.specs.Living.{IsTold, is_end, Feeds, Begins, Tells, Finishes};
 
 use crate::answer::Trouble;
 use crate::event::Event;
-use crate::writing::{header_in, record_in};
+use crate::fault::FaultRow;
+use crate::taking::{take_event, take_in};
+use crate::turn::{Turn, next_in_turn};
+use crate::writing::header_of;
 use mq_judge::{Faults, Judge, Options, Refusal};
 use mq_trace::Header;
 use std::alloc::Global;
-use std::mem::replace;
 
 /// What a judge is told.
 #[derive(Clone, Copy, Debug, PartialEq, Eq)]
@@ -32,8 +37,8 @@ pub struct Live {
     source: Source,
     /// Why the log is refused, if it is.
     refusal: Option<Refusal>,
-    /// Room for the bytes of an event.
-    record: Vec<u8>,
+    /// Which faults were given, to whoever asks for one after another.
+    turn: Turn,
 }
 
 impl Live {
@@ -42,12 +47,13 @@ impl Live {
         ensures told { IsTold result [] }
         ensures limit { result.judge.limit ≡ limit }
         ensures source { result.source ≡ sources.Nothing }
+        ensures turn { result.turn ≡ record { event = 0; given = 0 } }
     {
         Live {
             judge: Judge::new(alloc, Options { limit }),
             source: Source::Nothing,
             refusal: None,
-            record: Vec::new(alloc),
+            turn: Turn { event: 0, given: 0 },
         }
     }
 
@@ -56,6 +62,29 @@ impl Live {
         ensures { (taken : List ℕ) → Knows self.now.judge taken → AreFaultsOf taken result.now }
     {
         self.judge.known()
+    }
+
+    /// The fault that comes after those that this has returned, if there is one: by the event that
+    /// shows them, and those that one event shows in the order of reports. So each comes once,
+    /// whatever is told between the calls.
+    pub fn next_fault(&mut self) -> Option<FaultRow>
+        ensures { GivesNext self.old self.new result }
+    {
+        match next_in_turn(self.judge.known(), self.turn) {
+            Some(next) => {
+                self.turn = next.1;
+                Some(next.0)
+            }
+            None => None,
+        }
+    }
+
+    /// How much the judge keeps beside the faults and the bytes of unfinished packets: how many
+    /// Packet Identifiers, filters, Topic Aliases and events.
+    pub fn weight(&self) -> usize
+        ensures { (log : List ℕ) → Follows self.now.judge log → result ≤ 4 * burden self.now.judge.judging.watching.tested (seen_in log) }
+    {
+        self.judge.weight()
     }
 
     /// Why the log is refused, if it is.
@@ -74,6 +103,9 @@ impl Live {
         }
         match self.source {
             Source::Nothing | Source::Log => {
+                if bytes.is_empty() {
+                    return Ok(());
+                }
                 self.source = Source::Log;
                 take_in(&mut self.judge, &mut self.refusal, bytes)
             }
@@ -82,7 +114,7 @@ impl Live {
     }
 
     /// Says which end is judged, before its events are told: they are records of version 1.
-    pub fn begin(&mut self, alloc: Global, header: Header) -> Result<(), Trouble>
+    pub fn begin(&mut self, header: Header) -> Result<(), Trouble>
         requires { header.version ≡ 1 }
         ensures { Begins header self.old self.new result }
     {
@@ -93,18 +125,12 @@ impl Live {
             Source::Nothing => {}
             Source::Log | Source::Events | Source::Ended => return Err(Trouble::Order),
         }
-        let buffer = replace(&mut self.record, Vec::new(alloc));
-        let (record, written) = header_in(buffer, header);
-        self.record = record;
-        if !written {
-            return Err(Trouble::Memory);
-        }
         self.source = Source::Events;
-        take_in(&mut self.judge, &mut self.refusal, &self.record)
+        take_in(&mut self.judge, &mut self.refusal, &header_of(header))
     }
 
     /// Takes in an event.
-    pub fn tell(&mut self, alloc: Global, event: Event<'_>) -> Result<(), Trouble>
+    pub fn tell(&mut self, event: Event<'_>) -> Result<(), Trouble>
         ensures { Tells event.entry self.old self.new result }
     {
         if self.refusal.is_some() {
@@ -114,16 +140,7 @@ impl Live {
             Source::Events => {}
             Source::Nothing | Source::Log | Source::Ended => return Err(Trouble::Order),
         }
-        if !event.fits() {
-            return Err(Trouble::Length);
-        }
-        let buffer = replace(&mut self.record, Vec::new(alloc));
-        let (record, written) = record_in(buffer, event);
-        self.record = record;
-        if !written {
-            return Err(Trouble::Memory);
-        }
-        take_in(&mut self.judge, &mut self.refusal, &self.record)
+        take_event(&mut self.judge, &mut self.refusal, event)
     }
 
     /// Ends the log. The faults stay.
@@ -154,18 +171,5 @@ fn has_ended(source: Source) -> bool
     match source {
         Source::Ended => true,
         Source::Nothing | Source::Log | Source::Events => false,
-    }
-}
-
-// Takes in the next bytes of a log that isn't refused.
-fn take_in(judge: &mut Judge, refused: &mut Option<Refusal>, bytes: &[u8]) -> Result<(), Trouble>
-    ensures { TakesIn bytes.now judge.old judge.new refused.old refused.new result }
-{
-    match judge.feed(bytes) {
-        Ok(()) => Ok(()),
-        Err(refusal) => {
-            *refused = Some(refusal);
-            Err(Trouble::Refused)
-        }
     }
 }

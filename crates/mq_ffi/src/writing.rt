@@ -1,46 +1,23 @@
 //! Events as the bytes of a log of version 1.
-ghost use Rattle.std.specs.Prelude.{◌≡◌, IsTrue, OnOk, Some};
-ghost use Rattle.mq_trace.specs.Writing.{header_bytes, record_bytes, WritesAll};
-ghost use Rattle.mq_ffi.specs.Telling.{record_of, bytes_of, fits};
+ghost use Rattle.std.specs.Prelude.{◌≡◌, ◌∷◌};
+ghost use Rattle.std.specs.Int.{w32, to_be_bytes};
+ghost use Rattle.mq_trace.specs.Writing.{header_bytes};
 
-use crate::event::Event;
-use mq_trace::{Header, TraceWriter, WriteFault};
+use mq_trace::Header;
 
-/// The bytes of a log's header, in this buffer. `false` if there was no memory for them.
-pub fn header_in(buffer: Vec<u8>, header: Header) -> (Vec<u8>, bool)
-    ensures { IsTrue result.1 → result.0.items ≡ header_bytes header }
+/// The bytes of a log's header.
+pub fn header_of(header: Header) -> [u8; 8]
+    ensures { result ≡ header_bytes header }
 {
-    let mut emptied = buffer;
-    emptied.clear();
-    let mut log = TraceWriter::new(emptied);
-    let written = log.header(&header).is_ok();
-    (log.into_inner(), written)
+    let server = u8::from(header.server);
+    let releases = u8::from(header.releases);
+    [b'M', b'Q', b'T', b'R', header.version, server, releases, 0]
 }
 
-/// The bytes of an event's record in version 1, in this buffer. `false` if there was no memory for
-/// them.
-pub fn record_in(buffer: Vec<u8>, event: Event<'_>) -> (Vec<u8>, bool)
-    requires { IsTrue (fits event) }
-    ensures { IsTrue result.1 → result.0.items ≡ bytes_of event.entry }
+/// A record's head: the byte of its kind, and how many bytes its body has.
+pub fn head_of(kind: u8, length: u32) -> [u8; 5]
+    ensures { result ≡ kind ∷ to_be_bytes w32 length }
 {
-    let mut emptied = buffer;
-    emptied.clear();
-    let mut log = TraceWriter::new(emptied);
-    let written = write(event, &mut log).is_ok();
-    (log.into_inner(), written)
-}
-
-// Writes an event as a record.
-fn write(event: Event<'_>, log: &mut TraceWriter<Vec<u8>>) -> Result<(), WriteFault>
-    requires { IsTrue (fits event) }
-    ensures { OnOk result (WritesAll (λ v. Some v.items) log.old log.new (record_bytes log.old.version log.old.moment (record_of event.entry))) }
-{
-    match event {
-        Event::Open => log.open(),
-        Event::Sent(bytes) => log.sent(bytes),
-        Event::Received(bytes) => log.recv(bytes),
-        Event::Close => log.close(),
-        Event::Rest => log.rest(),
-        Event::Release(identifier) => log.release(identifier),
-    }
+    let [highest, high, low, lowest] = length.to_be_bytes();
+    [kind, highest, high, low, lowest]
 }

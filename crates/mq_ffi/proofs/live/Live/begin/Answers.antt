@@ -1,4 +1,4 @@
-use Rattle.std.proofs.Common.{rules, ◌≡◌, ℕ, List, subst, sym, refl, ◌∙◌, inr}
+use Rattle.std.proofs.Common.{◌≡◌, ℕ, List, subst, sym, refl, ◌∙◌}
 use Rattle.mq_trace.specs.Writing.{header_bytes}
 use Rattle.mq_ffi.specs.declared.live.Live.{Live}
 use Rattle.mq_ffi.specs.declared.live.Source.{Source}
@@ -10,11 +10,11 @@ use Rattle.mq_ffi.proofs.live.Live.begin.Goals as goal
 pub returns : goal.returns
 returns c =
     let old = c.args.self.now in
-    let bytes : c.deref.result.now ≡ header_bytes c.args.header = search rules in
-    let new : Live = record { judge = c.take_in.new.judge; source = sources.Events; refusal = c.take_in.new.refused; «record» = c.header_in-record.result.0 } in
+    let new : Live = record { judge = c.take_in.new.judge; source = sources.Events; refusal = c.take_in.new.refused; turn = old.turn } in
     record {
       for_ever = if_none old.refusal _ (sym c.is_some.ensures ∙ c.if-is_some.false);
+      given = refl;
       taken = λ log told. subst (λ (s : Source). BeginsFrom s log c.args.header old new c.take_in.result) (sym c.in-Nothing.is)
-          (inr (takes sources.Events log (header_bytes c.args.header) old new c.take_in.result events_follow told refl
-          (subst (λ (b : List ℕ). TakesIn b old.judge c.take_in.new.judge old.refusal c.take_in.new.refused c.take_in.result) bytes c.take_in.ensures)));
+          (takes sources.Events log (header_bytes c.args.header) old new c.take_in.result events_follow told refl
+          (subst (λ (b : List ℕ). TakesIn b old.judge c.take_in.new.judge old.refusal c.take_in.new.refused c.take_in.result) c.header_of.ensures c.take_in.ensures));
     }

@@ -10,8 +10,9 @@ use Rattle.mq_ffi.proofs.live.Live.finish.Goals as goal
 pub returns-in-Err : goal.returns-in-Err
 returns-in-Err c =
     let old = c.args.self.now in
-    let new : Live = record { judge = c.end.new.self; source = sources.Ended; refusal = Some c.in-Err.refusal; «record» = old.record } in
+    let new : Live = record { judge = c.end.new.self; source = sources.Ended; refusal = Some c.in-Err.refusal; turn = old.turn } in
     record {
+      given = refl;
       for_ever = if_none old.refusal _ (sym c.is_some.ensures ∙ c.if-is_some.false);
       taken = λ log told. ends_from old.source log old new (Err troubles.Refused) (sym c.has_ended.ensures ∙ c.if-has_ended.false)
           (refl, (c.in-Err.refusal, refl, c.in-Err.ensures.verdict log told.follows), c.end.ensures.known log told.follows);
@@ -20,8 +21,9 @@ returns-in-Err c =
 pub returns-in-Ok : goal.returns-in-Ok
 returns-in-Ok c =
     let old = c.args.self.now in
-    let new : Live = record { judge = c.end.new.self; source = sources.Ended; refusal = old.refusal; «record» = old.record } in
+    let new : Live = record { judge = c.end.new.self; source = sources.Ended; refusal = old.refusal; turn = old.turn } in
     record {
+      given = refl;
       for_ever = if_none old.refusal _ (sym c.is_some.ensures ∙ c.if-is_some.false);
       taken = λ log told. let verdict = c.in-Ok.ensures.verdict log told.follows in
           let follows = subst (λ (j : Judge). Follows j log) (sym c.in-Ok.ensures.same) told.follows in

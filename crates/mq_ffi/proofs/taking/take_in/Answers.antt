@@ -1,5 +1,5 @@
 use Rattle.std.proofs.Common.{refl}
-use Rattle.mq_ffi.proofs.live.take_in.Goals as goal
+use Rattle.mq_ffi.proofs.taking.take_in.Goals as goal
 
 pub returns-in-Err : goal.returns-in-Err
 returns-in-Err c = (refl, (c.in-Err.refusal, refl, λ log k. c.in-Err.ensures.answers log k))
