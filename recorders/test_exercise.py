@@ -536,6 +536,7 @@ class Once(Called):
         self.assertEqual(status, 0, printed)
         self.assertIn("again, alone and with more time: connect-plain (E7R)", errors)
         self.assertIn("not seen again       1  E7R 1", printed)
+        self.assertIn("ignored: 1 fault by once", printed)
 
     def test_a_scenario_that_fails_by_a_mistake(self) -> None:
         text = "one | aims E7R\n  a connect ; a publish T qos=x\ntwo | aims E7R\n  a connect ; a rest ; a bye\n"

@@ -155,8 +155,10 @@ class Outcome:
         looks = Counter(fault.code for faults in fairness.looks.values() for fault in faults)
         if looks:
             lines.append(row(LOOK, looks.total(), f"{in_words(looks)}: after the exerciser had broken a rule itself"))
-        once = Counter(text.split()[0] for result in self.results for verdict in result.verdicts
-                       for text in verdict.ignored if text.endswith(f"({ONCE})"))
+        once: Counter[str] = Counter()
+        for text in (text for verdict in self.verdicts for text in verdict.ignored if text.endswith(f"({ONCE})")):
+            code, count, *_ = text.split()
+            once[code] += int(count)
         if once:
             lines.append(row("not seen again", once.total(), f"{in_words(once)}: missing answers that came with more"
                              " time, or that weren't tried again"))
