@@ -1,5 +1,5 @@
 -- What keeps the program from its work, what it says of it, and what it says of a file that isn't a log.
-use Rattle.std.specs.Prelude.{ℕ, Bool, true, false, List, [], ◌∷◌, ◌++◌, codes, if◌then◌else◌, take, Option, Some, None}
+use Rattle.std.specs.Prelude.{ℕ, Bool, true, false, List, [], ◌∷◌, ◌++◌, codes, if◌then◌else◌, take, unwrap_or, Option, Some, None}
 use Rattle.std.specs.List.{list_any}
 use Rattle.std.specs.Str.{bytes_eq}
 use Rattle.std.specs.Io.KnownBytes.{Keeps}
@@ -70,6 +70,12 @@ abbrev pub failure_in : Trouble → Failure
 failure_in (Unread reason) = failures.Read
 failure_in Write = failures.Write
 failure_in Memory = failures.Memory
+
+-- what failed; if that was reading, for this reason, if it is known
+abbrev pub trouble_of : Failure → Option Reason → Trouble
+trouble_of failures.Read reason = Unread (unwrap_or reason Other)
+trouble_of failures.Write reason = Write
+trouble_of failures.Memory reason = Memory
 
 -- the lines that say what failed
 abbrev pub trouble_lines : (place : List ℕ) → Trouble → List ℕ

@@ -1,5 +1,9 @@
 //! A reader that notes why a read failed.
-ghost use Rattle.std.specs.Prelude.{◌≡◌};
+ghost use Rattle.std.specs.Prelude.{◌≡◌, MatchResult, None, Some};
+ghost use Rattle.std.specs.Io.{ReadsAtMost};
+ghost use Rattle.std.specs.Io.KnownBytes.{ReadConsumes};
+ghost use Rattle.std.specs.IoError.{error_kind};
+ghost use Rattle.mq_cli.specs.Troubles.{reason_for};
 
 use crate::trouble::Reason;
 use std::io::{self, Read};
@@ -14,7 +18,8 @@ pub struct Noting<R> {
 impl<R> Noting<R> {
     /// The same reader, of which no read has failed yet.
     pub fn new(reader: R) -> Self
-        ensures { result.reader ≡ reader }
+        ensures reader { result.reader ≡ reader }
+        ensures none { result.reason ≡ None }
     {
         Noting {
             reader,
@@ -23,7 +28,9 @@ impl<R> Noting<R> {
     }
 
     /// Why the latest read failed, if it did.
-    pub fn reason(&self) -> Option<Reason> {
+    pub fn reason(&self) -> Option<Reason>
+        ensures { result ≡ self.now.reason }
+    {
         self.reason
     }
 }
@@ -31,7 +38,11 @@ impl<R> Noting<R> {
 impl<R: Read> Read for Noting<R> {
     ghost remaining = { λ noting. R.remaining noting.reader };
 
-    fn read(&mut self, buf: &mut [u8]) -> io::Result<usize> {
+    fn read(&mut self, buf: &mut [u8]) -> io::Result<usize>
+        ensures bound { ReadsAtMost result buf.new }
+        ensures bytes { ReadConsumes (R.remaining self.old.reader) (R.remaining self.new.reader) result buf.new }
+        ensures noted { MatchResult result (λ _. self.new.reason ≡ None) (λ error. self.new.reason ≡ Some (reason_for (error_kind error))) }
+    {
         match self.reader.read(buf) {
             Ok(count) => {
                 self.reason = None;

@@ -1,7 +1,7 @@
 //! What keeps the program from its work, and what it says of it.
 ghost use Rattle.std.specs.Prelude.{◌≡◌, ◌++◌};
 ghost use Rattle.mq_cli.specs.Streams.{IsTold, failure_line, stream};
-ghost use Rattle.mq_cli.specs.Troubles.{Tells, failure_in, reason_for, reason_line, reason_text};
+ghost use Rattle.mq_cli.specs.Troubles.{Tells, failure_in, reason_for, reason_line, reason_text, trouble_of};
 
 use crate::error_stream::ErrorStream;
 use crate::failure::{FAILED, Failure};
@@ -78,7 +78,8 @@ pub enum Trouble {
 impl Trouble {
     /// What failed; if that was reading, for this reason, if it is known.
     pub fn of(failure: Failure, reason: Option<Reason>) -> Self
-        ensures { failure_in result ≡ failure }
+        ensures failure { failure_in result ≡ failure }
+        ensures reason { result ≡ trouble_of failure reason }
     {
         match failure {
             Failure::Read => Trouble::Unread(reason.unwrap_or(Reason::Other)),

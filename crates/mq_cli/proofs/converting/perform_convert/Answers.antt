@@ -9,5 +9,5 @@ returns-clause-failed g c = λ e.
     reader_fails c.args.place.now (prepend_known c.args.start.now (g.R.Read.remaining c.args.input)) _ _
     (g.M.Write.contents c.args.made.now) (g.M.Write.contents c.convert_log.new.made)
     (g.W.Write.contents c.args.output.now) (g.W.Write.contents c.convert_log.new.output) (g.W.Output.is_closed c.convert_log.new.output) _ c.in-Err.failure c.of.result
-    (rw c.new-log.ensures (c.chain.ensures.bytes ∙ joined c.args.start.now (g.R.Read.remaining c.args.input)))
-    c.of.ensures c.in-Err.ensures.stops c.report.ensures.told
+    (rw c.new-log.ensures.reader (c.chain.ensures.bytes ∙ joined c.args.start.now (g.R.Read.remaining c.args.input)))
+    c.of.ensures.failure c.in-Err.ensures.stops c.report.ensures.told
