@@ -55,6 +55,7 @@ LONG = TIMED[: -2 * len(PUBLISH) - 16] + LONG_HEAD + bytes(8) + b"\xc0\x00" * LO
 
 PASS = "pass 4 events\n"
 FAIL = "fault 5 S01 MQTT-2.2.1-3 decided 5 record 5 offset -\nfail 1 faults 5 events\n"
+LONG_FAIL = FAIL.replace(" 5 events", " 115 events")
 REFUSED = "refused 7 Nested at 13\n"
 FIRST_LINES = "1 record 1 OPEN\n2 record 2 SENT CONNECT size 15\n3 record 3 RECV CONNACK size 5\n"
 LINES = FIRST_LINES + "4 record 4 SENT PUBLISH size 9 qos 1 dup 0 id 1\n"
@@ -488,13 +489,13 @@ def cut_short(program: Path) -> tuple[tuple, tuple]:
 
 
 def long_log() -> bytes:
-    """A log of 110 PUBLISHes of about a megabyte each, at QoS 0."""
+    """The faulty session, and then 110 PUBLISHes of about a megabyte each, at QoS 0."""
     rest = b"\x00\x01a\x00" + bytes(1_040_000)
     size = len(rest)
     length = bytes((size & 127 | 128, size >> 7 & 127 | 128, size >> 14))
     packet = b"\x30" + length + rest
     record = b"\x02" + len(packet).to_bytes(4, "big") + packet
-    return HEADER + OPEN + CONNECT + CONNACK + 110 * record
+    return FAULTY + 110 * record
 
 
 def on_terminal(program: Path) -> tuple[tuple, tuple]:
@@ -507,8 +508,8 @@ def on_terminal(program: Path) -> tuple[tuple, tuple]:
     output, _ = finish(process)
     said = os.read(ours, 4096).decode()
     os.close(ours)
-    lines = "".join(f"\rmqjudge: {count} MB judged, 0 faults so far" for count in (50, 100))
-    return (process.returncode, output.decode(), said), (0, "pass 113 events\n", f"{lines}\r\n")
+    lines = "".join(f"\rmqjudge: {count} MB judged, 1 faults so far" for count in (50, 100))
+    return (process.returncode, output.decode(), said), (1, LONG_FAIL, f"{lines}\r\n")
 
 
 def held(path: Path) -> bytes | None:
@@ -533,7 +534,7 @@ def main() -> int:
         tally.compare("a reader that ends", *cut_short(program))
         Path("long.log").write_bytes(long_log())
         tally.compare("a long log, with a terminal", *on_terminal(program))
-        tally.compare("a long log, with none", run(program, ["check", "long.log"], b""), (0, "pass 113 events\n", ""))
+        tally.compare("a long log, with none", run(program, ["check", "long.log"], b""), (1, LONG_FAIL, ""))
         for make in (full_disk, closed_pipe):
             for words in UNWRITTEN:
                 found = run_on(program, words, "stdout", make)

@@ -6,6 +6,7 @@ mod converting;
 mod desk;
 mod harness;
 mod large;
+mod meter;
 mod packets;
 mod printing;
 mod programs;
