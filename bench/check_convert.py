@@ -25,7 +25,7 @@ from converting import LONGEST_BODY, Conversion, converted
 from honest_logs import session
 from judges import BUILT
 from make_log import CLOSE, OPEN, RECV, REST, SENT, record
-from program import CAPTURE_HINT, GZIP_HINT, SECONDS, WRITE_FAILED, directory, missing
+from program import CAPTURE_HINT, GZIP_HINT, SECONDS, WRITE_FAILED, directory, missing, there
 from session_logs import RELEASE, number
 from shortening import words
 from versions import in_version_1
@@ -125,7 +125,7 @@ class Comparison:
         """The examples get the same report converted, and aren't converted twice."""
         for name, log in examples():
             (self.folder / "one.log").write_bytes(log)
-            self.run("convert", "one.log", "two.log")
+            self.run("convert", "--force", "one.log", "two.log")
             for form in ((), ("--json",), ("--summary",)):
                 found, wanted = (self.run("check", *form, path) for path in ("two.log", "one.log"))
                 self.compare(f"{name}, converted, {' '.join(form) or 'as text'}", found, wanted)
@@ -140,10 +140,12 @@ class Comparison:
             ("missing.log", "out"): (4, "", missing("missing.log")),
             ("folder", "out"): (4, "", directory("folder")),
             ("good.log", "none/out"): (4, "", WRITE_FAILED),
-            ("good.log", "folder"): (4, "", WRITE_FAILED),
-            ("good.log", "/dev/full"): (4, "", WRITE_FAILED),
+            ("good.log", "folder"): (3, "", there("folder")),
+            ("--force", "good.log", "folder"): (4, "", WRITE_FAILED),
+            ("--force", "good.log", "/dev/full"): (4, "", WRITE_FAILED),
             ("good.log", "out"): (0, "", ""),
-            ("nested.log", "/dev/null"): (2, "refused 7 Nested at 13\n", ""),
+            ("nested.log", "out"): (3, "", there("out")),
+            ("--force", "nested.log", "/dev/null"): (2, "refused 7 Nested at 13\n", ""),
         }
         for names, answer in wanted.items():
             self.compare(f"convert {' '.join(names)}", self.run("convert", *names), answer)

@@ -62,7 +62,7 @@ def print_convert(mqjudge: Path, megabytes: float, rounds: int, bounds: Bounds) 
             log, out = Path(name) / "in.log", Path(name) / "out.log"
             kinds.write(log, SHOWN, kinds.amount_for_bytes(SHOWN, int(size * 1_000_000)))
             shown = quickest([str(mqjudge), "show", str(log)], rounds, Path(name), bounds)
-            made = quickest([str(mqjudge), "convert", str(log), str(out)], rounds, Path(name), bounds)
+            made = quickest([str(mqjudge), "convert", "--force", str(log), str(out)], rounds, Path(name), bounds)
         trouble = "; ".join(f"{one.status} {one.report}" for one in (shown, made) if one.status != "status 0")
         ratio = made.processor / max(shown.processor, 1e-6)
         peaks.append(made.peak_kib)

@@ -158,14 +158,15 @@ The log's format: docs/LOG_FORMAT.md
 CONVERT_HELP = """\
 Converts a log of version 1 into one of version 2
 
-Usage: mqjudge convert <IN> <OUT>
+Usage: mqjudge convert [OPTIONS] <IN> <OUT>
 
 Arguments:
   <IN>   The log of version 1; standard input if it is `-`
-  <OUT>  The file that is made, or emptied and written; another one than IN
+  <OUT>  The file that is made, which isn't there yet; another one than IN
 
 Options:
-  -h, --help  Print help
+      --force  Empty and write OUT if it is there
+  -h, --help   Print help
 
 Statuses: 0 if the log was converted, 2 for a refused log, 3 for misuse,
 4 if reading or writing failed or memory ran out.
@@ -222,6 +223,11 @@ def missing(path: str) -> str:
     return unread(path, "there is no such file")
 
 
+def there(path: str) -> str:
+    """The lines on a file that isn't made, since it is there."""
+    return f"mqjudge: OUT exists: {path}\nmqjudge: with --force it is emptied and written\n"
+
+
 def directory(place: str) -> str:
     return unread(place, "it is a directory")
 
@@ -249,7 +255,7 @@ GZIPPED = gzip.compress(GOOD)
 FILES = {"good.log": GOOD, "faulty.log": FAULTY, "nested.log": NESTED, "short.log": GOOD[:-1], "many.log": MANY, "-": FAULTY}
 FILES |= {"timed.log": TIMED, "long.log": LONG, "short-moment.log": TIMED[:20]}
 FILES |= {"a.pcap": PCAP, "fine.pcap": FINE_PCAP, "a.pcapng": PCAPNG, "good.log.gz": GZIPPED, "short.gz": GZIPPED[:2], "two.log": b"MQ"}
-FILES |= {"good-2.log": GOOD_2, "old.log": MANY, "dash.log": MANY}
+FILES |= {"good-2.log": GOOD_2, "old.log": MANY, "dash.log": MANY, "kept.log": MANY, "copy.log": GOOD}
 
 RUNS = [
     # A file is read, and not standard input.
@@ -321,23 +327,49 @@ RUNS = [
     Run(["check", "short.gz"], 2, "refused 1 Header at 0\n", GZIP_HINT),
     Run(["check", "two.log"], 2, "refused 10 Cut at 2\n"),
     Run(["check"], 2, "refused 1 Header at 0\n", stdin=b"GET / HTTP/1.1"),
-    # A file is made, or emptied and written, and nothing is printed.
+    # A file is made, and nothing is printed.
     Run(["convert", "good.log", "made.log"], 0, files={"made.log": GOOD_2, "good.log": GOOD}),
     Run(["convert", "many.log", "many-2.log"], 0, files={"many-2.log": MANY_2}),
-    Run(["convert", "good.log", "old.log"], 0, files={"old.log": GOOD_2}),
-    Run(["convert", "-", "dash.log"], 0, stdin=GOOD, files={"dash.log": GOOD_2, "-": FAULTY}),
+    # One that is there is emptied and written only if that is asked for.
+    Run(["convert", "good.log", "old.log"], 3, errors=there("old.log"), files={"old.log": MANY}),
+    Run(["convert", "--force", "good.log", "old.log"], 0, files={"old.log": GOOD_2}),
+    Run(["convert", "good.log", "new.log", "--force"], 0, files={"new.log": GOOD_2}),
+    Run(["convert", "-", "dash.log"], 3, errors=there("dash.log"), stdin=GOOD, files={"dash.log": MANY}),
+    Run(["convert", "-", "dash.log", "--force"], 0, stdin=GOOD, files={"dash.log": GOOD_2, "-": FAULTY}),
+    Run(["convert", "good.log", "./good.log"], 3, errors=there("./good.log"), files={"good.log": GOOD}),
+    Run(["convert", "good.log", "loop.log"], 3, errors=there("loop.log")),
+    Run(["convert", "good.log", "."], 3, errors=there(".")),
+    Run(["convert", "good.log", "/dev/null"], 3, errors=there("/dev/null")),
+    Run(["convert", "--force", "good.log", "/dev/null"], 0),
+    # Nothing is asked for that would empty the log, by whatever name.
+    Run(["convert", "--force", "good.log", "good.log"], 3, errors=SAME_FILE, files={"good.log": GOOD}),
+    Run(["convert", "--force", "good.log", "./good.log"], 3, errors=SAME_FILE, files={"good.log": GOOD}),
+    Run(["convert", "--force", "good.log", "symbolic.log"], 3, errors=SAME_FILE, files={"good.log": GOOD}),
+    Run(["convert", "--force", "symbolic.log", "good.log"], 3, errors=SAME_FILE, files={"good.log": GOOD}),
+    Run(["convert", "--force", "good.log", "hard.log"], 3, errors=SAME_FILE, files={"good.log": GOOD}),
+    Run(["convert", "--force", "-", "hard.log"], 3, errors=SAME_FILE, stdin=Path("good.log"), files={"good.log": GOOD}),
+    # Another file with the same bytes isn't the log.
+    Run(["convert", "--force", "good.log", "copy.log"], 0, files={"copy.log": GOOD_2, "good.log": GOOD}),
     Run(["check", "made.log"], 0, PASS),
-    Run(["convert", "good-2.log", "none.log"], 2, "refused 2 Version at 4\n", files={"none.log": b""}),
+    # Nor is anything changed for a log that is refused for its header.
+    Run(["convert", "good-2.log", "none.log"], 2, "refused 2 Version at 4\n", files={"none.log": None}),
+    Run(["convert", "--force", "good-2.log", "kept.log"], 2, "refused 2 Version at 4\n", files={"kept.log": MANY}),
+    Run(["convert", "--force", "two.log", "kept.log"], 2, "refused 10 Cut at 2\n", files={"kept.log": MANY}),
+    Run(["convert", "--force", "-", "kept.log"], 2, "refused 10 Cut at 0\n", files={"kept.log": MANY}),
+    Run(["convert", "good-2.log", "kept.log"], 2, "refused 2 Version at 4\n", files={"kept.log": MANY}),
+    Run(["convert", "--force", "missing.log", "kept.log"], 4, errors=missing("missing.log"), files={"kept.log": MANY}),
+    Run(["convert", "-", "eight.log"], 0, stdin=HEADER, files={"eight.log": HEADER_2}),
     Run(["convert", "nested.log", "part.log"], 2, REFUSED, files={"part.log": HEADER_2 + timed(OPEN)}),
     Run(["convert", "short.log", "cut.log"], 2, f"refused 10 Cut at {len(GOOD) - 1}\n", files={"cut.log": GOOD_2[:-1]}),
-    Run(["convert", "a.pcap", "none.log"], 2, "refused 1 Header at 0\n", CAPTURE_HINT, files={"none.log": b""}),
+    Run(["convert", "--force", "nested.log", "part.log"], 2, REFUSED, files={"part.log": HEADER_2 + timed(OPEN)}),
+    Run(["convert", "a.pcap", "none.log"], 2, "refused 1 Header at 0\n", CAPTURE_HINT, files={"none.log": None}),
     # None is if the log can't be opened or read, or has the same name.
     Run(["convert", "missing.log", "unmade.log"], 4, errors=missing("missing.log"), files={"unmade.log": None}),
     Run(["convert", ".", "unmade.log"], 4, errors=directory("."), files={"unmade.log": None}),
-    Run(["convert", "good.log", "."], 4, errors=WRITE_FAILED),
+    Run(["convert", "--force", "good.log", "."], 4, errors=WRITE_FAILED),
     Run(["convert", "good.log", "missing/made.log"], 4, errors=WRITE_FAILED),
-    Run(["convert", "good.log", "/dev/full"], 4, errors=WRITE_FAILED),
-    Run(["convert", "many.log", "/dev/full"], 4, errors=WRITE_FAILED),
+    Run(["convert", "--force", "good.log", "/dev/full"], 4, errors=WRITE_FAILED),
+    Run(["convert", "--force", "many.log", "/dev/full"], 4, errors=WRITE_FAILED),
     Run(["convert", "good.log", "good.log"], 3, errors=SAME_FILE, files={"good.log": GOOD}),
     Run(["convert", "-", "-"], 3, errors=SAME_FILE, stdin=GOOD, files={"-": FAULTY}),
     Run(["convert", "good.log"], 3, errors=NO_OUT),
@@ -379,7 +411,8 @@ UNWRITTEN = [
     ["show", "many.log"],
     ["show", "--faults", "faulty.log"],
     ["show", "--faults", "nested.log"],
-    ["convert", "nested.log", "part.log"],
+    ["convert", "--force", "nested.log", "part.log"],
+    ["convert", "good-2.log", "none.log"],
     ["packet", "40020001"],
     ["packet", "41020001"],
     ["rules"],
@@ -395,6 +428,7 @@ UNTOLD = [
     (["packet", "4"], 4),
     (["show", "--faults"], 4),
     (["convert", "good.log", "good.log"], 4),
+    (["convert", "good.log", "kept.log"], 4),
     (["check", "missing.log"], 4),
     (["check", "good.log"], 0),
     (["check", "a.pcap"], 2),
@@ -525,6 +559,8 @@ def main() -> int:
         for name, data in FILES.items():
             Path(name).write_bytes(data)
         Path("loop.log").symlink_to("loop.log")
+        Path("symbolic.log").symlink_to("good.log")
+        Path("hard.log").hardlink_to("good.log")
         for case in RUNS:
             found = run(program, case.words, case.stdin)
             tally.compare(f"{case.words}", found, (case.status, case.output, case.errors))

@@ -60,6 +60,7 @@ ON_LOGS = [
     ["show", "--long"],
     ["show", "--faults", "--around", "0"],
     ["convert"],
+    ["convert", "--force"],
 ]
 ALONE = [
     ["packet", "40", "02", "00", "01"],
@@ -143,7 +144,7 @@ def wrong_runs(refuser: Refuser, program: Path, case: Case, folder: Path) -> tup
     if case.log is not None:
         (place / "a.log").write_bytes(case.log)
         words.append(place / "a.log")
-        if case.words == ["convert"]:
+        if "convert" in case.words:
             made = place / "b.log"
             words.append(made)
     wanted = refuser.run(words, 0, made)

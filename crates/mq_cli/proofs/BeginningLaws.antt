@@ -29,18 +29,18 @@ hint_by a b four two = ap₂ (λ (x y : List ℕ). if list_any (bytes_eq x) capt
     else (if bytes_eq y (0x1F ∷ 0x8B ∷ []) then codes "mqjudge: it is compressed by gzip: unpack it first; of a capture recorders/from-capture makes logs" ++ 10 ∷ [] else [])) four two
 
 -- so that four bytes show it, or all if there are fewer
-hint_of_start : (start rest : List ℕ) → (length start ≡ 4) ⊎ (rest ≡ []) → hint_line (start ++ rest) ≡ hint_line start
+hint_of_start : (start rest : List ℕ) → (length start ≡ 8) ⊎ (rest ≡ []) → hint_line (start ++ rest) ≡ hint_line start
 hint_of_start start rest (inl enough) = hint_by (start ++ rest) start (take-append-le 4 start rest (omega (arith, enough))) (take-append-le 2 start rest (omega (arith, enough)))
 hint_of_start start rest (inr none) = ap (λ (bytes : List ℕ). hint_line (start ++ bytes)) none ∙ ap hint_line (append-nil start)
 
-shown_by_start : (old new : Option (List ℕ)) (start : List ℕ) → Consumes old new start → (length start ≡ 4) ⊎ IsAtEnd new
+shown_by_start : (old new : Option (List ℕ)) (start : List ℕ) → Consumes old new start → (length start ≡ 8) ⊎ IsAtEnd new
     → IfSome old (λ bytes. hint_line bytes ≡ hint_line start)
 shown_by_start None new start c enough = tt
 shown_by_start (Some log) None start c enough = absurd c
 shown_by_start (Some log) (Some rest) start c enough = ap hint_line c ∙ hint_of_start start rest enough
 
 pub hinted_by_start : (old new : Option (List ℕ)) (taken start : List ℕ) (error : Stream) → start ≡ taken → Consumes old new taken
-    → (length taken ≡ 4) ⊎ IsAtEnd new → IsTold error (hint_line start) → IsHinted old error
+    → (length taken ≡ 8) ⊎ IsAtEnd new → IsTold error (hint_line start) → IsHinted old error
 hinted_by_start old new taken start error same c enough told = record {
   start = start;
   shows = subst (λ (first : List ℕ). IfSome old (λ bytes. hint_line bytes ≡ hint_line first)) (sym same) (shown_by_start old new taken c enough);

@@ -283,15 +283,20 @@ request_is_explain words m explained same named rows =
     ap (option_map request_in) (met_by words m explained (codes "explain") same named rows)
     ∙ ap (λ (f : Option Text). Some (explain_request f)) (sym (first_value-rows (found_of explained) (codes "CODE")))
 
-pub same_convert : {log log' made made' : Option Text} → log ≡ log' → made ≡ made' → Some (convert_request log made) ≡ Some (convert_request log' made')
-same_convert {log} {log'} {made} {made'} l m = ap (λ (x : Option Text). Some (convert_request x made)) l ∙ ap (λ (x : Option Text). Some (convert_request log' x)) m
+pub same_convert : {log log' made made' : Option Text} {force force' : Bool} → log ≡ log' → made ≡ made' → force ≡ force'
+    → Some (convert_request log made force) ≡ Some (convert_request log' made' force')
+same_convert {log} {log'} {made} {made'} {force} {force'} l m f =
+    ap (λ (x : Option Text). Some (convert_request x made force)) l ∙ ap (λ (x : Option Text). Some (convert_request log' x force)) m
+    ∙ ap (λ (x : Bool). Some (convert_request log' made' x)) f
 
 pub request_is_convert : (words : List Text) (m converted : ArgMatches) → subcommand_rows_of m ≡ subcommand_of mqjudge words → subcommand_name_of m ≡ Some (codes "convert")
     → option_map (λ p. p.1) (subcommand_rows_of m) ≡ Some (rows_of (found_of converted))
-    → request_of words ≡ Some (convert_request (first_value (found_of converted) (codes "IN")) (first_value (found_of converted) (codes "OUT")))
+    → request_of words ≡ Some (convert_request (first_value (found_of converted) (codes "IN")) (first_value (found_of converted) (codes "OUT"))
+    (is_true (first_value (found_of converted) (codes "force"))))
 request_is_convert words m converted same named rows =
     ap (option_map request_in) (met_by words m converted (codes "convert") same named rows)
     ∙ same_convert (sym (first_value-rows (found_of converted) (codes "IN"))) (sym (first_value-rows (found_of converted) (codes "OUT")))
+    (ap is_true (sym (first_value-rows (found_of converted) (codes "force"))))
 
 -- ---- kinds of error
 

@@ -54,9 +54,9 @@ required_operand name = record (new_rule name) { required = true }
 abbrev pub explain_command : App
 explain_command = with_rule (new_app (codes "explain")) (required_operand (codes "CODE"))
 
--- `convert IN OUT`
+-- `convert [--force] IN OUT`
 abbrev pub convert_command : App
-convert_command = with_rule (with_rule (new_app (codes "convert")) (required_operand (codes "IN"))) (required_operand (codes "OUT"))
+convert_command = with_rule (with_rule (with_rule (new_app (codes "convert")) (required_operand (codes "IN"))) (required_operand (codes "OUT"))) (flag (codes "force"))
 
 -- `mqjudge`, which has a version, and whose subcommand is required
 abbrev pub mqjudge : App
@@ -74,7 +74,7 @@ mqjudge = with_subcommand
     explain_command.top)
     convert_command.top
 
--- what a command line asks for: a subcommand, its operand, its flags, the number after `--around`, the end that it is for, and the file that it makes
+-- what a command line asks for: a subcommand, its operand, its flags, the number after `--around`, the end that it is for, the file that it makes, and whether one that is there may be emptied
 pub record Request : Type 0 where
   pub subcommand : Text
   pub operand : Option Text
@@ -85,11 +85,12 @@ pub record Request : Type 0 where
   pub around : Option Text
   pub role : Option Text
   pub made : Option Text
+  pub force : Bool
 
 -- a subcommand on this operand, with nothing else
 abbrev pub plain_request : Text → Option Text → Request
 plain_request subcommand operand =
-    record { subcommand = subcommand; operand = operand; json = false; summary = false; long = false; faults = false; around = None; role = None; made = None }
+    record { subcommand = subcommand; operand = operand; json = false; summary = false; long = false; faults = false; around = None; role = None; made = None; force = false }
 
 -- `check` on this file, with these flags
 abbrev pub check_request : Option Text → Bool → Bool → Request
@@ -115,9 +116,9 @@ rules_request role = record (plain_request (codes "rules") None) { role = role }
 abbrev pub explain_request : Option Text → Request
 explain_request code = plain_request (codes "explain") (Some (unwrap_or code []))
 
--- `convert` of the log that this word names, into this file; both operands are required
-abbrev pub convert_request : (log made : Option Text) → Request
-convert_request log made = record (plain_request (codes "convert") (Some (unwrap_or log []))) { made = Some (unwrap_or made []) }
+-- `convert` of the log that this word names, into this file, with this flag; both operands are required
+abbrev pub convert_request : (log made : Option Text) → (force : Bool) → Request
+convert_request log made force = record (plain_request (codes "convert") (Some (unwrap_or log []))) { made = Some (unwrap_or made []); force = force }
 
 -- the value of a flag is `true`
 abbrev pub is_true : Option Text → Bool
@@ -132,7 +133,7 @@ request_in met = if bytes_eq met.0 (codes "check") then check_request (first_of 
     else (if bytes_eq met.0 (codes "packet") then packet_request (all_of (codes "HEX") met.1)
     else (if bytes_eq met.0 (codes "rules") then rules_request (first_of (codes "role") met.1)
     else (if bytes_eq met.0 (codes "explain") then explain_request (first_of (codes "CODE") met.1)
-    else convert_request (first_of (codes "IN") met.1) (first_of (codes "OUT") met.1)))))
+    else convert_request (first_of (codes "IN") met.1) (first_of (codes "OUT") met.1) (is_true (first_of (codes "force") met.1))))))
 
 -- what the words ask for, if they are a command line
 abbrev pub request_of : List Text → Option Request
@@ -150,7 +151,7 @@ request_by (Once (Packet hex)) = digits_request (string_bytes hex)
 request_by (Once (Rules role)) = rules_request (option_map string_bytes role)
 request_by (Once (Explain code)) = explain_request (Some (string_bytes code))
 request_by (Twice review) = show_request (option_map string_bytes review.file) review.long review.faults (option_map string_bytes review.around)
-request_by (Convert conversion) = convert_request (Some (string_bytes conversion.input)) (Some (string_bytes conversion.output))
+request_by (Convert conversion) = convert_request (Some (string_bytes conversion.input)) (Some (string_bytes conversion.output)) conversion.force
 
 -- work that reads its log twice is asked for by `--faults` or by a number of positions; without them the log is read once
 abbrev pub ReadsAsAsked : Work → Type 0

@@ -2,6 +2,7 @@ pub mod CommandLine
 pub mod Citing
 pub mod Converting
 pub mod Digits
+pub mod Effects
 pub mod Explaining
 pub mod Given
 pub mod Listing

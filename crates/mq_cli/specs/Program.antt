@@ -1,5 +1,5 @@
 -- What the program does for the words of its command line, by its exit status.
-use Rattle.std.specs.Prelude.{◌≡◌, ◌≢◌, ◌⊎◌, ℕ, Bool, true, List, [], Option, Some, IfSome, IsErrAnd, IsOkAnd, string_bytes}
+use Rattle.std.specs.Prelude.{◌≡◌, ◌≢◌, ◌⊎◌, ℕ, Bool, true, List, [], Option, Some, IfSome, IsErrAnd, IsOkAnd, MatchResult, string_bytes}
 use Rattle.std.specs.Io.KnownBytes.{Appends, Keeps}
 use Rattle.clap.specs.Words.{Text}
 use Rattle.mq_cli.specs.declared.command_line.EarlyExit.{EarlyExit}
@@ -10,14 +10,17 @@ use Rattle.mq_cli.specs.declared.command_line.Work.{Work}
 use Rattle.mq_cli.specs.declared.command_line.Work.TheVariants.{Once, Twice, Convert}
 use Rattle.mq_cli.specs.declared.command_line.EarlyExit.TheVariants as exits
 use Rattle.mq_cli.specs.declared.failure.Failure.TheVariants.{Memory}
+use Rattle.mq_cli.specs.declared.host.Unmade.{Unmade}
+use Rattle.mq_cli.specs.declared.host.Unmade.TheVariants.{Exists, IsLog, Failed}
 use Rattle.mq_cli.specs.declared.trouble.Trouble.{Trouble}
 use Rattle.mq_cli.specs.declared.trouble.Trouble.TheVariants as troubles
 use Rattle.mq_cli.specs.CommandLine.{ReadsAsAsked, StopsFor, word_faults, path_of, reads_log, request_by, request_of}
-use Rattle.mq_cli.specs.Converting.{FailsConverting, Files, IsConvertible, RefusesConverting, files_of}
+use Rattle.mq_cli.specs.Converting.{DoesToFiles, FailsConverting, Files, IsConvertible, RefusesConverting, files_of}
+use Rattle.mq_cli.specs.Effects.{Doing}
 use Rattle.mq_cli.specs.Given.{Given, bytes_at}
 use Rattle.mq_cli.specs.Reviewing.{IfBoth, IsReviewed, Plan, RefusesPlan, StopsPlan, plan_of}
 use Rattle.mq_cli.specs.Messages.{FailsMisnamed, StopsTask, HasFailed, HasPassed, IsMisnamed, IsRefusedOn, IsReportedOn, IsShownOn, IsPrintedOn, misnamed_line}
-use Rattle.mq_cli.specs.Streams.{AppendsPart, IsCutOff, IsTold, Stream, failure_line}
+use Rattle.mq_cli.specs.Streams.{AppendsPart, IsCutOff, IsTold, Stream, exists_line, failure_line, same_file_line}
 use Rattle.mq_cli.specs.Troubles.{Tells, failure_in, hint_line, place_of, words_place}
 
 -- the bytes that a task reads
@@ -33,7 +36,7 @@ pub record IsHinted (log : Option Text) (error : Stream) : Type 0 where
 
 -- In what follows, `is_closed` says that nobody reads the output any more.
 
--- The first bytes of the log couldn't be read: nothing was written, and it is said why, and which log it is.
+-- The first bytes of the log couldn't be read, or memory ran out: nothing was written, and it is said why, and which log it is.
 pub record IsUnbegun (place : Text) (is_closed : Bool) (old new : Option (List ℕ)) (error : Stream) : Type 0 where
   pub trouble : Trouble
   pub is_of_reading : trouble ≢ troubles.Write
@@ -139,16 +142,32 @@ RefusesSource log old new error = ForSomeFile (λ made_old made_new. IfSome log 
 abbrev pub RefusesConversion : Given → Conversion → (old new : Option (List ℕ)) → Stream → Type 0
 RefusesConversion given conversion old new error = IsOkAnd (files_of conversion) (λ files. RefusesSource (bytes_at given files.log) old new error)
 
--- 3: the log and the file have one name, and the line that says so was written
-abbrev pub MisusesConversion : Conversion → Option (List ℕ) → Option (List ℕ) → Type 0
-MisusesConversion conversion error_old error_new = IsErrAnd (files_of conversion) (λ line. Appends error_old error_new line)
+-- the file at this path wasn't made for this reason, which is a misuse, and the line that says so was written
+abbrev pub IsMisuseFor : (path : Text) → Unmade → Option (List ℕ) → Option (List ℕ) → Type 0
+IsMisuseFor path Exists error_old error_new = Appends error_old error_new (exists_line path)
+IsMisuseFor path IsLog error_old error_new = Appends error_old error_new same_file_line
+IsMisuseFor path (Failed trouble) error_old error_new = ⊥
 
--- The file at this path couldn't be made: nothing was written, and it is said what failed.
+-- 3: the file at this path is there, or is the log, and the line that says so was written
+abbrev pub MisusesFile : Given → (path : Text) → Option (List ℕ) → Option (List ℕ) → Type 0
+MisusesFile given path error_old error_new = (why : Unmade) × given.unmade path why × IsMisuseFor path why error_old error_new
+
+-- 3: so it is with the files that are named, or the log and the file have one name, and the line that says so was written
+abbrev pub MisusesConversion : Given → Conversion → Option (List ℕ) → Option (List ℕ) → Type 0
+MisusesConversion given conversion error_old error_new =
+    MatchResult (files_of conversion) (λ files. MisusesFile given files.made error_old error_new) (λ line. Appends error_old error_new line)
+
+-- the file at this path wasn't made for this reason, and it is said what failed; or that it is a misuse couldn't be said
+abbrev pub FailsUnmade : (path : Text) → Unmade → (is_closed : Bool) → (old new : Option (List ℕ)) → Stream → Type 0
+FailsUnmade path Exists is_closed old new error = FailsUnplanned (exists_line path) old new error
+FailsUnmade path IsLog is_closed old new error = FailsUnplanned same_file_line old new error
+FailsUnmade path (Failed trouble) is_closed old new error = Keeps old new × Tells is_closed path trouble error
+
+-- The file at this path wasn't made: nothing was written, and it is said what failed.
 pub record IsUnmade (given : Given) (path : Text) (is_closed : Bool) (old new : Option (List ℕ)) (error : Stream) : Type 0 where
-  pub trouble : Trouble
-  pub refused : given.unmade path trouble
-  pub unwritten : Keeps old new
-  pub told : Tells is_closed path trouble error
+  pub why : Unmade
+  pub refused : given.unmade path why
+  pub fails : FailsUnmade path why is_closed old new error
 
 -- 4: the first bytes of the log couldn't be read, or the file at this path not be made, or converting failed
 abbrev pub FailsSource : Given → (place : Text) → (log : Option Text) → (path : Text) → (is_closed : Bool) → (old new : Option (List ℕ)) → Stream → Type 0
@@ -186,12 +205,12 @@ RefusesWork given (Once task) old new error = IsRefusedOn task (input_of given t
 RefusesWork given (Twice review) old new error = RefusesReview given review old new error
 RefusesWork given (Convert conversion) old new error = RefusesConversion given conversion old new error
 
--- 3: the digits of a packet are invalid, a word isn't an end, a statement or a number, there is no file to read twice, or a log is to be converted into itself,
--- and the line that says so was written to the error stream
-abbrev pub MisusesWork : Work → Option (List ℕ) → Option (List ℕ) → Type 0
-MisusesWork (Once task) error_old error_new = IsMisnamed task × Appends error_old error_new (misnamed_line task)
-MisusesWork (Twice review) error_old error_new = MisusesReview review error_old error_new
-MisusesWork (Convert conversion) error_old error_new = MisusesConversion conversion error_old error_new
+-- 3: the digits of a packet are invalid, a word isn't an end, a statement or a number, there is no file to read twice, or a log is to be converted into itself, or
+-- into a file that is there, and the line that says so was written to the error stream
+abbrev pub MisusesWork : Given → Work → Option (List ℕ) → Option (List ℕ) → Type 0
+MisusesWork given (Once task) error_old error_new = IsMisnamed task × Appends error_old error_new (misnamed_line task)
+MisusesWork given (Twice review) error_old error_new = MisusesReview review error_old error_new
+MisusesWork given (Convert conversion) error_old error_new = MisusesConversion given conversion error_old error_new
 
 -- 4: it failed, or its file couldn't be opened
 abbrev pub FailsWork : Given → Work → (is_closed : Bool) → (old new : Option (List ℕ)) → Stream → Type 0
@@ -231,14 +250,25 @@ abbrev pub Refuses : List Text → Given → (old new : Option (List ℕ)) → S
 Refuses words given old new error = (work : Work) × AsksFor words work × RefusesWork given work old new error
 
 -- 3: they aren't a command line, or ask for what can't be done, and the text that says so was written to the error stream
-abbrev pub IsMisuse : List Text → Option (List ℕ) → Option (List ℕ) → Type 0
-IsMisuse words error_old error_new = ((stop : EarlyExit) × StopsAt words stop × IsPrintedOn stop error_old error_new)
-    ⊎ ((work : Work) × AsksFor words work × MisusesWork work error_old error_new)
+abbrev pub IsMisuse : List Text → Given → Option (List ℕ) → Option (List ℕ) → Type 0
+IsMisuse words given error_old error_new = ((stop : EarlyExit) × StopsAt words stop × IsPrintedOn stop error_old error_new)
+    ⊎ ((work : Work) × AsksFor words work × MisusesWork given work error_old error_new)
 
 -- 4: the text for words that ask for no work couldn't be written; or they ask for work that failed, or whose file couldn't be opened
 abbrev pub FailsWords : List Text → Given → (is_closed : Bool) → (old new : Option (List ℕ)) → Stream → Type 0
 FailsWords words given is_closed old new error = ((stop : EarlyExit) × StopsAt words stop × FailsStop stop is_closed old new error)
     ⊎ ((work : Work) × AsksFor words work × FailsWork given work is_closed old new error)
+
+-- What the words ask for was done to files, with this status: nothing, unless they ask for a conversion. `did` says of effects that they are what was done.
+abbrev pub DoesForWork : Given → Work → (status : ℕ) → Doing → Type 0
+DoesForWork given (Once task) status did = did []
+DoesForWork given (Twice review) status did = did []
+DoesForWork given (Convert conversion) status did =
+    MatchResult (files_of conversion) (λ files. DoesToFiles (bytes_at given files.log) files.made files.force status did) (λ _. did [])
+
+abbrev pub DoesForWords : List Text → Given → (status : ℕ) → Doing → Type 0
+DoesForWords words given status did = ((stop : EarlyExit) × StopsAt words stop × did [])
+    ⊎ ((work : Work) × AsksFor words work × DoesForWork given work status did)
 
 -- 4: The words couldn't be read: nothing was written, and it is said why.
 pub record WordsUnread (given : Given) (is_closed : Bool) (old new : Option (List ℕ)) (error : Stream) : Type 0 where

@@ -5,7 +5,7 @@ use Rattle.mq_cli.specs.Listing.{all_codes}
 use Rattle.mq_cli.specs.declared.failure.Failure.{Failure}
 use Rattle.mq_cli.specs.declared.failure.Failure.TheVariants as failures
 use Rattle.mq_cli.specs.declared.misuse.Misuse.{Misuse}
-use Rattle.mq_cli.specs.declared.misuse.Misuse.TheVariants.{NotHex, NoRole, NoStatement, NoFaults, NoFile, NoNumber, SameFile}
+use Rattle.mq_cli.specs.declared.misuse.Misuse.TheVariants.{NotHex, NoRole, NoStatement, NoFaults, NoFile, NoNumber, SameFile, OutExists}
 
 -- The known bytes grew by a beginning of the text, or by all of it, and by nothing else.
 pub record AppendsPart (old new : Option (List ℕ)) (text : List ℕ) : Type 0 where
@@ -67,9 +67,13 @@ no_file_line = codes "mqjudge: --faults reads the log twice, so it needs a FILE,
 abbrev pub no_number_line : List ℕ → List ℕ
 no_number_line word = codes "mqjudge: no number " ++ (word ++ 10 ∷ [])
 
--- for a log that is to be converted into a file of the same name
+-- for a log that is to be converted into itself
 abbrev pub same_file_line : List ℕ
 same_file_line = codes "mqjudge: OUT has to be another file than IN" ++ 10 ∷ []
+
+-- for a log that is to be converted into a file that is there
+abbrev pub exists_line : List ℕ → List ℕ
+exists_line path = codes "mqjudge: OUT exists: " ++ (path ++ (10 ∷ codes "mqjudge: with --force it is emptied and written" ++ 10 ∷ []))
 
 -- the message for a misuse
 abbrev pub misuse_line : Misuse → List ℕ
@@ -80,3 +84,4 @@ misuse_line NoFaults = no_faults_line
 misuse_line NoFile = no_file_line
 misuse_line (NoNumber word) = no_number_line word.now
 misuse_line SameFile = same_file_line
+misuse_line (OutExists path) = exists_line path.now

@@ -1,12 +1,14 @@
 -- What keeps the program from its work, what it says of it, and what it says of a file that isn't a log.
-use Rattle.std.specs.Prelude.{ℕ, Bool, true, false, List, [], ◌∷◌, ◌++◌, codes, if◌then◌else◌, take, unwrap_or, Option, Some, None}
+use Rattle.std.specs.Prelude.{◌≡◌, ◌⊎◌, ⊤, ℕ, Bool, true, false, List, [], ◌∷◌, ◌++◌, codes, if◌then◌else◌, take, unwrap_or, Option, Some, None}
 use Rattle.std.specs.List.{list_any}
 use Rattle.std.specs.Str.{bytes_eq}
 use Rattle.std.specs.Io.KnownBytes.{Keeps}
 use Rattle.std_io.specs.declared.io.kind.ErrorKind.{ErrorKind}
-use Rattle.std_io.specs.declared.io.kind.ErrorKind.TheVariants.{BrokenPipe, FilesystemLoop, InvalidData, InvalidFilename, IsADirectory, NotADirectory, NotFound, OutOfMemory, PermissionDenied}
+use Rattle.std_io.specs.declared.io.kind.ErrorKind.TheVariants.{AlreadyExists, BrokenPipe, FilesystemLoop, InvalidData, InvalidFilename, IsADirectory, NotADirectory, NotFound, OutOfMemory, PermissionDenied}
 use Rattle.mq_cli.specs.declared.failure.Failure.{Failure}
 use Rattle.mq_cli.specs.declared.failure.Failure.TheVariants as failures
+use Rattle.mq_cli.specs.declared.host.Unmade.{Unmade}
+use Rattle.mq_cli.specs.declared.host.Unmade.TheVariants.{Exists, IsLog, Failed}
 use Rattle.mq_cli.specs.declared.trouble.Reason.{Reason}
 use Rattle.mq_cli.specs.declared.trouble.Reason.TheVariants.{Missing, Denied, Directory, NoDirectory, LongName, Loop, NotUtf8, Other}
 use Rattle.mq_cli.specs.declared.trouble.Trouble.{Trouble}
@@ -34,6 +36,17 @@ trouble_for kind = Unread (reason_for kind)
 abbrev pub making_trouble_for : ErrorKind → Trouble
 making_trouble_for OutOfMemory = Memory
 making_trouble_for _ = Write
+
+-- why a new file wasn't made: there may be something at its path
+abbrev pub unmade_for : ErrorKind → Unmade
+unmade_for AlreadyExists = Exists
+unmade_for kind = Failed (making_trouble_for kind)
+
+-- a failure to make a file is one to write, or of memory
+abbrev pub IsOfMaking : Unmade → Type 0
+IsOfMaking Exists = ⊤
+IsOfMaking IsLog = ⊤
+IsOfMaking (Failed trouble) = (trouble ≡ Write) ⊎ (trouble ≡ Memory)
 
 -- why the words couldn't be read: invalid data is a word that isn't UTF-8
 abbrev pub words_trouble_for : ErrorKind → Trouble

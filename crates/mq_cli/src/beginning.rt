@@ -1,5 +1,5 @@
 //! The first bytes of a log, and what to do with a file that isn't one.
-ghost use Rattle.std.specs.Prelude.{◌≡◌, ◌≢◌, ◌⊎◌, IfErr, IfOk, length, option_to_list, IsNone, take};
+ghost use Rattle.std.specs.Prelude.{◌≡◌, ◌≢◌, ◌≤◌, ◌⊎◌, IfErr, IfOk, length, option_to_list, IsNone, take};
 ghost use Rattle.std.specs.Io.KnownBytes.{Consumes, IsAtEnd};
 ghost use Rattle.mq_cli.specs.Streams.{IsTold, stream};
 ghost use Rattle.mq_cli.specs.Troubles.{hint_line, is_capture, is_compressed};
@@ -9,20 +9,21 @@ use crate::trouble::{Reason, Trouble};
 use std::alloc::Global;
 use std::io::{self, ErrorKind, Read};
 
-// How many bytes show what a file is.
-const ENOUGH: usize = 4;
+// How many bytes show what a file is, and whether its header is that of a log.
+const ENOUGH: usize = 8;
 
 // How often an interrupted read is tried again.
 const TRIES: u32 = 1_000;
 
-/// Reads the first bytes of a log: four, or all if there are fewer.
+/// Reads the first bytes of a log: eight, as many as its header has, or all if there are fewer.
 ///
 /// # Errors
 ///
 /// `Unread` if reading failed, and `Memory`.
 pub fn read_start<R: Read>(alloc: Global, reader: &mut R) -> Result<Vec<u8>, Trouble>
     ensures taken { IfOk result (λ start. Consumes (R.remaining reader.old) (R.remaining reader.new) start.items) }
-    ensures enough { IfOk result (λ start. (length start.items ≡ 4) ⊎ IsAtEnd (R.remaining reader.new)) }
+    ensures enough { IfOk result (λ start. (length start.items ≡ 8) ⊎ IsAtEnd (R.remaining reader.new)) }
+    ensures few { IfOk result (λ start. length start.items ≤ 8) }
     ensures trouble { IfErr result (λ trouble. trouble ≢ Trouble.Write) }
 {
     let mut start = Vec::new(alloc);

@@ -68,6 +68,8 @@ pub struct Conversion {
     pub input: String,
     /// The path of the log that is made.
     pub output: String,
+    /// Whether a file at that path may be emptied and written.
+    pub force: bool,
 }
 
 /// Show the events of a log with the faults at them: one reading finds the faults, and another one
@@ -169,8 +171,8 @@ pub enum EarlyExit {
 /// Reads the words of a command line, `mqjudge check [--json] [--summary] [FILE]`,
 /// `mqjudge show [--long] [--faults] [--around N] [FILE]`,
 /// `mqjudge packet HEX..`, `mqjudge rules [--role ROLE]`, `mqjudge explain CODE` or
-/// `mqjudge convert IN OUT`, of which the first is the program's name. A request for help or the
-/// version is returned as a `EarlyExit`, and so are words that aren't such a command line.
+/// `mqjudge convert [--force] IN OUT`, of which the first is the program's name. A request for help
+/// or the version is returned as a `EarlyExit`, and so are words that aren't such a command line.
 pub fn parse<S: AsStr>(alloc: Global, words: &[S]) -> Result<Work, EarlyExit>
     ensures taken { IfOk result (λ _. word_faults (map S.text words.now) ≡ []) }
     ensures work { IfOk result (λ work.
@@ -205,6 +207,7 @@ pub fn parse<S: AsStr>(alloc: Global, words: &[S]) -> Result<Work, EarlyExit>
                                     alloc,
                                     convert.get_str("IN"),
                                     convert.get_str("OUT"),
+                                    is_true(convert.get_str("force")),
                                 ),
                                 None => unreachable!(),
                             },
@@ -404,8 +407,9 @@ fn convert_command<'a>(alloc: Global) -> Result<Command<'a>, AllocError>
         .arg(required_operand(
             alloc,
             "OUT",
-            "The file that is made, or emptied and written; another one than IN",
-        ))
+            "The file that is made, which isn't there yet; another one than IN",
+        ))?
+        .arg(flag(alloc, "force", "Empty and write OUT if it is there"))
 }
 
 // An operand of this name that has to be given.
@@ -510,16 +514,26 @@ fn explain_task(alloc: Global, code: Option<&str>) -> Result<Work, EarlyExit>
     }
 }
 
-// The conversion of the log that these operands name; a missing operand counts as an empty one.
-fn convert_task(alloc: Global, input: Option<&str>, output: Option<&str>) -> Result<Work, EarlyExit>
+// The conversion of the log that these operands name, with this flag; a missing operand counts as
+// an empty one.
+fn convert_task(
+    alloc: Global,
+    input: Option<&str>,
+    output: Option<&str>,
+    force: bool,
+) -> Result<Work, EarlyExit>
     ensures work { IfOk result (λ work.
-        request_by work ≡ convert_request (option_map (λ word. word.now) input.entry) (option_map (λ word. word.now) output.entry)) }
+        request_by work ≡ convert_request (option_map (λ word. word.now) input.entry) (option_map (λ word. word.now) output.entry) force) }
     ensures readings { IfOk result ReadsAsAsked }
     ensures stop { IfErr result (λ stop. stop ≡ EarlyExit.Memory) }
 {
     let input = copy_operand(alloc, input)?;
     let output = copy_operand(alloc, output)?;
-    Ok(Work::Convert(Conversion { input, output }))
+    Ok(Work::Convert(Conversion {
+        input,
+        output,
+        force,
+    }))
 }
 
 // A copy of an operand; a missing one counts as an empty one.

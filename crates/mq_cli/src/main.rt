@@ -34,13 +34,13 @@ use std::process::ExitCode;
 
 fn main(rt: HostRuntime) -> ExitCode {
     let alloc = rt.alloc();
-    let system = System { rt: &rt };
+    let mut system = System { rt: &rt };
     let mut error = rt.stderr();
     let mut progress = Meter::new(rt.stderr(), rt.stderr().is_terminal());
     let status = match BufWriter::new(alloc, rt.stdout()) {
         Ok(output) => run(
             alloc,
-            &system,
+            &mut system,
             &mut Outlet::new(output),
             &mut error,
             &mut progress,

@@ -23,8 +23,10 @@ pub enum Misuse<'a> {
     NoFile,
     /// The word isn't a number of positions.
     NoNumber(&'a str),
-    /// The log that is to be converted and the file that is to be made have the same name.
+    /// The log that is to be converted and the file that is to be made are the same.
     SameFile,
+    /// There is something at the path of the file that is to be made.
+    OutExists(&'a str),
 }
 
 impl Misuse<'_> {
@@ -54,6 +56,13 @@ impl Misuse<'_> {
             Misuse::NoNumber(word) => refuse_word(alloc, "mqjudge: no number ", word, "", error),
             Misuse::SameFile => write_misuse(
                 "mqjudge: OUT has to be another file than IN\n",
+                error,
+            ),
+            Misuse::OutExists(path) => refuse_word(
+                alloc,
+                "mqjudge: OUT exists: ",
+                path,
+                "mqjudge: with --force it is emptied and written\n",
                 error,
             ),
         }

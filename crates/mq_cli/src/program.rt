@@ -1,7 +1,7 @@
 //! The program: from the words of its command line to its status.
-ghost use Rattle.std.specs.Prelude.{◌≡◌, ◌≤◌, ◌⊎◌, IfSome, None, map};
+ghost use Rattle.std.specs.Prelude.{◌≡◌, ◌≤◌, ◌⊎◌, [], IfSome, None, map};
 ghost use Rattle.std.specs.Io.KnownBytes.{Appends, Keeps, prepend_known};
-ghost use Rattle.mq_cli.specs.Program.{FailsLog, FailsWords, FailsRead, FailsTaskOn, FailsWork, FindsFaults, FindsFaultsIn, IsMisuse, WordsUnread};
+ghost use Rattle.mq_cli.specs.Program.{DoesForWords, DoesForWork, FailsLog, FailsWords, FailsRead, FailsTaskOn, FailsWork, FindsFaults, FindsFaultsIn, IsMisuse, WordsUnread};
 ghost use Rattle.mq_cli.specs.Program.{IsHinted, MisusesWork, Passes, PassesWork, Refuses, RefusesWork, input_of};
 ghost use Rattle.mq_cli.specs.Messages.{HasFailed, HasPassed, IsMisnamed, IsRefusedOn, IsReportedOn, misnamed_line};
 ghost use Rattle.mq_cli.specs.Streams.{IsTold, stream};
@@ -34,10 +34,10 @@ const COMMAND_LINE: &str = "the command line";
 /// What failed is reported on `error`, unless nobody reads `output` any more. If that was reading,
 /// a second line says what couldn't be read, and why. For a refused log whose first bytes show that
 /// it is another kind of file, a line on `error` says what to do with it. While a log is checked,
-/// `progress` is told how far that is.
+/// `progress` is told how far that is. No file is changed, but the one that a conversion makes.
 pub fn run<H: Host, W: Output, E: ErrorStream, P: Progress>(
     alloc: Global,
-    host: &H,
+    host: &mut H,
     output: &mut W,
     error: &mut E,
     progress: &mut P,
@@ -45,20 +45,22 @@ pub fn run<H: Host, W: Output, E: ErrorStream, P: Progress>(
     ensures statuses { result ≤ 4 }
     ensures quiet { result ≤ 1 → Keeps (E.contents error.old) (E.contents error.new) }
     ensures unprinted { result ≡ 3 → Keeps (W.contents output.old) (W.contents output.new) }
-    ensures passed { result ≡ 0 → IfSome (H.gives host.now).words (λ words.
-        Passes words (H.gives host.now) (W.contents output.old) (W.contents output.new)) }
-    ensures faulty { result ≡ 1 → IfSome (H.gives host.now).words (λ words.
-        FindsFaults words (H.gives host.now) (W.contents output.old) (W.contents output.new)) }
-    ensures refused { result ≡ 2 → IfSome (H.gives host.now).words (λ words. Refuses words (H.gives host.now)
+    ensures passed { result ≡ 0 → IfSome (H.gives host.old).words (λ words.
+        Passes words (H.gives host.old) (W.contents output.old) (W.contents output.new)) }
+    ensures faulty { result ≡ 1 → IfSome (H.gives host.old).words (λ words.
+        FindsFaults words (H.gives host.old) (W.contents output.old) (W.contents output.new)) }
+    ensures refused { result ≡ 2 → IfSome (H.gives host.old).words (λ words. Refuses words (H.gives host.old)
         (W.contents output.old) (W.contents output.new) (stream E.contents E.has_failed error.old error.new)) }
     // Also of a log that isn't known: no more than a hint is written to `error`.
     ensures hinted { result ≡ 2 → IsHinted None (stream E.contents E.has_failed error.old error.new) }
-    ensures misused { result ≡ 3 → IfSome (H.gives host.now).words (λ words.
-        IsMisuse words (E.contents error.old) (E.contents error.new)) }
-    ensures failed { result ≡ 4 → WordsUnread (H.gives host.now) (W.is_closed output.new)
+    ensures misused { result ≡ 3 → IfSome (H.gives host.old).words (λ words.
+        IsMisuse words (H.gives host.old) (E.contents error.old) (E.contents error.new)) }
+    ensures failed { result ≡ 4 → WordsUnread (H.gives host.old) (W.is_closed output.new)
         (W.contents output.old) (W.contents output.new) (stream E.contents E.has_failed error.old error.new)
-        ⊎ IfSome (H.gives host.now).words (λ words. FailsWords words (H.gives host.now) (W.is_closed output.new)
+        ⊎ IfSome (H.gives host.old).words (λ words. FailsWords words (H.gives host.old) (W.is_closed output.new)
         (W.contents output.old) (W.contents output.new) (stream E.contents E.has_failed error.old error.new)) }
+    ensures done { H.did host.old [] → ((result ≡ 4) × H.did host.new [])
+        ⊎ IfSome (H.gives host.old).words (λ words. DoesForWords words (H.gives host.old) result (H.did host.new)) }
 {
     match host.arguments() {
         Ok(words) => respond(alloc, host, words.as_slice(), output, error, progress),
@@ -69,7 +71,7 @@ pub fn run<H: Host, W: Output, E: ErrorStream, P: Progress>(
 // Does what these words ask for, and returns the status to exit with.
 fn respond<S: AsStr, H: Host, W: Output, E: ErrorStream, P: Progress>(
     alloc: Global,
-    host: &H,
+    host: &mut H,
     words: &[S],
     output: &mut W,
     error: &mut E,
@@ -78,16 +80,17 @@ fn respond<S: AsStr, H: Host, W: Output, E: ErrorStream, P: Progress>(
     ensures statuses { result ≤ 4 }
     ensures quiet { result ≤ 1 → Keeps (E.contents error.old) (E.contents error.new) }
     ensures unprinted { result ≡ 3 → Keeps (W.contents output.old) (W.contents output.new) }
-    ensures passed { result ≡ 0 → Passes (map S.text words.now) (H.gives host.now)
+    ensures passed { result ≡ 0 → Passes (map S.text words.now) (H.gives host.old)
         (W.contents output.old) (W.contents output.new) }
-    ensures faulty { result ≡ 1 → FindsFaults (map S.text words.now) (H.gives host.now)
+    ensures faulty { result ≡ 1 → FindsFaults (map S.text words.now) (H.gives host.old)
         (W.contents output.old) (W.contents output.new) }
-    ensures refused { result ≡ 2 → Refuses (map S.text words.now) (H.gives host.now)
+    ensures refused { result ≡ 2 → Refuses (map S.text words.now) (H.gives host.old)
         (W.contents output.old) (W.contents output.new) (stream E.contents E.has_failed error.old error.new) }
-    ensures misused { result ≡ 3 → IsMisuse (map S.text words.now)
+    ensures misused { result ≡ 3 → IsMisuse (map S.text words.now) (H.gives host.old)
         (E.contents error.old) (E.contents error.new) }
-    ensures failed { result ≡ 4 → FailsWords (map S.text words.now) (H.gives host.now) (W.is_closed output.new)
+    ensures failed { result ≡ 4 → FailsWords (map S.text words.now) (H.gives host.old) (W.is_closed output.new)
         (W.contents output.old) (W.contents output.new) (stream E.contents E.has_failed error.old error.new) }
+    ensures done { H.did host.old [] → DoesForWords (map S.text words.now) (H.gives host.old) result (H.did host.new) }
 {
     match parse(alloc, words) {
         Ok(work) => work_on(alloc, host, &work, output, error, progress),
@@ -98,7 +101,7 @@ fn respond<S: AsStr, H: Host, W: Output, E: ErrorStream, P: Progress>(
 // Does the work, and returns the status to exit with.
 fn work_on<H: Host, W: Output, E: ErrorStream, P: Progress>(
     alloc: Global,
-    host: &H,
+    host: &mut H,
     work: &Work,
     output: &mut W,
     error: &mut E,
@@ -107,13 +110,14 @@ fn work_on<H: Host, W: Output, E: ErrorStream, P: Progress>(
     ensures statuses { result ≤ 4 }
     ensures quiet { result ≤ 1 → Keeps (E.contents error.old) (E.contents error.new) }
     ensures unprinted { result ≡ 3 → Keeps (W.contents output.old) (W.contents output.new) }
-    ensures passed { result ≡ 0 → PassesWork (H.gives host.now) work.now (W.contents output.old) (W.contents output.new) }
-    ensures faulty { result ≡ 1 → FindsFaultsIn (H.gives host.now) work.now (W.contents output.old) (W.contents output.new) }
-    ensures refused { result ≡ 2 → RefusesWork (H.gives host.now) work.now
+    ensures passed { result ≡ 0 → PassesWork (H.gives host.old) work.now (W.contents output.old) (W.contents output.new) }
+    ensures faulty { result ≡ 1 → FindsFaultsIn (H.gives host.old) work.now (W.contents output.old) (W.contents output.new) }
+    ensures refused { result ≡ 2 → RefusesWork (H.gives host.old) work.now
         (W.contents output.old) (W.contents output.new) (stream E.contents E.has_failed error.old error.new) }
-    ensures misused { result ≡ 3 → MisusesWork work.now (E.contents error.old) (E.contents error.new) }
-    ensures failed { result ≡ 4 → FailsWork (H.gives host.now) work.now (W.is_closed output.new)
+    ensures misused { result ≡ 3 → MisusesWork (H.gives host.old) work.now (E.contents error.old) (E.contents error.new) }
+    ensures failed { result ≡ 4 → FailsWork (H.gives host.old) work.now (W.is_closed output.new)
         (W.contents output.old) (W.contents output.new) (stream E.contents E.has_failed error.old error.new) }
+    ensures done { H.did host.old [] → DoesForWork (H.gives host.old) work.now result (H.did host.new) }
 {
     match work {
         Work::Once(task) => read_and_do(alloc, host, task, output, error, progress),

@@ -1,5 +1,6 @@
 //! `convert`: what it writes, and its status where a read, a write or a save fails.
 use super::desk::{Desk, GOOD, does};
+use super::harness::NESTED;
 use crate::converting::perform_convert;
 use crate::output::Outlet;
 
@@ -14,17 +15,24 @@ const ASKED: &[&str] = &["mqjudge", "convert", "a.log", "b.log"];
 
 const REFUSED: &str = "refused 2 Version at 4\n";
 
+const TWO_OPENED: &str = "refused 7 Nested at 13\n";
+
 const OTHER_FILE: &str = "mqjudge: OUT has to be another file than IN\n";
 
 const MISSING: &str = "mqjudge: read failed\nmqjudge: c.log: there is no such file\n";
 
 const UNREAD: &str = "mqjudge: read failed\nmqjudge: a.log: the system can't read it\n";
 
+const THERE: &str = "mqjudge: OUT exists: d.log\nmqjudge: with --force it is emptied and written\n";
+
+const LOG_THERE: &str =
+    "mqjudge: OUT exists: a.log\nmqjudge: with --force it is emptied and written\n";
+
 const UNWRITTEN: &str = "mqjudge: write failed\n";
 
 // Words, the bytes of their log, the status, what is written to the output, and to the error
 // stream.
-static ROWS: [(&[&str], &[u8], u8, &str, &str); 7] = [
+static ROWS: [(&[&str], &[u8], u8, &str, &str); 15] = [
     (ASKED, GOOD, 0, "", ""),
     (&["mqjudge", "convert", "-", "b.log"], GOOD, 0, "", ""),
     (ASKED, SECOND, 2, REFUSED, ""),
@@ -51,13 +59,98 @@ static ROWS: [(&[&str], &[u8], u8, &str, &str); 7] = [
         OTHER_FILE,
     ),
     (&["mqjudge", "convert", "-", "-"], GOOD, 3, "", OTHER_FILE),
+    // A file that is there is emptied only if that is asked for, and the log isn't.
+    (
+        &["mqjudge", "convert", "a.log", "d.log"],
+        GOOD,
+        3,
+        "",
+        THERE,
+    ),
+    (
+        &["mqjudge", "convert", "-", "a.log"],
+        GOOD,
+        3,
+        "",
+        LOG_THERE,
+    ),
+    (
+        &["mqjudge", "convert", "--force", "a.log", "d.log"],
+        GOOD,
+        0,
+        "",
+        "",
+    ),
+    (
+        &["mqjudge", "convert", "a.log", "b.log", "--force"],
+        GOOD,
+        0,
+        "",
+        "",
+    ),
+    (
+        &["mqjudge", "convert", "--force", "a.log", "./a.log"],
+        GOOD,
+        3,
+        "",
+        OTHER_FILE,
+    ),
+    (
+        &["mqjudge", "convert", "--force", "a.log", "c.log"],
+        GOOD,
+        4,
+        "",
+        UNWRITTEN,
+    ),
+    // A log that is refused for its header says so before that is looked at.
+    (
+        &["mqjudge", "convert", "a.log", "d.log"],
+        SECOND,
+        2,
+        REFUSED,
+        "",
+    ),
+    (
+        &["mqjudge", "convert", "a.log", "b.log"],
+        b"MQTR\x01\x00\x01",
+        2,
+        "refused 10 Cut at 7\n",
+        "",
+    ),
 ];
 
 #[test]
 fn converts_a_file_or_says_why_not(rt: HostRuntime) {
     for (words, bytes, status, written, said) in ROWS {
-        let desk = Desk::of(rt.alloc(), words, bytes, bytes);
-        assert!(rt; does(&desk, status, written, said), "{words:?} {written}");
+        let mut desk = Desk::of(rt.alloc(), words, bytes, bytes);
+        assert!(rt;
+            does(&mut desk, status, written, said),
+            "{words:?} {written}"
+        );
+    }
+}
+
+#[test]
+fn makes_a_file_once_and_only_for_a_log_with_a_header(rt: HostRuntime) {
+    let force: &[&str] = &["mqjudge", "convert", "--force", "a.log", "d.log"];
+    let there: &[&str] = &["mqjudge", "convert", "a.log", "d.log"];
+    let check: &[&str] = &["mqjudge", "check", "a.log"];
+    // How many files are made, and how many of them closed.
+    for (words, bytes, status, written, said, made, kept) in [
+        (ASKED, GOOD, 0, "", "", 1, 1),
+        (force, GOOD, 0, "", "", 1, 1),
+        (ASKED, NESTED, 2, TWO_OPENED, "", 1, 1),
+        (ASKED, SECOND, 2, REFUSED, "", 0, 0),
+        (force, SECOND, 2, REFUSED, "", 0, 0),
+        (there, GOOD, 3, "", THERE, 0, 0),
+        (check, GOOD, 0, "pass 4 events\n", "", 0, 0),
+    ] {
+        let mut desk = Desk::of(rt.alloc(), words, bytes, bytes);
+        assert!(rt;
+            does(&mut desk, status, written, said),
+            "{words:?} {written}"
+        );
+        assert!(rt; desk.made == made && desk.kept == kept, "{words:?}");
     }
 }
 
@@ -74,7 +167,7 @@ fn says_what_failed_while_it_converted(rt: HostRuntime) {
         desk.fails_after = fails_after;
         desk.room = room;
         desk.stays = stays;
-        assert!(rt; does(&desk, 4, "", said), "{room} {said}");
+        assert!(rt; does(&mut desk, 4, "", said), "{room} {said}");
     }
 }
 

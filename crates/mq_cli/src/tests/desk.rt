@@ -1,7 +1,7 @@
 //! A host for tests.
 use super::harness::{Narrow, Trickle};
 use crate::failure::Failure;
-use crate::host::Host;
+use crate::host::{Host, Identity, Unmade};
 use crate::new_file::NewFile;
 use crate::output::Outlet;
 use crate::program::run;
@@ -44,7 +44,8 @@ impl NewFile for Narrow {
 }
 
 /// A host with these words, one file, at `a.log`, and a standard input. Its readers give one byte a
-/// call. A file can be made at `b.log`.
+/// call. A file can be made at `b.log`, and one be replaced there and at `d.log`. The log is at
+/// `./a.log` too.
 #[derive(Drop)]
 pub struct Desk {
     pub alloc: Global,
@@ -60,9 +61,21 @@ pub struct Desk {
     /// How many bytes the file that is made takes, and whether it stays unsaved.
     pub room: usize,
     pub stays: bool,
+    /// How many files were made, and how many closed.
+    pub made: u8,
+    pub kept: u8,
 }
 
 impl Desk {
+    // Makes a file.
+    fn made(&mut self) -> Narrow {
+        self.made = self.made.saturating_add(1);
+        Narrow {
+            room: self.room,
+            stays: self.stays,
+        }
+    }
+
     /// A host with these words, this file and this standard input, and without a file at any other
     /// path.
     pub fn of(
@@ -81,6 +94,8 @@ impl Desk {
             kind: ErrorKind::Other,
             room: 1_000,
             stays: false,
+            made: 0,
+            kept: 0,
         }
     }
 }
@@ -102,7 +117,10 @@ impl Host for Desk {
       unopened = λ _ _. ⊤;
       unmade = λ _ _. ⊤;
       opened = λ _. ⊤;
+      identified = λ _. ⊤;
     } };
+
+    ghost did = { λ _ _. ⊤ };
 
     fn arguments(&self) -> Result<Vec<String>, Trouble> {
         let mut arguments = Vec::new(self.alloc);
@@ -124,15 +142,32 @@ impl Host for Desk {
         }
     }
 
-    fn make(&self, path: &str) -> Result<Narrow, Trouble> {
-        if path == "b.log" {
-            Ok(Narrow {
-                room: self.room,
-                stays: self.stays,
-            })
-        } else {
-            Err(Trouble::Write)
+    fn file_identity(&self, _file: &Trickle<'static>) -> Option<Identity> {
+        None
+    }
+
+    fn input_identity(&self) -> Option<Identity> {
+        None
+    }
+
+    fn make(&mut self, path: &str) -> Result<Narrow, Unmade> {
+        match path {
+            "b.log" => Ok(self.made()),
+            "a.log" | "d.log" => Err(Unmade::Exists),
+            _ => Err(Unmade::Failed(Trouble::Write)),
         }
+    }
+
+    fn replace(&mut self, path: &str, _log: Option<Identity>) -> Result<Narrow, Unmade> {
+        match path {
+            "b.log" | "d.log" => Ok(self.made()),
+            "./a.log" => Err(Unmade::IsLog),
+            _ => Err(Unmade::Failed(Trouble::Write)),
+        }
+    }
+
+    fn keep(&mut self, _made: Narrow) {
+        self.kept = self.kept.saturating_add(1);
     }
 
     fn input(&self) -> Trickle<'static> {
@@ -141,7 +176,7 @@ impl Host for Desk {
 }
 
 /// Whether the program has this status, and writes this and says this, on this host.
-pub fn does(desk: &Desk, status: u8, written: &str, said: &str) -> bool {
+pub fn does(desk: &mut Desk, status: u8, written: &str, said: &str) -> bool {
     let mut output = Outlet::new(Vec::new(desk.alloc));
     let mut error = Vec::new(desk.alloc);
     run(desk.alloc, desk, &mut output, &mut error, &mut ()) == status

@@ -119,8 +119,8 @@ static OTHER_FILES: [(&[&str], &[u8], &str, &str); 13] = [
 #[test]
 fn says_what_to_do_with_other_files(rt: HostRuntime) {
     for (words, bytes, written, said) in &OTHER_FILES {
-        let desk = Desk::of(rt.alloc(), words, bytes, bytes);
-        assert!(rt; does(&desk, 2, written, said), "{words:?} {written}");
+        let mut desk = Desk::of(rt.alloc(), words, bytes, bytes);
+        assert!(rt; does(&mut desk, 2, written, said), "{words:?} {written}");
     }
 }
 
@@ -135,7 +135,7 @@ fn says(
 ) -> bool {
     let mut desk = Desk::of(alloc, words, GOOD, GOOD);
     desk.trouble = trouble;
-    does(&desk, status, "", said)
+    does(&mut desk, status, "", said)
 }
 
 #[test]
@@ -233,8 +233,11 @@ fn says_why_a_reading_failed(rt: HostRuntime) -> Result<(), Fail> {
     for (words, fails_after, place, written) in UNREAD {
         for (kind, text) in reasons {
             let lines = format!(in rt.alloc(); "mqjudge: read failed\nmqjudge: {place}: {text}\n")?;
-            let desk = failing_desk(rt.alloc(), words, fails_after, kind);
-            assert!(rt; does(&desk, 4, written, lines.as_str()), "{words:?} {text}");
+            let mut desk = failing_desk(rt.alloc(), words, fails_after, kind);
+            assert!(rt;
+                does(&mut desk, 4, written, lines.as_str()),
+                "{words:?} {text}"
+            );
         }
     }
     Ok(())
@@ -264,7 +267,7 @@ fn tries_interrupted_reads_of_the_first_bytes_again(rt: HostRuntime) -> Result<(
         is_interrupted: false,
     };
     let start = read_start(rt.alloc(), &mut reader)?;
-    assert!(rt; start.as_slice() == b"MQTR".as_slice());
+    assert!(rt; start.as_slice() == b"MQTR\x01\x00\x01\x00".as_slice());
     Ok(())
 }
 
@@ -309,10 +312,10 @@ static WRITERS: [&[&str]; 9] = [
 fn says_nothing_where_nobody_reads(rt: HostRuntime) {
     for words in WRITERS {
         for (room, stays, said) in [(100_000, true, ""), (3, false, "mqjudge: write failed\n")] {
-            let desk = Desk::of(rt.alloc(), words, FAULTY, GOOD);
+            let mut desk = Desk::of(rt.alloc(), words, FAULTY, GOOD);
             let mut output = Outlet::new(Narrow { room, stays });
             let mut error = Vec::new(rt.alloc());
-            let status = run(rt.alloc(), &desk, &mut output, &mut error, &mut ());
+            let status = run(rt.alloc(), &mut desk, &mut output, &mut error, &mut ());
             assert!(rt;
                 status == 4 && error.as_slice() == said.as_bytes(),
                 "{words:?}"

@@ -1,6 +1,7 @@
 use Rattle.std.proofs.Common.{None, Some, inr}
+use Rattle.mq_cli.specs.Given.{bytes_at}
 use Rattle.mq_cli.specs.Streams.{stream}
-use Rattle.mq_cli.proofs.ConvertingLaws.{named_fails, named_is_refused}
+use Rattle.mq_cli.proofs.ConvertingLaws.{done_kept, named_fails, named_is_refused}
 use Rattle.mq_cli.proofs.converting.convert_files.Goals as goal
 
 pub returns-in-Ok-clause-refused : goal.returns-in-Ok-clause-refused
@@ -30,3 +31,13 @@ returns-in-None-clause-failed g c = λ e. rw c.in-None.is
     (g.W.Output.is_closed c.convert_source-in-None.new.output) (g.W.Write.contents c.args.output.now) (g.W.Write.contents c.convert_source-in-None.new.output)
     (stream g.E.ErrorStream.contents g.E.ErrorStream.has_failed c.args.error.now c.convert_source-in-None.new.error)
     c.input-log.ensures.bytes (c.convert_source-in-None.ensures.failed e)))
+
+pub returns-in-Ok-clause-done : goal.returns-in-Ok-clause-done
+returns-in-Ok-clause-done g c = λ begun. rw c.in-Some.is
+    (done_kept (bytes_at (g.H.Host.gives c.args.host.now) (Some c.in-Some.path.now)) (g.H.File.Read.remaining c.in-Ok.log) c.args.files.made.now c.args.files.force
+    c.convert_source.result (g.H.Host.did c.convert_source.new.host) c.in-Ok.ensures.bytes (c.convert_source.ensures.done begun))
+
+pub returns-in-None-clause-done : goal.returns-in-None-clause-done
+returns-in-None-clause-done g c = λ begun. rw c.in-None.is
+    (done_kept (bytes_at (g.H.Host.gives c.args.host.now) None) (g.H.Stdin.Read.remaining c.input-log.result) c.args.files.made.now c.args.files.force
+    c.convert_source-in-None.result (g.H.Host.did c.convert_source-in-None.new.host) c.input-log.ensures.bytes (c.convert_source-in-None.ensures.done begun))

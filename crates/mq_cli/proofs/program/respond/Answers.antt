@@ -24,3 +24,9 @@ returns-in-Err-clause-misused g c = λ e. inl (c.in-Err.why, c.in-Err.ensures.st
 
 pub returns-in-Err-clause-failed : goal.returns-in-Err-clause-failed
 returns-in-Err-clause-failed g c = λ e. inl (c.in-Err.why, c.in-Err.ensures.stop, c.stop.ensures.failed e)
+
+pub returns-in-Ok-clause-done : goal.returns-in-Ok-clause-done
+returns-in-Ok-clause-done g c = λ begun. inr (c.in-Ok.work, (c.in-Ok.ensures.work, c.in-Ok.ensures.readings), c.work_on.ensures.done begun)
+
+pub returns-in-Err-clause-done : goal.returns-in-Err-clause-done
+returns-in-Err-clause-done g c = λ begun. inl (c.in-Err.why, c.in-Err.ensures.stop, begun)

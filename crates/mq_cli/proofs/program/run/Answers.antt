@@ -1,7 +1,7 @@
 use Rattle.std.proofs.Common.{List, inr, map}
 use Rattle.std.specs.Prelude.{string_bytes}
 use Rattle.clap.specs.Words.{Text}
-use Rattle.mq_cli.specs.Program.{FailsWords, FindsFaults, IsMisuse, Passes, Refuses}
+use Rattle.mq_cli.specs.Program.{DoesForWords, FailsWords, FindsFaults, IsMisuse, Passes, Refuses}
 use Rattle.mq_cli.specs.Streams.{stream}
 use Rattle.mq_cli.proofs.ProgramLemmas.{known_words, refusal_hint}
 use Rattle.mq_cli.proofs.program.run.Goals as goal
@@ -29,7 +29,7 @@ returns-in-Ok-clause-hinted g c = λ e.
 
 pub returns-in-Ok-clause-misused : goal.returns-in-Ok-clause-misused
 returns-in-Ok-clause-misused g c = λ e.
-    let P : List Text → Type 0 = λ words. IsMisuse words (g.E.ErrorStream.contents c.args.error.now) (g.E.ErrorStream.contents c.respond.new.error) in
+    let P : List Text → Type 0 = λ words. IsMisuse words (g.H.Host.gives c.args.host.now) (g.E.ErrorStream.contents c.args.error.now) (g.E.ErrorStream.contents c.respond.new.error) in
     known_words _ _ _ _ P c.in-Ok.ensures.words c.as_slice.ensures.value (c.respond.ensures.misused e)
 
 pub returns-in-Ok-clause-failed : goal.returns-in-Ok-clause-failed
@@ -37,3 +37,8 @@ returns-in-Ok-clause-failed g c = λ e.
     let P : List Text → Type 0 = λ words. FailsWords words (g.H.Host.gives c.args.host.now) (g.W.Output.is_closed c.respond.new.output) (g.W.Write.contents c.args.output.now) (g.W.Write.contents c.respond.new.output)
     (stream g.E.ErrorStream.contents g.E.ErrorStream.has_failed c.args.error.now c.respond.new.error) in
     inr (known_words _ _ _ _ P c.in-Ok.ensures.words c.as_slice.ensures.value (c.respond.ensures.failed e))
+
+pub returns-in-Ok-clause-done : goal.returns-in-Ok-clause-done
+returns-in-Ok-clause-done g c = λ begun.
+    let P : List Text → Type 0 = λ words. DoesForWords words (g.H.Host.gives c.args.host.now) c.respond.result (g.H.Host.did c.respond.new.host) in
+    inr (known_words _ _ _ _ P c.in-Ok.ensures.words c.as_slice.ensures.value (c.respond.ensures.done begun))

@@ -17,3 +17,9 @@ returns-in-NoFile-clause-printed g c = rw c.in-NoFile.is c.write_misuse-in-NoFil
 
 pub returns-in-NoNumber-clause-printed : goal.returns-in-NoNumber-clause-printed
 returns-in-NoNumber-clause-printed g c = rw c.in-NoNumber.is c.refuse_word-in-NoNumber.ensures.printed
+
+pub returns-in-OutExists-clause-printed : goal.returns-in-OutExists-clause-printed
+returns-in-OutExists-clause-printed g c = rw c.in-OutExists.is c.refuse_word-in-OutExists.ensures.printed
+
+pub returns-in-OutExists-clause-failed : goal.returns-in-OutExists-clause-failed
+returns-in-OutExists-clause-failed g c = rw c.in-OutExists.is c.refuse_word-in-OutExists.ensures.failed
