@@ -16,10 +16,11 @@ pub const S01: &str = "S01 both MQTT-2.2.1-3;MQTT-2.2.1-4\n\
     In a client: The counter continues or starts over without regard to what is\n\
     unacknowledged, often after a reconnect or a restart. Keep the set of\n\
     identifiers in use with the session's store, and draw only free ones, for all\n\
-    three packets from one set.\n\n\
+    three packets from one set. A PUBLISH that is sent again needs DUP 1: with DUP 0\n\
+    it counts as a new one, though its identifier is right.\n\n\
     In a server: The counter of deliveries starts anew with each connection though\n\
     the session was resumed. Keep the set of identifiers in use with the session,\n\
-    and draw only free ones.\n\n\
+    and draw only free ones. What is sent again to a resumed session needs DUP 1.\n\n\
     See: MQTT 5.0, section 2.2.1.\n";
 
 /// The text of `explain S02`.
