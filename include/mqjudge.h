@@ -35,7 +35,8 @@
  * what it is told, its log is refused (16, `Memory`), at the byte that was being taken in, and stays so. Whatever is
  * answered, the faults that are known can still be asked for.
  *
- * To build: `rt lib` in crates/mq_ffi makes crates/mq_ffi/out/libmq_ffi.a; README.md has the line of gcc that links it.
+ * To build: `rt lib` in crates/mq_ffi makes crates/mq_ffi/out/libmq_ffi.a; examples/live/README.md has the line of gcc
+ * that links it.
  *
  * Threads. There is no state but what a handle holds, so different judges may be used by different threads at once. One
  * judge is used by one thread, the one that made it. No function may be called from a signal handler, nor in the

@@ -1,7 +1,8 @@
 #!/usr/bin/env python3
-"""Tests the lines of README.md under "Record your own session", as they stand there: each gives logs that are passes.
+"""Tests the lines of README.md that put an end to the test, and those of README.md and recorders/README.md that record,
+as they stand there: each recorder gives logs that are passes, and the exerciser finds nothing in who keeps the rules.
 
-Only the ports are others, and what is slept is longer, for machines that are busy.
+Only the ports are others, and what is slept is longer, for machines that are busy. The exerciser plays one scenario.
 
 usage: recorders/test_readme.py
 """
@@ -20,8 +21,24 @@ sys.dont_write_bytecode = True  # the repository stays as it is
 HERE = Path(__file__).resolve().parent
 sys.path.insert(0, str(HERE))
 from arguments import counted
-from testing import PAHO, PATHS, PATIENCE, TOP, InFolder, broker, free_port, judge_program, missing
+from testing import (
+    PAHO,
+    PATHS,
+    PATIENCE,
+    TOP,
+    InFolder,
+    accepts,
+    broker,
+    free_port,
+    judge_program,
+    missing,
+    process,
+    python_with,
+    wait_until,
+)
 
+README = TOP / "README.md"
+LINES, COLUMNS = 150, 100  # that README.md has at most
 SLOWER = 3
 CLIENT = """
 import paho.mqtt.client
@@ -34,20 +51,31 @@ client.loop_stop()
 """
 
 
-def section() -> str:
-    """What README.md says about recording."""
-    return (TOP / "README.md").read_text().partition("## Record your own session\n")[2].partition("\n## ")[0]
+def section(page: Path, title: str) -> str:
+    """What a page says under a title."""
+    return page.read_text().partition(f"## {title}\n")[2].partition("\n## ")[0]
+
+
+def recording() -> str:
+    """What README.md says about recording, and then what recorders/README.md does."""
+    first = section(README, "Record your own session")
+    return f"{first}\n{section(HERE / 'README.md', 'The other ways, in four lines each')}"
+
+
+def exercising() -> list[str]:
+    """The lines of README.md that put a broker and a client to the test."""
+    return re.findall(r"^recorders/exercise .*\n", section(README, "Test your broker in two minutes"), re.MULTILINE)
 
 
 def blocks() -> dict[str, str]:
     """The lines for each way, under the words that stand in bold before them."""
-    ways = [way.partition("**") for way in section().split("\n**")[1:]]
+    ways = [way.partition("**") for way in recording().split("\n**")[1:]]
     return {name: text.partition("\n```\n")[2].partition("\n```")[0] + "\n" for name, _, text in ways}
 
 
 def judged() -> list[tuple[str, str]]:
     """The folders that are judged, and how many logs each must have."""
-    return re.findall(r"recorders/judge (\w+) --min-logs (\d)", section())
+    return re.findall(r"recorders/judge (\w+) --min-logs (\d)", recording())
 
 
 def may_capture() -> bool:
@@ -64,8 +92,27 @@ def needs(*names: str) -> Callable[[Any], Any]:
     return unittest.skipIf(bool(missing(*names)), missing(*names))
 
 
-@needs("mosquitto", "mosquitto_pub")
-class Readme(InFolder):
+class Pages(unittest.TestCase):
+    def test_the_first_page_is_short(self) -> None:
+        lines = README.read_text().splitlines()
+        self.assertLessEqual(len(lines), LINES)
+        self.assertEqual([line for line in lines if len(line) > COLUMNS], [])
+
+    def test_there_are_four_ways_of_at_most_four_lines(self) -> None:
+        self.assertEqual([*blocks()], ["A proxy", "A preloaded library", "A capture", "In a client"])
+        self.assertLessEqual({text.count("\n") for text in blocks().values()}, {3, 4})
+
+    def test_each_way_has_a_folder_of_its_own_and_says_how_many_logs_it_makes(self) -> None:
+        self.assertEqual([count for _, count in judged()], ["2", "1", "2", "1"])
+        folders = [folder for folder, _ in judged()]
+        self.assertEqual(len(set(folders)), 4)
+        for folder, text in zip(folders, blocks().values(), strict=True):
+            self.assertEqual({name for name in folders if re.search(rf"\b{name}\b", text)}, {folder})
+
+
+class Commands(InFolder):
+    """Runs lines in a folder that has what they name."""
+
     def setUp(self) -> None:
         super().setUp()
         self.folder.chmod(0o755)  # mosquitto goes on as another user
@@ -91,17 +138,33 @@ class Readme(InFolder):
         last = f"{counted(count, 'log')}: {count} pass, 0 fail, 0 refused, 0 failed"
         self.assertEqual(printed.splitlines()[-1:], [last], printed)
 
-    def test_there_are_four_ways_of_at_most_four_lines(self) -> None:
-        self.assertEqual([*blocks()], ["A proxy", "A preloaded library", "A capture", "In a client"])
-        self.assertLessEqual({text.count("\n") for text in blocks().values()}, {3, 4})
 
-    def test_each_way_has_a_folder_of_its_own_and_says_how_many_logs_it_makes(self) -> None:
-        self.assertEqual([count for _, count in judged()], ["2", "1", "2", "1"])
-        folders = [folder for folder, _ in judged()]
-        self.assertEqual(len(set(folders)), 4)
-        for folder, text in zip(folders, blocks().values(), strict=True):
-            self.assertEqual({name for name in folders if re.search(rf"\b{name}\b", text)}, {folder})
+class Exercising(Commands):
+    def assert_nothing_is_found(self, line: str, ports: dict[int, int]) -> None:
+        printed = self.run_lines(line, ports)
+        self.assertIn("1 scenario in ", printed)
+        self.assertIn("broken               0", printed)
+        page = re.findall(r"--html (\S+)", line)
+        self.assertTrue((self.folder / page[0]).read_text().startswith("<!DOCTYPE html>"))
 
+    def test_there_is_one_for_each_end(self) -> None:
+        self.assertEqual([line.split()[1] for line in exercising()], ["broker", "client"])
+
+    def test_a_broker(self) -> None:
+        port = free_port()
+        with process(sys.executable, HERE / "plain_broker.py", port) as child:
+            wait_until(lambda: child.poll() is not None or accepts(port), "the plain broker listens")
+            self.assert_nothing_is_found(exercising()[0].replace("\n", " --only connect-plain\n"), {1883: port})
+
+    @unittest.skipIf(python_with(PAHO) is None, missing(PAHO))
+    def test_a_client(self) -> None:
+        driver = HERE / "exercising/drivers/paho_python.py"
+        line = exercising()[1].replace("./my-client", f"{python_with(PAHO)} {driver}")
+        self.assert_nothing_is_found(line.replace(" -- ", " --only plain-q0 -- "), {})
+
+
+@needs("mosquitto", "mosquitto_pub")
+class Recording(Commands):
     def test_proxy(self) -> None:
         with broker(self.folder) as (port, _):
             self.assert_passes(self.run_lines(blocks()["A proxy"], {1883: port, 1884: free_port()}), 2)
