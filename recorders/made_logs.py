@@ -10,6 +10,8 @@ from testing import PATIENCE, InFolder, judge_program
 JUDGE = Path(__file__).resolve().parent / "judge"
 CONNECT = bytes.fromhex("100d00044d5154540502003c000000")
 CONNACK = bytes.fromhex("2003000000")
+KEEPING = bytes.fromhex("101200044d5154540500003c0511ffffffff0000")  # a CONNECT whose session stays
+RESUMED = bytes.fromhex("2003010000")  # the CONNACK that resumes it
 
 
 def record(kind: int, body: bytes = b"") -> bytes:
@@ -35,6 +37,13 @@ def publish(topic: str, identifier: int, properties: bytes = b"") -> bytes:
 def log(*records: bytes, end: int = 0) -> bytes:
     """A log of one connection that the server accepts, with these records on it."""
     return b"MQTR\x01" + bytes([end, 0, 0]) + record(1) + record(2, CONNECT) + record(3, CONNACK) + b"".join(records)
+
+
+def reconnected(before: list[bytes], after: list[bytes], early: tuple[bytes, ...] = ()) -> bytes:
+    """A log of a client that resumes its session: records on its two connections, and some before the CONNACK."""
+    opening = [record(1), record(2, KEEPING), *early, record(3, RESUMED)]
+    made = log(*before, record(4), *opening, *after, record(4))
+    return made.replace(record(2, CONNECT), record(2, KEEPING))
 
 
 def run(*words: object, program: object = None) -> tuple[int, str, str]:

@@ -13,7 +13,7 @@ from typing import Any
 
 sys.dont_write_bytecode = True  # the repository stays as it is
 sys.path.insert(0, str(Path(__file__).resolve().parent))
-from made_logs import WithLogs, log, publish, record, run
+from made_logs import WithLogs, log, publish, reconnected, record, run
 from sarif_schema import problems
 from testing import TOP
 
@@ -69,6 +69,19 @@ class CodeHosts(WithLogs):
         self.assertIn("::1 fault, the first at event 5: A new PUBLISH", lines[0])
         ignored = run(self.logs, "--github", "--ignore", "S01")[1]
         self.assertIn(f"::warning file={name},title=S01 MQTT-2.2.1-3::ignored by --ignore: 1 fault", ignored)
+
+    def test_a_publish_that_is_sent_again(self) -> None:
+        sent = [record(2, publish(topic, number)) for number, topic in enumerate("abc", 1)]
+        changed = [sent[0], record(2, publish("d", 2)), sent[2]]
+        (self.logs / "a.log").write_bytes(reconnected(sent, changed))
+        place = self.folder / "report.sarif"
+        printed = run(self.logs, "--github", "--sarif", place)[1]
+        (line,) = [line for line in printed.splitlines() if line.lstrip().startswith("::")]
+        self.assertIn("that is in use. This looks like the PUBLISH of event 4 sent again: ", line)
+        texts = [result["message"]["text"] for result in json.loads(place.read_text())["runs"][0]["results"]]
+        said = [text.partition("in use.")[2].partition(" sent again")[0] for text in texts]
+        words = " This looks like the PUBLISH of event "
+        self.assertEqual(said, [f"{words}4", "", f"{words}6"])
 
     def test_a_place_that_cannot_be_written(self) -> None:
         for name in ("--html", "--sarif"):

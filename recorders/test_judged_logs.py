@@ -16,6 +16,8 @@ sys.dont_write_bytecode = True  # the repository stays as it is
 sys.path.insert(0, str(Path(__file__).resolve().parent))
 import log_format
 from judge_calls import FAIL, LOG, PASS, REFUSED, Case, log_of
+from judging.resends import Resends
+from made_logs import KEEPING, RESUMED, packet, publish, reconnected, record, text
 from testing import PATIENCE, TOP, judge_program
 
 
@@ -359,6 +361,125 @@ class Times(Case):
         (self.logs / "a.log").write_text(f"MQTR\x02\0\0\0\n{FAIL}")
         (self.logs / "a.log.show").write_text("".join(f"{at} record {at} SENT PINGREQ size 2\n" for at in range(1, 10)))
         self.assertNotIn("UTC", self.judged()[1])
+
+
+class SentAgain(Case):
+    """A PUBLISH under an identifier in use that looks like an earlier connection's, sent again with DUP 0."""
+
+    FIRST = record(2, publish("a/b", 1))  # event 4 of its log; the next connection's first event after the CONNACK is 9
+    SENTENCE = ("      This looks like the PUBLISH of event {} sent again: then its Packet Identifier is right, and DUP"
+                " has to be 1 (section 3.3.1.1).")
+
+    def said(self, made: bytes, *words: str) -> tuple[list[str], list[str]]:
+        """The positions of the faults of S01, and the lines on PUBLISHes that are sent again, with those before."""
+        (self.logs / "a.log").write_bytes(made)
+        printed = self.judged(self.logs, *words, program=judge_program())[1].splitlines()
+        faults = [line.split()[1] for line in printed if line.startswith("    fault ") and line.split()[2] == "S01"]
+        return faults, [line for pair in zip(printed, printed[1:]) for line in pair if "sent again" in pair[1]]
+
+    def repeated(self, position: int, at: int) -> list[str]:
+        """The lines on the event at a position, which is sent again at another."""
+        fault = f"    fault {at} S01 MQTT-2.2.1-3 decided {at} record {at} offset -"
+        return [fault, self.SENTENCE.format(position)]
+
+    def test_it_is_said_at_the_first(self) -> None:
+        self.assertEqual(self.said(reconnected([self.FIRST], [self.FIRST])), (["9"], self.repeated(4, 9)))
+        sent = [record(2, publish("x", 2)), record(2, publish("y", 2)), self.FIRST, record(2, publish("z", 3))]
+        made = reconnected(sent, sent)
+        self.assertEqual(self.said(made), (["5", "12", "13", "14", "15"], self.repeated(6, 14)))
+        report = self.folder / "report.xml"
+        self.said(made, "--junit", str(report))
+        text_of = ElementTree.parse(report).findtext(".//failure") or ""
+        self.assertEqual(text_of.count(self.SENTENCE.strip().format(6)), 1)
+
+    def test_a_fault_that_is_not_listed(self) -> None:
+        """What is around the first one is printed nevertheless. The other PUBLISH is far away."""
+        pings = [record(2, packet(0xC0, b"")), record(3, packet(0xD0, b""))] * 300
+        made = reconnected([self.FIRST, *pings], [self.FIRST])
+        self.assertEqual(self.said(made, "--most", "0"), ([], ["    and 1 more", self.SENTENCE.format(4)]))
+
+    def test_what_differs_is_another_message(self) -> None:
+        whole = publish("a/b", 1)
+        again = {"topic": publish("a/c", 1), "QoS": b"\x34" + whole[1:], "size": packet(0x32, whole[2:] + b"x"),
+                 "payload": whole[:-1] + b"y", "nothing": whole}
+        for name, sent in again.items():
+            lines = self.repeated(4, 9) if name == "nothing" else []
+            self.assertEqual(self.said(reconnected([self.FIRST], [record(2, sent)])), (["9"], lines), name)
+        example = self.judged(TOP / "examples/sessions/server-killed.log", program=judge_program())[1]
+        self.assertIn("fault 12 S01", example)  # it has another payload
+        self.assertNotIn("This looks like", example)
+
+    def test_the_same_connection(self) -> None:
+        self.assertEqual(self.said(reconnected([self.FIRST, self.FIRST], [])), (["5"], []))
+        made = reconnected([self.FIRST], [self.FIRST, self.FIRST])
+        self.assertEqual(self.said(made), (["9", "10"], self.repeated(4, 9)))
+
+    def test_with_dup_there_is_no_fault(self) -> None:
+        again = record(2, b"\x3a" + publish("a/b", 1)[1:])
+        self.assertEqual(self.said(reconnected([self.FIRST], [again])), ([], []))
+        resumed = [record(4), record(1), record(2, KEEPING), record(3, RESUMED)]
+        made = reconnected([self.FIRST], [again, *resumed, self.FIRST])
+        self.assertEqual(self.said(made), (["14"], self.repeated(4, 14)))
+
+    def test_what_is_acknowledged_is_not_sent_again(self) -> None:
+        """After a PUBREC the identifier is in use, but it is the PUBREL that is sent again."""
+        exactly_once = record(2, b"\x34" + publish("a/b", 1)[1:])
+        received = record(3, packet(0x50, b"\0\1"))
+        self.assertEqual(self.said(reconnected([exactly_once], [exactly_once])), (["9"], self.repeated(4, 9)))
+        self.assertEqual(self.said(reconnected([exactly_once, received], [exactly_once])), (["10"], []))
+
+    def test_a_subscribe_that_waits(self) -> None:
+        subscribe = record(2, packet(0x82, b"\0\1\0" + text("a") + b"\0"))
+        answer = record(3, packet(0x90, b"\0\1\0\0"))
+        self.assertEqual(self.said(reconnected([self.FIRST], [subscribe, self.FIRST])), (["9", "10"], []))
+        self.assertEqual(self.said(reconnected([self.FIRST, subscribe], [self.FIRST])),
+                         (["5", "10"], self.repeated(4, 10)))  # none waits on the next connection
+        made = reconnected([self.FIRST], [subscribe, answer, self.FIRST])
+        self.assertEqual(self.said(made), (["9", "11"], self.repeated(4, 11)))
+
+    def test_topic_aliases(self) -> None:
+        """A name is compared where an alias stands for it, if that was set on the connection."""
+        alias, able = b"\x23\0\3", record(3, bytes.fromhex("2006010003220005"))
+        short = record(2, publish("", 1, alias))
+        for name, count in (("a/b", 1), ("a/c", 0)):
+            for setter in (packet(0x30, text(name) + b"\3" + alias + b"x"), publish(name, 2, alias)):
+                made = reconnected([self.FIRST], [record(2, setter), short]).replace(record(3, RESUMED), able)
+                self.assertEqual(self.said(made), (["10"], self.repeated(4, 10) * count), name)
+        made = reconnected([record(2, publish("a/b", 1, alias))], [short]).replace(record(3, RESUMED), able)
+        self.assertEqual(self.said(made), (["9"], []))
+
+    def test_very_long_names_are_not_compared(self) -> None:
+        for size, count in ((900, 1), (2_000, 0)):
+            sent = [record(2, publish("z" * size, 1))]
+            self.assertEqual(self.said(reconnected(sent, sent)), (["9"], self.repeated(4, 9) * count))
+
+    def test_a_new_session_has_nothing_unacknowledged(self) -> None:
+        sent = 'SENT PUBLISH size 11 qos 1 dup 0 id 1 retain 0 topic "a/b" payload 1'
+        for is_present, found in ((1, {7: 3}), (0, {})):
+            connacks = [f"RECV CONNACK size 5 code 0x00 session-present {number}" for number in (0, is_present)]
+            resends = Resends("client", {7: 1})
+            for place, event in enumerate(["OPEN", connacks[0], sent, "CLOSE", "OPEN", connacks[1], sent], 1):
+                resends.take(f"{place} record {place} {event}")
+            self.assertEqual((resends.found, resends.is_done), (found, True))
+
+    def test_connections_that_are_not_accepted(self) -> None:
+        """What is sent on one belongs to no session. What is sent before a CONNACK belongs to that of the CONNACK."""
+        refused = [record(1), record(2, KEEPING), record(2, publish("a/c", 1)), record(3, bytes.fromhex("2003008700"))]
+        for topic, count in (("a/b", 1), ("a/c", 0)):
+            again = record(2, publish(topic, 1))
+            made = reconnected([self.FIRST, record(4), *refused], [again])
+            self.assertEqual(self.said(made), (["14"], self.repeated(4, 14) * count), topic)
+        made = reconnected([self.FIRST], [], early=(self.FIRST,))
+        fault = "    fault 8 S01 MQTT-2.2.1-3 decided 9 record 8 offset -"
+        self.assertEqual(self.said(made), (["8"], [fault, self.SENTENCE.format(4)]))
+
+    def test_a_server(self) -> None:
+        begin, resume = [(1, b""), (3, KEEPING)], (2, RESUMED)
+        first = (2, publish("a/b", 1))
+        made = log_of(*begin, (2, bytes.fromhex("2003000000")), first, (4, b""), *begin, resume, first, (4, b""),
+                      is_server=True)
+        faults, lines = self.said(made)
+        self.assertEqual((faults, lines[1:]), (["9"], [self.SENTENCE.format(4)]))
 
 
 if __name__ == "__main__":

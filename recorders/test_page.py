@@ -28,7 +28,7 @@ from judging.program import IDENTIFIER
 from judging.refusals import REFUSALS
 from judging.story import STEP, Fault, Teller
 from judging.verdict import FAULTS, Verdict
-from made_logs import CONNACK, CONNECT, WithLogs, log, packet, publish, record, run, text
+from made_logs import CONNACK, CONNECT, WithLogs, log, packet, publish, reconnected, record, run, text
 from sarif_schema import problems
 from testing import TOP, missing
 
@@ -315,6 +315,19 @@ class Written(Case):
         self.assertLess(page.index("<svg id=e1-4 "), page.index("class=gap"))  # it isn't in a fold
         (self.logs / "a.log").write_bytes(log(use, record(4)).replace(ACCEPTED, record(3, aliases)))
         self.assertIn("<dt>Topic Alias<dd>nothing before it sets 3", self.page())
+
+    def test_a_publish_that_is_sent_again(self) -> None:
+        """That is said before what is usual, on the card of each such fault."""
+        said = ("<p class=advice>This looks like the PUBLISH of <a href=#e1-{0}>event {0}</a> sent again: then its"
+                " Packet Identifier is right, and DUP has to be 1 (section 3.3.1.1).</p>{1}")
+        first, second = record(2, publish("a", 1)), record(2, publish("b", 2))
+        (self.logs / "a.log").write_bytes(reconnected([first, second], [first, second]))
+        page = self.page(name="again")
+        self.assertIn(said.format(4, "<div class=advice><p><b>What usually breaks it in a client"), page)
+        self.assertIn(said.format(5, "<a href=#f1-10-S01>What usually breaks it"), page)
+        for sent, again in (([first, first], []), ([first], [record(2, publish("b", 1))])):
+            (self.logs / "a.log").write_bytes(reconnected(sent, again))
+            self.assertNotIn("sent again:", self.page())
 
     def test_what_a_pass_has(self) -> None:
         for name in "abc":

@@ -9,6 +9,7 @@ from judging.explain import Explanation
 from judging.labels import WORDS, fate_of, label, short_label
 from judging.markup import counted, escaped, isolated, number
 from judging.reasons import reason
+from judging.resends import TAKEN, looks_like
 from judging.story import STALE_ALIAS, Fault, Scene
 from judging.texts import WORDS as WRONG
 from log_format import time_text
@@ -29,8 +30,10 @@ LIMITS = {  # what the peer announces: its field, its name, what holds without i
 class Cards:
     """The cards of a drawing's faults."""
 
-    def __init__(self, drawing: Drawing, explanations: dict[str, Explanation]) -> None:
+    def __init__(self, drawing: Drawing, explanations: dict[str, Explanation], resent: dict[int, int]) -> None:
+        """Resent are the positions of PUBLISHes that look like earlier ones, and of these."""
         self._drawing, self._story, self._explanations = drawing, drawing.story, explanations
+        self._resent = resent
         self._detail = drawing.detail
         self._drawn = drawing.drawn
         self._advised: dict[str, str] = {}  # where the advice for a code is, of those that came in this log
@@ -62,7 +65,7 @@ class Cards:
             f"{ignored_by(way)}</h4>"
             f"<p>{escaped(explanation.sentence if explanation else '')}"
             f'<dl>{"".join(f"<dt>{term}<dd>{text}" for term, text in facts if text)}</dl>'
-            f"{self._advice(fault.code, name, explanation)}</article>"
+            f"{self._resend(fault)}{self._advice(fault.code, name, explanation)}</article>"
         )
 
     def _head(self, run: list[Fault]) -> str:
@@ -197,6 +200,11 @@ class Cards:
             text = f"{event.position} {event.name or event.kind}{' DUP' if event.field('dup') == '1' else ''}"
             words.append(f"<b>{text}</b>" if event.position == place else self._link(event.position, text))
         return ", ".join(words)
+
+    def _resend(self, fault: Fault) -> str:
+        """Which PUBLISH one looks like that takes an identifier in use. What is usual comes after it."""
+        first = self._resent.get(fault.position) if fault.code == TAKEN else None
+        return f"<p class=advice>{looks_like(self._link(first, f'event {first}'))}</p>" if first else ""
 
     def _advice(self, code: str, name: str, explanation: Explanation | None) -> str:
         """What usually breaks a statement, and what to change: in full at the first fault of a code, else by a link."""

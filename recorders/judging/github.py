@@ -31,6 +31,7 @@ def of_log(verdict: Verdict, explanations: dict[str, Explanation]) -> list[str]:
         time = verdict.time_at(first.position)
         place = f"event {first.position}, {time}" if time else f"event {first.position}"
         text = f"{counted(counts[code], 'fault')}, the first at {place}: {explanations[code].sentence}"
+        text += verdict.resend_at(first)
         advice = explanations[code].advice(verdict.end)
         text += f"\n{advice}" if advice else ""
         lines.append(command("warning" if way else "error", verdict, f"{code} {first.citation}",

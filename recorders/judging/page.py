@@ -255,7 +255,7 @@ class Page:
         shown = story.opened(told) if level.folded else replace(story, told=told)
         drawing = Drawing(entry.number, entry.name, shown, verdict.overlooked, level.context, level.events,
                           level.folded, level.detail)
-        cards = Cards(drawing, self.explanations)
+        cards = Cards(drawing, self.explanations, verdict.resent)
         said = cards.cards()
         if told:
             left = others(verdict.found, told, level.listed, lambda code: cards.place(code) or f"r-{code}")

@@ -16,6 +16,7 @@ from arguments import naming, why
 from judging.excerpt import sentence_in
 from judging.looking import look_at
 from judging.places import what_else
+from judging.resends import TAKEN, Resends
 from judging.story import Teller, choose, end_of, is_brief
 from judging.texts import mark_texts
 from judging.verdict import FAILED, FAULTS, REFUSED, TOO_SHORT, Verdict, show
@@ -95,10 +96,16 @@ class Judge:
             identifiers = self._explain(verdict, log)
         if is_foreign:
             verdict.excerpts = {}  # what is spoken says more than its bytes do
+        suspects = {place: identifiers[place] for place in verdict.suspects & identifiers.keys()}
+        end = end_of(header_of(log)) if self._keeps or suspects else ""
         if self._keeps:
-            verdict.end = end_of(header_of(log))
+            verdict.end = end
+        resends = Resends(end, suspects)
         if self._tells and (verdict.found or verdict.status in (REFUSED, TOO_SHORT) or is_brief(verdict.events)):
-            self._tell(verdict, log, identifiers)
+            self._tell(verdict, log, identifiers, resends)
+        elif suspects and (self._keeps or TAKEN in verdict.positions):
+            self._find_resends(log, resends)
+        verdict.resent = resends.confirmed(log)
         mark_texts(verdict.excerpts, verdict.story, log)
 
     def _look(self, verdict: Verdict, log: Path) -> bool:
@@ -137,7 +144,7 @@ class Judge:
         """
         wanted = {code: verdict.positions[code] for code in sorted(verdict.positions)}
         excerpts: dict[str, list[str]] = {code: [] for code in wanted}
-        at_fault, moments = verdict.shown, verdict.moments
+        at_fault, moments = verdict.shown | verdict.suspects, verdict.moments
         identifiers: dict[int, int] = {}
         at = 0
 
@@ -163,16 +170,27 @@ class Judge:
             verdict.excerpts = excerpts
         return identifiers
 
-    def _tell(self, verdict: Verdict, log: Path, identifiers: dict[int, int]) -> None:
+    def _tell(self, verdict: Verdict, log: Path, identifiers: dict[int, int], resends: Resends) -> None:
         """Asks what happened, for the faults that are told of."""
         told = choose(verdict.found, verdict.overlooked)
         places = {fault.position for fault in told}
         teller = Teller(verdict.end, told, {place: identifiers[place] for place in places & identifiers.keys()})
+
+        def take(line: str) -> None:
+            teller.take(line)
+            if not resends.is_done:
+                resends.take(line)
+
         try:
-            self._read(teller.take, "show", "--long", log=log)
+            self._read(take, "show", "--long", log=log)
         except OSError:
             return
         verdict.story = teller.story()
+
+    def _find_resends(self, log: Path, resends: Resends) -> None:
+        """Asks what happened up to the last PUBLISH that may be an earlier one."""
+        with contextlib.suppress(OSError):
+            self._read(resends.take, "show", "--long", log=log, is_enough=lambda: resends.is_done)
 
     def ask(self, *words: str) -> str:
         """What the program prints for some words; nothing where it can't be run."""
@@ -184,15 +202,18 @@ class Judge:
         return "".join(f"{line}\n" for line in lines)
 
     def _read(
-        self, take: Callable[[str], None], *words: str, log: Path | None = None, errors: int = subprocess.DEVNULL
+        self, take: Callable[[str], None], *words: str, log: Path | None = None, errors: int = subprocess.DEVNULL,
+        is_enough: Callable[[], bool] = lambda: False,
     ) -> int:
-        """Runs the program, and has each line that it prints taken in. It gives the status."""
+        """Runs the program, and has each line that it prints taken in, until it is enough. It gives the status."""
         with opened(log) as (name, given):
             child = self._start([*words, *name], given, errors)
             with child:
                 assert child.stdout is not None
                 for raw in child.stdout:
                     take(raw.decode("utf-8", "replace").rstrip("\r\n"))
+                    if is_enough():
+                        break
         self._ended(child)
         return child.returncode
 

@@ -64,7 +64,7 @@ def result(verdict: Verdict, fault: Fault, explanations: dict[str, Explanation],
         "ruleId": fault.code,
         "ruleIndex": numbers[fault.code],
         "level": "error",
-        "message": {"text": f"{fault.code} {fault.citation} at {place}: {sentence}"},
+        "message": {"text": f"{fault.code} {fault.citation} at {place}: {sentence}{verdict.resend_at(fault)}"},
         "locations": [
             {
                 "physicalLocation": {"artifactLocation": artifact(verdict.path), "region": {"startLine": 1}},

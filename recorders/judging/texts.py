@@ -6,7 +6,7 @@ the program prints the ones around the length.
 """
 from __future__ import annotations
 
-from collections.abc import Iterator
+from collections.abc import Callable, Iterator
 from pathlib import Path
 
 from judging.events import Bytes, Event, read_event
@@ -63,8 +63,10 @@ class Stream:
         return 0
 
 
-def packets_at(log: Path, wanted: set[int]) -> dict[int, bytes]:
-    """The packets of some events, by the events' positions."""
+def packets_at(
+    log: Path, wanted: set[int], keep: Callable[[int, bytes], bytes] = lambda _, packet: packet
+) -> dict[int, bytes]:
+    """The packets of some events, by the events' positions, or what is to be kept of each."""
     found: dict[int, bytes] = {}
     last = max(wanted)
     with log.open("rb") as file:
@@ -78,7 +80,7 @@ def packets_at(log: Path, wanted: set[int]) -> dict[int, bytes]:
             for one in streams[head[0]].take(body) if head[0] in streams else (b"",):
                 position += 1
                 if position in wanted:
-                    found[position] = one
+                    found[position] = keep(position, one)
     return found
 
 

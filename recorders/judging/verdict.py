@@ -8,6 +8,7 @@ from dataclasses import dataclass, field
 from pathlib import Path
 
 from judging.excerpt import told
+from judging.resends import TAKEN, looks_like
 from judging.story import Fault, Story
 
 HERE = Path(__file__).resolve().parent
@@ -72,6 +73,7 @@ class Verdict:
     sentences: dict[str, str] = field(default_factory=dict)  # what each code says
     excerpts: dict[str, list[str]] = field(default_factory=dict)  # what happened around each code's first fault
     moments: dict[int, int] = field(default_factory=dict)  # of the events at fault, where the log has moments
+    resent: dict[int, int] = field(default_factory=dict)  # of PUBLISHes under an identifier in use: which each repeats
     keeps: bool = False  # whether each fault is kept, for a report that names all
     found: list[Fault] = field(default_factory=list)  # all faults, where they are kept
     overlooked: dict[str, str] = field(default_factory=dict)  # the codes that are ignored, and by which option
@@ -144,6 +146,14 @@ class Verdict:
         return {int(line[1]) for line in lines if line} | {fault.position for fault in self.found}
 
     @property
+    def suspects(self) -> set[int]:
+        """The positions of the faults at which a PUBLISH may be an earlier one: those that are shown, and the first."""
+        lines = (FAULT.fullmatch(line) for line in self.first)
+        shown = {int(line[1]) for line in lines if line and line[2] == TAKEN}
+        shown |= {fault.position for fault in self.found if fault.code == TAKEN}
+        return shown | ({self.positions[TAKEN]} if TAKEN in self.positions else set())
+
+    @property
     def refused(self) -> tuple[int, str, int] | None:
         """The number of the condition under which it was refused, its name, and the place of its byte."""
         found = REFUSED_LINE.fullmatch(self.last)
@@ -152,6 +162,11 @@ class Verdict:
     def time_at(self, position: int) -> str:
         """When an event at fault happened; empty where that isn't known."""
         return time_text(self.moments.get(position))
+
+    def resend_at(self, fault: Fault) -> str:
+        """A sentence, after a space, if a fault's PUBLISH looks like an earlier one; else nothing."""
+        first = self.resent.get(fault.position) if fault.code == TAKEN else None
+        return f" {looks_like(f'event {first}')}" if first else ""
 
     def _with_time(self, line: str) -> str:
         """A line as the program printed it; that of a fault with the time of its record, if that is known."""
@@ -178,5 +193,17 @@ class Verdict:
         code, count = key.split()[0], self.faults[key]
         sentence = f": {self.sentences[code]}" if code in self.sentences else ""
         kept = [line for line in self.first if line.startswith("fault ") and line.split()[2] == code]
-        more = [f"  and {count - len(kept)} more"] if count > len(kept) else []
-        return [f"{key} {counted(count, 'fault')}{sentence}", *(f"  {self._with_time(line)}" for line in kept), *more]
+        lines = [f"  {self._with_time(line)}" for line in kept]
+        lines += [f"  and {count - len(kept)} more"] if count > len(kept) else []
+        if code == TAKEN:
+            self._tell_of_resend(kept, lines)
+        return [f"{key} {counted(count, 'fault')}{sentence}", *lines]
+
+    def _tell_of_resend(self, kept: list[str], lines: list[str]) -> None:
+        """Says under the first fault that looks so, or before the events around the code's first fault, what it is."""
+        faults = [FAULT.fullmatch(line) for line in kept]
+        places = {int(fault[1]): at for at, fault in enumerate(faults, 1) if fault}
+        places.setdefault(self.positions.get(TAKEN, 0), len(lines))
+        first = next((place for place in places if place in self.resent), None)
+        if first is not None:
+            lines.insert(places[first], f"    {looks_like(f'event {self.resent[first]}')}")
