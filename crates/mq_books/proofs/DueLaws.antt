@@ -8,11 +8,12 @@ use Rattle.mq_rules.specs.Words.{is_some_and, is_id}
 use Rattle.mq_rules.specs.Notes.{is_open, is_release, opener_of}
 use Rattle.mq_rules.specs.Moments.{Moment, newest, note, position, moment, moments, is_same, some, since, Among, IsDescending, HoldsSince, IsPlaced}
 use Rattle.mq_rules.specs.Connections.{connection, latest_fate, accepts, resumes, resumed, begins, voided, any_accepted, has_session, with_first, session}
-use Rattle.mq_rules.specs.Identifiers.{opens_id, closes_id, delivers, sends_pubrel}
+use Rattle.mq_rules.specs.Identifiers.{opens_id, closes_id, delivers, sends_pubrel, is_retained}
 use Rattle.mq_rules.proofs.Exports.{among-moment, among-some, among-within, and_true, both_true, connection-newest as connection-next, latest-is, moment-placed, or_left, same_test, session-descend, session-members, since-stands, some-among, stands-since, there}
 use Rattle.mq_books.specs.declared.inflight.entry.Entry.{Entry}
+use Rattle.mq_books.specs.declared.inflight.resends.Excused.{Excused}
 use Rattle.mq_books.specs.Opened.{sends_again, confirms, moves, entry_in}
-use Rattle.mq_books.specs.Resending.{opened_at, is_due}
+use Rattle.mq_books.specs.Resending.{opened_at, covers, is_due}
 use Rattle.mq_books.proofs.OpenedLaws.{opener-delivers, entry-there, entry-is, IsEntry}
 
 -- ---- the latest connection
@@ -106,22 +107,23 @@ sent-again role f a i past placed o r = same_test (some (sends_again i) (connect
 -- ---- what is due
 
 -- an opener of i is owed
-abbrev pub core : Role → Fate → Bool → List Seen → ℕ → Moment → Bool
+abbrev pub core : Role → Fate → Excused → List Seen → ℕ → Moment → Bool
 core role f x past i m = since (is_same m) (moves i) (session role (Some f) past) && (not (some (is_same m) (connection past))
-    && (not (some (sends_again i) (connection past)) && not (since (is_same m) (confirms i) (session role (Some f) past) && x)))
+    && (not (some (sends_again i) (connection past)) && not (since (is_same m) (confirms i) (session role (Some f) past) && (x.all || (x.retained && is_retained m)))))
 
 -- the same of an opener of any identifier, under any fate
-abbrev pub owes : Role → Option Fate → Bool → List Seen → Moment → Bool
+abbrev pub owes : Role → Option Fate → Excused → List Seen → Moment → Bool
 owes role o x past m = resumed o && is_some_and (λ i. since (is_same m) (moves i) (session role o past) && (not (some (is_same m) (connection past))
-    && (not (some (sends_again i) (connection past)) && not (since (is_same m) (confirms i) (session role o past) && x)))) (opener_of (note m))
+    && (not (some (sends_again i) (connection past)) && not (since (is_same m) (confirms i) (session role o past) && (x.all || (x.retained && is_retained m)))))) (opener_of (note m))
 
-core-is : (role : Role) (f : Fate) → accepts f ≡ true → (x : Bool) (past : List Seen) → IsPlaced past → (i : ℕ) (o : Entry) → (r : IsEntry i (session role (Some f) past) o)
+core-is : (role : Role) (f : Fate) → accepts f ≡ true → (x : Excused) (past : List Seen) → IsPlaced past → (i : ℕ) (o : Entry) → (r : IsEntry i (session role (Some f) past) o)
     → core role f x past i r.opener ≡ is_due (opened_at past) x o
 core-is role f a x past placed i o r =
-    ap (λ b. b && (not (some (is_same r.opener) (connection past)) && (not (some (sends_again i) (connection past)) && not (since (is_same r.opener) (confirms i) (session role (Some f) past) && x)))) r.unmoved
-    ∙ ap (λ b. not (some (is_same r.opener) (connection past)) && (not b && not (since (is_same r.opener) (confirms i) (session role (Some f) past) && x))) (sent-again role f a i past placed o r)
-    ∙ ap (λ b. not (some (is_same r.opener) (connection past)) && (not (not (nat_lt o.sent (opened_at past))) && not (b && x))) (sym r.is_confirmed)
-    ∙ tail (nat_lt o.sent (opened_at past)) o.confirmed x (some (is_same r.opener) (connection past)) new
+    ap (λ b. b && (not (some (is_same r.opener) (connection past)) && (not (some (sends_again i) (connection past)) && not (since (is_same r.opener) (confirms i) (session role (Some f) past) && (x.all || (x.retained && is_retained r.opener)))))) r.unmoved
+    ∙ ap (λ b. not (some (is_same r.opener) (connection past)) && (not b && not (since (is_same r.opener) (confirms i) (session role (Some f) past) && (x.all || (x.retained && is_retained r.opener))))) (sent-again role f a i past placed o r)
+    ∙ ap (λ b. not (some (is_same r.opener) (connection past)) && (not (not (nat_lt o.sent (opened_at past))) && not (b && (x.all || (x.retained && is_retained r.opener))))) (sym r.is_confirmed)
+    ∙ ap (λ b. not (some (is_same r.opener) (connection past)) && (not (not (nat_lt o.sent (opened_at past))) && not (not o.confirmed && (x.all || (x.retained && b))))) (sym r.same_retained)
+    ∙ tail (nat_lt o.sent (opened_at past)) o.confirmed (covers x o) (some (is_same r.opener) (connection past)) new
   where
     tail : (lt c x a : Bool) → (a ≡ true → lt ≡ false) → (not a && (not (not lt) && not (not c && x))) ≡ (lt && (c || not x))
     tail lt c x true h = sym (ap (λ b. b && (c || not x)) (h refl))
@@ -139,7 +141,7 @@ core-is role f a x past placed i o r =
         unset (nat_lt o.sent (opened_at past)) (sym (sent-again role f a i past placed o r) ∙ among-some (sends_again i) (connection past) m.0 m.1 sends)
 
 -- what is kept and due is owed
-pub due-owes : (role : Role) (f : Fate) → resumes f ≡ true → accepts f ≡ true → (x : Bool) (past : List Seen) → IsPlaced past → (i : ℕ) (o : Entry) → (r : IsEntry i (session role (Some f) past) o)
+pub due-owes : (role : Role) (f : Fate) → resumes f ≡ true → accepts f ≡ true → (x : Excused) (past : List Seen) → IsPlaced past → (i : ℕ) (o : Entry) → (r : IsEntry i (session role (Some f) past) o)
     → is_due (opened_at past) x o ≡ true → owes role (Some f) x past r.opener ≡ true
 due-owes role f resumed a x past placed i o r due = and_true (resumes f) (is_some_and (λ i. core role f x past i r.opener) (opener_of (note r.opener))) resumed (go (opener_of (note r.opener)) r.begins_it)
   where
@@ -148,14 +150,14 @@ due-owes role f resumed a x past placed i o r due = and_true (resumes f) (is_som
     go (Some j) h = ap (λ j. core role f x past j r.opener) (sym (eqb-true i j h)) ∙ core-is role f a x past placed i o r ∙ due
 
 -- what is kept of an opener that is owed
-pub record Owed (role : Role) (f : Fate) (x : Bool) (past : List Seen) (m : Moment) : Type 0 where
+pub record Owed (role : Role) (f : Fate) (x : Excused) (past : List Seen) (m : Moment) : Type 0 where
   pub identifier : ℕ
   pub entry : Entry
   pub is_kept : entry_in identifier (session role (Some f) past) ≡ Some entry
   pub due : is_due (opened_at past) x entry ≡ true
   pub same_place : entry.place ≡ m.event.place
 
-pub owes-due : (role : Role) (f : Fate) → accepts f ≡ true → (x : Bool) (past : List Seen) → IsPlaced past → (m : Moment) → Among m (moments past) → owes role (Some f) x past m ≡ true → Owed role f x past m
+pub owes-due : (role : Role) (f : Fate) → accepts f ≡ true → (x : Excused) (past : List Seen) → IsPlaced past → (m : Moment) → Among m (moments past) → owes role (Some f) x past m ≡ true → Owed role f x past m
 owes-due role f a x past placed m among h = go (opener_of (note m)) refl (both_true (resumes f) (is_some_and (λ i. core role f x past i m) (opener_of (note m))) h).1
   where
     ms : List Moment
@@ -199,4 +201,4 @@ owes-due role f a x past placed m among h = go (opener_of (note m)) refl (both_t
     go : (q : Option ℕ) → opener_of (note m) ≡ q → is_some_and (λ i. core role f x past i m) q ≡ true → Owed role f x past m
     go None p c = absurd (cc)
     go (Some i) p c = kept i (ap (is_id i) p ∙ eq-eqb i i refl) c (since-stands (is_same m) (moves i) ms d
-        (both_true (since (is_same m) (moves i) ms) (not (some (is_same m) (connection past)) && (not (some (sends_again i) (connection past)) && not (since (is_same m) (confirms i) ms && x))) c).0)
+        (both_true (since (is_same m) (moves i) ms) (not (some (is_same m) (connection past)) && (not (some (sends_again i) (connection past)) && not (since (is_same m) (confirms i) ms && (x.all || (x.retained && is_retained m))))) c).0)

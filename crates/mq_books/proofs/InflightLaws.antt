@@ -15,12 +15,13 @@ use Rattle.mq_rules.specs.FaultKeys.{FaultMap}
 use Rattle.mq_rules.proofs.Exports.{gains_either, some-next}
 use Rattle.mq_books.specs.declared.inflight.Inflight.{Inflight}
 use Rattle.mq_books.specs.declared.inflight.broken.Broken.{Broken}
+use Rattle.mq_books.specs.declared.inflight.resends.Excused.{Excused}
 use Rattle.mq_rules.specs.Under.{IsUnder, fate_before, turns_with}
 use Rattle.mq_rules.specs.Growing.{Gains}
 use Rattle.mq_books.specs.Pingings.{ends_by}
 use Rattle.mq_books.specs.Quotas.{announced, peer_room, may_count, flown}
 use Rattle.mq_books.specs.Opened.{entry_next}
-use Rattle.mq_books.specs.Resending.{bounds_next, excuses, settles, told, IsResent}
+use Rattle.mq_books.specs.Resending.{by_itself, bounds_next, excuses, settles, told, IsResent}
 use Rattle.mq_books.specs.Using.{in_delivery, delivering, stray_next, ArePublished, waits_next, void_next, resent_next, breaks, judged_all, is_at_once, is_inflight, IsUsing}
 use Rattle.mq_books.specs.Knowing.{all_excused}
 use Rattle.mq_books.proofs.DueLaws.{opened-within}
@@ -31,7 +32,7 @@ use Rattle.mq_books.proofs.OpenedLaws.{entry-under}
 use Rattle.mq_books.proofs.UsingLaws.{waiting, delivering-waits, sent-none, resent-next, using-gains}
 use Rattle.mq_books.proofs.ResendsLaws.{bounds-next, resends-gains}
 
-pub inflight-gains : (tested : Tested) (s : Inflight) (f : Fate) (at : ℕ) (e : Seen) (past : List Seen) (m : FaultMap) (b : Broken) (rests excused : Bool) → IsUnder tested f at e past → IsUsing s tested (fate_before tested f e past) past
+pub inflight-gains : (tested : Tested) (s : Inflight) (f : Fate) (at : ℕ) (e : Seen) (past : List Seen) (m : FaultMap) (b : Broken) (rests : Bool) (excused : Excused) → IsUnder tested f at e past → IsUsing s tested (fate_before tested f e past) past
     → b ≡ all_excused f (at == e.place.position) (breaks s f e.note) → rests ≡ settles f (at == e.place.position) s.ended e.note → excused ≡ excuses s.peer s.in_flight s.bounds
     → Gains (λ k r. is_inflight r && turns_with tested f e past k r) tested (e ∷ past) at m (told rests s.again excused s.opened at (values_of s.entries.entries) (get nat_eq s.entries) s.confirmed.keys (judged_all b e.place at m))
 inflight-gains tested s f at e past m b rests excused under u b_is rest_is excused_is =
@@ -48,7 +49,7 @@ pub inflight-next : (tested : Tested) (s t : Inflight) (f : Fate) (at : ℕ) (e 
     → ((i : ℕ) → contains nat_eq t.unsubscribing i ≡ waits_next (sent_as unsubscribe_in e.note) (received_as unsuback_in e.note) (is_boundary e.note) i (contains nat_eq s.unsubscribing i))
     → t.resent ≡ resent_next e.note (get nat_eq s.entries) s.resent → t.ended ≡ (ends_by e.note || (not (is_open e.note) && s.ended)) → t.opened ≡ cond (is_open e.note) e.place.position s.opened
     → t.peer ≡ option_or (cond (is_open e.note) None s.peer) (announced s.role e.note) → (s.in_flight < e.place.position → t.in_flight ≡ flown (may_count s.role s.peer) e.note s.in_flight)
-    → t.bounds ≡ bounds_next s.role e.note s.bounds → IsResent t.opened (get nat_eq t.entries) (contains nat_eq t.confirmed) t.again → IsUsing t tested (Some f) (e ∷ past)
+    → t.bounds ≡ bounds_next s.role e.note s.bounds → IsResent t.opened (by_itself t.bounds) (get nat_eq t.entries) (contains nat_eq t.confirmed) t.again → IsUsing t tested (Some f) (e ∷ past)
 inflight-next tested s t f at e past under u role fate ordered distinct entries stray void subscribing unsubscribing resent ended opened peer flying bounds again = record {
   same_role = role ∙ u.same_role;
   same_fate = ap Some (sym fate);

@@ -31,11 +31,12 @@ use Rattle.mq_books.specs.declared.inflight.Inflight.{Inflight}
 use Rattle.mq_books.specs.declared.inflight.broken.Broken.{Broken}
 use Rattle.mq_books.specs.declared.inflight.entry.Entry.{Entry}
 use Rattle.mq_books.specs.declared.inflight.resends.Resent.{Resent}
+use Rattle.mq_books.specs.declared.inflight.resends.Excused.{Excused}
 use Rattle.mq_books.specs.Moving.{Moves, KeepsOthers, IsMoved, moved, untouched, IsStep, IsWithin}
-use Rattle.mq_books.specs.Opened.{entry_after, entry_next, opened_if, closed_if, confirmed_if, released_if, sent_if, sends_exactly_once}
+use Rattle.mq_books.specs.Opened.{entry_after, entry_next, opened_if, closed_if, confirmed_if, released_if, sent_if, sends_exactly_once, sends_retained}
 use Rattle.mq_books.specs.Pingings.{ends_by}
 use Rattle.mq_books.specs.Quotas.{announced, may_count, flown, judged_by}
-use Rattle.mq_books.specs.Resending.{bounds_by, confirmed_next, confirms_untouched, excuses, settles, IsResent}
+use Rattle.mq_books.specs.Resending.{by_itself, bounds_by, confirmed_next, confirms_untouched, excuses, settles, IsResent}
 use Rattle.mq_books.specs.Using.{delivering, stray_next, void_next, resent_next, breaks, unopened, past_pubrel, out_of_order, is_inflight, IsUsing}
 use Rattle.mq_books.proofs.KnowingLaws.{all_excused-late}
 use Rattle.mq_books.proofs.VoidLaws.{accepted-unvoided}
@@ -48,30 +49,31 @@ use Rattle.mq_books.proofs.UsingConcernLaws.{wait-stays, resent-stays}
 
 -- ---- what is kept of an identifier
 
--- which QoS it has matters only where it is opened
-quality : (i : ℕ) (opener : Option ℕ) (x y : Bool) (place : Place3) (old : Option Entry) → (is_some opener ≡ true → y ≡ x) → opened_if (is_id i opener) x place old ≡ opened_if (is_id i opener) y place old
-quality i None x y place old h = refl
-quality i (Some j) x y place old h = ap (λ b. opened_if (is_id i (Some j)) b place old) (sym (h refl))
+-- how it is sent matters only where it is opened
+quality : (i : ℕ) (opener : Option ℕ) (x y r : Bool) (place : Place3) (old : Option Entry) → (is_some opener ≡ true → y ≡ x) → opened_if (is_id i opener) x r place old ≡ opened_if (is_id i opener) y r place old
+quality i None x y r place old h = refl
+quality i (Some j) x y r place old h = ap (λ b. opened_if (is_id i (Some j)) b r place old) (sym (h refl))
 
 -- what is sent under an identifier that is opened anew doesn't matter
-sent-anew : (b x c p r : Bool) (place : Place3) (at : ℕ) (old : Option Entry) → opened_if b x place (closed_if c (confirmed_if p (released_if r at old))) ≡ opened_if b x place (closed_if c (confirmed_if p (released_if r at (sent_if b at old))))
-sent-anew true x c p r place at old = refl
-sent-anew false x c p r place at None = refl
-sent-anew false x c p r place at (Some o) = refl
+sent-anew : (b x y c p r : Bool) (place : Place3) (at : ℕ) (old : Option Entry) → opened_if b x y place (closed_if c (confirmed_if p (released_if r at old))) ≡ opened_if b x y place (closed_if c (confirmed_if p (released_if r at (sent_if b at old))))
+sent-anew true x y c p r place at old = refl
+sent-anew false x y c p r place at None = refl
+sent-anew false x y c p r place at (Some o) = refl
 
 entry-moves : (f : Fate) (n : Note) (place : Place3) (i : ℕ) (old : Option Entry) (opener : Option ℕ) (x : Bool) (closer pubrel pubrec : Option ℕ) → Moves n opener x closer pubrel pubrec → accepts f ≡ true
-    → opened_if (is_id i opener) x place (closed_if (is_id i closer) (confirmed_if (is_id i pubrec) (released_if (is_id i pubrel) place.position old))) ≡ entry_next f n place i old
+    → opened_if (is_id i opener) x false place (closed_if (is_id i closer) (confirmed_if (is_id i pubrec) (released_if (is_id i pubrel) place.position old))) ≡ entry_next f n place i old
 entry-moves f n place i old opener x closer pubrel pubrec m accepted =
-    quality i opener x (sends_exactly_once n) place (closed_if (is_id i closer) (confirmed_if (is_id i pubrec) (released_if (is_id i pubrel) place.position old))) m.quality
-    ∙ sent-anew (is_id i opener) (sends_exactly_once n) (is_id i closer) (is_id i pubrec) (is_id i pubrel) place place.position old
+    quality i opener x (sends_exactly_once n) false place (closed_if (is_id i closer) (confirmed_if (is_id i pubrec) (released_if (is_id i pubrel) place.position old))) m.quality
+    ∙ sent-anew (is_id i opener) (sends_exactly_once n) false (is_id i closer) (is_id i pubrec) (is_id i pubrel) place place.position old
     ∙ sym (
     ap (λ b. cond b (cond (begins (Some f)) None old) (cond (accepts f) (entry_after i n place old) old)) m.closed
     ∙ ap (λ b. cond b (entry_after i n place old) old) accepted
-    ∙ ap (λ o. opened_if (is_id i o) (sends_exactly_once n) place (closed_if (is_id i (closer_of n)) (confirmed_if (is_id i (received_as accepting_pubrec_in n)) (released_if (is_id i (sent_as pubrel_in n)) place.position (sent_if (is_id i (delivery_of n)) place.position old))))) m.opens
-    ∙ ap (λ o. opened_if (is_id i opener) (sends_exactly_once n) place (closed_if (is_id i o) (confirmed_if (is_id i (received_as accepting_pubrec_in n)) (released_if (is_id i (sent_as pubrel_in n)) place.position (sent_if (is_id i (delivery_of n)) place.position old))))) m.closes
-    ∙ ap (λ o. opened_if (is_id i opener) (sends_exactly_once n) place (closed_if (is_id i closer) (confirmed_if (is_id i o) (released_if (is_id i (sent_as pubrel_in n)) place.position (sent_if (is_id i (delivery_of n)) place.position old))))) m.confirms
-    ∙ ap (λ o. opened_if (is_id i opener) (sends_exactly_once n) place (closed_if (is_id i closer) (confirmed_if (is_id i pubrec) (released_if (is_id i o) place.position (sent_if (is_id i (delivery_of n)) place.position old))))) m.releases
-    ∙ ap (λ o. opened_if (is_id i opener) (sends_exactly_once n) place (closed_if (is_id i closer) (confirmed_if (is_id i pubrec) (released_if (is_id i pubrel) place.position (sent_if (is_id i o) place.position old))))) m.delivers)
+    ∙ ap (λ o. opened_if (is_id i o) (sends_exactly_once n) (sends_retained n) place (closed_if (is_id i (closer_of n)) (confirmed_if (is_id i (received_as accepting_pubrec_in n)) (released_if (is_id i (sent_as pubrel_in n)) place.position (sent_if (is_id i (delivery_of n)) place.position old))))) m.opens
+    ∙ ap (λ o. opened_if (is_id i opener) (sends_exactly_once n) (sends_retained n) place (closed_if (is_id i o) (confirmed_if (is_id i (received_as accepting_pubrec_in n)) (released_if (is_id i (sent_as pubrel_in n)) place.position (sent_if (is_id i (delivery_of n)) place.position old))))) m.closes
+    ∙ ap (λ o. opened_if (is_id i opener) (sends_exactly_once n) (sends_retained n) place (closed_if (is_id i closer) (confirmed_if (is_id i o) (released_if (is_id i (sent_as pubrel_in n)) place.position (sent_if (is_id i (delivery_of n)) place.position old))))) m.confirms
+    ∙ ap (λ o. opened_if (is_id i opener) (sends_exactly_once n) (sends_retained n) place (closed_if (is_id i closer) (confirmed_if (is_id i pubrec) (released_if (is_id i o) place.position (sent_if (is_id i (delivery_of n)) place.position old))))) m.releases
+    ∙ ap (λ o. opened_if (is_id i opener) (sends_exactly_once n) (sends_retained n) place (closed_if (is_id i closer) (confirmed_if (is_id i pubrec) (released_if (is_id i pubrel) place.position (sent_if (is_id i o) place.position old))))) m.delivers
+    ∙ ap (λ b. opened_if (is_id i opener) (sends_exactly_once n) b place (closed_if (is_id i closer) (confirmed_if (is_id i pubrec) (released_if (is_id i pubrel) place.position (sent_if (is_id i opener) place.position old))))) m.plain)
 
 -- ---- the others
 
@@ -91,12 +93,12 @@ confirmed-moves f n entry i old opener x closer pubrel pubrec m accepted =
     ∙ ap (λ o. not (is_id i o) && (old || (is_id i (received_as accepting_pubrec_in n) && is_some (entry i)))) m.closes
     ∙ ap (λ o. not (is_id i closer) && (old || (is_id i o && is_some (entry i)))) m.confirms)
 
-resent-moves : (n : Note) (opened at : ℕ) (entry new : ℕ → Option Entry) (confirmed : ℕ → Bool) (r : Resent) (opener : Option ℕ) (x : Bool) (closer pubrel pubrec : Option ℕ) → Moves n opener x closer pubrel pubrec
-    → IsResent (cond (is_open n) at opened) new confirmed (record { all = not (is_open n) && r.all; confirmed = not (is_open n) && (r.confirmed && not (confirms_untouched n opened entry)) })
-    → IsResent opened new confirmed (record { all = r.all; confirmed = r.confirmed && not (untouched opened entry pubrec) })
-resent-moves n opened at entry new confirmed r opener x closer pubrel pubrec m is =
-    subst (λ o. IsResent opened new confirmed (record { all = r.all; confirmed = r.confirmed && not (untouched opened entry o) })) m.confirms
-    (subst (λ b. IsResent (cond b at opened) new confirmed (record { all = not b && r.all; confirmed = not b && (r.confirmed && not (confirms_untouched n opened entry)) })) m.closed is)
+resent-moves : (n : Note) (opened at : ℕ) (single : Excused) (entry new : ℕ → Option Entry) (confirmed : ℕ → Bool) (r : Resent) (opener : Option ℕ) (x : Bool) (closer pubrel pubrec : Option ℕ) → Moves n opener x closer pubrel pubrec
+    → IsResent (cond (is_open n) at opened) single new confirmed (record { all = not (is_open n) && (r.all && not (confirms_untouched n opened entry)); confirmed = not (is_open n) && (r.confirmed && not (confirms_untouched n opened entry)) })
+    → IsResent opened single new confirmed (record { all = r.all && not (untouched opened entry pubrec); confirmed = r.confirmed && not (untouched opened entry pubrec) })
+resent-moves n opened at single entry new confirmed r opener x closer pubrel pubrec m is =
+    subst (λ o. IsResent opened single new confirmed (record { all = r.all && not (untouched opened entry o); confirmed = r.confirmed && not (untouched opened entry o) })) m.confirms
+    (subst (λ b. IsResent (cond b at opened) single new confirmed (record { all = not b && (r.all && not (confirms_untouched n opened entry)); confirmed = not b && (r.confirmed && not (confirms_untouched n opened entry)) })) m.closed is)
 
 -- ---- what is kept
 
@@ -115,14 +117,18 @@ moved-next tested s t f at e past opener x closer pubrel pubrec under u m accept
     (w.others.peer ∙ sym (ap (λ o. option_or (cond (is_open n) None s.peer) o) (m.room s.role) ∙ ap (λ b. option_or (cond b None s.peer) None) m.closed ∙ option_or-none s.peer))
     (λ below. w.flying below ∙ flown-moves n (may_count s.role s.peer) s.in_flight opener x closer pubrel pubrec m)
     (w.others.bounds ∙ sym (ap (λ o. option_or (cond (is_open n) None s.bounds) o) (m.bounds s.role) ∙ ap (λ b. option_or (cond b None s.bounds) None) m.closed ∙ option_or-none s.bounds))
-    (subst (λ r. IsResent t.opened (get nat_eq t.entries) (contains nat_eq t.confirmed) r) (sym w.again)
-    (subst (λ o. IsResent o (get nat_eq t.entries) (contains nat_eq t.confirmed) (record { all = s.again.all; confirmed = s.again.confirmed && not (untouched s.opened (get nat_eq s.entries) pubrec) })) (sym w.others.opened)
-    (resent-moves n s.opened e.place.position (get nat_eq s.entries) (get nat_eq t.entries) (contains nat_eq t.confirmed) s.again opener x closer pubrel pubrec m
-    (again-next f n e.place s.opened (get nat_eq s.entries) (get nat_eq t.entries) (contains nat_eq s.confirmed) (contains nat_eq t.confirmed) s.again below entries
-    (λ i. w.confirmed i ∙ confirmed-moves f n (get nat_eq s.entries) i (contains nat_eq s.confirmed i) opener x closer pubrel pubrec m accepted) u.resent_are))))
+    (subst (λ r. IsResent t.opened (by_itself t.bounds) (get nat_eq t.entries) (contains nat_eq t.confirmed) r) (sym w.again)
+    (subst (λ o. IsResent o (by_itself t.bounds) (get nat_eq t.entries) (contains nat_eq t.confirmed) known) (sym w.others.opened)
+    (subst (λ o. IsResent s.opened (by_itself o) (get nat_eq t.entries) (contains nat_eq t.confirmed) known) (sym w.others.bounds)
+    (resent-moves n s.opened e.place.position (by_itself s.bounds) (get nat_eq s.entries) (get nat_eq t.entries) (contains nat_eq t.confirmed) s.again opener x closer pubrel pubrec m
+    (again-next f n e.place s.opened (by_itself s.bounds) (by_itself s.bounds) (get nat_eq s.entries) (get nat_eq t.entries) (contains nat_eq s.confirmed) (contains nat_eq t.confirmed) s.again below (λ closed y h. h) entries
+    (λ i. w.confirmed i ∙ confirmed-moves f n (get nat_eq s.entries) i (contains nat_eq s.confirmed i) opener x closer pubrel pubrec m accepted) u.resent_are)))))
   where
     n : Note
     n = e.note
+
+    known : Resent
+    known = record { all = s.again.all && not (untouched s.opened (get nat_eq s.entries) pubrec); confirmed = s.again.confirmed && not (untouched s.opened (get nat_eq s.entries) pubrec) }
 
     rest : ℕ → Option Entry
     rest i = closed_if (is_id i closer) (confirmed_if (is_id i pubrec) (released_if (is_id i pubrel) e.place.position (get nat_eq s.entries i)))
@@ -133,7 +139,7 @@ moved-next tested s t f at e past opener x closer pubrel pubrec under u m accept
         ∙ ap (λ o. (is_id i o && not (accepts f && is_some (get nat_eq t.entries i))) || (not (is_id i (closer_of n)) && contains nat_eq s.stray i)) m.delivers
         ∙ ap (λ b. (is_id i opener && not (b && is_some (get nat_eq t.entries i))) || (not (is_id i (closer_of n)) && contains nat_eq s.stray i)) accepted
         ∙ ap (λ z. (is_id i opener && not (true && is_some z)) || (not (is_id i (closer_of n)) && contains nat_eq s.stray i)) (w.entries i)
-        ∙ ap (λ b. b || (not (is_id i (closer_of n)) && contains nat_eq s.stray i)) (kept-anew (is_id i opener) x e.place (rest i))
+        ∙ ap (λ b. b || (not (is_id i (closer_of n)) && contains nat_eq s.stray i)) (kept-anew (is_id i opener) x false e.place (rest i))
         ∙ ap (λ o. not (is_id i o) && contains nat_eq s.stray i) m.closes
 
     entries : (i : ℕ) → get nat_eq t.entries i ≡ entry_next f n e.place i (get nat_eq s.entries i)
@@ -199,6 +205,7 @@ moves-publish size o q false t i h = record {
   unended = refl;
   delivers = h;
   opens = h;
+  plain = refl;
   quality = λ some. refl;
   closes = refl;
   releases = refl;
@@ -243,6 +250,7 @@ moves-puback size i code = record {
   unended = refl;
   delivers = refl;
   opens = refl;
+  plain = refl;
   quality = λ some. absurd (cc);
   closes = refl;
   releases = refl;
@@ -286,6 +294,7 @@ moves-pubcomp size i code = record {
   unended = refl;
   delivers = refl;
   opens = refl;
+  plain = refl;
   quality = λ some. absurd (cc);
   closes = refl;
   releases = refl;
@@ -329,6 +338,7 @@ moves-pubrel size i code = record {
   unended = refl;
   delivers = refl;
   opens = refl;
+  plain = refl;
   quality = λ some. absurd (cc);
   closes = refl;
   releases = refl;
@@ -372,6 +382,7 @@ moves-pubrec size i code = record {
   unended = refl;
   delivers = refl;
   opens = refl;
+  plain = refl;
   quality = λ some. absurd (cc);
   closes = refl;
   releases = refl;

@@ -21,7 +21,7 @@ use Rattle.mq_rules.specs.Identifiers.{opens_id, closes_id, delivers, sends_pubr
 use Rattle.mq_rules.proofs.Exports.{differ, or_left, under-next}
 use Rattle.mq_books.specs.declared.inflight.entry.Entry.{Entry}
 use Rattle.mq_rules.specs.Under.{fate_before}
-use Rattle.mq_books.specs.Opened.{opened_by, sent_if, released_if, confirmed_if, closed_if, opened_if, sends_exactly_once, sends_again, confirms, moves, entry_after, entry_in, entry_next}
+use Rattle.mq_books.specs.Opened.{opened_by, sent_if, released_if, confirmed_if, closed_if, opened_if, sends_exactly_once, sends_retained, sends_again, confirms, moves, entry_after, entry_in, entry_next}
 
 -- ---- one event
 
@@ -117,7 +117,7 @@ entry-there i (m ∷ ms) = go (opens_id i m) (closes_id i m) (entry-there i ms)
     touched : Option Entry
     touched = confirmed_if (confirms i m) (released_if (sends_pubrel i m) m.event.place.position (sent_if (delivers i m) m.event.place.position (entry_in i ms)))
 
-    go : (b c : Bool) → is_some (entry_in i ms) ≡ since (opens_id i) (closes_id i) ms → is_some (opened_if b (sends_exactly_once (note m)) m.event.place (closed_if c touched)) ≡ (b || (not c && since (opens_id i) (closes_id i) ms))
+    go : (b c : Bool) → is_some (entry_in i ms) ≡ since (opens_id i) (closes_id i) ms → is_some (opened_if b (sends_exactly_once (note m)) (sends_retained (note m)) m.event.place (closed_if c touched)) ≡ (b || (not c && since (opens_id i) (closes_id i) ms))
     go true c rest = refl
     go false true rest = refl
     go false false rest = still (confirms i m) (sends_pubrel i m) (delivers i m) m.event.place.position (entry_in i ms) ∙ rest
@@ -131,6 +131,7 @@ pub record IsEntry (i : ℕ) (ms : List Moment) (o : Entry) : Type 0 where
   pub unmoved : since (is_same opener) (moves i) ms ≡ true
   pub same_place : o.place ≡ opener.event.place
   pub same_quality : o.exactly_once ≡ sends_exactly_once (note opener)
+  pub same_retained : o.retained ≡ sends_retained (note opener)
   pub is_released : o.released ≡ since (sends_pubrel i) (opens_id i) ms
   pub is_confirmed : not o.confirmed ≡ since (is_same opener) (confirms i) ms
   pub is_sent : (s : Moment) × (latest (sends_again i) ms ≡ Some s) × (o.sent ≡ s.event.place.position)
@@ -142,7 +143,7 @@ entry-is i (m ∷ ms) o d h = go (opens_id i m) refl (closes_id i m) refl (entry
     touched : Option Entry → Option Entry
     touched x = confirmed_if (confirms i m) (released_if (sends_pubrel i m) m.event.place.position (sent_if (delivers i m) m.event.place.position x))
 
-    new : opens_id i m ≡ true → IsEntry i (m ∷ ms) (opened_by (sends_exactly_once (note m)) m.event.place)
+    new : opens_id i m ≡ true → IsEntry i (m ∷ ms) (opened_by (sends_exactly_once (note m)) (sends_retained (note m)) m.event.place)
     new t = record {
       opener = m;
       there = inl refl;
@@ -151,6 +152,7 @@ entry-is i (m ∷ ms) o d h = go (opens_id i m) refl (closes_id i m) refl (entry
       unmoved = or_left (is_same m m) (not (moves i m) && since (is_same m) (moves i) ms) (eq-eqb (position m) (position m) refl);
       same_place = refl;
       same_quality = refl;
+      same_retained = refl;
       is_released = sym (ap (λ b. sends_pubrel i m || (not b && since (sends_pubrel i) (opens_id i) ms)) t ∙ ap (λ b. b || false) (opener-releases i (note m) t));
       is_confirmed = sym (or_left (is_same m m) (not (confirms i m) && since (is_same m) (confirms i) ms) (eq-eqb (position m) (position m) refl));
       is_sent = (m, ap (λ b. cond b (Some m) (latest (sends_again i) ms)) (or_left (delivers i m) (sends_pubrel i m) (opener-delivers i (note m) t)), refl);
@@ -168,7 +170,7 @@ entry-is i (m ∷ ms) o d h = go (opens_id i m) refl (closes_id i m) refl (entry
     unsure false q s h = h
 
     older : (p : Entry) → opens_id i m ≡ false → closes_id i m ≡ false → IsEntry i ms p
-        → IsEntry i (m ∷ ms) (record { place = p.place; exactly_once = p.exactly_once; confirmed = confirms i m || p.confirmed; released = sends_pubrel i m || p.released; sent = cond (sends_pubrel i m) m.event.place.position (cond (delivers i m) m.event.place.position p.sent); published = cond (delivers i m) m.event.place.position p.published })
+        → IsEntry i (m ∷ ms) (record { place = p.place; exactly_once = p.exactly_once; retained = p.retained; confirmed = confirms i m || p.confirmed; released = sends_pubrel i m || p.released; sent = cond (sends_pubrel i m) m.event.place.position (cond (delivers i m) m.event.place.position p.sent); published = cond (delivers i m) m.event.place.position p.published })
     older p t u r =
         let before : position r.opener < position m = d.0 r.opener r.there in
         let other : is_same r.opener m ≡ false = differ (position r.opener) (position m) (λ same. absurd (omega arith)) in
@@ -180,16 +182,17 @@ entry-is i (m ∷ ms) o d h = go (opens_id i m) refl (closes_id i m) refl (entry
           unmoved = ap (λ b. b || (not (moves i m) && since (is_same r.opener) (moves i) ms)) other ∙ ap (λ b. not (b || closes_id i m) && since (is_same r.opener) (moves i) ms) t ∙ ap (λ b. not b && since (is_same r.opener) (moves i) ms) u ∙ r.unmoved;
           same_place = r.same_place;
           same_quality = r.same_quality;
+          same_retained = r.same_retained;
           is_released = ap (λ b. sends_pubrel i m || b) r.is_released ∙ sym (ap (λ b. sends_pubrel i m || (not b && since (sends_pubrel i) (opens_id i) ms)) t);
           is_confirmed = unsure (confirms i m) p.confirmed (since (is_same r.opener) (confirms i) ms) r.is_confirmed ∙ sym (ap (λ b. b || (not (confirms i m) && since (is_same r.opener) (confirms i) ms)) other);
           is_sent = sender p (delivers i m) (sends_pubrel i m) r.is_sent.0 r.is_sent.1 r.is_sent.2;
         }
 
     go : (b : Bool) → opens_id i m ≡ b → (c : Bool) → closes_id i m ≡ c → (x : Option Entry) → ((p : Entry) → x ≡ Some p → IsEntry i ms p)
-        → opened_if b (sends_exactly_once (note m)) m.event.place (closed_if c (touched x)) ≡ Some o → IsEntry i (m ∷ ms) o
-    go true t c u x rest h = let same : opened_by (sends_exactly_once (note m)) m.event.place ≡ o = cc in subst (IsEntry i (m ∷ ms)) same (new t)
+        → opened_if b (sends_exactly_once (note m)) (sends_retained (note m)) m.event.place (closed_if c (touched x)) ≡ Some o → IsEntry i (m ∷ ms) o
+    go true t c u x rest h = let same : opened_by (sends_exactly_once (note m)) (sends_retained (note m)) m.event.place ≡ o = cc in subst (IsEntry i (m ∷ ms)) same (new t)
     go false t true u x rest h = absurd (cc)
     go false t false u None rest h = absurd (cc)
     go false t false u (Some p) rest h =
-        let same : record { place = p.place; exactly_once = p.exactly_once; confirmed = confirms i m || p.confirmed; released = sends_pubrel i m || p.released; sent = cond (sends_pubrel i m) m.event.place.position (cond (delivers i m) m.event.place.position p.sent); published = cond (delivers i m) m.event.place.position p.published } ≡ o = cc in
+        let same : record { place = p.place; exactly_once = p.exactly_once; retained = p.retained; confirmed = confirms i m || p.confirmed; released = sends_pubrel i m || p.released; sent = cond (sends_pubrel i m) m.event.place.position (cond (delivers i m) m.event.place.position p.sent); published = cond (delivers i m) m.event.place.position p.published } ≡ o = cc in
         subst (IsEntry i (m ∷ ms)) same (older p t u (rest p refl))

@@ -9,20 +9,21 @@ use Rattle.mq_rules.specs.declared.rule.Rule.TheVariants.{S06}
 use Rattle.mq_rules.specs.FaultKeys.{FaultMap, with_fault}
 use Rattle.mq_rules.proofs.Exports.{not_true}
 use Rattle.mq_books.specs.declared.inflight.entry.Entry.{Entry}
+use Rattle.mq_books.specs.declared.inflight.resends.Excused.{Excused}
 use Rattle.mq_books.specs.Owings.{blamed, Keeps}
-use Rattle.mq_books.specs.Resending.{is_due, due_places, due_next, told_under, blamed_due, blamed_under}
+use Rattle.mq_books.specs.Resending.{entire, is_due, due_places, due_next, told_under, blamed_due, blamed_under}
 use Rattle.mq_books.proofs.BlameLaws.{place_at, keeps_with_fault, keeps_blamed}
 
 -- ---- faults that are added stay
 
-pub keeps_next : (old mid : FaultMap) (opened : ℕ) (excused : Bool) (at : ℕ) (o : Entry) → Keeps old mid → Keeps old (due_next opened excused at o mid)
+pub keeps_next : (old mid : FaultMap) (opened : ℕ) (excused : Excused) (at : ℕ) (o : Entry) → Keeps old mid → Keeps old (due_next opened excused at o mid)
 keeps_next old mid opened excused at o h = go (is_due opened excused o)
   where
     go : (b : Bool) → Keeps old (cond b (with_fault (record { position = o.place.position; rule = S06 }) (record { decided = at; record_no = o.place.record_no; offset = None }) mid) mid)
     go true = keeps_with_fault old mid (record { position = o.place.position; rule = S06 }) (record { decided = at; record_no = o.place.record_no; offset = None }) h
     go false = h
 
-pub blamed_due-is : (opened : ℕ) (excused : Bool) (at : ℕ) (os : List Entry) (m : FaultMap) → blamed_due opened excused at os m ≡ blamed S06 at (due_places opened excused os) m
+pub blamed_due-is : (opened : ℕ) (excused : Excused) (at : ℕ) (os : List Entry) (m : FaultMap) → blamed_due opened excused at os m ≡ blamed S06 at (due_places opened excused os) m
 blamed_due-is opened excused at [] m = refl
 blamed_due-is opened excused at (o ∷ os) m = go (is_due opened excused o) (λ n. blamed_due-is opened excused at os n)
   where
@@ -34,7 +35,7 @@ blamed_due-is opened excused at (o ∷ os) m = go (is_due opened excused o) (λ 
     go true rest = rest with_o
     go false rest = rest m
 
-pub keeps_due : (opened : ℕ) (excused : Bool) (at : ℕ) (os : List Entry) (m : FaultMap) → Keeps m (blamed_due opened excused at os m)
+pub keeps_due : (opened : ℕ) (excused : Excused) (at : ℕ) (os : List Entry) (m : FaultMap) → Keeps m (blamed_due opened excused at os m)
 keeps_due opened excused at os m = subst (λ (n : FaultMap). Keeps m n) (sym (blamed_due-is opened excused at os m)) (keeps_blamed S06 at (due_places opened excused os) m)
 
 -- ---- the values of a map
@@ -44,7 +45,7 @@ absent i [] h o q = absurd (cc)
 absent i (e ∷ es) h o q = absent i es h.1 o (sym (ap (λ b. cond b (Some e.1) (lookup (nat_eq i) es)) h.0) ∙ q)
 
 -- a place that is due is that of what is kept of an identifier
-pub record IsDueAt (k opened : ℕ) (excused : Bool) (entry : ℕ → Option Entry) (p : Place3) : Type 0 where
+pub record IsDueAt (k opened : ℕ) (excused : Excused) (entry : ℕ → Option Entry) (p : Place3) : Type 0 where
   pub identifier : ℕ
   pub kept : Entry
   pub is_kept : entry identifier ≡ Some kept
@@ -52,7 +53,7 @@ pub record IsDueAt (k opened : ℕ) (excused : Bool) (entry : ℕ → Option Ent
   pub same_place : p ≡ kept.place
   pub here : k ≡ p.position
 
-pub value-due : (k opened : ℕ) (excused : Bool) (es : List (ℕ × Entry)) (p : Place3) → IsDistinct nat_eq (keys_of es) → place_at k (due_places opened excused (values_of es)) ≡ Some p → IsDueAt k opened excused (λ i. lookup (nat_eq i) es) p
+pub value-due : (k opened : ℕ) (excused : Excused) (es : List (ℕ × Entry)) (p : Place3) → IsDistinct nat_eq (keys_of es) → place_at k (due_places opened excused (values_of es)) ≡ Some p → IsDueAt k opened excused (λ i. lookup (nat_eq i) es) p
 unfolding IsDistinct
 value-due k opened excused [] p d h = absurd (cc)
 value-due k opened excused (e ∷ es) p d h = go (is_due opened excused e.1) refl h (value-due k opened excused es p d.1)
@@ -88,7 +89,7 @@ value-due k opened excused (e ∷ es) p d h = go (is_due opened excused e.1) ref
     go true due q rest = found due (k == e.1.place.position) refl q rest
     go false due q rest = later (rest q)
 
-pub key-due : (k i opened : ℕ) (excused : Bool) (es : List (ℕ × Entry)) (o : Entry) → lookup (nat_eq i) es ≡ Some o → is_due opened excused o ≡ true → k ≡ o.place.position → is_some (place_at k (due_places opened excused (values_of es))) ≡ true
+pub key-due : (k i opened : ℕ) (excused : Excused) (es : List (ℕ × Entry)) (o : Entry) → lookup (nat_eq i) es ≡ Some o → is_due opened excused o ≡ true → k ≡ o.place.position → is_some (place_at k (due_places opened excused (values_of es))) ≡ true
 key-due k i opened excused [] o h due at = absurd (cc)
 key-due k i opened excused (e ∷ es) o h due at = go (nat_eq i e.0) h (λ q. key-due k i opened excused es o q due at)
   where
@@ -114,7 +115,7 @@ key-due k i opened excused (e ∷ es) o h due at = go (nat_eq i e.0) h (λ q. ke
 
 abbrev onto : ℕ → Option Entry → List Place3 → List Place3
 onto opened None places = places
-onto opened (Some o) places = cond (is_due opened true o) (o.place ∷ places) places
+onto opened (Some o) places = cond (is_due opened entire o) (o.place ∷ places) places
 
 abbrev pub places_under : (ℕ → Option Entry) → ℕ → List ℕ → List Place3
 places_under entry opened [] = []
@@ -127,7 +128,7 @@ blamed_under-is entry opened at (i ∷ is) m = go (entry i) (λ n. blamed_under-
     go : (q : Option Entry) → ((n : FaultMap) → blamed_under entry opened at is n ≡ blamed S06 at (places_under entry opened is) n)
         → blamed_under entry opened at is (told_under q opened at m) ≡ blamed S06 at (onto opened q (places_under entry opened is)) m
     go None rest = rest m
-    go (Some o) rest = by (is_due opened true o)
+    go (Some o) rest = by (is_due opened entire o)
       where
         with_o : FaultMap
         with_o = with_fault (record { position = o.place.position; rule = S06 }) (record { decided = at; record_no = o.place.record_no; offset = None }) m
@@ -141,20 +142,20 @@ keeps_under entry opened at is m = subst (λ (n : FaultMap). Keeps m n) (sym (bl
 
 pub keeps_under_next : (old mid : FaultMap) (opened at : ℕ) (q : Option Entry) → Keeps old mid → Keeps old (told_under q opened at mid)
 keeps_under_next old mid opened at None h = h
-keeps_under_next old mid opened at (Some o) h = keeps_next old mid opened true at o h
+keeps_under_next old mid opened at (Some o) h = keeps_next old mid opened entire at o h
 
-pub under-due : (k opened : ℕ) (entry : ℕ → Option Entry) (is : List ℕ) (p : Place3) → place_at k (places_under entry opened is) ≡ Some p → IsDueAt k opened true entry p
+pub under-due : (k opened : ℕ) (entry : ℕ → Option Entry) (is : List ℕ) (p : Place3) → place_at k (places_under entry opened is) ≡ Some p → IsDueAt k opened entire entry p
 under-due k opened entry [] p h = absurd (cc)
 under-due k opened entry (i ∷ is) p h = go (entry i) refl h (under-due k opened entry is p)
   where
     rest_of : List Place3
     rest_of = places_under entry opened is
 
-    go : (q : Option Entry) → entry i ≡ q → place_at k (onto opened q rest_of) ≡ Some p → (place_at k rest_of ≡ Some p → IsDueAt k opened true entry p) → IsDueAt k opened true entry p
+    go : (q : Option Entry) → entry i ≡ q → place_at k (onto opened q rest_of) ≡ Some p → (place_at k rest_of ≡ Some p → IsDueAt k opened entire entry p) → IsDueAt k opened entire entry p
     go None n h rest = rest h
-    go (Some o) n h rest = by (is_due opened true o) refl h
+    go (Some o) n h rest = by (is_due opened entire o) refl h
       where
-        one : is_due opened true o ≡ true → (b : Bool) → (k == o.place.position) ≡ b → cond b (Some o.place) (place_at k rest_of) ≡ Some p → IsDueAt k opened true entry p
+        one : is_due opened entire o ≡ true → (b : Bool) → (k == o.place.position) ≡ b → cond b (Some o.place) (place_at k rest_of) ≡ Some p → IsDueAt k opened entire entry p
         one due true t h =
             let same : p ≡ o.place = cc in
             record {
@@ -167,11 +168,11 @@ under-due k opened entry (i ∷ is) p h = go (entry i) refl h (under-due k opene
             }
         one due false t h = rest h
 
-        by : (b : Bool) → is_due opened true o ≡ b → place_at k (cond b (o.place ∷ rest_of) rest_of) ≡ Some p → IsDueAt k opened true entry p
+        by : (b : Bool) → is_due opened entire o ≡ b → place_at k (cond b (o.place ∷ rest_of) rest_of) ≡ Some p → IsDueAt k opened entire entry p
         by true due h = one due (k == o.place.position) refl h
         by false due h = rest h
 
-pub listed-due : (k i opened : ℕ) (entry : ℕ → Option Entry) (is : List ℕ) (o : Entry) → entry i ≡ Some o → is_due opened true o ≡ true → k ≡ o.place.position → list_any (nat_eq i) is ≡ true → is_some (place_at k (places_under entry opened is)) ≡ true
+pub listed-due : (k i opened : ℕ) (entry : ℕ → Option Entry) (is : List ℕ) (o : Entry) → entry i ≡ Some o → is_due opened entire o ≡ true → k ≡ o.place.position → list_any (nat_eq i) is ≡ true → is_some (place_at k (places_under entry opened is)) ≡ true
 listed-due k i opened entry [] o h due at here = absurd (cc)
 listed-due k i opened entry (j ∷ is) o h due at here = go (nat_eq i j) refl here (λ q. listed-due k i opened entry is o h due at q)
   where
@@ -180,7 +181,7 @@ listed-due k i opened entry (j ∷ is) o h due at here = go (nat_eq i j) refl he
 
     more : (q : Option Entry) → is_some (place_at k rest_of) ≡ true → is_some (place_at k (onto opened q rest_of)) ≡ true
     more None h = h
-    more (Some x) h = by (is_due opened true x)
+    more (Some x) h = by (is_due opened entire x)
       where
         one : (b : Bool) → is_some (cond b (Some x.place) (place_at k rest_of)) ≡ true
         one true = refl

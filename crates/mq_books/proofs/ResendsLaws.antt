@@ -15,24 +15,25 @@ use Rattle.mq_rules.specs.declared.rule.Rule.TheVariants.{S06}
 use Rattle.mq_rules.specs.declared.note.Seen.{Seen}
 use Rattle.mq_rules.specs.declared.packet_note.ConnectNote.{ConnectNote}
 use Rattle.mq_rules.specs.declared.packet_note.ConnackNote.{ConnackNote}
-use Rattle.mq_rules.specs.Words.{is_some_and}
-use Rattle.mq_rules.specs.Notes.{is_open, is_rest, connect_of, connack_of, opener_of}
+use Rattle.mq_rules.specs.Words.{is_some_and, is_id}
+use Rattle.mq_rules.specs.Notes.{is_open, is_rest, connect_of, connack_of, opener_of, decides}
 use Rattle.mq_rules.specs.Moments.{Moment, newest, position, moment, moments, those, some, Among, IsPlaced, note}
 use Rattle.mq_rules.specs.Connections.{connection, latest_fate, accepts, resumes, accepted, resumed, ends_binding, is_binding, first_connect, first_connack, session, gives_fate}
 use Rattle.mq_rules.specs.Counter.{in_flight}
-use Rattle.mq_rules.specs.Identifiers.{counts, is_used_up, has_announced, shows_S06}
+use Rattle.mq_rules.specs.Identifiers.{counts, is_used_up, has_announced, refuses_retained, shows_S06}
 use Rattle.mq_rules.specs.Rules.{binds, found_line, line_of, lines, same_rule}
 use Rattle.mq_rules.specs.Faults.{reported}
 use Rattle.mq_rules.specs.FaultKeys.{FaultMap}
 use Rattle.mq_rules.proofs.Exports.{among-moment, both_true, first_found-next, latest_fate-same, moment-among, moment-placed, moment-stays, not_true, or_false, rest-opens-nothing, session-descend, session-members, used_up-counted}
 use Rattle.mq_books.specs.declared.inflight.entry.Entry.{Entry}
 use Rattle.mq_books.specs.declared.inflight.Inflight.{Inflight}
+use Rattle.mq_books.specs.declared.inflight.resends.Excused.{Excused}
 use Rattle.mq_rules.specs.Under.{IsUnder, fate_before, turns_with}
 use Rattle.mq_rules.specs.Growing.{Gains}
 use Rattle.mq_books.specs.Quotas.{peer_room}
 use Rattle.mq_books.specs.Owings.{binds_by, blamed}
 use Rattle.mq_books.specs.Opened.{entry_in}
-use Rattle.mq_books.specs.Resending.{opened_at, connect_bounds, connack_bounds, peer_bounds, bounds_next, excuses, is_due, due_places, blamed_due, blamed_under, told, settles}
+use Rattle.mq_books.specs.Resending.{opened_at, connect_bounds, connack_bounds, peer_bounds, bounds_next, by_itself, excuses, apart, entire, is_due, due_places, blamed_due, blamed_under, told, settles}
 use Rattle.mq_books.specs.Using.{IsUsing}
 use Rattle.mq_books.proofs.PingLaws.{binding-under}
 use Rattle.mq_books.proofs.BlameLaws.{place_at, blame_of, gains_blamed, gains_none}
@@ -49,24 +50,41 @@ binds-S06 Server releases = refl
 
 -- ---- excuses
 
-announced-kept : (role : Role) (e : Seen) (past : List Seen) → has_announced role (newest e past) ≡ is_some_and (λ b. b) (peer_bounds role past)
+announced-kept : (role : Role) (e : Seen) (past : List Seen) → has_announced role (newest e past) ≡ is_some_and (λ b. b.limits) (peer_bounds role past)
 announced-kept Client e past = go (first_connack Client (connection past))
   where
-    go : (o : Option ConnackNote) → (is_some (option_and_then (λ a. a.maximum_packet_size) o) || is_some (option_and_then (λ a. a.maximum_qos) o)) ≡ is_some_and (λ b. b) (connack_bounds o)
+    go : (o : Option ConnackNote) → (is_some (option_and_then (λ a. a.maximum_packet_size) o) || is_some (option_and_then (λ a. a.maximum_qos) o)) ≡ is_some_and (λ b. b.limits) (connack_bounds o)
     go None = refl
     go (Some a) = refl
 announced-kept Server e past = go (first_connect Server (connection past))
   where
-    go : (o : Option ConnectNote) → (is_some (option_and_then (λ c. c.maximum_packet_size) o) || false) ≡ is_some_and (λ b. b) (connect_bounds o)
+    go : (o : Option ConnectNote) → (is_some (option_and_then (λ c. c.maximum_packet_size) o) || false) ≡ is_some_and (λ b. b.limits) (connect_bounds o)
     go None = refl
     go (Some c) = or_false (is_some c.maximum_packet_size)
 
-excuses-are : (tested : Tested) (s : Inflight) (taken : Option Fate) (e : Seen) (past : List Seen) → IsUsing s tested taken past
-    → (is_used_up tested.role (newest e past) || has_announced tested.role (newest e past)) ≡ excuses s.peer s.in_flight s.bounds
+refused-kept : (role : Role) (e : Seen) (past : List Seen) → refuses_retained role (newest e past) ≡ is_some_and (λ b. b.refuses_retained) (peer_bounds role past)
+refused-kept Client e past = go (first_connack Client (connection past))
+  where
+    go : (o : Option ConnackNote) → is_some_and (λ a. is_id 0 a.retain_available) o ≡ is_some_and (λ b. b.refuses_retained) (connack_bounds o)
+    go None = refl
+    go (Some a) = refl
+refused-kept Server e past = go (first_connect Server (connection past))
+  where
+    go : (o : Option ConnectNote) → false ≡ is_some_and (λ b. b.refuses_retained) (connect_bounds o)
+    go None = refl
+    go (Some c) = refl
+
+-- what a REST e excuses of what wasn't confirmed
+excused_at : Role → Seen → List Seen → Excused
+excused_at role e past = record { all = is_used_up role (newest e past) || has_announced role (newest e past); retained = refuses_retained role (newest e past) }
+
+excuses-are : (tested : Tested) (s : Inflight) (taken : Option Fate) (e : Seen) (past : List Seen) → IsUsing s tested taken past → excused_at tested.role e past ≡ excuses s.peer s.in_flight s.bounds
+unfolding excused_at
 excuses-are tested s taken e past u =
-    ap (λ b. b || has_announced tested.role (newest e past)) (used_up-counted tested.role (newest e past)
+    ap (λ b. record { all = b || has_announced tested.role (newest e past); retained = refuses_retained tested.role (newest e past) }) (used_up-counted tested.role (newest e past)
     ∙ ap (λ n. nat_le n (in_flight (those (counts tested.role) (connection past)))) (room-kept tested.role e past))
-    ∙ ap (λ b. nat_le (unwrap_or (peer_room tested.role past) 65535) (in_flight (those (counts tested.role) (connection past))) || b) (announced-kept tested.role e past)
+    ∙ ap (λ b. record { all = nat_le (unwrap_or (peer_room tested.role past) 65535) (in_flight (those (counts tested.role) (connection past))) || b; retained = refuses_retained tested.role (newest e past) }) (announced-kept tested.role e past)
+    ∙ ap (λ b. record { all = (excuses (peer_room tested.role past) (in_flight (those (counts tested.role) (connection past))) (peer_bounds tested.role past)).all; retained = b }) (refused-kept tested.role e past)
     ∙ sym (ap (λ p. excuses p s.in_flight s.bounds) u.same_peer ∙ ap (λ n. excuses (peer_room tested.role past) n s.bounds) u.flying ∙ ap (excuses (peer_room tested.role past) (in_flight (those (counts tested.role) (connection past)))) u.bounds_are)
 
 -- ---- a REST that binds
@@ -88,17 +106,17 @@ S06-turns : (tested : Tested) (f : Fate) (e : Seen) (past : List Seen) (k : ℕ)
 unfolding turns_with
 S06-turns tested f e past k = ap (λ b. b && (is_binding tested.role (newest e past) && is_some_and (shows_S06 tested.role (newest e past)) (moment past k))) (binds-S06 tested.role tested.releases)
 
-shows-owes : (role : Role) (e : Seen) (past : List Seen) (m : Moment) → shows_S06 role (newest e past) m ≡ owes role (latest_fate role past) (is_used_up role (newest e past) || has_announced role (newest e past)) past m
-unfolding shows_S06
+shows-owes : (role : Role) (e : Seen) (past : List Seen) (m : Moment) → shows_S06 role (newest e past) m ≡ owes role (latest_fate role past) (excused_at role e past) past m
+unfolding shows_S06 excused_at
 shows-owes role e past m = refl
 
 -- what it shows
-shown-owes : (role : Role) (f : Fate) (x : Bool) (e : Seen) (past : List Seen) → latest_fate role past ≡ Some f → (is_used_up role (newest e past) || has_announced role (newest e past)) ≡ x
+shown-owes : (role : Role) (f : Fate) (x : Excused) (e : Seen) (past : List Seen) → latest_fate role past ≡ Some f → excused_at role e past ≡ x
     → (q : Option Moment) → is_some_and (shows_S06 role (newest e past)) q ≡ is_some_and (owes role (Some f) x past) q
 shown-owes role f x e past fate is None = refl
-shown-owes role f x e past fate is (Some m) = shows-owes role e past m ∙ ap (λ o. owes role o (is_used_up role (newest e past) || has_announced role (newest e past)) past m) fate ∙ ap (λ b. owes role (Some f) b past m) is
+shown-owes role f x e past fate is (Some m) = shows-owes role e past m ∙ ap (λ o. owes role o (excused_at role e past) past m) fate ∙ ap (λ b. owes role (Some f) b past m) is
 
-shown-nowhere : (role : Role) (f : Fate) (x : Bool) (past : List Seen) → resumes f ≡ false → (q : Option Moment) → is_some_and (owes role (Some f) x past) q ≡ false
+shown-nowhere : (role : Role) (f : Fate) (x : Excused) (past : List Seen) → resumes f ≡ false → (q : Option Moment) → is_some_and (owes role (Some f) x past) q ≡ false
 shown-nowhere role f x past h None = refl
 shown-nowhere role f x past h (Some m) = ap (λ b. b && is_some_and (λ i. core role f x past i m) (opener_of (note m))) h
 
@@ -111,7 +129,7 @@ resumed-accepts Resumed h = refl
 resumed-accepts Unasked h = refl
 resumed-accepts Unknown h = absurd (cc)
 
-due-blamed : (tested : Tested) (f : Fate) (at opened : ℕ) (x : Bool) (e : Seen) (past : List Seen) (entry : ℕ → Option Entry) (places : List Place3) → IsPlaced past → resumes f ≡ true → opened ≡ opened_at past
+due-blamed : (tested : Tested) (f : Fate) (at opened : ℕ) (x : Excused) (e : Seen) (past : List Seen) (entry : ℕ → Option Entry) (places : List Place3) → IsPlaced past → resumes f ≡ true → opened ≡ opened_at past
     → ((i : ℕ) → entry i ≡ entry_in i (session tested.role (Some f) past)) → ((k : ℕ) → turns_with tested f e past k S06 ≡ is_some_and (owes tested.role (Some f) x past) (moment past k))
     → ((k : ℕ) (p : Place3) → place_at k places ≡ Some p → IsDueAt k opened x entry p)
     → ((k i : ℕ) (o : Entry) → entry i ≡ Some o → is_due opened x o ≡ true → k ≡ o.place.position → is_some (place_at k places) ≡ true)
@@ -152,7 +170,7 @@ due-blamed tested f at opened x e past entry places placed resumed opened_is are
     go None h = ap (λ b. cond b (Some (reported tested.role (moment (e ∷ past) k) S06 at)) None) (sym (not_true shown (never h (moment past k) refl)))
     go (Some p) h = of_entry p (sound k p h)
 
-pub resends-gains : (tested : Tested) (s : Inflight) (f : Fate) (at : ℕ) (e : Seen) (past : List Seen) (m : FaultMap) (rests excused : Bool) → IsUnder tested f at e past → IsUsing s tested (fate_before tested f e past) past
+pub resends-gains : (tested : Tested) (s : Inflight) (f : Fate) (at : ℕ) (e : Seen) (past : List Seen) (m : FaultMap) (rests : Bool) (excused : Excused) → IsUnder tested f at e past → IsUsing s tested (fate_before tested f e past) past
     → rests ≡ settles f (at == e.place.position) s.ended e.note → excused ≡ excuses s.peer s.in_flight s.bounds
     → Gains (λ k r. same_rule r S06 && turns_with tested f e past k r) tested (e ∷ past) at m (told rests s.again excused s.opened at (values_of s.entries.entries) (get nat_eq s.entries) s.confirmed.keys m)
 resends-gains tested s f at e past m rests excused under u rest_is excused_is = go rests refl
@@ -169,7 +187,7 @@ resends-gains tested s f at e past m rests excused under u rest_is excused_is = 
     is : rests ≡ (resumes f && is_binding tested.role (newest e past))
     is = rest_is ∙ ap (λ b. resumes f && b) (sym binding)
 
-    x_is : (is_used_up tested.role (newest e past) || has_announced tested.role (newest e past)) ≡ excused
+    x_is : excused_at tested.role e past ≡ excused
     x_is = excuses-are tested s (fate_before tested f e past) e past u ∙ sym excused_is
 
     shown : is_binding tested.role (newest e past) ≡ true → (k : ℕ) → turns_with tested f e past k S06 ≡ is_some_and (owes tested.role (Some f) excused past) (moment past k)
@@ -186,46 +204,69 @@ resends-gains tested s f at e past m rests excused under u rest_is excused_is = 
     closed rest = subst (λ b. IsUsing s tested (cond b (latest_fate tested.role past) (Some f)) past) (rest-opens-nothing e.note rest) u
 
     -- by what is looked at, which has all that is due
-    from : resumes f ≡ true → is_binding tested.role (newest e past) ≡ true → IsUsing s tested (Some f) past → (x : Bool) → excused ≡ x → (places : List Place3)
-        → ((k : ℕ) (p : Place3) → place_at k places ≡ Some p → IsDueAt k s.opened x entry p)
-        → ((k i : ℕ) (o : Entry) → entry i ≡ Some o → is_due s.opened x o ≡ true → k ≡ o.place.position → is_some (place_at k places) ≡ true) → all (blamed S06 at places m)
-    from resumed b n x x_is places sound complete =
+    from : resumes f ≡ true → is_binding tested.role (newest e past) ≡ true → IsUsing s tested (Some f) past → (places : List Place3)
+        → ((k : ℕ) (p : Place3) → place_at k places ≡ Some p → IsDueAt k s.opened excused entry p)
+        → ((k i : ℕ) (o : Entry) → entry i ≡ Some o → is_due s.opened excused o ≡ true → k ≡ o.place.position → is_some (place_at k places) ≡ true) → all (blamed S06 at places m)
+    from resumed b n places sound complete =
         gains_blamed tested S06 f e past at places m
-        (due-blamed tested f at s.opened x e past entry places under.follows.placed.1 resumed n.opened_is n.entries_are (λ k. shown b k ∙ ap (λ y. is_some_and (owes tested.role (Some f) y past) (moment past k)) x_is) sound complete)
+        (due-blamed tested f at s.opened excused e past entry places under.follows.placed.1 resumed n.opened_is n.entries_are (shown b) sound complete)
 
-    nothing : (x : Bool) → ((i : ℕ) (o : Entry) → entry i ≡ Some o → is_due s.opened x o ≡ true → ⊥) → (k i : ℕ) (o : Entry) → entry i ≡ Some o → is_due s.opened x o ≡ true → k ≡ o.place.position → is_some (place_at k []) ≡ true
+    -- what is due by other excuses that come to the same
+    as_due : (x : Excused) → ((o : Entry) → is_due s.opened x o ≡ is_due s.opened excused o) → (k : ℕ) (p : Place3) → IsDueAt k s.opened x entry p → IsDueAt k s.opened excused entry p
+    as_due x same k p r = record {
+      identifier = r.identifier;
+      kept = r.kept;
+      is_kept = r.is_kept;
+      due = sym (same r.kept) ∙ r.due;
+      same_place = r.same_place;
+      here = r.here;
+    }
+
+    nothing : (x : Excused) → ((i : ℕ) (o : Entry) → entry i ≡ Some o → is_due s.opened x o ≡ true → ⊥) → (k i : ℕ) (o : Entry) → entry i ≡ Some o → is_due s.opened x o ≡ true → k ≡ o.place.position → is_some (place_at k []) ≡ true
     nothing x never k i o h due at = absurd (never i o h due)
 
-    absent : (x : Bool) (k : ℕ) (p : Place3) → place_at k [] ≡ Some p → IsDueAt k s.opened x entry p
+    absent : (x : Excused) (k : ℕ) (p : Place3) → place_at k [] ≡ Some p → IsDueAt k s.opened x entry p
     absent x k p h = absurd (cc)
 
-    by : resumes f ≡ true → is_binding tested.role (newest e past) ≡ true → IsUsing s tested (Some f) past → (x : Bool) → excused ≡ x → (a : Bool) → s.again.all ≡ a → (c : Bool) → s.again.confirmed ≡ c
-        → all (cond x (cond c m (blamed_under entry s.opened at s.confirmed.keys m)) (cond a m (blamed_due s.opened false at (values_of s.entries.entries) m)))
+    -- the quota or a bound excuses all that wasn't confirmed
+    whole : excused.all ≡ true → (o : Entry) → is_due s.opened excused o ≡ is_due s.opened entire o
+    whole all_is o = ap (λ b. nat_lt o.sent s.opened && (o.confirmed || not (b || (excused.retained && o.retained)))) all_is
+
+    -- or not, and then what is excused is so by itself
+    single : excused.all ≡ false → (o : Entry) → is_due s.opened excused o ≡ is_due s.opened (apart excused) o
+    single all_is o = ap (λ b. nat_lt o.sent s.opened && (o.confirmed || not (b || (excused.retained && o.retained)))) all_is
+
+    itself : apart excused ≡ by_itself s.bounds
+    itself = ap apart excused_is
+
+    by : resumes f ≡ true → is_binding tested.role (newest e past) ≡ true → IsUsing s tested (Some f) past → (x : Bool) → excused.all ≡ x → (a : Bool) → s.again.all ≡ a → (c : Bool) → s.again.confirmed ≡ c
+        → all (cond x (cond c m (blamed_under entry s.opened at s.confirmed.keys m)) (cond a m (blamed_due s.opened (apart excused) at (values_of s.entries.entries) m)))
     by resumed b n true x_is a a_is true c_is =
-        from resumed b n true x_is [] (absent true) (nothing true (λ i o h due.
-        let none : is_some_and (is_due s.opened true) (entry i) ≡ false = n.resent_are.confirmed_are c_is i in
-        let bad : true ≡ false = sym (ap (is_some_and (is_due s.opened true)) h ∙ due) ∙ none in
+        from resumed b n [] (absent excused) (nothing excused (λ i o h due.
+        let none : is_some_and (is_due s.opened entire) (entry i) ≡ false = n.resent_are.confirmed_are c_is i in
+        let bad : true ≡ false = sym (ap (is_some_and (is_due s.opened entire)) h ∙ sym (whole x_is o) ∙ due) ∙ none in
         absurd (cc)))
     by resumed b n true x_is a a_is false c_is =
         subst all (sym (blamed_under-is entry s.opened at s.confirmed.keys m))
-        (from resumed b n true x_is (places_under entry s.opened s.confirmed.keys) (λ k p h. under-due k s.opened entry s.confirmed.keys p h)
-        (λ k i o h due at_k. listed-due k i s.opened entry s.confirmed.keys o h due at_k (due-listed s.opened entry (contains nat_eq s.confirmed) s.again n.resent_are i o h due)))
+        (from resumed b n (places_under entry s.opened s.confirmed.keys) (λ k p h. as_due entire (λ o. sym (whole x_is o)) k p (under-due k s.opened entry s.confirmed.keys p h))
+        (λ k i o h due at_k. let due_too : is_due s.opened entire o ≡ true = sym (whole x_is o) ∙ due in
+        listed-due k i s.opened entry s.confirmed.keys o h due_too at_k (due-listed s.opened (by_itself s.bounds) entry (contains nat_eq s.confirmed) s.again n.resent_are i o h due_too)))
     by resumed b n false x_is true a_is c c_is =
-        from resumed b n false x_is [] (absent false) (nothing false (λ i o h due.
-        let none : is_some_and (λ (y : Entry). nat_lt y.sent s.opened) (entry i) ≡ false = n.resent_are.all_are a_is i in
-        let bad : true ≡ false = sym (ap (is_some_and (λ (y : Entry). nat_lt y.sent s.opened)) h ∙ (both_true (nat_lt o.sent s.opened) (o.confirmed || true) due).0) ∙ none in
+        from resumed b n [] (absent excused) (nothing excused (λ i o h due.
+        let none : is_some_and (is_due s.opened (by_itself s.bounds)) (entry i) ≡ false = n.resent_are.all_are a_is i in
+        let bad : true ≡ false = sym (ap (is_some_and (is_due s.opened (by_itself s.bounds))) h ∙ ap (λ y. is_due s.opened y o) (sym itself) ∙ sym (single x_is o) ∙ due) ∙ none in
         absurd (cc)))
     by resumed b n false x_is false a_is c c_is =
-        subst all (sym (blamed_due-is s.opened false at (values_of s.entries.entries) m))
-        (from resumed b n false x_is (due_places s.opened false (values_of s.entries.entries)) (λ k p h. value-due k s.opened false s.entries.entries p n.distinct h)
-        (λ k i o h due at_k. key-due k i s.opened false s.entries.entries o h due at_k))
+        subst all (sym (blamed_due-is s.opened (apart excused) at (values_of s.entries.entries) m))
+        (from resumed b n (due_places s.opened (apart excused) (values_of s.entries.entries)) (λ k p h. as_due (apart excused) (λ o. sym (single x_is o)) k p (value-due k s.opened (apart excused) s.entries.entries p n.distinct h))
+        (λ k i o h due at_k. key-due k i s.opened (apart excused) s.entries.entries o h (sym (single x_is o) ∙ due) at_k))
 
     go : (t : Bool) → rests ≡ t → all (told t s.again excused s.opened at (values_of s.entries.entries) entry s.confirmed.keys m)
     go false h = gains_none tested S06 f e past at m (none (is_binding tested.role (newest e past)) refl (resumes f) refl (sym is ∙ h))
     go true h =
         let parts = both_true (resumes f) (is_binding tested.role (newest e past)) (sym is ∙ h) in
         let n = closed (both_true (is_rest e.note) ((at == e.place.position) && (accepts f && not s.ended)) (sym binding ∙ parts.1)).0 in
-        by parts.0 parts.1 n excused refl s.again.all refl s.again.confirmed refl
+        by parts.0 parts.1 n excused.all refl s.again.all refl s.again.confirmed refl
 
 -- ---- the state, with one event more
 

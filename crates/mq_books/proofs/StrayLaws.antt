@@ -13,7 +13,7 @@ use Rattle.mq_rules.specs.Notes.{is_open, is_close, is_boundary, delivery_of, cl
 use Rattle.mq_rules.specs.Connections.{needs_connection, accepts, begins}
 use Rattle.mq_rules.proofs.Exports.{not_true, or_false}
 use Rattle.mq_books.specs.declared.inflight.entry.Entry.{Entry}
-use Rattle.mq_books.specs.Opened.{entry_after, entry_next, opened_if, closed_if, confirmed_if, released_if, sent_if, sends_exactly_once}
+use Rattle.mq_books.specs.Opened.{entry_after, entry_next, opened_if, closed_if, confirmed_if, released_if, sent_if, sends_exactly_once, sends_retained}
 use Rattle.mq_books.specs.Using.{in_delivery, stray_next, waits_next, ArePublished}
 use Rattle.mq_books.proofs.OpenedLaws.{opener-delivers}
 
@@ -49,40 +49,40 @@ apart (notes.Sent item) i h = refl
 apart (notes.Recv item) i h = absurd (cc)
 
 -- an entry after an event of its session, by what the event does to its identifier
-abbrev after : Bool → Bool → Bool → Bool → Bool → Bool → Place3 → Option Entry → Option Entry
-after o c p r d x place old = opened_if o x place (closed_if c (confirmed_if p (released_if r place.position (sent_if d place.position old))))
+abbrev after : Bool → Bool → Bool → Bool → Bool → Bool → Bool → Place3 → Option Entry → Option Entry
+after o c p r d x y place old = opened_if o x y place (closed_if c (confirmed_if p (released_if r place.position (sent_if d place.position old))))
 
-within-after : (o c p r d x : Bool) (place : Place3) (n : ℕ) (old : Option Entry) → place.position ≡ n + 1 → beyond n old ≡ false → beyond (n + 1) (after o c p r d x place old) ≡ false
-within-after true c p r d x place n old at h = grind (arith, nat_tests, at)
-within-after false true p r d x place n old at h = refl
-within-after false false p r d x place n None at h = refl
-within-after false false p r true x place n (Some e) at h = grind (arith, nat_tests, at)
-within-after false false p r false x place n (Some e) at h = grind (arith, nat_tests, h)
+within-after : (o c p r d x y : Bool) (place : Place3) (n : ℕ) (old : Option Entry) → place.position ≡ n + 1 → beyond n old ≡ false → beyond (n + 1) (after o c p r d x y place old) ≡ false
+within-after true c p r d x y place n old at h = grind (arith, nat_tests, at)
+within-after false true p r d x y place n old at h = refl
+within-after false false p r d x y place n None at h = refl
+within-after false false p r true x y place n (Some e) at h = grind (arith, nat_tests, at)
+within-after false false p r false x y place n (Some e) at h = grind (arith, nat_tests, h)
 
 -- it is in delivery afterwards: it was sent, or it was before and isn't acknowledged
-delivering-after : (o c p r d x s : Bool) (place : Place3) (opened : ℕ) (old : Option Entry) → (o ≡ true → d ≡ true) → (d ≡ true → c ≡ false) → nat_le opened place.position ≡ true
-    → (((d && not (true && is_some (after o c p r d x place old))) || (not c && s)) || since_open opened (after o c p r d x place old)) ≡ (d || (not c && (s || since_open opened old)))
-delivering-after true c p r true x true place opened old od dc le = ap (λ b. (not c && true) || b) le ∙ any-true (not c)
+delivering-after : (o c p r d x y s : Bool) (place : Place3) (opened : ℕ) (old : Option Entry) → (o ≡ true → d ≡ true) → (d ≡ true → c ≡ false) → nat_le opened place.position ≡ true
+    → (((d && not (true && is_some (after o c p r d x y place old))) || (not c && s)) || since_open opened (after o c p r d x y place old)) ≡ (d || (not c && (s || since_open opened old)))
+delivering-after true c p r true x y true place opened old od dc le = ap (λ b. (not c && true) || b) le ∙ any-true (not c)
   where
     any-true : (b : Bool) → ((b && true) || true) ≡ true
     any-true true = refl
     any-true false = refl
-delivering-after true c p r true x false place opened old od dc le = ap (λ b. (not c && false) || b) le ∙ any-true (not c)
+delivering-after true c p r true x y false place opened old od dc le = ap (λ b. (not c && false) || b) le ∙ any-true (not c)
   where
     any-true : (b : Bool) → ((b && false) || true) ≡ true
     any-true true = refl
     any-true false = refl
-delivering-after true c p r false x s place opened old od dc le = absurd (let bad : false ≡ true = od refl in cc)
-delivering-after false true p r true x s place opened old od dc le = absurd (let bad : true ≡ false = dc refl in cc)
-delivering-after false true p r false x s place opened old od dc le = refl
-delivering-after false false p r true x s place opened None od dc le = refl
-delivering-after false false p r false x s place opened None od dc le = refl
-delivering-after false false p r true x s place opened (Some e) od dc le = ap (λ b. s || b) le ∙ any-true s
+delivering-after true c p r false x y s place opened old od dc le = absurd (let bad : false ≡ true = od refl in cc)
+delivering-after false true p r true x y s place opened old od dc le = absurd (let bad : true ≡ false = dc refl in cc)
+delivering-after false true p r false x y s place opened old od dc le = refl
+delivering-after false false p r true x y s place opened None od dc le = refl
+delivering-after false false p r false x y s place opened None od dc le = refl
+delivering-after false false p r true x y s place opened (Some e) od dc le = ap (λ b. s || b) le ∙ any-true s
   where
     any-true : (b : Bool) → (b || true) ≡ true
     any-true true = refl
     any-true false = refl
-delivering-after false false p r false x s place opened (Some e) od dc le = refl
+delivering-after false false p r false x y s place opened (Some e) od dc le = refl
 
 -- ---- what is kept
 
@@ -104,7 +104,7 @@ delivering-next f g n place opened entry new stray listed past at le is same gro
     accepting true t closed grown kept =
         ap (λ b. b || since_open opened (new i)) kept
         ∙ ap (λ x. ((d && not (true && is_some x)) || (not c && stray i)) || since_open opened x) grown
-        ∙ delivering-after (is_id i (opener_of n)) c (is_id i (received_as accepting_pubrec_in n)) (is_id i (sent_as pubrel_in n)) d (sends_exactly_once n) (stray i) place opened (entry i)
+        ∙ delivering-after (is_id i (opener_of n)) c (is_id i (received_as accepting_pubrec_in n)) (is_id i (sent_as pubrel_in n)) d (sends_exactly_once n) (sends_retained n) (stray i) place opened (entry i)
         (opener-delivers i n) (apart n i) (grind (arith, nat_tests, le))
     accepting false t closed grown kept =
         let none : since_open opened (entry i) ≡ false = is.accepted (ap accepts (same closed) ∙ t) i in
@@ -167,7 +167,7 @@ published-next f g e opened entry new past at is same grown = record {
         begun true = refl
         begun false = later (length past) (entry i) (is.within i)
     all i false true =
-        within-after (is_id i (opener_of n)) (is_id i (closer_of n)) (is_id i (received_as accepting_pubrec_in n)) (is_id i (sent_as pubrel_in n)) (is_id i (delivery_of n)) (sends_exactly_once n) e.place (length past) (entry i) at (is.within i)
+        within-after (is_id i (opener_of n)) (is_id i (closer_of n)) (is_id i (received_as accepting_pubrec_in n)) (is_id i (sent_as pubrel_in n)) (is_id i (delivery_of n)) (sends_exactly_once n) (sends_retained n) e.place (length past) (entry i) at (is.within i)
     all i false false = later (length past) (entry i) (is.within i)
 
     go : (b : Bool) → is_open n ≡ b → accepts f ≡ false → (i : ℕ) → new i ≡ cond b (cond (begins (Some f)) None (entry i)) (cond (accepts f) (entry_after i n e.place (entry i)) (entry i))
@@ -188,6 +188,6 @@ stray-stays f n entry i old a b c =
     ∙ ap (λ o. (is_id i o && not (accepts f && is_some (entry i))) || (not (is_id i (closer_of n)) && old)) b
     ∙ ap (λ o. not (is_id i o) && old) c
 
-pub kept-anew : (b x : Bool) (place : Place3) (rest : Option Entry) → (b && not (true && is_some (opened_if b x place rest))) ≡ false
-kept-anew true x place rest = refl
-kept-anew false x place rest = refl
+pub kept-anew : (b x y : Bool) (place : Place3) (rest : Option Entry) → (b && not (true && is_some (opened_if b x y place rest))) ≡ false
+kept-anew true x y place rest = refl
+kept-anew false x y place rest = refl

@@ -25,7 +25,7 @@ use Rattle.mq_books.specs.declared.inflight.Inflight.{Inflight}
 use Rattle.mq_books.specs.declared.inflight.broken.Broken.{Broken}
 use Rattle.mq_books.specs.declared.inflight.entry.Entry.{Entry}
 use Rattle.mq_books.specs.Concerns.{moves_identifiers, concerns_flight}
-use Rattle.mq_books.specs.Opened.{entry_after, entry_next, opened_if, closed_if, confirmed_if, released_if, sent_if, sends_exactly_once}
+use Rattle.mq_books.specs.Opened.{entry_after, entry_next, opened_if, closed_if, confirmed_if, released_if, sent_if, sends_exactly_once, sends_retained}
 use Rattle.mq_books.specs.Pingings.{ends_by}
 use Rattle.mq_books.specs.Quotas.{announced, may_count, flown}
 use Rattle.mq_books.specs.Resending.{bounds_by, excuses, settles}
@@ -95,9 +95,9 @@ quiet tested n h =
 
 -- ---- what is kept stays
 
-same-entry : (i at : ℕ) (x : Bool) (place : Place3) (old : Option Entry) → opened_if (is_id i None) x place (closed_if (is_id i None) (confirmed_if (is_id i None) (released_if (is_id i None) at (sent_if (is_id i None) at old)))) ≡ old
-same-entry i at x place None = refl
-same-entry i at x place (Some o) = refl
+same-entry : (i at : ℕ) (x y : Bool) (place : Place3) (old : Option Entry) → opened_if (is_id i None) x y place (closed_if (is_id i None) (confirmed_if (is_id i None) (released_if (is_id i None) at (sent_if (is_id i None) at old)))) ≡ old
+same-entry i at x y place None = refl
+same-entry i at x y place (Some o) = refl
 
 entry-stays : (tested : Tested) (f : Fate) (n : Note) (place : Place3) (i : ℕ) (old : Option Entry) → Quiet tested n → entry_next f n place i old ≡ old
 entry-stays tested f n place i old q =
@@ -107,12 +107,12 @@ entry-stays tested f n place i old q =
   where
     same : entry_after i n place old ≡ old
     same =
-        ap (λ o. opened_if (is_id i o) (sends_exactly_once n) place (closed_if (is_id i (closer_of n)) (confirmed_if (is_id i (received_as accepting_pubrec_in n)) (released_if (is_id i (sent_as pubrel_in n)) place.position (sent_if (is_id i (delivery_of n)) place.position old))))) q.opener
-        ∙ ap (λ o. opened_if (is_id i None) (sends_exactly_once n) place (closed_if (is_id i o) (confirmed_if (is_id i (received_as accepting_pubrec_in n)) (released_if (is_id i (sent_as pubrel_in n)) place.position (sent_if (is_id i (delivery_of n)) place.position old))))) q.closer
-        ∙ ap (λ o. opened_if (is_id i None) (sends_exactly_once n) place (closed_if (is_id i None) (confirmed_if (is_id i o) (released_if (is_id i (sent_as pubrel_in n)) place.position (sent_if (is_id i (delivery_of n)) place.position old))))) q.pubrec
-        ∙ ap (λ o. opened_if (is_id i None) (sends_exactly_once n) place (closed_if (is_id i None) (confirmed_if (is_id i None) (released_if (is_id i o) place.position (sent_if (is_id i (delivery_of n)) place.position old))))) q.pubrel
-        ∙ ap (λ o. opened_if (is_id i None) (sends_exactly_once n) place (closed_if (is_id i None) (confirmed_if (is_id i None) (released_if (is_id i None) place.position (sent_if (is_id i o) place.position old))))) q.delivery
-        ∙ same-entry i place.position (sends_exactly_once n) place old
+        ap (λ o. opened_if (is_id i o) (sends_exactly_once n) (sends_retained n) place (closed_if (is_id i (closer_of n)) (confirmed_if (is_id i (received_as accepting_pubrec_in n)) (released_if (is_id i (sent_as pubrel_in n)) place.position (sent_if (is_id i (delivery_of n)) place.position old))))) q.opener
+        ∙ ap (λ o. opened_if (is_id i None) (sends_exactly_once n) (sends_retained n) place (closed_if (is_id i o) (confirmed_if (is_id i (received_as accepting_pubrec_in n)) (released_if (is_id i (sent_as pubrel_in n)) place.position (sent_if (is_id i (delivery_of n)) place.position old))))) q.closer
+        ∙ ap (λ o. opened_if (is_id i None) (sends_exactly_once n) (sends_retained n) place (closed_if (is_id i None) (confirmed_if (is_id i o) (released_if (is_id i (sent_as pubrel_in n)) place.position (sent_if (is_id i (delivery_of n)) place.position old))))) q.pubrec
+        ∙ ap (λ o. opened_if (is_id i None) (sends_exactly_once n) (sends_retained n) place (closed_if (is_id i None) (confirmed_if (is_id i None) (released_if (is_id i o) place.position (sent_if (is_id i (delivery_of n)) place.position old))))) q.pubrel
+        ∙ ap (λ o. opened_if (is_id i None) (sends_exactly_once n) (sends_retained n) place (closed_if (is_id i None) (confirmed_if (is_id i None) (released_if (is_id i None) place.position (sent_if (is_id i o) place.position old))))) q.delivery
+        ∙ same-entry i place.position (sends_exactly_once n) (sends_retained n) place old
 
 pub wait-stays : (starts ends : Option ℕ) (boundary : Bool) (i : ℕ) (old : Bool) → starts ≡ None → ends ≡ None → boundary ≡ false → waits_next starts ends boundary i old ≡ old
 wait-stays starts ends boundary i old a b c = ap (λ o. waits_next o ends boundary i old) a ∙ ap (λ o. waits_next None o boundary i old) b ∙ ap (λ t. waits_next None None t i old) c

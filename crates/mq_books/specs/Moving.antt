@@ -16,13 +16,13 @@ use Rattle.mq_rules.specs.Under.{seen, turns_known}
 use Rattle.mq_rules.specs.Growing.{Gains, GainsWithin}
 use Rattle.mq_books.specs.declared.inflight.Inflight.{Inflight}
 use Rattle.mq_books.specs.declared.inflight.entry.Entry.{Entry}
-use Rattle.mq_books.specs.Opened.{sends_exactly_once, opened_if, closed_if, confirmed_if, released_if}
+use Rattle.mq_books.specs.Opened.{sends_exactly_once, sends_retained, opened_if, closed_if, confirmed_if, released_if}
 use Rattle.mq_books.specs.Pingings.{ends_by}
 use Rattle.mq_books.specs.Quotas.{announced, may_count}
 use Rattle.mq_books.specs.Resending.{bounds_by}
 use Rattle.mq_books.specs.Using.{is_inflight, IsUsing}
 
--- All that an event does to identifiers: it opens the first, with QoS 2 or not; sets the second free; sends a PUBREL under the third; and receives a PUBREC below 0x80 under
+-- All that an event does to identifiers: it opens the first, with QoS 2 or not, and with RETAIN 0; sets the second free; sends a PUBREL under the third; and receives a PUBREC below 0x80 under
 -- the last.
 pub record Moves (n : Note) (opener : Option ℕ) (exactly_once : Bool) (closer pubrel pubrec : Option ℕ) : Type 0 where
   pub closed : is_open n ≡ false
@@ -32,6 +32,7 @@ pub record Moves (n : Note) (opener : Option ℕ) (exactly_once : Bool) (closer 
   pub delivers : delivery_of n ≡ opener
   pub opens : opener_of n ≡ opener
   pub quality : is_some opener ≡ true → sends_exactly_once n ≡ exactly_once
+  pub plain : sends_retained n ≡ false
   pub closes : closer_of n ≡ closer
   pub releases : sent_as pubrel_in n ≡ pubrel
   pub confirms : received_as accepting_pubrec_in n ≡ pubrec
@@ -71,11 +72,11 @@ pub record IsMoved (place : Place3) (opener : Option ℕ) (exactly_once : Bool) 
   pub others : KeepsOthers old new
   pub distinct : IsUnique nat_eq old.entries → IsUnique nat_eq new.entries
   pub entries : (i : ℕ) → get nat_eq new.entries i
-      ≡ opened_if (is_id i opener) exactly_once place (closed_if (is_id i closer) (confirmed_if (is_id i pubrec) (released_if (is_id i pubrel) place.position (get nat_eq old.entries i))))
+      ≡ opened_if (is_id i opener) exactly_once false place (closed_if (is_id i closer) (confirmed_if (is_id i pubrec) (released_if (is_id i pubrel) place.position (get nat_eq old.entries i))))
   pub confirmed : (i : ℕ) → contains nat_eq new.confirmed i ≡ (not (is_id i closer) && (contains nat_eq old.confirmed i || (is_id i pubrec && is_some (get nat_eq old.entries i))))
   pub stray : (i : ℕ) → contains nat_eq new.stray i ≡ (not (is_id i closer) && contains nat_eq old.stray i)
   pub flying : old.in_flight < place.position → new.in_flight ≡ moved (may_count old.role old.peer) opener closer old.in_flight
-  pub again : new.again ≡ record { all = old.again.all; confirmed = old.again.confirmed && not (untouched old.opened (get nat_eq old.entries) pubrec) }
+  pub again : new.again ≡ record { all = old.again.all && not (untouched old.opened (get nat_eq old.entries) pubrec); confirmed = old.again.confirmed && not (untouched old.opened (get nat_eq old.entries) pubrec) }
 
 -- The law of a step, with an event that has this note and after which the faults are these.
 pub record IsStep (at : Place3) (n : Note) (new : Inflight) (tested : Tested) (past : List Seen) (before after : FaultMap) : Type 0 where

@@ -11,29 +11,32 @@ use Rattle.mq_rules.specs.Folds.{folded}
 use Rattle.mq_rules.specs.Identifiers.{opens_id, closes_id, delivers, sends_pubrel}
 use Rattle.mq_books.specs.declared.inflight.entry.Entry.{Entry}
 
--- an identifier that is opened at this place
-abbrev pub opened_by : Bool → Place3 → Entry
-opened_by exactly_once place = record { place = place; exactly_once = exactly_once; confirmed = false; released = false; sent = place.position; published = place.position }
+-- an identifier that is opened at this place, by a PUBLISH of QoS 2 or not, with RETAIN 1 or not
+abbrev pub opened_by : Bool → Bool → Place3 → Entry
+opened_by exactly_once retained place = record { place = place; exactly_once = exactly_once; retained = retained; confirmed = false; released = false; sent = place.position; published = place.position }
 
 -- what is kept of an identifier, if a PUBLISH of it is sent; if a PUBREL is; if a PUBREC below 0x80 is received; if it is set free; if it is opened
 abbrev pub sent_if : Bool → ℕ → Option Entry → Option Entry
-sent_if b at old = option_map (λ o. record { place = o.place; exactly_once = o.exactly_once; confirmed = o.confirmed; released = o.released; sent = cond b at o.sent; published = cond b at o.published }) old
+sent_if b at old = option_map (λ o. record { place = o.place; exactly_once = o.exactly_once; retained = o.retained; confirmed = o.confirmed; released = o.released; sent = cond b at o.sent; published = cond b at o.published }) old
 
 abbrev pub released_if : Bool → ℕ → Option Entry → Option Entry
-released_if b at old = option_map (λ o. record { place = o.place; exactly_once = o.exactly_once; confirmed = o.confirmed; released = b || o.released; sent = cond b at o.sent; published = o.published }) old
+released_if b at old = option_map (λ o. record { place = o.place; exactly_once = o.exactly_once; retained = o.retained; confirmed = o.confirmed; released = b || o.released; sent = cond b at o.sent; published = o.published }) old
 
 abbrev pub confirmed_if : Bool → Option Entry → Option Entry
-confirmed_if b old = option_map (λ o. record { place = o.place; exactly_once = o.exactly_once; confirmed = b || o.confirmed; released = o.released; sent = o.sent; published = o.published }) old
+confirmed_if b old = option_map (λ o. record { place = o.place; exactly_once = o.exactly_once; retained = o.retained; confirmed = b || o.confirmed; released = o.released; sent = o.sent; published = o.published }) old
 
 abbrev pub closed_if : Bool → Option Entry → Option Entry
 closed_if b old = cond b None old
 
-abbrev pub opened_if : Bool → Bool → Place3 → Option Entry → Option Entry
-opened_if b exactly_once place old = cond b (Some (opened_by exactly_once place)) old
+abbrev pub opened_if : Bool → Bool → Bool → Place3 → Option Entry → Option Entry
+opened_if b exactly_once retained place old = cond b (Some (opened_by exactly_once retained place)) old
 
--- the event sends a PUBLISH of QoS 2
+-- the event sends a PUBLISH of QoS 2; one with RETAIN 1 and a QoS above 0
 abbrev pub sends_exactly_once : Note → Bool
 sends_exactly_once n = is_some_and (λ p. is_exactly_once p.qos) (sent_publish n)
+
+abbrev pub sends_retained : Note → Bool
+sends_retained n = is_some_and (λ p. p.retain) (sent_publish n)
 
 -- the moment sends a PUBLISH or a PUBREL under the identifier; receives a PUBREC below 0x80 under it; opens it or sets it free
 abbrev pub sends_again : ℕ → Moment → Bool
@@ -48,7 +51,7 @@ moves i m = opens_id i m || closes_id i m
 -- what is kept of an identifier after an event of its session
 abbrev pub entry_after : ℕ → Note → Place3 → Option Entry → Option Entry
 entry_after i n place old =
-    opened_if (is_id i (opener_of n)) (sends_exactly_once n) place (closed_if (is_id i (closer_of n))
+    opened_if (is_id i (opener_of n)) (sends_exactly_once n) (sends_retained n) place (closed_if (is_id i (closer_of n))
     (confirmed_if (is_id i (received_as accepting_pubrec_in n)) (released_if (is_id i (sent_as pubrel_in n)) place.position (sent_if (is_id i (delivery_of n)) place.position old))))
 
 -- what is kept of an identifier after these moments of a session: nothing, if it isn't open

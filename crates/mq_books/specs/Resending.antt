@@ -16,6 +16,8 @@ use Rattle.mq_rules.specs.Connections.{connection, first_connect, first_connack,
 use Rattle.mq_rules.specs.FaultKeys.{FaultMap, with_fault}
 use Rattle.mq_books.specs.declared.inflight.entry.Entry.{Entry}
 use Rattle.mq_books.specs.declared.inflight.resends.Resent.{Resent}
+use Rattle.mq_books.specs.declared.inflight.resends.Bounds.{Bounds}
+use Rattle.mq_books.specs.declared.inflight.resends.Excused.{Excused}
 use Rattle.mq_books.specs.Owings.{binds_by}
 
 -- the position of the OPEN of the latest connection, or 0
@@ -23,59 +25,74 @@ abbrev pub opened_at : List Seen → ℕ
 opened_at [] = 0
 opened_at (e ∷ past) = cond (is_open e.note) (length past + 1) (opened_at past)
 
--- whether a peer's CONNECT or CONNACK announces a Maximum Packet Size or a Maximum QoS
-abbrev pub connect_bounds : Option ConnectNote → Option Bool
-connect_bounds o = option_map (λ c. is_some c.maximum_packet_size) o
+-- what a peer's CONNECT or CONNACK announces of what may be sent: whether there is a Maximum Packet Size or a Maximum QoS, and whether nothing may be retained
+abbrev pub connect_bounds : Option ConnectNote → Option Bounds
+connect_bounds o = option_map (λ c. record { limits = is_some c.maximum_packet_size; refuses_retained = false }) o
 
-abbrev pub connack_bounds : Option ConnackNote → Option Bool
-connack_bounds o = option_map (λ a. is_some a.maximum_packet_size || is_some a.maximum_qos) o
+abbrev pub connack_bounds : Option ConnackNote → Option Bounds
+connack_bounds o = option_map (λ a. record { limits = is_some a.maximum_packet_size || is_some a.maximum_qos; refuses_retained = is_id 0 a.retain_available }) o
 
-abbrev pub bounds_by : Role → Note → Option Bool
+abbrev pub bounds_by : Role → Note → Option Bounds
 bounds_by Client n = connack_bounds (connack_of Client n)
 bounds_by Server n = connect_bounds (connect_of Server n)
 
--- whether the peer has announced one on the latest connection
-abbrev pub peer_bounds : Role → List Seen → Option Bool
+-- what the peer has announced on the latest connection
+abbrev pub peer_bounds : Role → List Seen → Option Bounds
 peer_bounds Client past = connack_bounds (first_connack Client (connection past))
 peer_bounds Server past = connect_bounds (first_connect Server (connection past))
 
-abbrev pub bounds_next : Role → Note → Option Bool → Option Bool
+abbrev pub bounds_next : Role → Note → Option Bounds → Option Bounds
 bounds_next role n old = option_or (cond (is_open n) None old) (bounds_by role n)
 
--- what wasn't confirmed is excused: the send quota is used up, or the peer announced a bound
-abbrev pub excuses : Option ℕ → ℕ → Option Bool → Bool
-excuses peer flying bounds = nat_le (unwrap_or peer 65535) flying || is_some_and (λ b. b) bounds
+-- What is excused of what wasn't confirmed, whatever the quota: what is retained, if nothing may be.
+abbrev pub by_itself : Option Bounds → Excused
+by_itself bounds = record { all = false; retained = is_some_and (λ b. b.refuses_retained) bounds }
+
+-- What is excused of what wasn't confirmed: all of it, if the send quota is used up or the peer announced a bound; and what is by itself.
+abbrev pub excuses : Option ℕ → ℕ → Option Bounds → Excused
+excuses peer flying bounds = record { all = nat_le (unwrap_or peer 65535) flying || is_some_and (λ b. b.limits) bounds; retained = (by_itself bounds).retained }
+
+-- the same without what the quota or a bound excuses; with all of it
+abbrev pub apart : Excused → Excused
+apart excused = record { all = false; retained = excused.retained }
+
+abbrev pub entire : Excused
+entire = record { all = true; retained = true }
+
+-- what wasn't confirmed is excused
+abbrev pub covers : Excused → Entry → Bool
+covers excused o = excused.all || (excused.retained && o.retained)
 
 -- an identifier that is open wasn't sent again since this OPEN, and isn't excused
-abbrev pub is_due : ℕ → Bool → Entry → Bool
-is_due opened excused o = nat_lt o.sent opened && (o.confirmed || not excused)
+abbrev pub is_due : ℕ → Excused → Entry → Bool
+is_due opened excused o = nat_lt o.sent opened && (o.confirmed || not (covers excused o))
 
 -- the places of those that are due
-abbrev pub due_places : ℕ → Bool → List Entry → List Place3
+abbrev pub due_places : ℕ → Excused → List Entry → List Place3
 due_places opened excused [] = []
 due_places opened excused (o ∷ os) = cond (is_due opened excused o) (o.place ∷ due_places opened excused os) (due_places opened excused os)
 
 -- the faults with that of an identifier, if it is due, decided at this position; the same for several
-abbrev pub due_next : ℕ → Bool → ℕ → Entry → FaultMap → FaultMap
+abbrev pub due_next : ℕ → Excused → ℕ → Entry → FaultMap → FaultMap
 due_next opened excused at o faults = cond (is_due opened excused o) (with_fault (record { position = o.place.position; rule = S06 }) (record { decided = at; record_no = o.place.record_no; offset = None }) faults) faults
 
-abbrev pub blamed_due : ℕ → Bool → ℕ → List Entry → FaultMap → FaultMap
+abbrev pub blamed_due : ℕ → Excused → ℕ → List Entry → FaultMap → FaultMap
 blamed_due opened excused at [] faults = faults
 blamed_due opened excused at (o ∷ os) faults = blamed_due opened excused at os (due_next opened excused at o faults)
 
 -- the same of what is kept of an identifier, excused or not; of several identifiers
 abbrev pub told_under : Option Entry → ℕ → ℕ → FaultMap → FaultMap
 told_under None opened at faults = faults
-told_under (Some o) opened at faults = due_next opened true at o faults
+told_under (Some o) opened at faults = due_next opened entire at o faults
 
 abbrev pub blamed_under : (ℕ → Option Entry) → ℕ → ℕ → List ℕ → FaultMap → FaultMap
 blamed_under entry opened at [] faults = faults
 blamed_under entry opened at (i ∷ is) faults = blamed_under entry opened at is (told_under (entry i) opened at faults)
 
--- the faults after a REST, if it binds: of what is known to have been sent again nothing is looked at, and where what isn't confirmed is excused, only what is
-abbrev pub told : Bool → Resent → Bool → ℕ → ℕ → List Entry → (ℕ → Option Entry) → List ℕ → FaultMap → FaultMap
+-- the faults after a REST, if it binds: where nothing is known to be due nothing is looked at, and where all that isn't confirmed is excused, only what is
+abbrev pub told : Bool → Resent → Excused → ℕ → ℕ → List Entry → (ℕ → Option Entry) → List ℕ → FaultMap → FaultMap
 told rests r excused opened at entries entry confirmed faults =
-    cond rests (cond excused (cond r.confirmed faults (blamed_under entry opened at confirmed faults)) (cond r.all faults (blamed_due opened false at entries faults))) faults
+    cond rests (cond excused.all (cond r.confirmed faults (blamed_under entry opened at confirmed faults)) (cond r.all faults (blamed_due opened (apart excused) at entries faults))) faults
 
 -- a PUBREC below 0x80 is received for an identifier that is open and wasn't sent again since this OPEN
 abbrev pub confirms_untouched : Note → ℕ → (ℕ → Option Entry) → Bool
@@ -85,12 +102,12 @@ confirms_untouched n opened entry = is_some_and (λ i. is_some_and (λ o. nat_lt
 abbrev pub confirmed_next : Fate → Note → (ℕ → Option Entry) → ℕ → Bool → Bool
 confirmed_next f n entry i old = cond (is_open n) (cond (begins (Some f)) false old) (cond (accepts f) (not (is_id i (closer_of n)) && (old || (is_id i (received_as accepting_pubrec_in n) && is_some (entry i)))) old)
 
--- The listed identifiers are open, and all that are confirmed are listed. What is known to have been sent again since this OPEN was.
-pub record IsResent (opened : ℕ) (entry : ℕ → Option Entry) (confirmed : ℕ → Bool) (r : Resent) : Type 0 where
+-- The listed identifiers are open, and all that are confirmed are listed. What is known not to be due since this OPEN isn't, where this is excused by itself.
+pub record IsResent (opened : ℕ) (single : Excused) (entry : ℕ → Option Entry) (confirmed : ℕ → Bool) (r : Resent) : Type 0 where
   pub listed : (i : ℕ) → is_some_and (λ o. o.confirmed) (entry i) ≡ true → confirmed i ≡ true
   pub opened_are : (i : ℕ) → confirmed i ≡ true → is_some (entry i) ≡ true
-  pub all_are : r.all ≡ true → (i : ℕ) → is_some_and (λ o. nat_lt o.sent opened) (entry i) ≡ false
-  pub confirmed_are : r.confirmed ≡ true → (i : ℕ) → is_some_and (is_due opened true) (entry i) ≡ false
+  pub all_are : r.all ≡ true → (i : ℕ) → is_some_and (is_due opened single) (entry i) ≡ false
+  pub confirmed_are : r.confirmed ≡ true → (i : ℕ) → is_some_and (is_due opened entire) (entry i) ≡ false
 
 -- this is a REST that binds, on a resumed connection
 abbrev pub settles : Fate → Bool → Bool → Note → Bool

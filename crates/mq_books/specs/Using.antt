@@ -23,7 +23,7 @@ use Rattle.mq_books.specs.declared.inflight.broken.Broken.{Broken}
 use Rattle.mq_books.specs.declared.inflight.entry.Entry.{Entry}
 use Rattle.mq_books.specs.Quotas.{judged_by, peer_room}
 use Rattle.mq_books.specs.Opened.{entry_in}
-use Rattle.mq_books.specs.Resending.{opened_at, peer_bounds, IsResent}
+use Rattle.mq_books.specs.Resending.{opened_at, peer_bounds, by_itself, IsResent}
 
 -- on the connection that is open, something was begun under i by the first, and not ended by the second since
 abbrev pub waits : (Note → Option ℕ) → (Note → Option ℕ) → ℕ → List Seen → Bool
@@ -134,4 +134,4 @@ pub record IsUsing (s : Inflight) (tested : Tested) (taken : Option Fate) (past 
   pub same_peer : s.peer ≡ peer_room tested.role past
   pub flying : s.in_flight ≡ in_flight (those (counts tested.role) (connection past))
   pub bounds_are : s.bounds ≡ peer_bounds tested.role past
-  pub resent_are : IsResent s.opened (get nat_eq s.entries) (contains nat_eq s.confirmed) s.again
+  pub resent_are : IsResent s.opened (by_itself s.bounds) (get nat_eq s.entries) (contains nat_eq s.confirmed) s.again

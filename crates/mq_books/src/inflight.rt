@@ -11,7 +11,7 @@ ghost use Rattle.mq_books.specs.Burden.{open_ids, delivering_ids, void_ids, subs
 ghost use Rattle.mq_books.specs.Pingings.{ends_by};
 ghost use Rattle.mq_books.specs.Quotas.{announced, may_count as counts_now, flown as flown_by};
 ghost use Rattle.mq_books.specs.Opened.{entry_next};
-ghost use Rattle.mq_books.specs.Resending.{bounds_next, IsResent};
+ghost use Rattle.mq_books.specs.Resending.{bounds_next, by_itself, IsResent};
 ghost use Rattle.mq_rules.specs.Connections.{accepts};
 ghost use Rattle.mq_rules.specs.Words.{is_id};
 ghost use Rattle.mq_books.specs.Using.{IsUsing, breaks, is_inflight, waits_next, stray_next, void_next, resent_next};
@@ -42,7 +42,9 @@ use mq_rules::{
     Bare, BareFields, Fate, Faults, ItemNote, Memory, Note, PacketFields, Role, Rule, Tested, Watch,
 };
 use mq_trace::{Direction, Place3};
-use resends::{Resent, bounds_after, is_excused, resent_still, rests_now, settle, take_confirmed};
+use resends::{
+    Bounds, Resent, bounds_after, excused_now, resent_still, rests_now, settle, take_confirmed,
+};
 use std::alloc::Global;
 
 /// Watches S01 to S06.
@@ -57,7 +59,7 @@ pub struct Inflight {
     entries: IndexMap<u16, Entry>,
     /// Those of them for which a PUBREC below 0x80 came.
     confirmed: IndexSet<u16>,
-    /// What is known to have been sent again on the connection.
+    /// What is known not to be due on the connection.
     again: Resent,
     /// Those of PUBLISH packets that were sent on the connection that is open, and not acknowledged
     /// there since, but for those whose PUBLISH is in its entry.
@@ -78,8 +80,8 @@ pub struct Inflight {
     peer: Option<u16>,
     /// How many PUBLISH packets are in flight on the connection.
     in_flight: u64,
-    /// Whether the peer announced a Maximum Packet Size or a Maximum QoS.
-    bounds: Option<bool>,
+    /// What the peer announced of what may be sent.
+    bounds: Option<Bounds>,
 }
 
 // Puts in what is begun, after what is ended is out. An OPEN and a CLOSE end all.
@@ -287,7 +289,7 @@ impl Inflight {
         ensures peer { OnOk result (self.new.peer ≡ option_or (cond (opens note.now) None self.old.peer) (announced self.old.role note.now)) }
         ensures flying { self.old.in_flight < at.position → OnOk result (self.new.in_flight ≡ flown_by (counts_now self.old.role self.old.peer) note.now self.old.in_flight) }
         ensures bounds { OnOk result (self.new.bounds ≡ bounds_next self.old.role note.now self.old.bounds) }
-        ensures again { self.old.opened ≤ at.position → IsResent self.old.opened (get nat_eq self.old.entries) (contains nat_eq self.old.confirmed) self.old.again → OnOk result (IsResent self.new.opened (get nat_eq self.new.entries) (contains nat_eq self.new.confirmed) self.new.again) }
+        ensures again { self.old.opened ≤ at.position → IsResent self.old.opened (by_itself self.old.bounds) (get nat_eq self.old.entries) (contains nat_eq self.old.confirmed) self.old.again → OnOk result (IsResent self.new.opened (by_itself self.new.bounds) (get nat_eq self.new.entries) (contains nat_eq self.new.confirmed) self.new.again) }
     {
         let alloc = self.alloc;
         self.again = resent_still(self.again, &self.entries, self.opened, note);
@@ -339,7 +341,7 @@ impl Fated for Inflight {
         let broken = self.broken_by(fate, decided == at.position, note);
         judge_all(&broken, at, decided, faults)?;
         let rests = rests_now(fate, decided == at.position, self.ended, note);
-        let excused = is_excused(self.peer, self.in_flight, self.bounds);
+        let excused = excused_now(self.peer, self.in_flight, self.bounds);
         self.again = settle(
             rests,
             self.again,

@@ -16,7 +16,7 @@ use Rattle.mq_rules.specs.declared.packet_note.PublishNote.{PublishNote}
 use Rattle.mq_rules.specs.Moments.{Moment, newest, position, note, moments, moment, is_same, some, since, IsPlaced}
 use Rattle.mq_rules.specs.Connections.{begun, number, connection, session, has_session, begins, accepted, resumed, voided, any_accepted, latest_fate, accepts, resumes, with_first}
 use Rattle.mq_rules.specs.declared.fate.Fate.TheVariants.{Void, Adrift, New, Forgotten, Resumed, Unasked, Unknown}
-use Rattle.mq_rules.specs.Identifiers.{opens_id, closes_id, is_used_up, has_announced, shows_S06}
+use Rattle.mq_rules.specs.Identifiers.{opens_id, closes_id, is_used_up, has_announced, refuses_retained, is_retained, shows_S06}
 use Rattle.mq_rules.proofs.Exports.{and_false, or_false, moment-newest, moment-older, moment-beginning, moment-placed, among-moment, those-among, some-among, among-some}
 use Rattle.mq_plain.specs.Owing.{moves, confirms, sends_under, is_owed, owes}
 use Rattle.mq_plain.specs.Shown.{IsShown}
@@ -52,9 +52,9 @@ opener-release i (notes.Recv item) h = refl
 -- ---- what is owed
 
 -- whether the opener of the newest event is
-owed-newest : (role : Role) (lenient : Bool) (again : ℕ → Bool) (whole : List Moment) (f : Option Fate) (e : Seen) (past : List Seen) (moved confirmed : ℕ → Bool) (is_in : Bool)
+owed-newest : (role : Role) (lenient : Moment → Bool) (again : ℕ → Bool) (whole : List Moment) (f : Option Fate) (e : Seen) (past : List Seen) (moved confirmed : ℕ → Bool) (is_in : Bool)
     → IsMarked moves role whole f (e ∷ past) moved → IsMarked confirms role whole f (e ∷ past) confirmed → is_in ≡ accepted f
-    → owes lenient again whole (newest e past) ≡ is_owed lenient again moved confirmed (only is_in (opener_of e.note))
+    → owes lenient again whole (newest e past) ≡ is_owed (lenient (newest e past)) again moved confirmed (only is_in (opener_of e.note))
 owed-newest role lenient again whole f e past moved confirmed is_in moves_so confirms_so inside = go (opener_of e.note) refl ∙ inside_only is_in (opener_of e.note)
   where
     there : (i : ℕ) → opener_of e.note ≡ Some i → has_session role f e past ≡ is_in
@@ -66,7 +66,7 @@ owed-newest role lenient again whole f e past moved confirmed is_in moves_so con
         let le : position (newest e past) ≤ length (e ∷ past) = omega arith in
         so.each i (newest e past) le ∙ ap (λ b. not (marked i) && b) (since-newest role f e past (λ m. test i (note m)) ∙ there i is)
 
-    inside_only : (b : Bool) (o : Option ℕ) → (b && is_owed lenient again moved confirmed o) ≡ is_owed lenient again moved confirmed (only b o)
+    inside_only : (b : Bool) (o : Option ℕ) → (b && is_owed (lenient (newest e past)) again moved confirmed o) ≡ is_owed (lenient (newest e past)) again moved confirmed (only b o)
     inside_only true o = refl
     inside_only false o = refl
 
@@ -78,32 +78,32 @@ owed-newest role lenient again whole f e past moved confirmed is_in moves_so con
     bits false c false g l = refl
 
     go : (o : Option ℕ) → opener_of e.note ≡ o
-        → is_some_and (λ i. since (is_same (newest e past)) (λ m. moves i (note m)) whole && (not (again i) && not (since (is_same (newest e past)) (λ m. confirms i (note m)) whole && lenient))) o
-        ≡ (is_in && is_some_and (λ i. not (moved i) && (not (again i) && not (not (confirmed i) && lenient))) o)
+        → is_some_and (λ i. since (is_same (newest e past)) (λ m. moves i (note m)) whole && (not (again i) && not (since (is_same (newest e past)) (λ m. confirms i (note m)) whole && lenient (newest e past)))) o
+        ≡ (is_in && is_some_and (λ i. not (moved i) && (not (again i) && not (not (confirmed i) && lenient (newest e past)))) o)
     go None is = sym (and_false is_in)
     go (Some i) is =
-        ap (λ b. b && (not (again i) && not (since (is_same (newest e past)) (λ m. confirms i (note m)) whole && lenient))) (marked_now moves moved i is moves_so)
-        ∙ ap (λ b. (not (moved i) && is_in) && (not (again i) && not (b && lenient))) (marked_now confirms confirmed i is confirms_so)
-        ∙ bits (moved i) (confirmed i) is_in (again i) lenient
+        ap (λ b. b && (not (again i) && not (since (is_same (newest e past)) (λ m. confirms i (note m)) whole && lenient (newest e past)))) (marked_now moves moved i is moves_so)
+        ∙ ap (λ b. (not (moved i) && is_in) && (not (again i) && not (b && lenient (newest e past)))) (marked_now confirms confirmed i is confirms_so)
+        ∙ bits (moved i) (confirmed i) is_in (again i) (lenient (newest e past))
 
 -- no opener before the session is
-owed-none : (lenient : Bool) (again : ℕ → Bool) (whole : List Moment) (k : Moment) → ((i : ℕ) → since (is_same k) (λ m. moves i (note m)) whole ≡ false) → owes lenient again whole k ≡ false
+owed-none : (lenient : Moment → Bool) (again : ℕ → Bool) (whole : List Moment) (k : Moment) → ((i : ℕ) → since (is_same k) (λ m. moves i (note m)) whole ≡ false) → owes lenient again whole k ≡ false
 owed-none lenient again whole k none = go (opener_of (note k))
   where
-    go : (o : Option ℕ) → is_some_and (λ i. since (is_same k) (λ m. moves i (note m)) whole && (not (again i) && not (since (is_same k) (λ m. confirms i (note m)) whole && lenient))) o ≡ false
+    go : (o : Option ℕ) → is_some_and (λ i. since (is_same k) (λ m. moves i (note m)) whole && (not (again i) && not (since (is_same k) (λ m. confirms i (note m)) whole && lenient k))) o ≡ false
     go None = refl
-    go (Some i) = ap (λ b. b && (not (again i) && not (since (is_same k) (λ m. confirms i (note m)) whole && lenient))) (none i)
+    go (Some i) = ap (λ b. b && (not (again i) && not (since (is_same k) (λ m. confirms i (note m)) whole && lenient k))) (none i)
 
 -- ---- the walk over a resumed session
 
 -- What is kept of a walk down to these events, over the session that is on after all of them.
-pub record IsWalked (lenient : Bool) (again : ℕ → Bool) (role : Role) (past : List Seen) (f : Option Fate) (rest : List Seen) (moved confirmed : ℕ → Bool) (places : List Place3) : Type 0 where
+pub record IsWalked (lenient : Moment → Bool) (again : ℕ → Bool) (role : Role) (past : List Seen) (f : Option Fate) (rest : List Seen) (moved confirmed : ℕ → Bool) (places : List Place3) : Type 0 where
   pub alike : (k : ℕ) → k ≤ length rest → moment past k ≡ moment rest k
   pub moves_so : IsMarked moves role (session role (Some Resumed) past) f rest moved
   pub confirms_so : IsMarked confirms role (session role (Some Resumed) past) f rest confirmed
   pub given : IsGiven (λ k. is_some_and (owes lenient again (session role (Some Resumed) past)) (moment past k)) past (length rest) places
 
-pub walked-start : (lenient : Bool) (again : ℕ → Bool) (role : Role) (past : List Seen) (moved confirmed : ℕ → Bool) → ((i : ℕ) → moved i ≡ false) → ((i : ℕ) → confirmed i ≡ false)
+pub walked-start : (lenient : Moment → Bool) (again : ℕ → Bool) (role : Role) (past : List Seen) (moved confirmed : ℕ → Bool) → ((i : ℕ) → moved i ≡ false) → ((i : ℕ) → confirmed i ≡ false)
     → IsWalked lenient again role past (Some Resumed) past moved confirmed []
 walked-start lenient again role past moved confirmed unmoved unconfirmed = record {
   alike = λ k le. refl;
@@ -113,8 +113,8 @@ walked-start lenient again role past moved confirmed unmoved unconfirmed = recor
 }
 
 -- the newest of them, judged
-walked-event : (lenient : Bool) (again : ℕ → Bool) (role : Role) (past : List Seen) (f : Option Fate) (e : Seen) (rest : List Seen) (moved confirmed : ℕ → Bool) (places new : List Place3) (is_in due : Bool)
-    → IsPlaced past → is_in ≡ accepted f → due ≡ is_owed lenient again moved confirmed (only is_in (opener_of e.note)) → new ≡ cond due (places ++ e.place ∷ []) places
+walked-event : (lenient : Moment → Bool) (again : ℕ → Bool) (role : Role) (past : List Seen) (f : Option Fate) (e : Seen) (rest : List Seen) (moved confirmed : ℕ → Bool) (places new : List Place3) (is_in due : Bool)
+    → IsPlaced past → is_in ≡ accepted f → due ≡ is_owed (lenient (newest e rest)) again moved confirmed (only is_in (opener_of e.note)) → new ≡ cond due (places ++ e.place ∷ []) places
     → IsWalked lenient again role past f (e ∷ rest) moved confirmed places
     → IsGiven (λ k. is_some_and (owes lenient again (session role (Some Resumed) past)) (moment past k)) past (length rest) new
 walked-event lenient again role past f e rest moved confirmed places new is_in due placed inside owed now was =
@@ -125,9 +125,9 @@ walked-event lenient again role past f e rest moved confirmed places new is_in d
     (ap (is_some_and (owes lenient again (session role (Some Resumed) past))) there
     ∙ owed-newest role lenient again (session role (Some Resumed) past) f e rest moved confirmed is_in was.moves_so was.confirms_so inside ∙ sym owed) now was.given
 
-pub walked-step : (lenient : Bool) (again : ℕ → Bool) (role : Role) (past : List Seen) (f g : Option Fate) (e : Seen) (rest : List Seen) (moved confirmed moved_too confirmed_too : ℕ → Bool)
+pub walked-step : (lenient : Moment → Bool) (again : ℕ → Bool) (role : Role) (past : List Seen) (f g : Option Fate) (e : Seen) (rest : List Seen) (moved confirmed moved_too confirmed_too : ℕ → Bool)
     (places new : List Place3) (is_in due begun : Bool)
-    → IsPlaced past → is_in ≡ accepted f → due ≡ is_owed lenient again moved confirmed (only is_in (opener_of e.note)) → new ≡ cond due (places ++ e.place ∷ []) places
+    → IsPlaced past → is_in ≡ accepted f → due ≡ is_owed (lenient (newest e rest)) again moved confirmed (only is_in (opener_of e.note)) → new ≡ cond due (places ++ e.place ∷ []) places
     → begun ≡ (is_open e.note && begins f) → begun ≡ false → g ≡ cond (is_open e.note) (latest_fate role rest) f
     → ((i : ℕ) → moved_too i ≡ ((is_in && moves i e.note) || moved i)) → ((i : ℕ) → confirmed_too i ≡ ((is_in && confirms i e.note) || confirmed i))
     → IsWalked lenient again role past f (e ∷ rest) moved confirmed places → IsWalked lenient again role past g rest moved_too confirmed_too new
@@ -139,9 +139,9 @@ walked-step lenient again role past f g e rest moved confirmed moved_too confirm
 }
 
 -- at the session's beginning
-pub walked-begun : (lenient : Bool) (again : ℕ → Bool) (role : Role) (past : List Seen) (f : Option Fate) (e : Seen) (rest : List Seen) (moved confirmed : ℕ → Bool) (places new : List Place3)
+pub walked-begun : (lenient : Moment → Bool) (again : ℕ → Bool) (role : Role) (past : List Seen) (f : Option Fate) (e : Seen) (rest : List Seen) (moved confirmed : ℕ → Bool) (places new : List Place3)
     (is_in due begun : Bool)
-    → IsPlaced past → is_in ≡ accepted f → due ≡ is_owed lenient again moved confirmed (only is_in (opener_of e.note)) → new ≡ cond due (places ++ e.place ∷ []) places
+    → IsPlaced past → is_in ≡ accepted f → due ≡ is_owed (lenient (newest e rest)) again moved confirmed (only is_in (opener_of e.note)) → new ≡ cond due (places ++ e.place ∷ []) places
     → begun ≡ (is_open e.note && begins f) → begun ≡ true
     → IsWalked lenient again role past f (e ∷ rest) moved confirmed places → IsShown (owes lenient again (session role (Some Resumed) past)) past new
 walked-begun lenient again role past f e rest moved confirmed places new is_in due begun placed inside owed now at on was =
@@ -158,7 +158,7 @@ walked-begun lenient again role past f e rest moved confirmed places new is_in d
         was.moves_so.each i m within ∙ ap (λ b. not (moved i) && b) (since-begun role f e rest m (λ n. moves i (note n)) begun before at on) ∙ and_false (not (moved i)))
 
 -- at the log's beginning
-pub walked-end : (lenient : Bool) (again : ℕ → Bool) (role : Role) (past : List Seen) (f : Option Fate) (moved confirmed : ℕ → Bool) (places : List Place3)
+pub walked-end : (lenient : Moment → Bool) (again : ℕ → Bool) (role : Role) (past : List Seen) (f : Option Fate) (moved confirmed : ℕ → Bool) (places : List Place3)
     → IsWalked lenient again role past f [] moved confirmed places → IsShown (owes lenient again (session role (Some Resumed) past)) past places
 walked-end lenient again role past f moved confirmed places was =
     given-shown (owes lenient again (session role (Some Resumed) past)) past 0 places (λ k le. ap (is_some_and (owes lenient again (session role (Some Resumed) past))) (first k le)) was.given
@@ -214,14 +214,14 @@ same-session role f (e ∷ past) h =
     ∙ ap (λ n. newest e past ∷ cond (is_open e.note) (cond n [] (session role (latest_fate role past) past)) (session role (Some f) past)) (resumed-parts f h).1
     ∙ ap (λ ms. newest e past ∷ cond (is_open e.note) (session role (latest_fate role past) past) ms) (same-session role f past h)
 
-shows-owes : (role : Role) (d : Seen) (past : List Seen) (again : ℕ → Bool) (lenient : Bool) (k : ℕ) (m : Moment) (f : Fate) → moment past k ≡ Some m → latest_fate role past ≡ Some f → resumes f ≡ true
-    → ((i : ℕ) → again i ≡ some (λ n. sends_under i (note n)) (connection past)) → lenient ≡ (is_used_up role (newest d past) || has_announced role (newest d past))
+shows-owes : (role : Role) (d : Seen) (past : List Seen) (again : ℕ → Bool) (lenient : Moment → Bool) (k : ℕ) (m : Moment) (f : Fate) → moment past k ≡ Some m → latest_fate role past ≡ Some f → resumes f ≡ true
+    → ((i : ℕ) → again i ≡ some (λ n. sends_under i (note n)) (connection past)) → lenient m ≡ ((is_used_up role (newest d past) || has_announced role (newest d past)) || (refuses_retained role (newest d past) && is_retained m))
     → shows_S06 role (newest d past) m ≡ owes lenient again (session role (Some Resumed) past) m
 unfolding shows_S06
 shows-owes role d past again lenient k m f at fate resumes_f sent allowed =
     ap (λ f. resumed f && is_some_and (λ i. since (is_same m) (λ n. opens_id i n || closes_id i n) (session role f past)
     && (not (some (is_same m) (connection past)) && (not (some (λ n. sends_under i (note n)) (connection past))
-    && not (since (is_same m) (λ n. confirms i (note n)) (session role f past) && (is_used_up role (newest d past) || has_announced role (newest d past)))))) (opener_of (note m))) fate
+    && not (since (is_same m) (λ n. confirms i (note n)) (session role f past) && ((is_used_up role (newest d past) || has_announced role (newest d past)) || (refuses_retained role (newest d past) && is_retained m)))))) (opener_of (note m))) fate
     ∙ ap (λ b. b && asked (session role (Some f) past)) resumes_f
     ∙ ap asked (same-session role f past resumes_f)
     ∙ go (opener_of (note m)) refl
@@ -229,7 +229,7 @@ shows-owes role d past again lenient k m f at fate resumes_f sent allowed =
     asked : List Moment → Bool
     asked ms = is_some_and (λ i. since (is_same m) (λ n. opens_id i n || closes_id i n) ms
         && (not (some (is_same m) (connection past)) && (not (some (λ n. sends_under i (note n)) (connection past))
-        && not (since (is_same m) (λ n. confirms i (note n)) ms && (is_used_up role (newest d past) || has_announced role (newest d past)))))) (opener_of (note m))
+        && not (since (is_same m) (λ n. confirms i (note n)) ms && ((is_used_up role (newest d past) || has_announced role (newest d past)) || (refuses_retained role (newest d past) && is_retained m)))))) (opener_of (note m))
 
     bits : (a h g x : Bool) → (h ≡ true → g ≡ true) → (a && (not h && (not g && x))) ≡ (a && (not g && x))
     bits a true true x so = refl
@@ -239,15 +239,15 @@ shows-owes role d past again lenient k m f at fate resumes_f sent allowed =
     go : (o : Option ℕ) → opener_of (note m) ≡ o
         → is_some_and (λ i. since (is_same m) (λ n. moves i (note n)) (session role (Some Resumed) past)
         && (not (some (is_same m) (connection past)) && (not (some (λ n. sends_under i (note n)) (connection past))
-        && not (since (is_same m) (λ n. confirms i (note n)) (session role (Some Resumed) past) && (is_used_up role (newest d past) || has_announced role (newest d past)))))) o
+        && not (since (is_same m) (λ n. confirms i (note n)) (session role (Some Resumed) past) && ((is_used_up role (newest d past) || has_announced role (newest d past)) || (refuses_retained role (newest d past) && is_retained m)))))) o
         ≡ is_some_and (λ i. since (is_same m) (λ n. moves i (note n)) (session role (Some Resumed) past)
-        && (not (again i) && not (since (is_same m) (λ n. confirms i (note n)) (session role (Some Resumed) past) && lenient))) o
+        && (not (again i) && not (since (is_same m) (λ n. confirms i (note n)) (session role (Some Resumed) past) && lenient m))) o
     go None is = refl
     go (Some i) is =
         bits (since (is_same m) (λ n. moves i (note n)) (session role (Some Resumed) past)) (some (is_same m) (connection past)) (some (λ n. sends_under i (note n)) (connection past))
-        (not (since (is_same m) (λ n. confirms i (note n)) (session role (Some Resumed) past) && (is_used_up role (newest d past) || has_announced role (newest d past)))) (here-again past k i m at is)
+        (not (since (is_same m) (λ n. confirms i (note n)) (session role (Some Resumed) past) && ((is_used_up role (newest d past) || has_announced role (newest d past)) || (refuses_retained role (newest d past) && is_retained m)))) (here-again past k i m at is)
         ∙ ap (λ g. since (is_same m) (λ n. moves i (note n)) (session role (Some Resumed) past)
-        && (not g && not (since (is_same m) (λ n. confirms i (note n)) (session role (Some Resumed) past) && (is_used_up role (newest d past) || has_announced role (newest d past))))) (sym (sent i))
+        && (not g && not (since (is_same m) (λ n. confirms i (note n)) (session role (Some Resumed) past) && ((is_used_up role (newest d past) || has_announced role (newest d past)) || (refuses_retained role (newest d past) && is_retained m))))) (sym (sent i))
         ∙ ap (λ l. since (is_same m) (λ n. moves i (note n)) (session role (Some Resumed) past)
         && (not (again i) && not (since (is_same m) (λ n. confirms i (note n)) (session role (Some Resumed) past) && l))) (sym allowed)
 
@@ -255,14 +255,14 @@ pub resumed-is : (o : Option Fate) → resumed o ≡ true → (f : Fate) × (o �
 resumed-is None h = absurd (cc)
 resumed-is (Some f) h = (f, refl, h)
 
-pub shown-owed : (role : Role) (d : Seen) (past : List Seen) (again : ℕ → Bool) (lenient : Bool) (places : List Place3) (f : Fate) → latest_fate role past ≡ Some f → resumes f ≡ true
-    → ((i : ℕ) → again i ≡ some (λ n. sends_under i (note n)) (connection past)) → lenient ≡ (is_used_up role (newest d past) || has_announced role (newest d past))
+pub shown-owed : (role : Role) (d : Seen) (past : List Seen) (again : ℕ → Bool) (lenient : Moment → Bool) (places : List Place3) (f : Fate) → latest_fate role past ≡ Some f → resumes f ≡ true
+    → ((i : ℕ) → again i ≡ some (λ n. sends_under i (note n)) (connection past)) → ((m : Moment) → lenient m ≡ ((is_used_up role (newest d past) || has_announced role (newest d past)) || (refuses_retained role (newest d past) && is_retained m)))
     → IsShown (owes lenient again (session role (Some Resumed) past)) past places → IsShown (shows_S06 role (newest d past)) past places
 shown-owed role d past again lenient places f fate resumes_f sent allowed shown = record { each = λ k. shown.each k ∙ go k (moment past k) refl; own = shown.own }
   where
     go : (k : ℕ) (o : Option Moment) → moment past k ≡ o → is_some_and (owes lenient again (session role (Some Resumed) past)) o ≡ is_some_and (shows_S06 role (newest d past)) o
     go k None is = refl
-    go k (Some m) is = sym (shows-owes role d past again lenient k m f is fate resumes_f sent allowed)
+    go k (Some m) is = sym (shows-owes role d past again lenient k m f is fate resumes_f sent (allowed m))
 
 -- where no session is resumed
 first_none : (a b : Bool) → a ≡ false → (a && b) ≡ false

@@ -1,9 +1,10 @@
 -- The CONNECT and the CONNACK of the latest connection, and what they say of the peer.
-use Rattle.std.specs.Prelude.{ℕ, Bool, true, ◌||◌, List, is_some, unwrap_or}
+use Rattle.std.specs.Prelude.{ℕ, Bool, true, false, ◌||◌, List, is_some, unwrap_or}
 use Rattle.std.specs.Option.{option_and_then}
 use Rattle.mq_rules.specs.declared.role.Role.{Role}
 use Rattle.mq_rules.specs.declared.role.Role.TheVariants.{Client, Server}
 use Rattle.mq_rules.specs.declared.note.Seen.{Seen}
+use Rattle.mq_rules.specs.Words.{is_some_and, is_id}
 use Rattle.mq_rules.specs.Connections.{connection, first_connect, first_connack}
 use Rattle.mq_plain.specs.declared.handshake.Handshake.{Handshake}
 
@@ -25,3 +26,8 @@ counts_after Server h = true
 abbrev pub bounds_sending : Role → Handshake → Bool
 bounds_sending Client h = is_some (option_and_then (λ a. a.maximum_packet_size) h.connack) || is_some (option_and_then (λ a. a.maximum_qos) h.connack)
 bounds_sending Server h = is_some (option_and_then (λ c. c.maximum_packet_size) h.connect)
+
+-- the peer announced that it takes no PUBLISH with RETAIN 1 (MQTT 5.0, section 3.2.2.3.5)
+abbrev pub refuses_retained : Role → Handshake → Bool
+refuses_retained Client h = is_some_and (λ a. is_id 0 a.retain_available) h.connack
+refuses_retained Server h = false

@@ -3,6 +3,8 @@ use Rattle.std.specs.Prelude.{ℕ, Bool, ◌&&◌, ◌||◌, not, List, Option}
 use Rattle.mq_rules.specs.declared.note.Note.{Note}
 use Rattle.mq_rules.specs.Words.{is_id, is_some_and}
 use Rattle.mq_rules.specs.Notes.{opener_of, closer_of, delivery_of, sent_as, received_as, pubrel_in, accepting_pubrec_in}
+use Rattle.mq_rules.specs.Identifiers.{is_retained}
+use Rattle.mq_plain.specs.declared.owing.Excuse.{Excuse}
 use Rattle.mq_rules.specs.Moments.{Moment, note, is_same, since}
 
 -- an event opens or closes the identifier; confirms it by a PUBREC below 0x80; sends a PUBLISH or a PUBREL under it
@@ -20,7 +22,11 @@ sends_under i n = is_id i (delivery_of n) || is_id i (sent_as pubrel_in n)
 abbrev pub is_owed : Bool → (ℕ → Bool) → (ℕ → Bool) → (ℕ → Bool) → Option ℕ → Bool
 is_owed lenient again moved confirmed opener = is_some_and (λ i. not (moved i) && (not (again i) && not (not (confirmed i) && lenient))) opener
 
--- an opener k among these moments is owed: its identifier wasn't moved since
-abbrev pub owes : Bool → (ℕ → Bool) → List Moment → Moment → Bool
+-- an opener is excused, if it wasn't confirmed
+abbrev pub covers : Excuse → Moment → Bool
+covers excuse k = excuse.all || (excuse.retained && is_retained k)
+
+-- an opener k among these moments is owed: its identifier wasn't moved since; such openers are excused, if they weren't confirmed
+abbrev pub owes : (Moment → Bool) → (ℕ → Bool) → List Moment → Moment → Bool
 owes lenient again ms k = is_some_and (λ i. since (is_same k) (λ m. moves i (note m)) ms
-    && (not (again i) && not (since (is_same k) (λ m. confirms i (note m)) ms && lenient))) (opener_of (note k))
+    && (not (again i) && not (since (is_same k) (λ m. confirms i (note m)) ms && lenient k))) (opener_of (note k))

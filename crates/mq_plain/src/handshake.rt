@@ -89,4 +89,17 @@ impl Handshake {
             },
         }
     }
+
+    /// Whether the peer announced that it takes no PUBLISH with RETAIN 1.
+    pub fn refuses_retained(&self, role: Role) -> bool
+        ensures { result ≡ begun.refuses_retained role self.now }
+    {
+        match role {
+            Role::Client => match self.connack {
+                Some(connack) => connack.retain_available == Some(0),
+                None => false,
+            },
+            Role::Server => false,
+        }
+    }
 }

@@ -2,11 +2,12 @@
 ghost use Rattle.std.specs.Prelude.{ℕ, ◌≡◌, ◌&&◌, ◌||◌, Some, IfOk, cond, ◌++◌, ◌∷◌, [], reverse};
 ghost use Rattle.mq_rules.specs.declared.fate.Fate.TheVariants.{Resumed};
 ghost use Rattle.mq_rules.specs.declared.note.Seen.{Seen as TheSeen};
-ghost use Rattle.mq_rules.specs.Words.{is_id, only};
+ghost use Rattle.mq_rules.specs.Words.{is_id, is_some_and, only};
+ghost use Rattle.mq_rules.specs.Notes.{sent_publish};
 ghost use Rattle.mq_rules.specs.Moments.{newest, note, some, IsPlaced};
 ghost use Rattle.mq_rules.specs.Connections.{connection, session, resumed};
-ghost use Rattle.mq_rules.specs.Identifiers.{shows_S06, is_used_up as uses_up, has_announced};
-ghost use Rattle.mq_plain.specs.Owing.{moves, confirms, sends_under, is_owed as owed_so, owes};
+ghost use Rattle.mq_rules.specs.Identifiers.{shows_S06, is_used_up as uses_up, has_announced, refuses_retained as takes_none};
+ghost use Rattle.mq_plain.specs.Owing.{covers, moves, confirms, sends_under, is_owed as owed_so, owes};
 ghost use Rattle.mq_plain.specs.Shown.{IsShown};
 ghost use Rattle.mq_plain.specs.Tables.{at};
 
@@ -26,6 +27,35 @@ fn mark(marked: &mut Table<bool>, identifier: Option<u16>)
 {
     if let Some(identifier) = identifier {
         marked.set(identifier, true);
+    }
+}
+
+/// What needn't be sent again, unless a PUBREC below 0x80 came for it.
+#[derive(Clone, Copy)]
+pub struct Excuse {
+    /// All of it: the send quota is used up, or the peer announced a Maximum Packet Size or a
+    /// Maximum QoS.
+    pub all: bool,
+    /// What was sent with RETAIN 1: the peer takes nothing that is retained.
+    pub retained: bool,
+}
+
+// Whether a PUBLISH with RETAIN 1 and a QoS above 0 is sent.
+fn is_retained(note: &Note) -> bool
+    ensures { result ≡ is_some_and (λ p. p.retain) (sent_publish note.now) }
+{
+    match note.sent_publish() {
+        Some(publish) => publish.retain,
+        None => false,
+    }
+}
+
+impl Excuse {
+    // Whether it excuses this opener.
+    fn covers(self, note: &Note) -> bool
+        ensures { result ≡ (self.all || (self.retained && is_some_and (λ p. p.retain) (sent_publish note.now))) }
+    {
+        self.all || (self.retained && is_retained(note))
     }
 }
 
@@ -111,11 +141,11 @@ fn push_if(places: &mut Vec<Place3>, place: Place3, is_due: bool) -> Result<(), 
 fn owed_in_session(
     alloc: Global,
     role: Role,
-    is_excused: bool,
+    excuse: Excuse,
     again: &Table<bool>,
     before: &[Seen],
 ) -> Result<Vec<Place3>, Memory>
-    ensures { IsPlaced (reverse before.now) → IfOk result (λ places. IsShown (owes is_excused (at again.now) (session role (Some Resumed) (reverse before.now))) (reverse before.now) places.items) }
+    ensures { IsPlaced (reverse before.now) → IfOk result (λ places. IsShown (owes (covers excuse) (at again.now) (session role (Some Resumed) (reverse before.now))) (reverse before.now) places.items) }
 {
     let mut moved = Table::new(alloc, false)?;
     let mut confirmed = Table::new(alloc, false)?;
@@ -125,7 +155,13 @@ fn owed_in_session(
     while let Some((event, rest)) = earlier.split_last() {
         let is_in = is_accepted(fate);
         let opener = only_if(is_in, event.note.opener());
-        let is_due = is_owed(is_excused, again, &moved, &confirmed, opener);
+        let is_due = is_owed(
+            excuse.covers(&event.note),
+            again,
+            &moved,
+            &confirmed,
+            opener,
+        );
         push_if(&mut places, event.place, is_due)?;
         if begins_at(fate, &event.note) {
             return Ok(places);
@@ -149,6 +185,13 @@ fn is_excused(role: Role, before: &[Seen]) -> bool
     handshake_of(role, before).bounds_sending(role)
 }
 
+// Whether the peer announced that it takes no PUBLISH with RETAIN 1.
+fn refuses_retained(role: Role, before: &[Seen]) -> bool
+    ensures { (rest : TheSeen) → result ≡ takes_none role (newest rest (reverse before.now)) }
+{
+    handshake_of(role, before).refuses_retained(role)
+}
+
 // Whether a connection with this fate resumed a session.
 fn is_resumed(fate: Option<Fate>) -> bool
     ensures { result ≡ resumed fate }
@@ -169,7 +212,11 @@ fn owed_at_rest(alloc: Global, role: Role, before: &[Seen]) -> Result<Vec<Place3
         return Ok(Vec::new(alloc));
     }
     let again = sent_again(alloc, before)?;
-    owed_in_session(alloc, role, is_excused(role, before), &again, before)
+    let excuse = Excuse {
+        all: is_excused(role, before),
+        retained: refuses_retained(role, before),
+    };
+    owed_in_session(alloc, role, excuse, &again, before)
 }
 
 /// S06: when a session is resumed, each PUBLISH or PUBREL of it that is unacknowledged is sent

@@ -1,5 +1,5 @@
 -- Packet Identifiers, resends and the send quota (S01 to S07). Each statement says when it is false at a moment k whose connection is accepted and has the fate f.
-use Rattle.std.specs.Prelude.{ℕ, ◌+◌, nat_le, nat_lt, Bool, true, ◌&&◌, ◌||◌, not, List, ◌∷◌, Option, Some, None, is_some}
+use Rattle.std.specs.Prelude.{ℕ, ◌+◌, nat_le, nat_lt, Bool, true, false, ◌&&◌, ◌||◌, not, List, ◌∷◌, Option, Some, None, is_some}
 use Rattle.std.specs.Option.{option_and_then, option_or}
 use Rattle.mq_rules.specs.declared.role.Role.{Role}
 use Rattle.mq_rules.specs.declared.role.Role.TheVariants.{Client, Server}
@@ -127,10 +127,20 @@ announced_qos Server t = None
 abbrev pub has_announced : Role → Moment → Bool
 has_announced role t = is_some (peer_maximum_packet_size role t) || is_some (announced_qos role t)
 
--- an opener k that wasn't sent again by t is excused: no PUBREC below 0x80 came after it, and the quota is used up or the peer announced a bound
+-- the moment sends a PUBLISH with RETAIN 1 and a QoS above 0
+abbrev pub is_retained : Moment → Bool
+is_retained m = is_some_and (λ p. p.retain) (sent_publish (note m))
+
+-- The server announced on t's connection that it takes no PUBLISH with RETAIN 1: its CONNACK has Retain Available 0 (MQTT 5.0, section 3.2.2.3.5).
+abbrev pub refuses_retained : Role → Moment → Bool
+refuses_retained Client t = is_some_and (λ a. is_id 0 a.retain_available) (connack_before Client t)
+refuses_retained Server t = false
+
+-- An opener k that wasn't sent again by t is excused: no PUBREC below 0x80 came after it, and the quota is used up, or the peer announced a bound, or that it
+-- doesn't take what is retained, as k's PUBLISH is.
 abbrev pub is_excused : Role → ℕ → Moment → Moment → Bool
 is_excused role i t k = is_unended k (λ m. is_id i (received_as accepting_pubrec_in (note m))) (session role (latest_fate role t.past) t.past)
-    && (is_used_up role t || has_announced role t)
+    && ((is_used_up role t || has_announced role t) || (refuses_retained role t && is_retained k))
 
 -- a PUBLISH, or a PUBREL, of the identifier was sent on t's connection before t
 abbrev pub was_sent_again : ℕ → Moment → Bool

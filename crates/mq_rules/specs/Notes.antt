@@ -63,6 +63,12 @@ abbrev pub is_sent_direction : Direction → Bool
 is_sent_direction directions.Sent = true
 is_sent_direction directions.Recv = false
 
+-- a QoS above 0, at which a PUBLISH is acknowledged (MQTT 5.0, section 4.3)
+abbrev pub is_acknowledged : Qos → Bool
+is_acknowledged quality.AtMostOnce = false
+is_acknowledged quality.AtLeastOnce = true
+is_acknowledged quality.ExactlyOnce = true
+
 -- of a CONNECT (MQTT 5.0, section 3.1)
 abbrev pub connect_note : ConnectFields → ConnectNote
 connect_note c = record {
@@ -85,17 +91,19 @@ connack_note session_present code properties = record {
   receive_maximum = first_two_bytes 33 properties;
   topic_alias_maximum = first_two_bytes 34 properties;
   maximum_qos = first_byte 36 properties;
+  retain_available = first_byte 37 properties;
   maximum_packet_size = first_four_bytes 39 properties;
   has_assigned_identifier = is_some (first_text 18 properties);
   has_response_information = is_some (first_text 26 properties);
 }
 
--- of a PUBLISH (MQTT 5.0, section 3.3)
+-- of a PUBLISH (MQTT 5.0, section 3.3); RETAIN is noted at a QoS above 0 alone
 abbrev pub publish_note : Direction → PublishFields → PublishNote
 publish_note direction p = record {
   identifier = p.identifier;
   qos = p.qos;
   duplicate = p.duplicate;
+  retain = p.retain && is_acknowledged p.qos;
   topic = only_list (is_sent_direction direction) p.topic;
   topic_alias = first_two_bytes 35 p.properties.items;
   has_message_expiry = is_some (first_four_bytes 2 p.properties.items);
@@ -175,12 +183,13 @@ note_of (released identifier) = notes.Release identifier
 note_of (sent item) = notes.Sent (item_note directions.Sent item)
 note_of (received item) = notes.Recv (item_note directions.Recv item)
 
--- of a PUBLISH without properties
+-- of a PUBLISH without properties, and with RETAIN 0 if its QoS is above 0
 abbrev pub bare_publish_note : Direction → Option ℕ → Qos → Bool → List ℕ → PublishNote
 bare_publish_note direction identifier qos duplicate topic = record {
   identifier = identifier;
   qos = qos;
   duplicate = duplicate;
+  retain = false;
   topic = only_list (is_sent_direction direction) topic;
   topic_alias = None;
   has_message_expiry = false;
@@ -392,12 +401,6 @@ abbrev pub decides : Role → Note → Option Fate
 decides role note = cond (is_close note) (Some Void) (option_map fate_by (connack_of role note))
 
 -- ---- Packet Identifiers (MQTT 5.0, section 2.2.1)
-
--- a QoS above 0, at which a PUBLISH is acknowledged (MQTT 5.0, section 4.3)
-abbrev pub is_acknowledged : Qos → Bool
-is_acknowledged quality.AtMostOnce = false
-is_acknowledged quality.AtLeastOnce = true
-is_acknowledged quality.ExactlyOnce = true
 
 abbrev pub qos_number : Qos → ℕ
 qos_number quality.AtMostOnce = 0

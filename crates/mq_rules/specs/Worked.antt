@@ -105,7 +105,7 @@ asking problem response receive aliases size = Connect (record { clean_start = t
 
 -- with Session Present or not, and this Reason Code
 abbrev pub connack_with : Bool → ℕ → PacketFields
-connack_with present code = Connack (record { session_present = present; code = code; session_expiry = None; receive_maximum = None; topic_alias_maximum = None; maximum_qos = None; maximum_packet_size = None; has_assigned_identifier = false; has_response_information = false })
+connack_with present code = Connack (record { session_present = present; code = code; session_expiry = None; receive_maximum = None; topic_alias_maximum = None; maximum_qos = None; retain_available = None; maximum_packet_size = None; has_assigned_identifier = false; has_response_information = false })
 
 abbrev pub accepting : PacketFields
 accepting = connack_with false 0
@@ -119,14 +119,18 @@ refusing = connack_with false 135
 
 -- with these: Session Present, Receive Maximum, Topic Alias Maximum, Maximum QoS, Maximum Packet Size
 abbrev pub limiting : Bool → Option ℕ → Option ℕ → Option ℕ → Option ℕ → PacketFields
-limiting present receive aliases qos size = Connack (record { session_present = present; code = 0; session_expiry = None; receive_maximum = receive; topic_alias_maximum = aliases; maximum_qos = qos; maximum_packet_size = size; has_assigned_identifier = false; has_response_information = false })
+limiting present receive aliases qos size = Connack (record { session_present = present; code = 0; session_expiry = None; receive_maximum = receive; topic_alias_maximum = aliases; maximum_qos = qos; retain_available = None; maximum_packet_size = size; has_assigned_identifier = false; has_response_information = false })
+
+-- with Session Present, and this Retain Available
+abbrev pub retaining : Option ℕ → PacketFields
+retaining available = Connack (record { session_present = true; code = 0; session_expiry = None; receive_maximum = None; topic_alias_maximum = None; maximum_qos = None; retain_available = available; maximum_packet_size = None; has_assigned_identifier = false; has_response_information = false })
 
 -- with an Assigned Client Identifier, and with Response Information
 abbrev pub assigning : PacketFields
-assigning = Connack (record { session_present = false; code = 0; session_expiry = None; receive_maximum = None; topic_alias_maximum = None; maximum_qos = None; maximum_packet_size = None; has_assigned_identifier = true; has_response_information = false })
+assigning = Connack (record { session_present = false; code = 0; session_expiry = None; receive_maximum = None; topic_alias_maximum = None; maximum_qos = None; retain_available = None; maximum_packet_size = None; has_assigned_identifier = true; has_response_information = false })
 
 abbrev pub informing : PacketFields
-informing = Connack (record { session_present = false; code = 0; session_expiry = None; receive_maximum = None; topic_alias_maximum = None; maximum_qos = None; maximum_packet_size = None; has_assigned_identifier = false; has_response_information = true })
+informing = Connack (record { session_present = false; code = 0; session_expiry = None; receive_maximum = None; topic_alias_maximum = None; maximum_qos = None; retain_available = None; maximum_packet_size = None; has_assigned_identifier = false; has_response_information = true })
 
 -- a DISCONNECT with this Session Expiry Interval
 abbrev pub leaving : Option ℕ → PacketFields
@@ -134,24 +138,31 @@ leaving expiry = Disconnect (record { session_expiry = expiry })
 
 -- a PUBLISH of QoS 0, 1 and 2 on the topic `a`; with DUP or not
 abbrev pub at_most_once : PacketFields
-at_most_once = Publish (record { identifier = None; qos = quality.AtMostOnce; duplicate = false; topic = 97 ∷ []; topic_alias = None; has_message_expiry = false; has_subscription_identifier = false })
+at_most_once = Publish (record { identifier = None; qos = quality.AtMostOnce; duplicate = false; retain = false; topic = 97 ∷ []; topic_alias = None; has_message_expiry = false; has_subscription_identifier = false })
 
 abbrev pub once : Bool → ℕ → PacketFields
-once dup i = Publish (record { identifier = Some i; qos = quality.AtLeastOnce; duplicate = dup; topic = 97 ∷ []; topic_alias = None; has_message_expiry = false; has_subscription_identifier = false })
+once dup i = Publish (record { identifier = Some i; qos = quality.AtLeastOnce; duplicate = dup; retain = false; topic = 97 ∷ []; topic_alias = None; has_message_expiry = false; has_subscription_identifier = false })
 
 abbrev pub exactly : Bool → ℕ → PacketFields
-exactly dup i = Publish (record { identifier = Some i; qos = quality.ExactlyOnce; duplicate = dup; topic = 97 ∷ []; topic_alias = None; has_message_expiry = false; has_subscription_identifier = false })
+exactly dup i = Publish (record { identifier = Some i; qos = quality.ExactlyOnce; duplicate = dup; retain = false; topic = 97 ∷ []; topic_alias = None; has_message_expiry = false; has_subscription_identifier = false })
+
+-- one of QoS 1 and one of QoS 2, with RETAIN 1
+abbrev pub retained_once : ℕ → PacketFields
+retained_once i = Publish (record { identifier = Some i; qos = quality.AtLeastOnce; duplicate = false; retain = true; topic = 97 ∷ []; topic_alias = None; has_message_expiry = false; has_subscription_identifier = false })
+
+abbrev pub retained_exactly : ℕ → PacketFields
+retained_exactly i = Publish (record { identifier = Some i; qos = quality.ExactlyOnce; duplicate = false; retain = true; topic = 97 ∷ []; topic_alias = None; has_message_expiry = false; has_subscription_identifier = false })
 
 -- one of QoS 2 that may expire
 abbrev pub expiring : ℕ → PacketFields
-expiring i = Publish (record { identifier = Some i; qos = quality.ExactlyOnce; duplicate = false; topic = 97 ∷ []; topic_alias = None; has_message_expiry = true; has_subscription_identifier = false })
+expiring i = Publish (record { identifier = Some i; qos = quality.ExactlyOnce; duplicate = false; retain = false; topic = 97 ∷ []; topic_alias = None; has_message_expiry = true; has_subscription_identifier = false })
 
 -- one of QoS 0 with a Topic Alias, on this topic; one with a Subscription Identifier
 abbrev pub aliased : List ℕ → ℕ → PacketFields
-aliased topic alias = Publish (record { identifier = None; qos = quality.AtMostOnce; duplicate = false; topic = topic; topic_alias = Some alias; has_message_expiry = false; has_subscription_identifier = false })
+aliased topic alias = Publish (record { identifier = None; qos = quality.AtMostOnce; duplicate = false; retain = false; topic = topic; topic_alias = Some alias; has_message_expiry = false; has_subscription_identifier = false })
 
 abbrev pub subscribed : PacketFields
-subscribed = Publish (record { identifier = None; qos = quality.AtMostOnce; duplicate = false; topic = 97 ∷ []; topic_alias = None; has_message_expiry = false; has_subscription_identifier = true })
+subscribed = Publish (record { identifier = None; qos = quality.AtMostOnce; duplicate = false; retain = false; topic = 97 ∷ []; topic_alias = None; has_message_expiry = false; has_subscription_identifier = true })
 
 -- a SUBSCRIBE to `a`, and one to `b`, of a greatest QoS
 abbrev pub asks_a : ℕ → ℕ → PacketFields

@@ -1,13 +1,13 @@
 //! Notes of packets without properties, most packets of most logs. They take no memory.
-ghost use Rattle.std.specs.Prelude.{◌≡◌, ◌≤◌, ℕ, [], length, IsTrue, IfSome};
+ghost use Rattle.std.specs.Prelude.{◌≡◌, ◌≤◌, ◌&&◌, ℕ, [], false, length, IsTrue, IfSome};
 ghost use Rattle.mq_packet.specs.Reading.{view};
 ghost use Rattle.mq_trace.specs.Events.{packet as packet_item};
 ghost use Rattle.mq_trace.specs.Flows.{item_event};
 ghost use Rattle.mq_trace.specs.declared.kind.Direction.{Direction as TheDirection};
 ghost use Rattle.mq_rules.specs.declared.packet_note.PacketFields.TheVariants as fields_of;
-ghost use Rattle.mq_rules.specs.Notes.{bare_fields, bare_note, bare_publish_note, note_of, kept_topic, note_of_bare};
+ghost use Rattle.mq_rules.specs.Notes.{is_acknowledged, bare_fields, bare_note, bare_publish_note, note_of, kept_topic, note_of_bare};
 
-use crate::conversion::nonempty;
+use crate::conversion::{is_retained, nonempty};
 use crate::note::{ItemNote, Note};
 use crate::packet_note::{PacketFields, PacketNote, PublishNote};
 use crate::text::Text;
@@ -15,11 +15,16 @@ use mq_packet::{Packet, Publish, Qos};
 use mq_trace::Direction;
 
 /// Whether a PUBLISH has no properties, and a Topic Name that is short enough to lie in its note.
+/// One with RETAIN 1 and a QoS above 0 counts as one with properties.
 #[inline(always)]
 pub fn is_bare(publish: &Publish<'_>) -> bool
     ensures short { IsTrue result → length publish.now.topic.now ≤ 30 }
     ensures none { IsTrue result → publish.now.properties.items ≡ [] }
+    ensures unretained { IsTrue result → (publish.now.retain && is_acknowledged publish.now.qos) ≡ false }
 {
+    if is_retained(publish) {
+        return false;
+    }
     match nonempty(&publish.properties) {
         Some(_) => false,
         None => Text::is_short(publish.topic),
@@ -44,8 +49,8 @@ impl Note {
         }
     }
 
-    /// The note of a PUBLISH in this direction that has these fields, a short Topic Name, and no
-    /// properties.
+    /// The note of a PUBLISH in this direction that has these fields, a short Topic Name, RETAIN 0 if
+    /// its QoS is above 0, and no properties.
     #[inline(always)]
     pub fn of_bare_publish(
         direction: Direction,
@@ -69,6 +74,7 @@ impl Note {
                 identifier,
                 qos,
                 duplicate,
+                retain: false,
                 topic,
                 topic_alias: None,
                 has_message_expiry: false,
@@ -191,7 +197,7 @@ fn kept_topic<'a>(topic: &'a str) -> &'a str
 }
 
 impl<'a> Bare<'a> {
-    /// A PUBLISH that has a short Topic Name.
+    /// A PUBLISH that has a short Topic Name, and RETAIN 0 if its QoS is above 0.
     #[inline(always)]
     pub fn of_publish(
         direction: Direction,

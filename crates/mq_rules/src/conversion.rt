@@ -4,7 +4,7 @@
 //! Memory is taken only for a text that some statement looks at: the Topic Name of a PUBLISH that
 //! was sent, the Topic Filters of a SUBSCRIBE that was received, and the Reason Codes of a SUBACK
 //! that was sent.
-ghost use Rattle.std.specs.Prelude.{◌≡◌, ◌<◌, ◌≤◌, ℕ, List, [], true, is_some, length, slice_index, option_map, unwrap_or, IfOk, OnErr};
+ghost use Rattle.std.specs.Prelude.{◌≡◌, ◌&&◌, ◌<◌, ◌≤◌, ℕ, List, [], true, is_some, length, slice_index, option_map, unwrap_or, IfOk, OnErr};
 ghost use Rattle.mq_props.specs.First.{first_two_bytes, first_four_bytes, first_varint, first_text, first_pair};
 ghost use Rattle.mq_packet.specs.declared.packet.RequestKind.TheVariants as requests;
 ghost use Rattle.mq_packet.specs.Reading.{view, connect_view, publish_view};
@@ -14,7 +14,7 @@ ghost use Rattle.mq_trace.specs.Events.{packet, packet as packet_item};
 ghost use Rattle.mq_trace.specs.Flows.{item_event};
 ghost use Rattle.mq_trace.specs.Reception.{item_of, event_of};
 ghost use Rattle.mq_rules.specs.declared.packet_note.PacketFields.TheVariants as fields;
-ghost use Rattle.mq_rules.specs.Notes.{only_list, is_sent_direction, connect_note, connack_note, publish_note, disconnect_note, packet_fields, properties_of, packet_note, item_note, note_of, request_fields, answer_fields, keeps_text, item_keeps_text, note_keeps_text};
+ghost use Rattle.mq_rules.specs.Notes.{only_list, is_sent_direction, is_acknowledged, connect_note, connack_note, publish_note, disconnect_note, packet_fields, properties_of, packet_note, item_note, note_of, request_fields, answer_fields, keeps_text, item_keeps_text, note_keeps_text};
 
 use crate::faults::Memory;
 use crate::note::{ItemNote, Note};
@@ -22,7 +22,9 @@ use crate::packet_note::{
     ConnackNote, ConnectNote, DisconnectNote, PacketFields, PacketNote, PublishNote,
 };
 use crate::text::{CodeList, FilterList, Text};
-use mq_packet::{Answer, Codes, Connack, Connect, Filters, Packet, Publish, ReasonPacket, Request};
+use mq_packet::{
+    Answer, Codes, Connack, Connect, Filters, Packet, Publish, Qos, ReasonPacket, Request,
+};
 use mq_props::Props;
 use mq_trace::{Direction, Event, Item};
 use std::alloc::Global;
@@ -41,6 +43,14 @@ fn is_pair(pair: Option<(&str, &str)>) -> bool
     ensures { result ≡ is_some {T = List ℕ × List ℕ} (option_map (λ texts. (texts.0.now, texts.1.now)) pair.entry) }
 {
     pair.is_some()
+}
+
+/// Whether RETAIN is 1 and the QoS is above 0.
+#[inline(always)]
+pub(crate) fn is_retained(publish: &Publish<'_>) -> bool
+    ensures { result ≡ (publish.now.retain && is_acknowledged publish.now.qos) }
+{
+    publish.retain && !matches!(publish.qos, Qos::AtMostOnce)
 }
 
 /// The list, if it has properties. In most packets it is empty, and then nothing needs to be looked
@@ -143,6 +153,7 @@ impl ConnackNote {
             receive_maximum: properties.get_receive_maximum(),
             topic_alias_maximum: properties.get_topic_alias_maximum(),
             maximum_qos: properties.get_maximum_qos(),
+            retain_available: properties.get_retain_available(),
             maximum_packet_size: properties.get_maximum_packet_size(),
             has_assigned_identifier: is_text(properties.get_assigned_client_identifier()),
             has_response_information: is_text(properties.get_response_information()),
@@ -202,6 +213,7 @@ impl PublishNote {
             identifier: publish.identifier,
             qos: publish.qos,
             duplicate: publish.duplicate,
+            retain: is_retained(publish),
             topic,
             topic_alias: topic_alias(properties),
             has_message_expiry: has_message_expiry(properties),

@@ -17,6 +17,7 @@ fn copy_publish(alloc: Global, publish: &PublishNote) -> Result<PublishNote, Mem
         identifier: publish.identifier,
         qos: publish.qos,
         duplicate: publish.duplicate,
+        retain: publish.retain,
         topic,
         topic_alias: publish.topic_alias,
         has_message_expiry: publish.has_message_expiry,

@@ -53,6 +53,8 @@ pub struct ConnackNote {
     pub topic_alias_maximum: Option<u16>,
     /// The Maximum QoS, 0 or 1.
     pub maximum_qos: Option<u8>,
+    /// The Retain Available, 0 or 1.
+    pub retain_available: Option<u8>,
     /// The Maximum Packet Size, in bytes; not 0.
     pub maximum_packet_size: Option<u32>,
     /// Whether it has an Assigned Client Identifier.
@@ -70,6 +72,9 @@ pub struct PublishNote {
     pub qos: Qos,
     /// The DUP flag.
     pub duplicate: bool,
+    /// The RETAIN flag of a PUBLISH whose QoS is above 0. It is false for one of QoS 0, since no
+    /// statement looks at it.
+    pub retain: bool,
     /// The Topic Name of a PUBLISH that the tested end sent, empty if a Topic Alias stands for it.
     /// It is also empty for a PUBLISH that the tested end received, since no statement looks at it.
     pub topic: Text,

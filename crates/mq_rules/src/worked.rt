@@ -6,7 +6,7 @@ ghost use Rattle.mq_packet.specs.declared.rule.PacketRule.TheVariants as packets
 ghost use Rattle.mq_rules.specs.declared.rule.Rule.TheVariants.{W01, W02, W03, W04, W05, W06, W07, W08, W09, W10, W11, W12, W13, W14, W15, W16, W17, W18, W19, W20, W21, C01, C02, C03, C04, C05, C06, C07, C08, C09, C10, C11, C12, C13, C14, C15, C16, C17, C18, C19, C20, C21, C22, C23, S01, S02, S03, S04, S05, S06, S07, E1A, E1R, E1O, E2A, E2R, E2O, E3A, E3R, E3O, E4A, E4R, E5A, E5R, E6A, E6R, E7R, L1, L2, L3, B01, B02, B03, B04};
 ghost use Rattle.mq_rules.specs.declared.note.Note.TheVariants.{Open, Close, Rest, Release};
 ghost use Rattle.mq_rules.specs.declared.packet_note.PacketFields.TheVariants.{Puback, Pubrec, Pubrel, Pubcomp, Suback, Unsubscribe, Unsuback, Pingreq, Pingresp, Auth};
-ghost use Rattle.mq_rules.specs.Worked.{client, client_unrecorded, server, failing, sends, gets, sends_sized, sends_explained, sends_bad, gets_bad, sends_lost, gets_lost, lasting, again, fleeting, unnamed, asking, connack_with, accepting, resuming, refusing, limiting, assigning, informing, leaving, at_most_once, once, exactly, expiring, aliased, subscribed, asks_a, asks_b};
+ghost use Rattle.mq_rules.specs.Worked.{client, client_unrecorded, server, failing, sends, gets, sends_sized, sends_explained, sends_bad, gets_bad, sends_lost, gets_lost, lasting, again, fleeting, unnamed, asking, connack_with, accepting, resuming, refusing, limiting, retaining, assigning, informing, leaving, at_most_once, once, exactly, retained_once, retained_exactly, expiring, aliased, subscribed, asks_a, asks_b};
 
 /// Bytes of a client that break a rule, and those that it receives (W01 to W21).
 pub fn bytes_of_a_client()
@@ -210,6 +210,10 @@ pub fn redelivery()
     ensures breaks { failing client S06 (Open ∷ sends lasting ∷ gets accepting ∷ sends (once false 1) ∷ Close ∷ Open ∷ sends again ∷ gets resuming ∷ Rest ∷ []) ≡ 4 ∷ [] }
     ensures keeps { failing client S06 (Open ∷ sends lasting ∷ gets accepting ∷ sends (once false 1) ∷ Close ∷ Open ∷ sends again ∷ gets resuming ∷ sends (once true 1) ∷ Rest ∷ []) ≡ [] }
     ensures keeps_announced { failing client S06 (Open ∷ sends lasting ∷ gets accepting ∷ sends (once false 1) ∷ Close ∷ Open ∷ sends again ∷ gets (limiting true None None (Some 1) None) ∷ Rest ∷ []) ≡ [] }
+    ensures keeps_retained { failing client S06 (Open ∷ sends lasting ∷ gets accepting ∷ sends (retained_once 1) ∷ Close ∷ Open ∷ sends again ∷ gets (retaining (Some 0)) ∷ Rest ∷ []) ≡ [] }
+    ensures breaks_retaining { failing client S06 (Open ∷ sends lasting ∷ gets accepting ∷ sends (retained_once 1) ∷ Close ∷ Open ∷ sends again ∷ gets (retaining (Some 1)) ∷ Rest ∷ []) ≡ 4 ∷ [] }
+    ensures breaks_unretained { failing client S06 (Open ∷ sends lasting ∷ gets accepting ∷ sends (once false 1) ∷ Close ∷ Open ∷ sends again ∷ gets (retaining (Some 0)) ∷ Rest ∷ []) ≡ 4 ∷ [] }
+    ensures breaks_confirmed { failing client S06 (Open ∷ sends lasting ∷ gets accepting ∷ sends (retained_exactly 1) ∷ gets (Pubrec 1 0) ∷ Close ∷ Open ∷ sends again ∷ gets (retaining (Some 0)) ∷ Rest ∷ []) ≡ 4 ∷ [] }
     ensures server_breaks { failing server S06 (Open ∷ gets lasting ∷ sends accepting ∷ sends (once false 1) ∷ Close ∷ Open ∷ gets again ∷ sends resuming ∷ Rest ∷ []) ≡ 4 ∷ [] }
     ensures server_keeps { failing server S06 (Open ∷ gets lasting ∷ sends accepting ∷ sends (once false 1) ∷ Close ∷ Open ∷ gets again ∷ sends resuming ∷ sends (once true 1) ∷ Rest ∷ []) ≡ [] }
 {}

@@ -3,7 +3,7 @@ ghost use Rattle.std.specs.Prelude.{◌≡◌, ℕ, OnOk, IfOk, is_some, nat_eq}
 ghost use Rattle.indexmap.specs.IndexMap.{get, IsUnique};
 ghost use Rattle.mq_rules.specs.Words.{is_id, is_some_and};
 ghost use Rattle.mq_rules.specs.Notes.{is_exactly_once, sent_publish};
-ghost use Rattle.mq_books.specs.Opened.{sent_if, released_if, confirmed_if, closed_if, opened_if, entry_after, entry_next};
+ghost use Rattle.mq_books.specs.Opened.{sends_retained, sent_if, released_if, confirmed_if, closed_if, opened_if, entry_after, entry_next};
 
 use indexmap::IndexMap;
 use mq_packet::Qos;
@@ -18,6 +18,8 @@ pub struct Entry {
     pub place: Place3,
     /// The opener is of QoS 2.
     pub exactly_once: bool,
+    /// The opener has RETAIN 1.
+    pub retained: bool,
     /// A PUBREC below 0x80 was received since.
     pub confirmed: bool,
     /// A PUBREL was sent since.
@@ -34,6 +36,16 @@ fn is_sent_exactly_once(note: &Note) -> bool
 {
     match note.sent_publish() {
         Some(publish) => matches!(publish.qos, Qos::ExactlyOnce),
+        None => false,
+    }
+}
+
+// Whether a PUBLISH with RETAIN 1 and a QoS above 0 is sent.
+fn is_sent_retained(note: &Note) -> bool
+    ensures { result ≡ sends_retained note.now }
+{
+    match note.sent_publish() {
+        Some(publish) => publish.retain,
         None => false,
     }
 }
@@ -95,9 +107,10 @@ pub fn open_new(
     entries: &mut IndexMap<u16, Entry>,
     identifier: Option<u16>,
     exactly_once: bool,
+    retained: bool,
     at: Place3,
 ) -> Result<bool, Memory>
-    ensures entries { OnOk result ((i : ℕ) → get nat_eq entries.new i ≡ opened_if (is_id i identifier) exactly_once at (get nat_eq entries.old i)) }
+    ensures entries { OnOk result ((i : ℕ) → get nat_eq entries.new i ≡ opened_if (is_id i identifier) exactly_once retained at (get nat_eq entries.old i)) }
     ensures unique { IsUnique nat_eq entries.old → OnOk result (IsUnique nat_eq entries.new) }
     ensures busy { IfOk result (λ busy. busy ≡ is_some_and (λ i. is_some (get nat_eq entries.old i)) identifier) }
 {
@@ -105,6 +118,7 @@ pub fn open_new(
         let entry = Entry {
             place: at,
             exactly_once,
+            retained,
             confirmed: false,
             released: false,
             sent: at.position,
@@ -124,7 +138,13 @@ fn take_in(entries: &mut IndexMap<u16, Entry>, at: Place3, note: &Note) -> Resul
     release(entries, note.sent_pubrel(), at.position);
     confirm(entries, note.received_accepting_pubrec());
     close(entries, note.closer());
-    open_new(entries, note.opener(), is_sent_exactly_once(note), at)?;
+    open_new(
+        entries,
+        note.opener(),
+        is_sent_exactly_once(note),
+        is_sent_retained(note),
+        at,
+    )?;
     Ok(())
 }
 

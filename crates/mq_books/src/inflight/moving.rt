@@ -116,7 +116,7 @@ impl Inflight {
     {
         let late = confirms_late(&self.entries, self.opened, pubrec);
         self.again = Resent {
-            all: self.again.all,
+            all: self.again.all && !late,
             confirmed: self.again.confirmed && !late,
         };
         self.in_flight = flown_by(
@@ -130,7 +130,7 @@ impl Inflight {
         release(&mut self.entries, pubrel, at.position);
         confirm(&mut self.entries, pubrec);
         close(&mut self.entries, closer);
-        let busy = open_new(&mut self.entries, opener, exactly_once, at)?;
+        let busy = open_new(&mut self.entries, opener, exactly_once, false, at)?;
         remove(&mut self.stray, closer);
         Ok(busy)
     }

@@ -7,7 +7,8 @@ ghost use Rattle.mq_rules.specs.Words.{is_some_and, is_id};
 ghost use Rattle.mq_rules.specs.Notes.{is_open as opens};
 ghost use Rattle.mq_books.specs.Owings.{Keeps};
 ghost use Rattle.mq_books.specs.Resending as resending;
-ghost use Rattle.mq_books.specs.Resending.{due_next, told_under, blamed_due, blamed_under, told, excuses, settles, bounds_next, confirmed_next, confirms_untouched, IsResent};
+ghost use Rattle.mq_books.specs.declared.inflight.resends.Excused.{Excused as TheExcused};
+ghost use Rattle.mq_books.specs.Resending.{entire, due_next, told_under, blamed_due, blamed_under, told, excuses, settles, bounds_next, confirmed_next, confirms_untouched, IsResent};
 
 use super::entry::Entry;
 use crate::quota::RECEIVE_MAXIMUM;
@@ -15,51 +16,118 @@ use indexmap::{IndexMap, IndexSet};
 use mq_rules::{Fate, Fault, FaultKey, Faults, Memory, Note, Role, Rule};
 use std::alloc::Global;
 
-// Whether the peer announces a Maximum Packet Size or a Maximum QoS by this event.
-fn announces_bounds(role: Role, note: &Note) -> Option<bool>
+/// What the peer announced of what may be sent.
+#[derive(Clone, Copy)]
+pub struct Bounds {
+    /// There is a Maximum Packet Size or a Maximum QoS.
+    pub limits: bool,
+    /// Nothing may be retained: Retain Available is 0.
+    pub refuses_retained: bool,
+}
+
+/// What needn't be sent again, unless a PUBREC below 0x80 came for it.
+#[derive(Clone, Copy)]
+pub struct Excused {
+    /// All of it.
+    pub all: bool,
+    /// What was sent with RETAIN 1.
+    pub retained: bool,
+}
+
+// Whatever wasn't confirmed.
+const ENTIRE: Excused = Excused {
+    all: true,
+    retained: true,
+};
+
+// What the peer announces by this event.
+fn announces_bounds(role: Role, note: &Note) -> Option<Bounds>
     ensures { result ≡ resending.bounds_by role note.now }
 {
     match role {
         Role::Client => match note.connack(role) {
-            Some(connack) => {
-                Some(connack.maximum_packet_size.is_some() || connack.maximum_qos.is_some())
-            }
+            Some(connack) => Some(Bounds {
+                limits: connack.maximum_packet_size.is_some() || connack.maximum_qos.is_some(),
+                refuses_retained: connack.retain_available == Some(0),
+            }),
             None => None,
         },
         Role::Server => match note.connect(role) {
-            Some(connect) => Some(connect.maximum_packet_size.is_some()),
+            Some(connect) => Some(Bounds {
+                limits: connect.maximum_packet_size.is_some(),
+                refuses_retained: false,
+            }),
             None => None,
         },
     }
 }
 
 /// What the peer has announced after an event.
-pub fn bounds_after(role: Role, bounds: Option<bool>, note: &Note) -> Option<bool>
+pub fn bounds_after(role: Role, bounds: Option<Bounds>, note: &Note) -> Option<Bounds>
     ensures { result ≡ bounds_next role note.now bounds }
 {
     let bounds = if note.is_open() { None } else { bounds };
     bounds.or(announces_bounds(role, note))
 }
 
-/// Whether what wasn't confirmed needn't be sent again.
-pub fn is_excused(peer: Option<u16>, in_flight: u64, bounds: Option<bool>) -> bool
+// Whether the peer announced a Maximum Packet Size or a Maximum QoS.
+fn is_limited(bounds: Option<Bounds>) -> bool
+    ensures { result ≡ is_some_and (λ b. b.limits) bounds }
+{
+    match bounds {
+        Some(bounds) => bounds.limits,
+        None => false,
+    }
+}
+
+// Whether the peer announced that nothing may be retained.
+fn refuses_retained(bounds: Option<Bounds>) -> bool
+    ensures { result ≡ is_some_and (λ b. b.refuses_retained) bounds }
+{
+    match bounds {
+        Some(bounds) => bounds.refuses_retained,
+        None => false,
+    }
+}
+
+/// What needn't be sent again now, unless it was confirmed.
+pub fn excused_now(peer: Option<u16>, in_flight: u64, bounds: Option<Bounds>) -> Excused
     ensures { result ≡ excuses peer in_flight bounds }
 {
-    u64::from(peer.unwrap_or(RECEIVE_MAXIMUM)) <= in_flight || bounds.unwrap_or(false)
+    Excused {
+        all: u64::from(peer.unwrap_or(RECEIVE_MAXIMUM)) <= in_flight || is_limited(bounds),
+        retained: refuses_retained(bounds),
+    }
+}
+
+impl Excused {
+    // What is excused by itself, where not all is.
+    fn apart(self) -> Excused
+        ensures { result ≡ resending.apart self }
+    {
+        Excused { all: false, ..self }
+    }
+
+    // Whether an identifier that is open and wasn't confirmed is excused.
+    fn covers(self, entry: &Entry) -> bool
+        ensures { result ≡ resending.covers self entry.now }
+    {
+        self.all || (self.retained && entry.retained)
+    }
 }
 
 // Whether an identifier that is open is due.
-fn is_due(opened: u32, excused: bool, entry: &Entry) -> bool
+fn is_due(opened: u32, excused: Excused, entry: &Entry) -> bool
     ensures { result ≡ resending.is_due opened excused entry.now }
 {
-    entry.sent < opened && (entry.confirmed || !excused)
+    entry.sent < opened && (entry.confirmed || !excused.covers(entry))
 }
 
 // Adds the fault of an identifier, if it is due.
 fn blame_one(
     entry: &Entry,
     opened: u32,
-    excused: bool,
+    excused: Excused,
     decided: u32,
     faults: &mut Faults,
 ) -> Result<(), Memory>
@@ -82,12 +150,12 @@ fn blame_one(
     Ok(())
 }
 
-/// What is known to have been sent again on the connection. A REST then needn't look for it.
+/// What is known not to be due on the connection. A REST then needn't look for it.
 #[derive(Clone, Copy)]
 pub struct Resent {
-    /// All identifiers that are open were.
+    /// All identifiers that are open were sent again, or are excused by themselves.
     pub all: bool,
-    /// All that are open and for which a PUBREC below 0x80 came were.
+    /// All that are open and for which a PUBREC below 0x80 came were sent again.
     pub confirmed: bool,
 }
 
@@ -99,11 +167,12 @@ pub fn resent_still(
     opened: u32,
     note: &Note,
 ) -> Resent
-    ensures { result ≡ record { all = not (opens note.now) && resent.all; confirmed = not (opens note.now) && (resent.confirmed && not (confirms_untouched note.now opened (get nat_eq entries.now))) } }
+    ensures { result ≡ record { all = not (opens note.now) && (resent.all && not (confirms_untouched note.now opened (get nat_eq entries.now))); confirmed = not (opens note.now) && (resent.confirmed && not (confirms_untouched note.now opened (get nat_eq entries.now))) } }
 {
+    let late = confirms(entries, opened, note);
     Resent {
-        all: !note.is_open() && resent.all,
-        confirmed: !note.is_open() && (resent.confirmed && !confirms(entries, opened, note)),
+        all: !note.is_open() && (resent.all && !late),
+        confirmed: !note.is_open() && (resent.confirmed && !late),
     }
 }
 
@@ -175,32 +244,26 @@ pub fn keep_confirmed(
     Ok(())
 }
 
-// Whether some identifier that is open wasn't sent again on the connection.
-fn any_untouched(entries: &IndexMap<u16, Entry>, opened: u32) -> bool
-    ensures { result ≡ list_any (λ o. nat_lt o.sent opened) (values entries.now) }
+// Whether some identifier that is open is due.
+fn any_due(entries: &IndexMap<u16, Entry>, opened: u32, excused: Excused) -> bool
+    ensures { result ≡ list_any (λ o. resending.is_due opened excused o) (values entries.now) }
 {
-    entries.values().any(|entry| is_untouched(entry, opened))
-}
-
-fn is_untouched(entry: &Entry, opened: u32) -> bool
-    ensures { result ≡ nat_lt entry.now.sent opened }
-{
-    entry.sent < opened
+    entries.values().any(|entry| is_due(opened, excused, entry))
 }
 
 // Whether an identifier is open and due, excused or not.
 fn is_due_under(entries: &IndexMap<u16, Entry>, opened: u32, i: u16) -> bool
-    ensures { result ≡ is_some_and (resending.is_due opened true) (get nat_eq entries.now i) }
+    ensures { result ≡ is_some_and (resending.is_due opened entire) (get nat_eq entries.now i) }
 {
     match entries.get(&i) {
-        Some(entry) => is_due(opened, true, entry),
+        Some(entry) => is_due(opened, ENTIRE, entry),
         None => false,
     }
 }
 
 // Whether some of these identifiers is.
 fn any_due_under(confirmed: &IndexSet<u16>, entries: &IndexMap<u16, Entry>, opened: u32) -> bool
-    ensures { result ≡ list_any (λ i. is_some_and (resending.is_due opened true) (get nat_eq entries.now i)) confirmed.now.keys }
+    ensures { result ≡ list_any (λ i. is_some_and (resending.is_due opened entire) (get nat_eq entries.now i)) confirmed.now.keys }
 {
     confirmed.iter().any(|i| is_due_under(entries, opened, *i))
 }
@@ -210,7 +273,7 @@ fn any_due_under(confirmed: &IndexSet<u16>, entries: &IndexMap<u16, Entry>, open
 fn blame_due(
     entries: &IndexMap<u16, Entry>,
     opened: u32,
-    excused: bool,
+    excused: Excused,
     decided: u32,
     faults: &mut Faults,
 ) -> Result<(), Memory>
@@ -236,7 +299,7 @@ fn blame_under(
     ensures unchanged { OnErr result (faults.new ≡ faults.old) }
 {
     match entries.get(&i) {
-        Some(entry) => blame_one(entry, opened, true, decided, faults),
+        Some(entry) => blame_one(entry, opened, ENTIRE, decided, faults),
         None => Ok(()),
     }
 }
@@ -260,27 +323,28 @@ fn blame_confirmed(
     Ok(())
 }
 
-// Adds the faults of what is due at a REST that binds. What is known to have been sent again isn't
-// looked for: so an identifier that isn't due is looked at once, after it was sent again.
+// Adds the faults of what is due at a REST that binds, where this is excused by itself. What is known
+// not to be due isn't looked for: so an identifier that isn't due is looked at once.
 #[tactic(auto, using(crate::proofs::BlameLaws::keeps_same))]
 fn settle_all(
     resent: Resent,
     entries: &IndexMap<u16, Entry>,
     opened: u32,
+    excused: Excused,
     decided: u32,
     faults: &mut Faults,
 ) -> Result<Resent, Memory>
-    ensures ok { OnOk result (faults.new ≡ cond resent.all faults.old (blamed_due opened false decided (values entries.now) faults.old)) }
-    ensures resent { (confirmed : ℕ → Bool) → IsResent opened (get nat_eq entries.now) confirmed resent → IfOk result (IsResent opened (get nat_eq entries.now) confirmed) }
+    ensures ok { OnOk result (faults.new ≡ cond resent.all faults.old (blamed_due opened excused decided (values entries.now) faults.old)) }
+    ensures resent { (confirmed : ℕ → Bool) → IsResent opened excused (get nat_eq entries.now) confirmed resent → IfOk result (IsResent opened excused (get nat_eq entries.now) confirmed) }
     ensures memory { OnErr result (Keeps faults.old faults.new) }
-    ensures partial { OnErr result (Keeps faults.new (cond resent.all faults.old (blamed_due opened false decided (values entries.now) faults.old))) }
+    ensures partial { OnErr result (Keeps faults.new (cond resent.all faults.old (blamed_due opened excused decided (values entries.now) faults.old))) }
 {
     if resent.all {
         return Ok(resent);
     }
-    blame_due(entries, opened, false, decided, faults)?;
+    blame_due(entries, opened, excused, decided, faults)?;
     Ok(Resent {
-        all: !any_untouched(entries, opened),
+        all: !any_due(entries, opened, excused),
         confirmed: resent.confirmed,
     })
 }
@@ -297,7 +361,7 @@ fn settle_confirmed(
     faults: &mut Faults,
 ) -> Result<Resent, Memory>
     ensures ok { OnOk result (faults.new ≡ cond resent.confirmed faults.old (blamed_under (get nat_eq entries.now) opened decided confirmed.now.keys faults.old)) }
-    ensures resent { IsResent opened (get nat_eq entries.now) (contains nat_eq confirmed.now) resent → IfOk result (IsResent opened (get nat_eq entries.now) (contains nat_eq confirmed.now)) }
+    ensures resent { (single : TheExcused) → IsResent opened single (get nat_eq entries.now) (contains nat_eq confirmed.now) resent → IfOk result (IsResent opened single (get nat_eq entries.now) (contains nat_eq confirmed.now)) }
     ensures memory { OnErr result (Keeps faults.old faults.new) }
     ensures partial { OnErr result (Keeps faults.new (cond resent.confirmed faults.old (blamed_under (get nat_eq entries.now) opened decided confirmed.now.keys faults.old))) }
 {
@@ -319,22 +383,22 @@ pub fn settle(
     entries: &IndexMap<u16, Entry>,
     confirmed: &IndexSet<u16>,
     opened: u32,
-    excused: bool,
+    excused: Excused,
     decided: u32,
     faults: &mut Faults,
 ) -> Result<Resent, Memory>
     ensures ok { OnOk result (faults.new ≡ told rests resent excused opened decided (values entries.now) (get nat_eq entries.now) confirmed.now.keys faults.old) }
-    ensures resent { IsResent opened (get nat_eq entries.now) (contains nat_eq confirmed.now) resent → IfOk result (IsResent opened (get nat_eq entries.now) (contains nat_eq confirmed.now)) }
+    ensures resent { IsResent opened (resending.apart excused) (get nat_eq entries.now) (contains nat_eq confirmed.now) resent → IfOk result (IsResent opened (resending.apart excused) (get nat_eq entries.now) (contains nat_eq confirmed.now)) }
     ensures memory { OnErr result (Keeps faults.old faults.new) }
     ensures partial { OnErr result (Keeps faults.new (told rests resent excused opened decided (values entries.now) (get nat_eq entries.now) confirmed.now.keys faults.old)) }
 {
     if !rests {
         return Ok(resent);
     }
-    if excused {
+    if excused.all {
         return settle_confirmed(resent, entries, confirmed, opened, decided, faults);
     }
-    settle_all(resent, entries, opened, decided, faults)
+    settle_all(resent, entries, opened, excused.apart(), decided, faults)
 }
 
 /// Whether this is a REST that binds, on a resumed connection.

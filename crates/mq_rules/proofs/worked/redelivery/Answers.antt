@@ -24,3 +24,19 @@ returns-clause-server_breaks c = refl
 pub returns-clause-server_keeps : goal.returns-clause-server_keeps
 unfolding gives_fate fails found_line lines line_of shows_S06 is_binding
 returns-clause-server_keeps c = refl
+
+pub returns-clause-keeps_retained : goal.returns-clause-keeps_retained
+unfolding gives_fate fails found_line lines line_of shows_S06 is_binding
+returns-clause-keeps_retained c = refl
+
+pub returns-clause-breaks_retaining : goal.returns-clause-breaks_retaining
+unfolding gives_fate fails found_line lines line_of shows_S06 is_binding
+returns-clause-breaks_retaining c = refl
+
+pub returns-clause-breaks_unretained : goal.returns-clause-breaks_unretained
+unfolding gives_fate fails found_line lines line_of shows_S06 is_binding
+returns-clause-breaks_unretained c = refl
+
+pub returns-clause-breaks_confirmed : goal.returns-clause-breaks_confirmed
+unfolding gives_fate fails found_line lines line_of shows_S06 is_binding
+returns-clause-breaks_confirmed c = refl

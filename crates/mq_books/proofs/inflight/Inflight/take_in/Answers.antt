@@ -5,9 +5,9 @@ use Rattle.mq_rules.specs.Notes.{is_open, is_boundary, sent_as, received_as, sub
 use Rattle.mq_books.specs.declared.inflight.Inflight.{Inflight}
 use Rattle.mq_books.specs.declared.inflight.resends.Resent.{Resent}
 use Rattle.mq_books.specs.Opened.{entry_next}
-use Rattle.mq_books.specs.Resending.{IsResent, confirmed_next}
+use Rattle.mq_books.specs.Resending.{by_itself, bounds_next, IsResent, confirmed_next}
 use Rattle.mq_books.specs.Using.{waits_next, stray_next, void_next}
-use Rattle.mq_books.proofs.AgainLaws.{again-next}
+use Rattle.mq_books.proofs.AgainLaws.{again-next, bounds-keep}
 use Rattle.mq_books.proofs.inflight.Inflight.take_in.Goals as goal
 
 pub returns-clause-role : goal.returns-clause-role
@@ -75,10 +75,12 @@ returns-clause-again c = λ le is.
     let n = c.args.note.now in
     let entries = c.take_entries.new.entries in
     let confirmed = c.take_confirmed.new.confirmed in
-    subst (λ (x : Inflight). IsResent x.opened (get nat_eq x.entries) (contains nat_eq x.confirmed) x.again) (sym c.in_ok-take_waiting.ensures.same)
-    (subst (λ (x : Inflight). IsResent x.opened (get nat_eq entries) (contains nat_eq confirmed) x.again) (sym c.take_connection.ensures.state)
-    (subst (λ (r : Resent). IsResent (cond (is_open n) c.args.at.position s.opened) (get nat_eq entries) (contains nat_eq confirmed) r) (sym c.resent_still-self.ensures)
-    (again-next c.args.fate n c.args.at s.opened (get nat_eq s.entries) (get nat_eq entries) (contains nat_eq s.confirmed) (contains nat_eq confirmed) s.again le
+    let before = by_itself s.bounds in
+    let after = by_itself (bounds_next s.role n s.bounds) in
+    subst (λ (x : Inflight). IsResent x.opened (by_itself x.bounds) (get nat_eq x.entries) (contains nat_eq x.confirmed) x.again) (sym c.in_ok-take_waiting.ensures.same)
+    (subst (λ (x : Inflight). IsResent x.opened (by_itself x.bounds) (get nat_eq entries) (contains nat_eq confirmed) x.again) (sym c.take_connection.ensures.state)
+    (subst (λ (r : Resent). IsResent (cond (is_open n) c.args.at.position s.opened) after (get nat_eq entries) (contains nat_eq confirmed) r) (sym c.resent_still-self.ensures)
+    (again-next c.args.fate n c.args.at s.opened before after (get nat_eq s.entries) (get nat_eq entries) (contains nat_eq s.confirmed) (contains nat_eq confirmed) s.again le (bounds-keep s.role n s.bounds)
     (λ i. c.in_ok-take_entries.ensures.entries i ∙ ap (λ (x : Inflight). entry_next c.args.fate n c.args.at i (get nat_eq x.entries i)) c.take_connection.ensures.state)
     (λ i. c.in_ok-take_confirmed.ensures i ∙ ap (λ (x : Inflight). confirmed_next c.args.fate n (get nat_eq x.entries) i (contains nat_eq x.confirmed i)) c.take_connection.ensures.state)
     is)))

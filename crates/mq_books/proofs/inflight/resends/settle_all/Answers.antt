@@ -4,4 +4,4 @@ use Rattle.mq_books.proofs.inflight.resends.settle_all.Goals as goal
 
 pub returns-clause-resent : goal.returns-clause-resent
 returns-clause-resent c = λ confirmed is.
-    found-all c.args.opened c.args.entries.now.entries confirmed c.args.resent _ (ap (λ b. record { all = not b; confirmed = c.args.resent.confirmed }) c.any_untouched.ensures) is
+    found-all c.args.opened c.args.excused c.args.entries.now.entries confirmed c.args.resent _ (ap (λ b. record { all = not b; confirmed = c.args.resent.confirmed }) c.any_due.ensures) is
