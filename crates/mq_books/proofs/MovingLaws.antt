@@ -3,7 +3,7 @@ use Rattle.std.proofs.Common.{◌≡◌, ℕ, ◌+◌, ◌-◌, ◌<◌, ◌≤�
 use Rattle.std.specs.Prelude.{is_some}
 use Rattle.std.specs.Option.{option_or}
 use Rattle.indexmap.specs.IndexMap.{get}
-use Rattle.indexmap.specs.IndexSet.{contains}
+use Rattle.indexmap.specs.IndexSet.{contains, index_set_len}
 use Rattle.mq_trace.specs.declared.place.Place3.{Place3}
 use Rattle.mq_rules.specs.declared.role.Tested.{Tested}
 use Rattle.mq_rules.specs.declared.fate.Fate.{Fate}
@@ -37,7 +37,7 @@ use Rattle.mq_books.specs.Opened.{entry_after, entry_next, opened_if, closed_if,
 use Rattle.mq_books.specs.Pingings.{ends_by}
 use Rattle.mq_books.specs.Quotas.{announced, may_count, flown, judged_by}
 use Rattle.mq_books.specs.Resending.{by_itself, bounds_by, confirmed_next, confirms_untouched, excuses, settles, IsResent}
-use Rattle.mq_books.specs.Using.{delivering, stray_next, void_next, resent_next, breaks, unopened, past_pubrel, out_of_order, is_inflight, IsUsing}
+use Rattle.mq_books.specs.Using.{delivering, stray_next, void_next, resent_next, breaks, unopened, past_pubrel, out_of_order, is_inflight, IsUsing, unanswered_next}
 use Rattle.mq_books.proofs.KnowingLaws.{all_excused-late}
 use Rattle.mq_books.proofs.VoidLaws.{accepted-unvoided}
 use Rattle.mq_books.proofs.AgainLaws.{again-next}
@@ -107,6 +107,7 @@ pub moved-next : (tested : Tested) (s t : Inflight) (f : Fate) (at : ℕ) (e : S
 moved-next tested s t f at e past opener x closer pubrel pubrec under u m accepted same w =
     inflight-next tested s t f at e past under u w.others.role (w.others.fate ∙ sym same) w.others.ordered (w.distinct u.distinct) entries
     (λ i. w.stray i ∙ sym (stray-moves i))
+    (λ i. w.unanswered i ∙ ap (λ g. cond (resumes g) (is_id i (option_or opener pubrel) || (not (is_id i closer) && contains nat_eq s.unanswered i)) (contains nat_eq s.unanswered i)) (sym same) ∙ sym (unanswered-moves i))
     (λ i. ap (λ v. contains nat_eq v i) w.others.void
     ∙ sym (ap (λ b. (is_id i (delivery_of n) && b) || contains nat_eq s.void i) (accepted-unvoided f accepted) ∙ ap (λ b. b || contains nat_eq s.void i) (and_false (is_id i (delivery_of n)))))
     (λ i. ap (λ v. contains nat_eq v i) w.others.subscribing ∙ sym (wait-stays (sent_as subscribe_in n) (received_as suback_in n) (is_boundary n) i (contains nat_eq s.subscribing i) m.subscribe m.suback m.inside))
@@ -141,6 +142,13 @@ moved-next tested s t f at e past opener x closer pubrel pubrec under u m accept
         ∙ ap (λ z. (is_id i opener && not (true && is_some z)) || (not (is_id i (closer_of n)) && contains nat_eq s.stray i)) (w.entries i)
         ∙ ap (λ b. b || (not (is_id i (closer_of n)) && contains nat_eq s.stray i)) (kept-anew (is_id i opener) x false e.place (rest i))
         ∙ ap (λ o. not (is_id i o) && contains nat_eq s.stray i) m.closes
+
+    unanswered-moves : (i : ℕ) → unanswered_next f n i (contains nat_eq s.unanswered i) ≡ cond (resumes f) (is_id i (option_or opener pubrel) || (not (is_id i closer) && contains nat_eq s.unanswered i)) (contains nat_eq s.unanswered i)
+    unanswered-moves i =
+        ap (λ b. cond b false (cond (resumes f) (is_id i (option_or (delivery_of n) (sent_as pubrel_in n)) || (not (is_id i (closer_of n)) && contains nat_eq s.unanswered i)) (contains nat_eq s.unanswered i))) m.inside
+        ∙ ap (λ o. cond (resumes f) (is_id i (option_or o (sent_as pubrel_in n)) || (not (is_id i (closer_of n)) && contains nat_eq s.unanswered i)) (contains nat_eq s.unanswered i)) m.delivers
+        ∙ ap (λ o. cond (resumes f) (is_id i (option_or opener o) || (not (is_id i (closer_of n)) && contains nat_eq s.unanswered i)) (contains nat_eq s.unanswered i)) m.releases
+        ∙ ap (λ o. cond (resumes f) (is_id i (option_or opener pubrel) || (not (is_id i o) && contains nat_eq s.unanswered i)) (contains nat_eq s.unanswered i)) m.closes
 
     entries : (i : ℕ) → get nat_eq t.entries i ≡ entry_next f n e.place i (get nat_eq s.entries i)
     entries i = w.entries i ∙ entry-moves f n e.place i (get nat_eq s.entries i) opener x closer pubrel pubrec m accepted
@@ -177,7 +185,7 @@ pub moved-gains : (tested : Tested) (s : Inflight) (f : Fate) (at : ℕ) (e : Se
 moved-gains tested s f at e past m opener x closer pubrel pubrec under now u w accepted =
     inflight-gains tested s f at e past m (record { takes_busy = is_some_and (busy s) opener; unopened = false; twice = false; past_pubrel = false; out_of_order = false }) false (excuses s.peer s.in_flight s.bounds) under u
     (breaks-moves s f e.note opener x closer pubrel pubrec w accepted ∙ all_excused-late f at e.place.position (breaks s f e.note) now)
-    (sym (ap (λ b. resumes f && (b && ((at == e.place.position) && (accepts f && not s.ended)))) w.awake ∙ and_false (resumes f)))
+    (sym (ap (λ b. (resumes f && (b && ((at == e.place.position) && (accepts f && not s.ended)))) && (index_set_len s.unanswered == 0)) w.awake ∙ ap (λ b. b && (index_set_len s.unanswered == 0)) (and_false (resumes f))))
     refl
 
 -- ---- a step

@@ -1,10 +1,12 @@
 -- S06.
-use Rattle.std.proofs.Common.{◌≡◌, ℕ, ◌==◌, nat_eq, nat_le, nat_lt, Bool, true, false, cond, ◌&&◌, ◌||◌, not, List, [], ◌∷◌, Option, Some, None, refl, ap, sym, ◌∙◌, subst}
+use Rattle.std.proofs.Common.{◌≡◌, ℕ, ◌==◌, nat_eq, nat_le, nat_lt, Bool, true, false, cond, ◌&&◌, ◌||◌, not, List, [], ◌∷◌, length, Option, Some, None, refl, ap, sym, ◌∙◌, subst, arith}
 use Rattle.std.specs.Prelude.{is_some, unwrap_or}
 use Rattle.std.specs.Option.{option_or, option_and_then}
+use Rattle.std.specs.List.{list_any}
 use Rattle.std.specs.Map.{values_of}
+use Rattle.std.proofs.lemmas.Bool.{eqb-true, eq-eqb}
 use Rattle.indexmap.specs.IndexMap.{get}
-use Rattle.indexmap.specs.IndexSet.{contains}
+use Rattle.indexmap.specs.IndexSet.{contains, index_set_len}
 use Rattle.mq_trace.specs.declared.place.Place3.{Place3}
 use Rattle.mq_rules.specs.declared.role.Role.{Role}
 use Rattle.mq_rules.specs.declared.role.Role.TheVariants.{Client, Server}
@@ -12,19 +14,21 @@ use Rattle.mq_rules.specs.declared.role.Tested.{Tested}
 use Rattle.mq_rules.specs.declared.fate.Fate.{Fate}
 use Rattle.mq_rules.specs.declared.fate.Fate.TheVariants.{Void, Adrift, New, Forgotten, Resumed, Unasked, Unknown}
 use Rattle.mq_rules.specs.declared.rule.Rule.TheVariants.{S06}
+use Rattle.mq_rules.specs.declared.note.Note.{Note}
+use Rattle.mq_rules.specs.declared.note.Note.TheVariants as notes
 use Rattle.mq_rules.specs.declared.note.Seen.{Seen}
 use Rattle.mq_rules.specs.declared.packet_note.ConnectNote.{ConnectNote}
 use Rattle.mq_rules.specs.declared.packet_note.ConnackNote.{ConnackNote}
 use Rattle.mq_rules.specs.Words.{is_some_and, is_id}
-use Rattle.mq_rules.specs.Notes.{is_open, is_rest, connect_of, connack_of, opener_of, decides}
-use Rattle.mq_rules.specs.Moments.{Moment, newest, position, moment, moments, those, some, Among, IsPlaced, note}
-use Rattle.mq_rules.specs.Connections.{connection, latest_fate, accepts, resumes, accepted, resumed, ends_binding, is_binding, first_connect, first_connack, session, gives_fate}
+use Rattle.mq_rules.specs.Notes.{is_open, is_rest, connect_of, connack_of, opener_of, decides, closer_of}
+use Rattle.mq_rules.specs.Moments.{Moment, newest, position, moment, moments, those, some, Among, IsPlaced, note, since}
+use Rattle.mq_rules.specs.Connections.{connection, latest_fate, accepts, resumes, accepted, resumed, ends_binding, is_binding, first_connect, first_connack, session, gives_fate, begun, number, is_connected, needs_connection}
 use Rattle.mq_rules.specs.Counter.{in_flight}
-use Rattle.mq_rules.specs.Identifiers.{counts, is_used_up, has_announced, refuses_retained, shows_S06}
+use Rattle.mq_rules.specs.Identifiers.{counts, is_used_up, has_announced, refuses_retained, closes_id, sent_under, awaits_closer, is_waiting, shows_S06}
 use Rattle.mq_rules.specs.Rules.{binds, found_line, line_of, lines, same_rule}
 use Rattle.mq_rules.specs.Faults.{reported}
 use Rattle.mq_rules.specs.FaultKeys.{FaultMap}
-use Rattle.mq_rules.proofs.Exports.{among-moment, both_true, first_found-next, latest_fate-same, moment-among, moment-placed, moment-stays, not_true, or_false, rest-opens-nothing, session-descend, session-members, used_up-counted}
+use Rattle.mq_rules.proofs.Exports.{among-moment, among-some, and_false, both_true, differ, first_found-next, latest_fate-same, moment-among, moment-placed, moment-stays, moments-descend, not_true, on_open-connected, or_false, or_left, rest-opens-nothing, session-descend, session-members, since-stands, some-among, those-descend, used_up-counted}
 use Rattle.mq_books.specs.declared.inflight.entry.Entry.{Entry}
 use Rattle.mq_books.specs.declared.inflight.Inflight.{Inflight}
 use Rattle.mq_books.specs.declared.inflight.resends.Excused.{Excused}
@@ -34,7 +38,7 @@ use Rattle.mq_books.specs.Quotas.{peer_room}
 use Rattle.mq_books.specs.Owings.{binds_by, blamed}
 use Rattle.mq_books.specs.Opened.{entry_in}
 use Rattle.mq_books.specs.Resending.{opened_at, connect_bounds, connack_bounds, peer_bounds, bounds_next, by_itself, excuses, apart, entire, is_due, due_places, blamed_due, blamed_under, told, settles}
-use Rattle.mq_books.specs.Using.{IsUsing}
+use Rattle.mq_books.specs.Using.{waits, IsUsing}
 use Rattle.mq_books.proofs.PingLaws.{binding-under}
 use Rattle.mq_books.proofs.BlameLaws.{place_at, blame_of, gains_blamed, gains_none}
 use Rattle.mq_books.proofs.QuotaLaws.{room-kept}
@@ -87,6 +91,48 @@ excuses-are tested s taken e past u =
     ∙ ap (λ b. record { all = (excuses (peer_room tested.role past) (in_flight (those (counts tested.role) (connection past))) (peer_bounds tested.role past)).all; retained = b }) (refused-kept tested.role e past)
     ∙ sym (ap (λ p. excuses p s.in_flight s.bounds) u.same_peer ∙ ap (λ n. excuses (peer_room tested.role past) n s.bounds) u.flying ∙ ap (excuses (peer_room tested.role past) (in_flight (those (counts tested.role) (connection past)))) u.bounds_are)
 
+-- ---- what waits for an answer
+
+-- where something waits under i, the tested end waits
+one-waits : (i : ℕ) (e : Seen) (past : List Seen) → awaits_closer i (newest e past) ≡ true → is_waiting (newest e past) ≡ true
+one-waits i e past h =
+    let ms = connection past in
+    let held = since-stands (λ m. is_id i (sent_under (note m))) (closes_id i) ms (those-descend (λ m. number m == begun past) (moments past) (moments-descend past)) h in
+    among-some (λ j. is_some_and (λ k. awaits_closer k (newest e past)) (sent_under (note j))) ms held.at held.there (go (sent_under (note held.at)) held.passes)
+  where
+    go : (o : Option ℕ) → is_id i o ≡ true → is_some_and (λ k. awaits_closer k (newest e past)) o ≡ true
+    go None h = absurd (cc)
+    go (Some j) same = ap (λ k. awaits_closer k (newest e past)) (sym (eqb-true i j same)) ∙ h
+
+-- where the tested end waits, something does under some identifier
+waits-one : (e : Seen) (past : List Seen) → is_waiting (newest e past) ≡ true → (i : ℕ) × (awaits_closer i (newest e past) ≡ true)
+waits-one e past h =
+    let found = some-among (λ j. is_some_and (λ k. awaits_closer k (newest e past)) (sent_under (note j))) (connection past) h in
+    go (sent_under (note found.0)) found.2
+  where
+    go : (o : Option ℕ) → is_some_and (λ k. awaits_closer k (newest e past)) o ≡ true → (i : ℕ) × (awaits_closer i (newest e past) ≡ true)
+    go None h = absurd (cc)
+    go (Some i) h = (i, h)
+
+-- none is listed exactly if the tested end doesn't wait
+none-waits : (keys : List ℕ) (e : Seen) (past : List Seen) → ((i : ℕ) → list_any (nat_eq i) keys ≡ awaits_closer i (newest e past)) → (length keys == 0) ≡ not (is_waiting (newest e past))
+none-waits [] e past are = go (is_waiting (newest e past)) refl
+  where
+    go : (b : Bool) → is_waiting (newest e past) ≡ b → (length {A = ℕ} [] == 0) ≡ not b
+    go false h = refl
+    go true h = absurd (let one = waits-one e past h in let none : false ≡ true = are one.0 ∙ one.1 in cc)
+none-waits (k ∷ keys) e past are =
+    let listed : list_any (nat_eq k) (k ∷ keys) ≡ true = or_left (nat_eq k k) (list_any (nat_eq k) keys) (eq-eqb k k refl) in
+    let waiting = one-waits k e past (sym (are k) ∙ listed) in
+    let some_one : (length (k ∷ keys) == 0) ≡ false = differ (length (k ∷ keys)) 0 (λ none. absurd (omega arith)) in
+    some_one ∙ sym (ap not waiting)
+
+-- so it is where the connection is resumed
+vacant-waits : (tested : Tested) (s : Inflight) (taken : Option Fate) (e : Seen) (past : List Seen) → IsUsing s tested taken past → resumes s.fate ≡ true → is_connected past ≡ true
+    → (index_set_len s.unanswered == 0) ≡ not (is_waiting (newest e past))
+vacant-waits tested s taken e past u resumed connected =
+    none-waits s.unanswered.keys e past (λ i. u.unanswered_are i ∙ ap (λ b. b && waits sent_under closer_of i past) resumed ∙ ap (λ ms. since (λ m. is_id i (sent_under (note m))) (closes_id i) ms) (on_open-connected past connected))
+
 -- ---- a REST that binds
 
 -- its connection had its fate before it
@@ -106,19 +152,29 @@ S06-turns : (tested : Tested) (f : Fate) (e : Seen) (past : List Seen) (k : ℕ)
 unfolding turns_with
 S06-turns tested f e past k = ap (λ b. b && (is_binding tested.role (newest e past) && is_some_and (shows_S06 tested.role (newest e past)) (moment past k))) (binds-S06 tested.role tested.releases)
 
-shows-owes : (role : Role) (e : Seen) (past : List Seen) (m : Moment) → shows_S06 role (newest e past) m ≡ owes role (latest_fate role past) (excused_at role e past) past m
+shows-owes : (role : Role) (e : Seen) (past : List Seen) (m : Moment) → shows_S06 role (newest e past) m ≡ (not (is_waiting (newest e past)) && owes role (latest_fate role past) (excused_at role e past) past m)
 unfolding shows_S06 excused_at
-shows-owes role e past m = refl
+shows-owes role e past m = in-turn (resumed (latest_fate role past)) (not (is_waiting (newest e past))) _
+  where
+    in-turn : (a b c : Bool) → (a && (b && c)) ≡ (b && (a && c))
+    in-turn true b c = refl
+    in-turn false true c = refl
+    in-turn false false c = refl
 
 -- what it shows
 shown-owes : (role : Role) (f : Fate) (x : Excused) (e : Seen) (past : List Seen) → latest_fate role past ≡ Some f → excused_at role e past ≡ x
-    → (q : Option Moment) → is_some_and (shows_S06 role (newest e past)) q ≡ is_some_and (owes role (Some f) x past) q
-shown-owes role f x e past fate is None = refl
-shown-owes role f x e past fate is (Some m) = shows-owes role e past m ∙ ap (λ o. owes role o (excused_at role e past) past m) fate ∙ ap (λ b. owes role (Some f) b past m) is
+    → (q : Option Moment) → is_some_and (shows_S06 role (newest e past)) q ≡ (not (is_waiting (newest e past)) && is_some_and (owes role (Some f) x past) q)
+shown-owes role f x e past fate is None = sym (and_false (not (is_waiting (newest e past))))
+shown-owes role f x e past fate is (Some m) =
+    shows-owes role e past m ∙ ap (λ o. not (is_waiting (newest e past)) && owes role o (excused_at role e past) past m) fate ∙ ap (λ b. not (is_waiting (newest e past)) && owes role (Some f) b past m) is
 
 shown-nowhere : (role : Role) (f : Fate) (x : Excused) (past : List Seen) → resumes f ≡ false → (q : Option Moment) → is_some_and (owes role (Some f) x past) q ≡ false
 shown-nowhere role f x past h None = refl
 shown-nowhere role f x past h (Some m) = ap (λ b. b && is_some_and (λ i. core role f x past i m) (opener_of (note m))) h
+
+rest-needs : (n : Note) → is_rest n ≡ true → needs_connection n ≡ true
+rest-needs notes.Rest h = refl
+rest-needs _ h = absurd (cc)
 
 resumed-accepts : (f : Fate) → resumes f ≡ true → accepts f ≡ true
 resumed-accepts Void h = absurd (cc)
@@ -171,7 +227,7 @@ due-blamed tested f at opened x e past entry places placed resumed opened_is are
     go (Some p) h = of_entry p (sound k p h)
 
 pub resends-gains : (tested : Tested) (s : Inflight) (f : Fate) (at : ℕ) (e : Seen) (past : List Seen) (m : FaultMap) (rests : Bool) (excused : Excused) → IsUnder tested f at e past → IsUsing s tested (fate_before tested f e past) past
-    → rests ≡ settles f (at == e.place.position) s.ended e.note → excused ≡ excuses s.peer s.in_flight s.bounds
+    → rests ≡ (settles f (at == e.place.position) s.ended e.note && (index_set_len s.unanswered == 0)) → excused ≡ excuses s.peer s.in_flight s.bounds
     → Gains (λ k r. same_rule r S06 && turns_with tested f e past k r) tested (e ∷ past) at m (told rests s.again excused s.opened at (values_of s.entries.entries) (get nat_eq s.entries) s.confirmed.keys m)
 resends-gains tested s f at e past m rests excused under u rest_is excused_is = go rests refl
   where
@@ -184,32 +240,50 @@ resends-gains tested s f at e past m rests excused under u rest_is excused_is = 
     binding : is_binding tested.role (newest e past) ≡ binds_by f (at == e.place.position) s.ended e.note
     binding = binding-under tested f at e past under ∙ ap (λ t. binds_by f (at == e.place.position) t e.note) (sym u.is_ended)
 
-    is : rests ≡ (resumes f && is_binding tested.role (newest e past))
-    is = rest_is ∙ ap (λ b. resumes f && b) (sym binding)
+    waiting : Bool
+    waiting = is_waiting (newest e past)
+
+    vacant : Bool
+    vacant = index_set_len s.unanswered == 0
+
+    is : rests ≡ ((resumes f && is_binding tested.role (newest e past)) && vacant)
+    is = rest_is ∙ ap (λ b. (resumes f && b) && vacant) (sym binding)
 
     x_is : excused_at tested.role e past ≡ excused
     x_is = excuses-are tested s (fate_before tested f e past) e past u ∙ sym excused_is
 
-    shown : is_binding tested.role (newest e past) ≡ true → (k : ℕ) → turns_with tested f e past k S06 ≡ is_some_and (owes tested.role (Some f) excused past) (moment past k)
+    shown : is_binding tested.role (newest e past) ≡ true → (k : ℕ) → turns_with tested f e past k S06 ≡ (not waiting && is_some_and (owes tested.role (Some f) excused past) (moment past k))
     shown b k =
         S06-turns tested f e past k ∙ ap (λ t. t && is_some_and (shows_S06 tested.role (newest e past)) (moment past k)) b
         ∙ shown-owes tested.role f excused e past (binding-fate tested f at e past under b) x_is (moment past k)
 
-    none : (b : Bool) → is_binding tested.role (newest e past) ≡ b → (r : Bool) → resumes f ≡ r → (r && b) ≡ false → (k : ℕ) → turns_with tested f e past k S06 ≡ false
-    none false b r t h k = S06-turns tested f e past k ∙ ap (λ t. t && is_some_and (shows_S06 tested.role (newest e past)) (moment past k)) b
-    none true b true t h k = absurd (cc)
-    none true b false t h k = shown b k ∙ shown-nowhere tested.role f excused past t (moment past k)
+    -- a REST that binds comes on a connection that is open
+    awake : is_binding tested.role (newest e past) ≡ true → is_rest e.note ≡ true
+    awake b = (both_true (is_rest e.note) ((at == e.place.position) && (accepts f && not s.ended)) (sym binding ∙ b)).0
+
+    silent : resumes f ≡ true → is_binding tested.role (newest e past) ≡ true → vacant ≡ not waiting
+    silent r b =
+        let rest = awake b in
+        let n : IsUsing s tested (Some f) past = subst (λ c. IsUsing s tested (cond c (latest_fate tested.role past) (Some f)) past) (rest-opens-nothing e.note rest) u in
+        let same : s.fate ≡ f = let h : Some s.fate ≡ Some f = sym n.same_fate in cc in
+        vacant-waits tested s (Some f) e past n (ap resumes same ∙ r) (under.follows.on_connections.0 (rest-needs e.note rest))
+
+    none : (b : Bool) → is_binding tested.role (newest e past) ≡ b → (r : Bool) → resumes f ≡ r → (v : Bool) → vacant ≡ v → ((r && b) && v) ≡ false → (k : ℕ) → turns_with tested f e past k S06 ≡ false
+    none false b r t v w h k = S06-turns tested f e past k ∙ ap (λ t. t && is_some_and (shows_S06 tested.role (newest e past)) (moment past k)) b
+    none true b true t true w h k = absurd (cc)
+    none true b true t false w h k = shown b k ∙ ap (λ v. v && is_some_and (owes tested.role (Some f) excused past) (moment past k)) (sym (silent t b) ∙ w)
+    none true b false t v w h k = shown b k ∙ ap (λ o. not waiting && o) (shown-nowhere tested.role f excused past t (moment past k)) ∙ and_false (not waiting)
 
     closed : is_rest e.note ≡ true → IsUsing s tested (Some f) past
     closed rest = subst (λ b. IsUsing s tested (cond b (latest_fate tested.role past) (Some f)) past) (rest-opens-nothing e.note rest) u
 
     -- by what is looked at, which has all that is due
-    from : resumes f ≡ true → is_binding tested.role (newest e past) ≡ true → IsUsing s tested (Some f) past → (places : List Place3)
+    from : resumes f ≡ true → is_binding tested.role (newest e past) ≡ true → vacant ≡ true → IsUsing s tested (Some f) past → (places : List Place3)
         → ((k : ℕ) (p : Place3) → place_at k places ≡ Some p → IsDueAt k s.opened excused entry p)
         → ((k i : ℕ) (o : Entry) → entry i ≡ Some o → is_due s.opened excused o ≡ true → k ≡ o.place.position → is_some (place_at k places) ≡ true) → all (blamed S06 at places m)
-    from resumed b n places sound complete =
+    from resumed b v n places sound complete =
         gains_blamed tested S06 f e past at places m
-        (due-blamed tested f at s.opened excused e past entry places under.follows.placed.1 resumed n.opened_is n.entries_are (shown b) sound complete)
+        (due-blamed tested f at s.opened excused e past entry places under.follows.placed.1 resumed n.opened_is n.entries_are (λ k. shown b k ∙ ap (λ w. w && is_some_and (owes tested.role (Some f) excused past) (moment past k)) (sym (silent resumed b) ∙ v)) sound complete)
 
     -- what is due by other excuses that come to the same
     as_due : (x : Excused) → ((o : Entry) → is_due s.opened x o ≡ is_due s.opened excused o) → (k : ℕ) (p : Place3) → IsDueAt k s.opened x entry p → IsDueAt k s.opened excused entry p
@@ -239,34 +313,34 @@ resends-gains tested s f at e past m rests excused under u rest_is excused_is = 
     itself : apart excused ≡ by_itself s.bounds
     itself = ap apart excused_is
 
-    by : resumes f ≡ true → is_binding tested.role (newest e past) ≡ true → IsUsing s tested (Some f) past → (x : Bool) → excused.all ≡ x → (a : Bool) → s.again.all ≡ a → (c : Bool) → s.again.confirmed ≡ c
+    by : resumes f ≡ true → is_binding tested.role (newest e past) ≡ true → vacant ≡ true → IsUsing s tested (Some f) past → (x : Bool) → excused.all ≡ x → (a : Bool) → s.again.all ≡ a → (c : Bool) → s.again.confirmed ≡ c
         → all (cond x (cond c m (blamed_under entry s.opened at s.confirmed.keys m)) (cond a m (blamed_due s.opened (apart excused) at (values_of s.entries.entries) m)))
-    by resumed b n true x_is a a_is true c_is =
-        from resumed b n [] (absent excused) (nothing excused (λ i o h due.
+    by resumed b v n true x_is a a_is true c_is =
+        from resumed b v n [] (absent excused) (nothing excused (λ i o h due.
         let none : is_some_and (is_due s.opened entire) (entry i) ≡ false = n.resent_are.confirmed_are c_is i in
         let bad : true ≡ false = sym (ap (is_some_and (is_due s.opened entire)) h ∙ sym (whole x_is o) ∙ due) ∙ none in
         absurd (cc)))
-    by resumed b n true x_is a a_is false c_is =
+    by resumed b v n true x_is a a_is false c_is =
         subst all (sym (blamed_under-is entry s.opened at s.confirmed.keys m))
-        (from resumed b n (places_under entry s.opened s.confirmed.keys) (λ k p h. as_due entire (λ o. sym (whole x_is o)) k p (under-due k s.opened entry s.confirmed.keys p h))
+        (from resumed b v n (places_under entry s.opened s.confirmed.keys) (λ k p h. as_due entire (λ o. sym (whole x_is o)) k p (under-due k s.opened entry s.confirmed.keys p h))
         (λ k i o h due at_k. let due_too : is_due s.opened entire o ≡ true = sym (whole x_is o) ∙ due in
         listed-due k i s.opened entry s.confirmed.keys o h due_too at_k (due-listed s.opened (by_itself s.bounds) entry (contains nat_eq s.confirmed) s.again n.resent_are i o h due_too)))
-    by resumed b n false x_is true a_is c c_is =
-        from resumed b n [] (absent excused) (nothing excused (λ i o h due.
+    by resumed b v n false x_is true a_is c c_is =
+        from resumed b v n [] (absent excused) (nothing excused (λ i o h due.
         let none : is_some_and (is_due s.opened (by_itself s.bounds)) (entry i) ≡ false = n.resent_are.all_are a_is i in
         let bad : true ≡ false = sym (ap (is_some_and (is_due s.opened (by_itself s.bounds))) h ∙ ap (λ y. is_due s.opened y o) (sym itself) ∙ sym (single x_is o) ∙ due) ∙ none in
         absurd (cc)))
-    by resumed b n false x_is false a_is c c_is =
+    by resumed b v n false x_is false a_is c c_is =
         subst all (sym (blamed_due-is s.opened (apart excused) at (values_of s.entries.entries) m))
-        (from resumed b n (due_places s.opened (apart excused) (values_of s.entries.entries)) (λ k p h. as_due (apart excused) (λ o. sym (single x_is o)) k p (value-due k s.opened (apart excused) s.entries.entries p n.distinct h))
+        (from resumed b v n (due_places s.opened (apart excused) (values_of s.entries.entries)) (λ k p h. as_due (apart excused) (λ o. sym (single x_is o)) k p (value-due k s.opened (apart excused) s.entries.entries p n.distinct h))
         (λ k i o h due at_k. key-due k i s.opened (apart excused) s.entries.entries o h (sym (single x_is o) ∙ due) at_k))
 
     go : (t : Bool) → rests ≡ t → all (told t s.again excused s.opened at (values_of s.entries.entries) entry s.confirmed.keys m)
-    go false h = gains_none tested S06 f e past at m (none (is_binding tested.role (newest e past)) refl (resumes f) refl (sym is ∙ h))
+    go false h = gains_none tested S06 f e past at m (none (is_binding tested.role (newest e past)) refl (resumes f) refl vacant refl (sym is ∙ h))
     go true h =
-        let parts = both_true (resumes f) (is_binding tested.role (newest e past)) (sym is ∙ h) in
-        let n = closed (both_true (is_rest e.note) ((at == e.place.position) && (accepts f && not s.ended)) (sym binding ∙ parts.1)).0 in
-        by parts.0 parts.1 n excused.all refl s.again.all refl s.again.confirmed refl
+        let all_parts = both_true (resumes f && is_binding tested.role (newest e past)) vacant (sym is ∙ h) in
+        let parts = both_true (resumes f) (is_binding tested.role (newest e past)) all_parts.0 in
+        by parts.0 parts.1 all_parts.1 (closed (awake parts.1)) excused.all refl s.again.all refl s.again.confirmed refl
 
 -- ---- the state, with one event more
 

@@ -1,6 +1,7 @@
 -- What was sent on the connection and not acknowledged there, in entries and apart from them.
-use Rattle.std.proofs.Common.{◌≡◌, ℕ, ◌+◌, ◌<◌, ◌≤◌, nat_eq, nat_le, nat_lt, arith, Bool, true, false, cond, ◌&&◌, ◌||◌, not, List, ◌∷◌, length, Option, Some, None, refl, ap, sym, ◌∙◌}
+use Rattle.std.proofs.Common.{◌≡◌, ℕ, ◌+◌, ◌<◌, ◌≤◌, nat_eq, nat_le, nat_lt, arith, Bool, true, false, cond, ◌&&◌, ◌||◌, not, List, [], ◌∷◌, length, Option, Some, None, refl, ap, sym, ◌∙◌}
 use Rattle.std.specs.Prelude.{is_some}
+use Rattle.std.specs.Option.{option_or}
 use Rattle.std.proofs.lemmas.Bool.{ltb-true, ltb-false, le-ltb}
 use Rattle.std.proofs.lemmas.Bool.Decides.{nat_tests}
 use Rattle.mq_trace.specs.declared.place.Place3.{Place3}
@@ -10,6 +11,8 @@ use Rattle.mq_rules.specs.declared.note.Note.TheVariants as notes
 use Rattle.mq_rules.specs.declared.note.Seen.{Seen}
 use Rattle.mq_rules.specs.Words.{is_some_and, is_id}
 use Rattle.mq_rules.specs.Notes.{is_open, is_close, is_boundary, delivery_of, closer_of, opener_of, sent_as, received_as, pubrel_in, accepting_pubrec_in}
+use Rattle.mq_rules.specs.Moments.{Moment, note, since}
+use Rattle.mq_rules.specs.Identifiers.{delivers, closes_id, sent_under}
 use Rattle.mq_rules.specs.Connections.{needs_connection, accepts, begins}
 use Rattle.mq_rules.proofs.Exports.{not_true, or_false}
 use Rattle.mq_books.specs.declared.inflight.entry.Entry.{Entry}
@@ -179,6 +182,28 @@ published-next f g e opened entry new past at is same grown = record {
         begun false = not-since (length past) (entry i) (is.within i)
     go false h refused i grown =
         ap (since_open opened) (grown ∙ ap (λ a. cond a (entry_after i n e.place (entry i)) (entry i)) refused) ∙ is.accepted (ap accepts (same h) ∙ refused) i
+
+-- ---- how many there are
+
+-- a PUBLISH that isn't acknowledged waits for its closer
+pub delivered-waits : (i : ℕ) (ms : List Moment) → since (delivers i) (closes_id i) ms ≡ true → since (λ m. is_id i (sent_under (note m))) (closes_id i) ms ≡ true
+delivered-waits i [] h = absurd (cc)
+delivered-waits i (m ∷ ms) h = go (delivery_of (note m)) (closes_id i m) (sent_as pubrel_in (note m)) h (delivered-waits i ms)
+  where
+    right : (b c : Bool) → c ≡ true → (b || c) ≡ true
+    right true c h = refl
+    right false c h = h
+
+    go : (d : Option ℕ) (c : Bool) (r : Option ℕ) → (is_id i d || (not c && since (delivers i) (closes_id i) ms)) ≡ true → (since (delivers i) (closes_id i) ms ≡ true → since (λ m. is_id i (sent_under (note m))) (closes_id i) ms ≡ true)
+        → (is_id i (option_or d r) || (not c && since (λ m. is_id i (sent_under (note m))) (closes_id i) ms)) ≡ true
+    go None true r h rest = absurd (cc)
+    go None false r h rest = right (is_id i r) (since (λ m. is_id i (sent_under (note m))) (closes_id i) ms) (rest h)
+    go (Some j) c r h rest = by (is_id i (Some j)) c h
+      where
+        by : (b c : Bool) → (b || (not c && since (delivers i) (closes_id i) ms)) ≡ true → (b || (not c && since (λ m. is_id i (sent_under (note m))) (closes_id i) ms)) ≡ true
+        by true c h = refl
+        by false true h = absurd (cc)
+        by false false h = rest h
 
 -- ---- events that say nothing of it
 

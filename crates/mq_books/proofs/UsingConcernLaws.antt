@@ -5,7 +5,7 @@ use Rattle.std.proofs.lemmas.Bool.{ltb-true}
 use Rattle.std.specs.Map.{values_of}
 use Rattle.std.specs.Option.{option_or}
 use Rattle.indexmap.specs.IndexMap.{get}
-use Rattle.indexmap.specs.IndexSet.{contains}
+use Rattle.indexmap.specs.IndexSet.{contains, index_set_len}
 use Rattle.mq_trace.specs.declared.place.Place3.{Place3}
 use Rattle.mq_rules.specs.declared.role.Role.{Role}
 use Rattle.mq_rules.specs.declared.role.Role.TheVariants.{Client, Server}
@@ -29,7 +29,7 @@ use Rattle.mq_books.specs.Opened.{entry_after, entry_next, opened_if, closed_if,
 use Rattle.mq_books.specs.Pingings.{ends_by}
 use Rattle.mq_books.specs.Quotas.{announced, may_count, flown}
 use Rattle.mq_books.specs.Resending.{bounds_by, excuses, settles}
-use Rattle.mq_books.specs.Using.{delivering, waits_next, void_next, resent_next, greater, resent_by, takes_busy, unopened, past_pubrel, out_of_order, breaks, is_inflight, IsUsing}
+use Rattle.mq_books.specs.Using.{delivering, waits_next, void_next, resent_next, greater, resent_by, takes_busy, unopened, past_pubrel, out_of_order, breaks, is_inflight, IsUsing, unanswered_next}
 use Rattle.mq_books.specs.Knowing.{all_excused}
 use Rattle.mq_books.proofs.ConcernLaws.{nothing, neither, same_cond, some-same, and2_false, closed-before}
 use Rattle.mq_books.proofs.StrayLaws.{stray-stays}
@@ -117,6 +117,14 @@ entry-stays tested f n place i old q =
 pub wait-stays : (starts ends : Option ℕ) (boundary : Bool) (i : ℕ) (old : Bool) → starts ≡ None → ends ≡ None → boundary ≡ false → waits_next starts ends boundary i old ≡ old
 wait-stays starts ends boundary i old a b c = ap (λ o. waits_next o ends boundary i old) a ∙ ap (λ o. waits_next None o boundary i old) b ∙ ap (λ t. waits_next None None t i old) c
 
+unanswered-stays : {tested : Tested} (f : Fate) (n : Note) (i : ℕ) (old : Bool) → Quiet tested n → unanswered_next f n i old ≡ old
+unanswered-stays f n i old q =
+    ap (λ b. cond b false (cond (resumes f) (is_id i (option_or (delivery_of n) (sent_as pubrel_in n)) || (not (is_id i (closer_of n)) && old)) old)) q.inside
+    ∙ ap (λ o. cond (resumes f) (is_id i (option_or o (sent_as pubrel_in n)) || (not (is_id i (closer_of n)) && old)) old) q.delivery
+    ∙ ap (λ o. cond (resumes f) (is_id i o || (not (is_id i (closer_of n)) && old)) old) q.pubrel
+    ∙ ap (λ o. cond (resumes f) (not (is_id i o) && old) old) q.closer
+    ∙ same_cond (resumes f) old
+
 greater-stays : (old : ℕ) → greater 0 old ≡ old
 greater-stays old = go (nat_lt old 0) refl
   where
@@ -168,6 +176,7 @@ inflight-passes tested s f at e past h under before =
       inflight-next tested s s f at e past under before refl (sym (some-same f s.fate u.same_fate)) refl u.distinct
           (λ i. sym (entry-stays tested f n e.place i (get nat_eq s.entries i) q))
           (λ i. sym (stray-stays f n (get nat_eq s.entries) i (contains nat_eq s.stray i) q.inside q.delivery q.closer))
+          (λ i. sym (unanswered-stays f n i (contains nat_eq s.unanswered i) q))
           (λ i. sym (ap (λ o. (is_id i o && is_void f) || contains nat_eq s.void i) q.delivery))
           (λ i. sym (wait-stays (sent_as subscribe_in n) (received_as suback_in n) (is_boundary n) i (contains nat_eq s.subscribing i) q.subscribe q.suback q.inside))
           (λ i. sym (wait-stays (sent_as unsubscribe_in n) (received_as unsuback_in n) (is_boundary n) i (contains nat_eq s.unsubscribing i) q.unsubscribe q.unsuback q.inside))
@@ -180,6 +189,6 @@ inflight-passes tested s f at e past h under before =
           u.resent_are,
       λ m. inflight-gains tested s f at e past m (record { takes_busy = false; unopened = false; twice = false; past_pubrel = false; out_of_order = false }) false (excuses s.peer s.in_flight s.bounds) under before
           (ap (all_excused f (at == e.place.position)) (unbroken tested s f n q))
-          (sym (ap (λ b. resumes f && (b && ((at == e.place.position) && (accepts f && not s.ended)))) q.awake ∙ and_false (resumes f)))
+          (sym (ap (λ b. (resumes f && (b && ((at == e.place.position) && (accepts f && not s.ended)))) && (index_set_len s.unanswered == 0)) q.awake ∙ ap (λ b. b && (index_set_len s.unanswered == 0)) (and_false (resumes f))))
           refl,
     )

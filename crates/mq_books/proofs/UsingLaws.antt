@@ -1,6 +1,7 @@
 -- S01 to S05.
 use Rattle.std.proofs.Common.{◌≡◌, ℕ, ◌<◌, ◌≤◌, ◌==◌, nat_eq, nat_lt, arith, Bool, true, false, cond, ◌&&◌, ◌||◌, not, List, [], ◌∷◌, Option, Some, None, refl, ap, sym, subst, ◌∙◌, ◌⊎◌, inl, inr}
 use Rattle.std.specs.Prelude.{is_some}
+use Rattle.std.specs.Option.{option_or}
 use Rattle.std.proofs.lemmas.Bool.{ltb-true, ltb-false, lt-ltb}
 use Rattle.indexmap.specs.IndexMap.{get}
 use Rattle.indexmap.specs.IndexSet.{contains}
@@ -15,10 +16,10 @@ use Rattle.mq_rules.specs.declared.note.Note.{Note}
 use Rattle.mq_rules.specs.declared.note.Note.TheVariants as notes
 use Rattle.mq_rules.specs.declared.note.Seen.{Seen}
 use Rattle.mq_rules.specs.Words.{is_some_and, is_id}
-use Rattle.mq_rules.specs.Notes.{is_open, is_close, is_boundary, delivery_of, closer_of, resend_of, sent_as, received_as, subscribe_in, suback_in, unsubscribe_in, unsuback_in}
+use Rattle.mq_rules.specs.Notes.{is_open, is_close, is_boundary, delivery_of, closer_of, resend_of, sent_as, received_as, pubrel_in, subscribe_in, suback_in, unsubscribe_in, unsuback_in}
 use Rattle.mq_rules.specs.Moments.{Moment, newest, note, position, some, since, latest, is_next, IsPlaced, IsDescending}
-use Rattle.mq_rules.specs.Connections.{is_connected, connection, needs_connection, IsOnConnection, latest_fate, accepts, session, is_unasked, surprises, couldnt_know, couldnt_know_resumed}
-use Rattle.mq_rules.specs.Identifiers.{opens_id, closes_id, delivers, is_open_at, latest_opener, awaits_suback, is_busy_at, taken_by, was_sent_on_void, opens_exactly_once, sends_pubrel, comes_after, breaks_S01, breaks_S02, breaks_S03, breaks_S04, breaks_S05}
+use Rattle.mq_rules.specs.Connections.{is_connected, connection, needs_connection, IsOnConnection, latest_fate, accepts, session, is_unasked, surprises, couldnt_know, couldnt_know_resumed, resumes}
+use Rattle.mq_rules.specs.Identifiers.{opens_id, closes_id, delivers, is_open_at, latest_opener, awaits_suback, is_busy_at, taken_by, was_sent_on_void, opens_exactly_once, sends_pubrel, comes_after, breaks_S01, breaks_S02, breaks_S03, breaks_S04, breaks_S05, sent_under}
 use Rattle.mq_rules.specs.Rules.{binds, found_line, line_of, lines}
 use Rattle.mq_rules.specs.Statements.{in_session, statement, knowing, knowing_resumed}
 use Rattle.mq_rules.specs.FaultKeys.{FaultMap}
@@ -29,7 +30,7 @@ use Rattle.mq_books.specs.declared.inflight.entry.Entry.{Entry}
 use Rattle.mq_rules.specs.Under.{IsUnder, fate_before, turns_with}
 use Rattle.mq_rules.specs.Growing.{Gains}
 use Rattle.mq_books.specs.Opened.{sends_exactly_once, entry_in}
-use Rattle.mq_books.specs.Using.{delivering, waits, waits_next, place_or_zero, resent_by, greater, resent_next, resent_in, unopened, past_pubrel, out_of_order, breaks, judged_all, is_at_once, IsUsing}
+use Rattle.mq_books.specs.Using.{delivering, waits, waits_next, unanswered_next, place_or_zero, resent_by, greater, resent_next, resent_in, unopened, past_pubrel, out_of_order, breaks, judged_all, is_at_once, IsUsing}
 use Rattle.mq_books.proofs.JudgeLaws.{session-turns_with}
 use Rattle.mq_books.proofs.OpenedLaws.{entry-there, entry-is, IsEntry}
 use Rattle.mq_books.proofs.StrayLaws.{boundary-opens}
@@ -353,6 +354,42 @@ waits-under starts ends i e past itemless on = on_open-fold found more e past (�
 pub waiting : (starts ends : Note → Option ℕ) (old new : ℕ → Bool) (e : Seen) (past : List Seen) → (has_item e.note ≡ false → starts e.note ≡ None) → IsOnConnection e past → ((i : ℕ) → old i ≡ waits starts ends i past)
     → ((i : ℕ) → new i ≡ waits_next (starts e.note) (ends e.note) (is_boundary e.note) i (old i)) → (i : ℕ) → new i ≡ waits starts ends i (e ∷ past)
 waiting starts ends old new e past itemless on h is i = is i ∙ ap (waits_next (starts e.note) (ends e.note) (is_boundary e.note) i) (h i) ∙ sym (waits-under starts ends i e past itemless on)
+
+-- what awaits its closer on a resumed connection
+pub under-none : (n : Note) → has_item n ≡ false → sent_under n ≡ None
+under-none n h = ap (λ o. option_or o (sent_as pubrel_in n)) (delivery-none n h) ∙ sent-none pubrel_in n h
+
+boundary-itemless : (n : Note) → is_boundary n ≡ true → has_item n ≡ false
+boundary-itemless notes.Open h = refl
+boundary-itemless notes.Close h = refl
+boundary-itemless _ h = absurd (cc)
+
+inside-closed : (n : Note) → is_boundary n ≡ false → is_open n ≡ false
+inside-closed notes.Open h = absurd (cc)
+inside-closed _ h = refl
+
+pub unanswered-under : (f g now : Fate) (i : ℕ) (e : Seen) (past : List Seen) (old : Bool) → IsOnConnection e past → now ≡ f → (is_open e.note ≡ false → g ≡ f) → old ≡ (resumes g && waits sent_under closer_of i past)
+    → unanswered_next f e.note i old ≡ (resumes now && waits sent_under closer_of i (e ∷ past))
+unanswered-under f g now i e past old on is same was =
+    go (is_boundary n) refl ∙ sym (ap (λ h. resumes h && waits sent_under closer_of i (e ∷ past)) is ∙ ap (λ b. resumes f && b) (waits-under sent_under closer_of i e past (under-none n) on))
+  where
+    n : Note
+    n = e.note
+
+    w : Bool
+    w = waits sent_under closer_of i past
+
+    resumed : (b : Bool) → cond b (is_id i (sent_under n) || (not (is_id i (closer_of n)) && (b && w))) (b && w) ≡ (b && (is_id i (sent_under n) || (not (is_id i (closer_of n)) && w)))
+    resumed true = refl
+    resumed false = refl
+
+    go : (b : Bool) → is_boundary n ≡ b → cond b false (cond (resumes f) (is_id i (sent_under n) || (not (is_id i (closer_of n)) && old)) old) ≡ (resumes f && waits_next (sent_under n) (closer_of n) b i w)
+    go true h =
+        sym (ap (λ o. resumes f && (is_id i o || (not (is_id i (closer_of n)) && false))) (under-none n (boundary-itemless n h))
+        ∙ ap (λ b. resumes f && b) (and_false (not (is_id i (closer_of n)))) ∙ and_false (resumes f))
+    go false h =
+        let now_is : old ≡ (resumes f && w) = was ∙ ap (λ g. resumes g && w) (same (inside-closed n h)) in
+        ap (λ o. cond (resumes f) (is_id i (sent_under n) || (not (is_id i (closer_of n)) && o)) o) now_is ∙ resumed (resumes f)
 
 -- a connection is open after an event: it began with it, or it didn't end with it
 goes-on : (n : Note) (connected : Bool) → (is_open n || (not (is_close n) && connected)) ≡ true → (is_close n ≡ false) × (is_open n ≡ false → connected ≡ true)

@@ -13,7 +13,7 @@ use Rattle.mq_rules.specs.Notes.{received_subscription, sent_as, received_as, su
 use Rattle.mq_rules.specs.Moments.{Moment, note, moments, some, since}
 use Rattle.mq_rules.specs.Burden.{aliases_sent}
 use Rattle.mq_rules.specs.Connections.{number, connection, on_open, latest_fate, voided, fate_under, session}
-use Rattle.mq_rules.specs.Identifiers.{opens_id, closes_id, delivers}
+use Rattle.mq_rules.specs.Identifiers.{opens_id, closes_id, delivers, sent_under}
 use Rattle.mq_rules.specs.Rules.{binds_end}
 use Rattle.mq_rules.specs.Exchanges.{Exchange, causes, answers, publish_puback, publish_pubrec, pubrec_pubrel, pubrel_pubcomp, subscribe_suback, unsubscribe_unsuback}
 use Rattle.mq_rules.specs.Releases.{brings, releases_message, ends}
@@ -38,9 +38,9 @@ ids_where test = count_below test 65536
 unfoldable pub open_ids : Role → Option Fate → List Seen → ℕ
 open_ids role taken log = ids_where (λ i. since (opens_id i) (closes_id i) (session role taken log))
 
--- how many have a PUBLISH of QoS above 0 sent on the open connection, and no closer after it
+-- how many have a PUBLISH of QoS above 0 or a PUBREL sent on the open connection, and no closer after it
 unfoldable pub delivering_ids : List Seen → ℕ
-delivering_ids log = ids_where (λ i. since (delivers i) (closes_id i) (on_open log))
+delivering_ids log = ids_where (λ i. since (λ m. is_id i (sent_under (note m))) (closes_id i) (on_open log))
 
 -- how many have a PUBLISH of QoS above 0 sent on a void connection
 unfoldable pub void_ids : Role → Option Fate → List Seen → ℕ

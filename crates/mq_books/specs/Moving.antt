@@ -1,5 +1,6 @@
 -- Events whose packets have no properties, by what they do to Packet Identifiers (MQTT 5.0, sections 2.2.1 and 4.3).
 use Rattle.std.specs.Prelude.{ℕ, ◌≡◌, ◌<◌, ◌+◌, ◌-◌, nat_eq, nat_lt, length, Bool, true, false, ◌&&◌, ◌||◌, not, cond, List, ◌∷◌, Option, None, is_some}
+use Rattle.std.specs.Option.{option_or}
 use Rattle.indexmap.specs.IndexMap.{get, IsUnique}
 use Rattle.indexmap.specs.IndexSet.{contains}
 use Rattle.mq_trace.specs.declared.place.Place3.{Place3}
@@ -9,7 +10,7 @@ use Rattle.mq_rules.specs.declared.note.Note.{Note}
 use Rattle.mq_rules.specs.declared.note.Seen.{Seen}
 use Rattle.mq_rules.specs.Words.{is_some_and, is_id}
 use Rattle.mq_rules.specs.Notes.{is_open, is_boundary, is_rest, closer_of, delivery_of, opener_of, resend_of, sent_as, received_as, pubrel_in, accepting_pubrec_in, subscribe_in, suback_in, unsubscribe_in, unsuback_in}
-use Rattle.mq_rules.specs.Connections.{latest_fate}
+use Rattle.mq_rules.specs.Connections.{latest_fate, resumes}
 use Rattle.mq_rules.specs.Identifiers.{taken_by}
 use Rattle.mq_rules.specs.FaultKeys.{FaultMap}
 use Rattle.mq_rules.specs.Under.{seen, turns_known}
@@ -75,6 +76,7 @@ pub record IsMoved (place : Place3) (opener : Option ℕ) (exactly_once : Bool) 
       ≡ opened_if (is_id i opener) exactly_once false place (closed_if (is_id i closer) (confirmed_if (is_id i pubrec) (released_if (is_id i pubrel) place.position (get nat_eq old.entries i))))
   pub confirmed : (i : ℕ) → contains nat_eq new.confirmed i ≡ (not (is_id i closer) && (contains nat_eq old.confirmed i || (is_id i pubrec && is_some (get nat_eq old.entries i))))
   pub stray : (i : ℕ) → contains nat_eq new.stray i ≡ (not (is_id i closer) && contains nat_eq old.stray i)
+  pub unanswered : (i : ℕ) → contains nat_eq new.unanswered i ≡ cond (resumes old.fate) (is_id i (option_or opener pubrel) || (not (is_id i closer) && contains nat_eq old.unanswered i)) (contains nat_eq old.unanswered i)
   pub flying : old.in_flight < place.position → new.in_flight ≡ moved (may_count old.role old.peer) opener closer old.in_flight
   pub again : new.again ≡ record { all = old.again.all && not (untouched old.opened (get nat_eq old.entries) pubrec); confirmed = old.again.confirmed && not (untouched old.opened (get nat_eq old.entries) pubrec) }
 

@@ -13,8 +13,8 @@ use Rattle.mq_rules.specs.declared.note.Seen.{Seen}
 use Rattle.mq_rules.specs.Words.{is_some_and, is_id}
 use Rattle.mq_rules.specs.Notes.{is_open, is_boundary, closer_of, delivery_of, resend_of, sent_as, received_as, subscribe_in, suback_in, unsubscribe_in, unsuback_in}
 use Rattle.mq_rules.specs.Moments.{note, moments, some, since, those}
-use Rattle.mq_rules.specs.Connections.{number, is_connected, connection, on_open, accepts, is_void, voided, fate_under, session, ends_binding}
-use Rattle.mq_rules.specs.Identifiers.{delivers, taken_by, counts}
+use Rattle.mq_rules.specs.Connections.{number, is_connected, connection, on_open, accepts, is_void, voided, fate_under, session, ends_binding, resumes}
+use Rattle.mq_rules.specs.Identifiers.{delivers, taken_by, counts, sent_under}
 use Rattle.mq_rules.specs.Counter.{in_flight}
 use Rattle.mq_rules.specs.Rules.{same_rule, binds}
 use Rattle.mq_rules.specs.FaultKeys.{FaultMap}
@@ -55,6 +55,11 @@ void_sent role i taken past = some (λ j. delivers i j && voided (fate_under rol
 
 abbrev pub void_next : Fate → Note → ℕ → Bool → Bool
 void_next f n i old = (is_id i (delivery_of n) && is_void f) || old
+
+-- whether a PUBLISH of QoS above 0 or a PUBREL that was sent under i on the connection waits for its closer, after an event of a connection with this fate; that is
+-- kept of a resumed connection alone
+abbrev pub unanswered_next : Fate → Note → ℕ → Bool → Bool
+unanswered_next f n i old = cond (is_boundary n) false (cond (resumes f) (is_id i (sent_under n) || (not (is_id i (closer_of n)) && old)) old)
 
 -- ---- the order in which PUBLISH packets are sent again
 
@@ -126,6 +131,7 @@ pub record IsUsing (s : Inflight) (tested : Tested) (taken : Option Fate) (past 
   pub stray_are : (i : ℕ) → contains nat_eq s.stray i ≡ true → is_connected past ≡ true
   pub published_are : ArePublished s.fate s.opened (get nat_eq s.entries) past
   pub void_are : (i : ℕ) → contains nat_eq s.void i ≡ void_sent tested.role i taken past
+  pub unanswered_are : (i : ℕ) → contains nat_eq s.unanswered i ≡ (resumes s.fate && waits sent_under closer_of i past)
   pub subscribing_are : (i : ℕ) → contains nat_eq s.subscribing i ≡ waits (sent_as subscribe_in) (received_as suback_in) i past
   pub unsubscribing_are : (i : ℕ) → contains nat_eq s.unsubscribing i ≡ waits (sent_as unsubscribe_in) (received_as unsuback_in) i past
   pub resent_is : s.resent ≡ resent_in tested.role taken past

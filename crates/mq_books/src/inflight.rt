@@ -13,8 +13,9 @@ ghost use Rattle.mq_books.specs.Quotas.{announced, may_count as counts_now, flow
 ghost use Rattle.mq_books.specs.Opened.{entry_next};
 ghost use Rattle.mq_books.specs.Resending.{bounds_next, by_itself, IsResent};
 ghost use Rattle.mq_rules.specs.Connections.{accepts};
+ghost use Rattle.mq_rules.specs.Identifiers.{sent_under as under};
 ghost use Rattle.mq_rules.specs.Words.{is_id};
-ghost use Rattle.mq_books.specs.Using.{IsUsing, breaks, is_inflight, waits_next, stray_next, void_next, resent_next};
+ghost use Rattle.mq_books.specs.Using.{IsUsing, breaks, is_inflight, waits_next, stray_next, unanswered_next, void_next, resent_next};
 ghost use Rattle.mq_books.specs.Concerns.{concerns_flight};
 ghost use Rattle.mq_books.specs.Knowing.{all_excused};
 ghost use Rattle.mq_rules.specs.Notes.{note_of_bare};
@@ -43,7 +44,7 @@ use mq_rules::{
 };
 use mq_trace::{Direction, Place3};
 use resends::{
-    Bounds, Resent, bounds_after, excused_now, resent_still, rests_now, settle, take_confirmed,
+    Bounds, Resent, bounds_after, excused_now, resent_still, settle, settles_now, take_confirmed,
 };
 use std::alloc::Global;
 
@@ -64,6 +65,9 @@ pub struct Inflight {
     /// Those of PUBLISH packets that were sent on the connection that is open, and not acknowledged
     /// there since, but for those whose PUBLISH is in its entry.
     stray: IndexSet<u16>,
+    /// Those under which a PUBLISH or a PUBREL was sent on the connection that is open, if it is
+    /// resumed, and that weren't set free there since.
+    unanswered: IndexSet<u16>,
     /// Those of PUBLISH packets that were sent on void connections.
     void: IndexSet<u16>,
     /// Those of SUBSCRIBE packets that were sent on the connection that is open, and not answered.
@@ -152,6 +156,52 @@ fn unkept(entries: &IndexMap<u16, Entry>, fate: Fate, delivery: Option<u16>) -> 
     }
 }
 
+// The identifier of a PUBLISH of QoS above 0, or of a PUBREL, that is sent.
+fn sent_under(note: &Note) -> Option<u16>
+    ensures { result ≡ under note.now }
+{
+    note.delivery().or(note.sent_pubrel())
+}
+
+// Takes in a PUBLISH or a PUBREL that is sent on a resumed connection, and what answers it.
+fn take_unanswered(
+    unanswered: &mut IndexSet<u16>,
+    alloc: Global,
+    fate: Fate,
+    note: &Note,
+) -> Result<(), Memory>
+    ensures { OnOk result ((i : ℕ) → contains nat_eq unanswered.new i ≡ unanswered_next fate note.now i (contains nat_eq unanswered.old i)) }
+{
+    if note.is_boundary() {
+        // A large set that is cleared costs its size each time.
+        *unanswered = IndexSet::new(alloc);
+        return Ok(());
+    }
+    if !fate.resumes() {
+        return Ok(());
+    }
+    keep_unanswered(unanswered, sent_under(note), note.closer())?;
+    Ok(())
+}
+
+// Takes in what is sent on a resumed connection, and what sets its identifier free.
+#[inline(never)]
+fn keep_unanswered(
+    unanswered: &mut IndexSet<u16>,
+    begun: Option<u16>,
+    ended: Option<u16>,
+) -> Result<(), Memory>
+    ensures { OnOk result ((i : ℕ) → contains nat_eq unanswered.new i ≡ (is_id i begun || (not (is_id i ended) && contains nat_eq unanswered.old i))) }
+{
+    if let Some(i) = ended {
+        unanswered.swap_remove(&i);
+    }
+    if let Some(i) = begun {
+        unanswered.insert(i)?;
+    }
+    Ok(())
+}
+
 // Takes in a SUBSCRIBE and a SUBACK.
 fn take_subscribing(
     subscribing: &mut IndexSet<u16>,
@@ -197,6 +247,7 @@ impl Inflight {
                 confirmed: false,
             },
             stray: IndexSet::new(alloc),
+            unanswered: IndexSet::new(alloc),
             void: IndexSet::new(alloc),
             subscribing: IndexSet::new(alloc),
             unsubscribing: IndexSet::new(alloc),
@@ -258,14 +309,16 @@ impl Inflight {
     // Takes in what was sent and waits for an answer, and what was sent on void connections. What
     // is open was taken in before.
     fn take_waiting(&mut self, fate: Fate, note: &Note) -> Result<(), Memory>
-        ensures same { OnOk result (self.new ≡ record self.old { stray = self.new.stray; void = self.new.void; subscribing = self.new.subscribing; unsubscribing = self.new.unsubscribing }) }
+        ensures same { OnOk result (self.new ≡ record self.old { stray = self.new.stray; unanswered = self.new.unanswered; void = self.new.void; subscribing = self.new.subscribing; unsubscribing = self.new.unsubscribing }) }
         ensures stray { OnOk result ((i : ℕ) → contains nat_eq self.new.stray i ≡ stray_next fate note.now (get nat_eq self.old.entries) i (contains nat_eq self.old.stray i)) }
+        ensures unanswered { OnOk result ((i : ℕ) → contains nat_eq self.new.unanswered i ≡ unanswered_next fate note.now i (contains nat_eq self.old.unanswered i)) }
         ensures void { OnOk result ((i : ℕ) → contains nat_eq self.new.void i ≡ void_next fate note.now i (contains nat_eq self.old.void i)) }
         ensures subscribing { OnOk result ((i : ℕ) → contains nat_eq self.new.subscribing i ≡ waits_next (sent_as subscribe_in note.now) (received_as suback_in note.now) (is_boundary note.now) i (contains nat_eq self.old.subscribing i)) }
         ensures unsubscribing { OnOk result ((i : ℕ) → contains nat_eq self.new.unsubscribing i ≡ waits_next (sent_as unsubscribe_in note.now) (received_as unsuback_in note.now) (is_boundary note.now) i (contains nat_eq self.old.unsubscribing i)) }
     {
         let alloc = self.alloc;
         take_stray(&mut self.stray, alloc, &self.entries, fate, note)?;
+        take_unanswered(&mut self.unanswered, alloc, fate, note)?;
         take_void(&mut self.void, fate, note)?;
         take_subscribing(&mut self.subscribing, alloc, note)?;
         take_unsubscribing(&mut self.unsubscribing, alloc, note)?;
@@ -280,6 +333,7 @@ impl Inflight {
         ensures distinct { IsUnique nat_eq self.old.entries → OnOk result (IsUnique nat_eq self.new.entries) }
         ensures entries { OnOk result ((i : ℕ) → get nat_eq self.new.entries i ≡ entry_next fate note.now at i (get nat_eq self.old.entries i)) }
         ensures stray { OnOk result ((i : ℕ) → contains nat_eq self.new.stray i ≡ stray_next fate note.now (get nat_eq self.new.entries) i (contains nat_eq self.old.stray i)) }
+        ensures unanswered { OnOk result ((i : ℕ) → contains nat_eq self.new.unanswered i ≡ unanswered_next fate note.now i (contains nat_eq self.old.unanswered i)) }
         ensures void { OnOk result ((i : ℕ) → contains nat_eq self.new.void i ≡ void_next fate note.now i (contains nat_eq self.old.void i)) }
         ensures subscribing { OnOk result ((i : ℕ) → contains nat_eq self.new.subscribing i ≡ waits_next (sent_as subscribe_in note.now) (received_as suback_in note.now) (is_boundary note.now) i (contains nat_eq self.old.subscribing i)) }
         ensures unsubscribing { OnOk result ((i : ℕ) → contains nat_eq self.new.unsubscribing i ≡ waits_next (sent_as unsubscribe_in note.now) (received_as unsuback_in note.now) (is_boundary note.now) i (contains nat_eq self.old.unsubscribing i)) }
@@ -308,7 +362,7 @@ impl Watch for Inflight {
 
     ghost adds = { λ tested e past k r. is_inflight r && turns_known tested e past k r };
 
-    ghost bound = { λ tested taken past. 2 * open_ids tested.role taken past + delivering_ids past + void_ids tested.role taken past + subscribing_ids past + unsubscribing_ids past };
+    ghost bound = { λ tested taken past. 2 * open_ids tested.role taken past + 2 * delivering_ids past + void_ids tested.role taken past + subscribing_ids past + unsubscribing_ids past };
 
     fn step(&mut self, at: Place3, note: &Note, faults: &mut Faults) -> Result<(), Memory> {
         let fate = self.fate;
@@ -316,11 +370,12 @@ impl Watch for Inflight {
         Ok(())
     }
 
-    // The map and all five sets of the struct.
+    // The map and all six sets of the struct.
     fn weight(&self) -> usize {
         map_size(&self.entries)
             .saturating_add(set_size(&self.confirmed))
             .saturating_add(set_size(&self.stray))
+            .saturating_add(set_size(&self.unanswered))
             .saturating_add(set_size(&self.void))
             .saturating_add(set_size(&self.subscribing))
             .saturating_add(set_size(&self.unsubscribing))
@@ -340,10 +395,11 @@ impl Fated for Inflight {
     ) -> Result<(), Memory> {
         let broken = self.broken_by(fate, decided == at.position, note);
         judge_all(&broken, at, decided, faults)?;
-        let rests = rests_now(fate, decided == at.position, self.ended, note);
+        let known = decided == at.position;
+        let settles = settles_now(fate, known, self.ended, &self.unanswered, note);
         let excused = excused_now(self.peer, self.in_flight, self.bounds);
         self.again = settle(
-            rests,
+            settles,
             self.again,
             &self.entries,
             &self.confirmed,

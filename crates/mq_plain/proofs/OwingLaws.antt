@@ -16,7 +16,7 @@ use Rattle.mq_rules.specs.declared.packet_note.PublishNote.{PublishNote}
 use Rattle.mq_rules.specs.Moments.{Moment, newest, position, note, moments, moment, is_same, some, since, IsPlaced}
 use Rattle.mq_rules.specs.Connections.{begun, number, connection, session, has_session, begins, accepted, resumed, voided, any_accepted, latest_fate, accepts, resumes, with_first}
 use Rattle.mq_rules.specs.declared.fate.Fate.TheVariants.{Void, Adrift, New, Forgotten, Resumed, Unasked, Unknown}
-use Rattle.mq_rules.specs.Identifiers.{opens_id, closes_id, is_used_up, has_announced, refuses_retained, is_retained, shows_S06}
+use Rattle.mq_rules.specs.Identifiers.{opens_id, closes_id, is_used_up, has_announced, refuses_retained, is_retained, shows_S06, is_waiting}
 use Rattle.mq_rules.proofs.Exports.{and_false, or_false, moment-newest, moment-older, moment-beginning, moment-placed, among-moment, those-among, some-among, among-some}
 use Rattle.mq_plain.specs.Owing.{moves, confirms, sends_under, is_owed, owes}
 use Rattle.mq_plain.specs.Shown.{IsShown}
@@ -214,15 +214,16 @@ same-session role f (e ∷ past) h =
     ∙ ap (λ n. newest e past ∷ cond (is_open e.note) (cond n [] (session role (latest_fate role past) past)) (session role (Some f) past)) (resumed-parts f h).1
     ∙ ap (λ ms. newest e past ∷ cond (is_open e.note) (session role (latest_fate role past) past) ms) (same-session role f past h)
 
-shows-owes : (role : Role) (d : Seen) (past : List Seen) (again : ℕ → Bool) (lenient : Moment → Bool) (k : ℕ) (m : Moment) (f : Fate) → moment past k ≡ Some m → latest_fate role past ≡ Some f → resumes f ≡ true
+shows-owes : (role : Role) (d : Seen) (past : List Seen) (again : ℕ → Bool) (lenient : Moment → Bool) (k : ℕ) (m : Moment) (f : Fate) → moment past k ≡ Some m → latest_fate role past ≡ Some f → resumes f ≡ true → is_waiting (newest d past) ≡ false
     → ((i : ℕ) → again i ≡ some (λ n. sends_under i (note n)) (connection past)) → lenient m ≡ ((is_used_up role (newest d past) || has_announced role (newest d past)) || (refuses_retained role (newest d past) && is_retained m))
     → shows_S06 role (newest d past) m ≡ owes lenient again (session role (Some Resumed) past) m
 unfolding shows_S06
-shows-owes role d past again lenient k m f at fate resumes_f sent allowed =
-    ap (λ f. resumed f && is_some_and (λ i. since (is_same m) (λ n. opens_id i n || closes_id i n) (session role f past)
+shows-owes role d past again lenient k m f at fate resumes_f still sent allowed =
+    ap (λ f. resumed f && (not (is_waiting (newest d past)) && is_some_and (λ i. since (is_same m) (λ n. opens_id i n || closes_id i n) (session role f past)
     && (not (some (is_same m) (connection past)) && (not (some (λ n. sends_under i (note n)) (connection past))
-    && not (since (is_same m) (λ n. confirms i (note n)) (session role f past) && ((is_used_up role (newest d past) || has_announced role (newest d past)) || (refuses_retained role (newest d past) && is_retained m)))))) (opener_of (note m))) fate
-    ∙ ap (λ b. b && asked (session role (Some f) past)) resumes_f
+    && not (since (is_same m) (λ n. confirms i (note n)) (session role f past) && ((is_used_up role (newest d past) || has_announced role (newest d past)) || (refuses_retained role (newest d past) && is_retained m)))))) (opener_of (note m)))) fate
+    ∙ ap (λ b. b && (not (is_waiting (newest d past)) && asked (session role (Some f) past))) resumes_f
+    ∙ ap (λ w. not w && asked (session role (Some f) past)) still
     ∙ ap asked (same-session role f past resumes_f)
     ∙ go (opener_of (note m)) refl
   where
@@ -255,18 +256,21 @@ pub resumed-is : (o : Option Fate) → resumed o ≡ true → (f : Fate) × (o �
 resumed-is None h = absurd (cc)
 resumed-is (Some f) h = (f, refl, h)
 
-pub shown-owed : (role : Role) (d : Seen) (past : List Seen) (again : ℕ → Bool) (lenient : Moment → Bool) (places : List Place3) (f : Fate) → latest_fate role past ≡ Some f → resumes f ≡ true
+pub shown-owed : (role : Role) (d : Seen) (past : List Seen) (again : ℕ → Bool) (lenient : Moment → Bool) (places : List Place3) (f : Fate) → latest_fate role past ≡ Some f → resumes f ≡ true → is_waiting (newest d past) ≡ false
     → ((i : ℕ) → again i ≡ some (λ n. sends_under i (note n)) (connection past)) → ((m : Moment) → lenient m ≡ ((is_used_up role (newest d past) || has_announced role (newest d past)) || (refuses_retained role (newest d past) && is_retained m)))
     → IsShown (owes lenient again (session role (Some Resumed) past)) past places → IsShown (shows_S06 role (newest d past)) past places
-shown-owed role d past again lenient places f fate resumes_f sent allowed shown = record { each = λ k. shown.each k ∙ go k (moment past k) refl; own = shown.own }
+shown-owed role d past again lenient places f fate resumes_f still sent allowed shown = record { each = λ k. shown.each k ∙ go k (moment past k) refl; own = shown.own }
   where
     go : (k : ℕ) (o : Option Moment) → moment past k ≡ o → is_some_and (owes lenient again (session role (Some Resumed) past)) o ≡ is_some_and (shows_S06 role (newest d past)) o
     go k None is = refl
-    go k (Some m) is = sym (shows-owes role d past again lenient k m f is fate resumes_f sent (allowed m))
+    go k (Some m) is = sym (shows-owes role d past again lenient k m f is fate resumes_f still sent (allowed m))
 
 -- where no session is resumed
 first_none : (a b : Bool) → a ≡ false → (a && b) ≡ false
 first_none a b h = ap (λ c. c && b) h
+
+second_none : (a w b : Bool) → w ≡ true → (a && (not w && b)) ≡ false
+second_none a w b h = ap (λ v. a && (not v && b)) h ∙ and_false a
 
 shows-none : (role : Role) (d : Seen) (past : List Seen) (m : Moment) → resumed (latest_fate role past) ≡ false → shows_S06 role (newest d past) m ≡ false
 unfolding shows_S06
@@ -278,3 +282,15 @@ shown-none role d past none = record { each = λ k. go (moment past k); own = Al
     go : (o : Option Moment) → false ≡ is_some_and (shows_S06 role (newest d past)) o
     go None = refl
     go (Some m) = sym (shows-none role d past m none)
+
+-- where the tested end waits for an answer
+shows-waiting : (role : Role) (d : Seen) (past : List Seen) (m : Moment) → is_waiting (newest d past) ≡ true → shows_S06 role (newest d past) m ≡ false
+unfolding shows_S06
+shows-waiting role d past m waits = second_none (resumed (latest_fate role past)) (is_waiting (newest d past)) _ waits
+
+pub shown-waiting : (role : Role) (d : Seen) (past : List Seen) → is_waiting (newest d past) ≡ true → IsShown (shows_S06 role (newest d past)) past []
+shown-waiting role d past waits = record { each = λ k. go (moment past k); own = All-nil (λ p. option_map (λ m. m.event.place) (moment past p.position) ≡ Some p) }
+  where
+    go : (o : Option Moment) → false ≡ is_some_and (shows_S06 role (newest d past)) o
+    go None = refl
+    go (Some m) = sym (shows-waiting role d past m waits)

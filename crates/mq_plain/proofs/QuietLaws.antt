@@ -26,7 +26,7 @@ use Rattle.mq_rules.specs.Connections.{latest_fate, accepts, resumed, connection
 use Rattle.mq_rules.specs.Rules.{binds, found_line, lines, line_of}
 use Rattle.mq_rules.specs.Statements.{Statement, on_bytes, on_past, in_session, at_release, at_rest, statement}
 use Rattle.mq_rules.specs.Under.{is_by_session, shows_with, turns_with}
-use Rattle.mq_rules.specs.Identifiers.{taken_by, breaks_S01, breaks_S02, breaks_S03, breaks_S04, breaks_S05, breaks_S07, shows_S06}
+use Rattle.mq_rules.specs.Identifiers.{taken_by, breaks_S01, breaks_S02, breaks_S03, breaks_S04, breaks_S05, breaks_S07, is_waiting, shows_S06}
 use Rattle.mq_rules.specs.Exchanges.{breaks_A, breaks_O, breaks_E7R, shows_R}
 use Rattle.mq_rules.specs.Releases.{breaks_L1, breaks_L2, breaks_L3}
 use Rattle.mq_rules.specs.Subscriptions.{breaks_B01, breaks_B02, breaks_B03, breaks_B04}
@@ -252,7 +252,9 @@ never role releases S02 e past chosen idle = λ bound f. and-first _ _ (none-pas
 never role releases S03 e past chosen idle = λ bound f. none-passes _ _ idle.unspoken.resend
 never role releases S04 e past chosen idle = λ bound f. none-passes _ _ idle.unspoken.resend
 never role releases S05 e past chosen idle = λ bound f. none-passes _ _ idle.unspoken.resend
-never role releases S06 e past chosen idle = λ k unasks. ap (λ b. resumed (latest_fate role past) && b) (none-passes _ _ (unasking (note k) unasks).opener) ∙ and_false (resumed (latest_fate role past))
+never role releases S06 e past chosen idle = λ k unasks.
+    ap (λ b. resumed (latest_fate role past) && (not (is_waiting (newest e past)) && b)) (none-passes _ _ (unasking (note k) unasks).opener)
+    ∙ ap (λ b. resumed (latest_fate role past) && b) (and_false (not (is_waiting (newest e past)))) ∙ and_false (resumed (latest_fate role past))
 never role releases S07 e past chosen idle = λ bound f. and-first _ _ (ap is_some idle.unspoken.delivery)
 never role releases E1A e past chosen idle = λ bound f. and-first _ _ (none-passes _ _ idle.unspoken.puback)
 never role releases E1R e past chosen idle = λ k unasks. none-passes _ _ (unasking (note k) unasks).once

@@ -3,16 +3,18 @@ ghost use Rattle.std.specs.Prelude.{ℕ, ◌≡◌, ◌&&◌, ◌||◌, Some, If
 ghost use Rattle.mq_rules.specs.declared.fate.Fate.TheVariants.{Resumed};
 ghost use Rattle.mq_rules.specs.declared.note.Seen.{Seen as TheSeen};
 ghost use Rattle.mq_rules.specs.Words.{is_id, is_some_and, only};
-ghost use Rattle.mq_rules.specs.Notes.{sent_publish};
-ghost use Rattle.mq_rules.specs.Moments.{newest, note, some, IsPlaced};
+ghost use Rattle.mq_rules.specs.Notes.{sent_publish, closer_of};
+ghost use Rattle.mq_rules.specs.Moments.{newest, note, since, some, IsPlaced};
 ghost use Rattle.mq_rules.specs.Connections.{connection, session, resumed};
-ghost use Rattle.mq_rules.specs.Identifiers.{shows_S06, is_used_up as uses_up, has_announced, refuses_retained as takes_none};
+ghost use Rattle.mq_rules.specs.Identifiers.{shows_S06, is_used_up as uses_up, has_announced, refuses_retained as takes_none, sent_under as under, is_waiting as waits};
 ghost use Rattle.mq_plain.specs.Owing.{covers, moves, confirms, sends_under, is_owed as owed_so, owes};
 ghost use Rattle.mq_plain.specs.Shown.{IsShown};
 ghost use Rattle.mq_plain.specs.Tables.{at};
 
-use crate::connection::latest_fate_of;
+use crate::connection::{latest_fate_of, since_on_connection, some_on_connection};
 use crate::handshake::handshake_of;
+use crate::identifiers::Closes;
+use crate::lookback::NoteTest;
 use crate::quota::is_used_up;
 use crate::resting::RestStatement;
 use crate::session::{begins_at, fate_before, is_accepted};
@@ -57,6 +59,66 @@ impl Excuse {
     {
         self.all || (self.retained && is_retained(note))
     }
+}
+
+// The identifier of a PUBLISH of QoS above 0, or of a PUBREL, that is sent.
+fn sent_under(note: &Note) -> Option<u16>
+    ensures { result ≡ under note.now }
+{
+    note.delivery().or(note.sent_pubrel())
+}
+
+/// A PUBLISH of QoS above 0, or a PUBREL, that is sent under an identifier.
+#[derive(Drop)]
+struct IsSentUnder(u16);
+
+impl NoteTest for IsSentUnder {
+    ghost use Rattle.mq_rules.specs.Words.{is_id};
+    ghost use Rattle.mq_rules.specs.Identifiers.{sent_under};
+
+    ghost test = { λ t n. is_id t.0 (sent_under n) };
+
+    fn passes(&self, note: &Note) -> bool {
+        sent_under(note) == Some(self.0)
+    }
+}
+
+// Whether something that was sent under an identifier on the latest connection awaits its closer.
+fn awaits_closer(identifier: u16, before: &[Seen]) -> bool
+    ensures { result ≡ since (λ m. is_id identifier (under (note m))) (λ m. is_id identifier (closer_of (note m))) (connection (reverse before.now)) }
+{
+    since_on_connection(&IsSentUnder(identifier), &Closes(identifier), before)
+}
+
+/// A packet that is sent under an identifier which awaits its closer after these events.
+#[derive(Drop)]
+struct Awaits<'a> {
+    before: &'a [Seen],
+}
+
+impl NoteTest for Awaits<'_> {
+    ghost use Rattle.std.specs.Prelude.{reverse};
+    ghost use Rattle.mq_rules.specs.Words.{is_id, is_some_and};
+    ghost use Rattle.mq_rules.specs.Notes.{closer_of};
+    ghost use Rattle.mq_rules.specs.Moments.{note, since};
+    ghost use Rattle.mq_rules.specs.Connections.{connection};
+    ghost use Rattle.mq_rules.specs.Identifiers.{sent_under};
+
+    ghost test = { λ t n. is_some_and (λ i. since (λ m. is_id i (sent_under (note m))) (λ m. is_id i (closer_of (note m))) (connection (reverse t.before.now))) (sent_under n) };
+
+    fn passes(&self, note: &Note) -> bool {
+        match sent_under(note) {
+            Some(identifier) => awaits_closer(identifier, self.before),
+            None => false,
+        }
+    }
+}
+
+// Whether something that was sent on the latest connection awaits its closer.
+fn is_waiting(before: &[Seen]) -> bool
+    ensures { (rest : TheSeen) → result ≡ waits (newest rest (reverse before.now)) }
+{
+    some_on_connection(&Awaits { before }, before)
 }
 
 // The identifiers of which a PUBLISH or a PUBREL was sent on the latest connection.
@@ -209,6 +271,9 @@ fn owed_at_rest(alloc: Global, role: Role, before: &[Seen]) -> Result<Vec<Place3
     ensures { (rest : TheSeen) → IsPlaced (reverse before.now) → IfOk result (λ places. IsShown (shows_S06 role (newest rest (reverse before.now))) (reverse before.now) places.items) }
 {
     if !is_resumed(latest_fate_of(role, before)) {
+        return Ok(Vec::new(alloc));
+    }
+    if is_waiting(before) {
         return Ok(Vec::new(alloc));
     }
     let again = sent_again(alloc, before)?;

@@ -146,9 +146,21 @@ is_excused role i t k = is_unended k (λ m. is_id i (received_as accepting_pubre
 abbrev pub was_sent_again : ℕ → Moment → Bool
 was_sent_again i t = some (λ m. delivers i m || sends_pubrel i m) (connection t.past)
 
--- S06, at an opener k, as a binding REST t shows: t is on a later connection, which is resumed; k is the latest opener of its identifier before t, with no closer
--- between; it wasn't sent again, and isn't excused.
+-- the identifier of a PUBLISH of QoS above 0, or of a PUBREL, that is sent: a closer answers it
+abbrev pub sent_under : Note → Option ℕ
+sent_under n = option_or (delivery_of n) (sent_as pubrel_in n)
+
+-- such a packet, sent under the identifier on t's connection, waits for its closer
+abbrev pub awaits_closer : ℕ → Moment → Bool
+awaits_closer i t = since (λ m. is_id i (sent_under (note m))) (closes_id i) (connection t.past)
+
+-- The tested end waits for an answer at t: something that it sent on t's connection awaits its closer. It may send what it owes one after the other.
+abbrev pub is_waiting : Moment → Bool
+is_waiting t = some (λ j. is_some_and (λ i. awaits_closer i t) (sent_under (note j))) (connection t.past)
+
+-- S06, at an opener k, as a binding REST t shows: t is on a later connection, which is resumed, and where the tested end doesn't wait for an answer; k is the latest
+-- opener of its identifier before t, with no closer between; it wasn't sent again, and isn't excused.
 unfoldable pub shows_S06 : Role → Moment → Moment → Bool
-shows_S06 role t k = resumed (latest_fate role t.past) && is_some_and (λ i.
+shows_S06 role t k = resumed (latest_fate role t.past) && (not (is_waiting t) && is_some_and (λ i.
     is_unended k (λ m. opens_id i m || closes_id i m) (session role (latest_fate role t.past) t.past)
-    && (not (some (is_same k) (connection t.past)) && (not (was_sent_again i t) && not (is_excused role i t k)))) (opener_of (note k))
+    && (not (some (is_same k) (connection t.past)) && (not (was_sent_again i t) && not (is_excused role i t k)))) (opener_of (note k)))

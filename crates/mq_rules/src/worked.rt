@@ -214,6 +214,11 @@ pub fn redelivery()
     ensures breaks_retaining { failing client S06 (Open ∷ sends lasting ∷ gets accepting ∷ sends (retained_once 1) ∷ Close ∷ Open ∷ sends again ∷ gets (retaining (Some 1)) ∷ Rest ∷ []) ≡ 4 ∷ [] }
     ensures breaks_unretained { failing client S06 (Open ∷ sends lasting ∷ gets accepting ∷ sends (once false 1) ∷ Close ∷ Open ∷ sends again ∷ gets (retaining (Some 0)) ∷ Rest ∷ []) ≡ 4 ∷ [] }
     ensures breaks_confirmed { failing client S06 (Open ∷ sends lasting ∷ gets accepting ∷ sends (retained_exactly 1) ∷ gets (Pubrec 1 0) ∷ Close ∷ Open ∷ sends again ∷ gets (retaining (Some 0)) ∷ Rest ∷ []) ≡ 4 ∷ [] }
+    ensures keeps_waiting { failing client S06 (Open ∷ sends lasting ∷ gets accepting ∷ sends (once false 1) ∷ sends (once false 2) ∷ Close ∷ Open ∷ sends again ∷ gets resuming ∷ sends (once true 1) ∷ Rest ∷ []) ≡ [] }
+    ensures keeps_released { failing client S06 (Open ∷ sends lasting ∷ gets accepting ∷ sends (once false 1) ∷ Close ∷ Open ∷ sends again ∷ gets resuming ∷ sends (Pubrel 2 0) ∷ Rest ∷ []) ≡ [] }
+    ensures breaks_answered { failing client S06 (Open ∷ sends lasting ∷ gets accepting ∷ sends (once false 1) ∷ sends (once false 2) ∷ Close ∷ Open ∷ sends again ∷ gets resuming ∷ sends (once true 1) ∷ gets (Puback 1 0) ∷ Rest ∷ []) ≡ 5 ∷ [] }
+    ensures breaks_asked_before { failing client S06 (Open ∷ sends lasting ∷ gets accepting ∷ sends (once false 1) ∷ Close ∷ Open ∷ sends again ∷ gets resuming ∷ sends (asks_a 2 0) ∷ Rest ∷ []) ≡ 4 ∷ [] }
+    ensures server_keeps_early { failing server S06 (Open ∷ gets lasting ∷ sends accepting ∷ sends (once false 1) ∷ Close ∷ Open ∷ gets again ∷ sends (once false 2) ∷ sends resuming ∷ Rest ∷ []) ≡ [] }
     ensures server_breaks { failing server S06 (Open ∷ gets lasting ∷ sends accepting ∷ sends (once false 1) ∷ Close ∷ Open ∷ gets again ∷ sends resuming ∷ Rest ∷ []) ≡ 4 ∷ [] }
     ensures server_keeps { failing server S06 (Open ∷ gets lasting ∷ sends accepting ∷ sends (once false 1) ∷ Close ∷ Open ∷ gets again ∷ sends resuming ∷ sends (once true 1) ∷ Rest ∷ []) ≡ [] }
 {}

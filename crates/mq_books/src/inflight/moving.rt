@@ -1,6 +1,7 @@
 //! Packets without properties, taken in by their numbers (MQTT 5.0, sections 2.2.1 and 4.3): a new
 //! PUBLISH, and what acknowledges one.
-ghost use Rattle.std.specs.Prelude.{◌≡◌, ◌<◌, ◌&&◌, ◌||◌, ℕ, List, Option, true, false, not, OnOk, OnErr, IfOk, Some, None, is_some, nat_eq};
+ghost use Rattle.std.specs.Prelude.{◌≡◌, ◌<◌, ◌&&◌, ◌||◌, ℕ, List, Option, true, false, not, OnOk, OnErr, IfOk, Some, None, is_some, nat_eq, cond};
+ghost use Rattle.std.specs.Option.{option_or};
 ghost use Rattle.indexmap.specs.IndexMap.{get, IsUnique};
 ghost use Rattle.indexmap.specs.IndexSet.{contains};
 ghost use Rattle.mq_rules.specs.declared.role.Tested.{Tested};
@@ -8,7 +9,7 @@ ghost use Rattle.mq_rules.specs.declared.fate.Fate.{Fate as TheFate};
 ghost use Rattle.mq_rules.specs.declared.note.Note.{Note as TheNote};
 ghost use Rattle.mq_rules.specs.declared.note.Seen.{Seen};
 ghost use Rattle.mq_rules.specs.FaultKeys.{FaultMap};
-ghost use Rattle.mq_rules.specs.Connections.{accepts};
+ghost use Rattle.mq_rules.specs.Connections.{accepts, resumes};
 ghost use Rattle.mq_rules.specs.Under.{seen, Follows, IsKnown};
 ghost use Rattle.mq_rules.specs.Notes.{note_of_bare, refuses, is_acknowledged, is_exactly_once as exactly_once};
 ghost use Rattle.mq_rules.specs.Words.{is_id, only};
@@ -16,15 +17,15 @@ ghost use Rattle.mq_trace.specs.declared.kind.Direction.TheVariants as direction
 ghost use Rattle.mq_books.specs.Moving.{Moves, IsMoved, IsStep, IsWithin, untouched};
 ghost use Rattle.mq_books.specs.Using.{IsUsing};
 
-use super::Inflight;
 use super::entry::{Entry, close, confirm, open_new, release};
 use super::resends::{Resent, keep_confirmed};
+use super::{Inflight, keep_unanswered};
 use crate::known::judge_by;
 use crate::messages::is_acknowledged as acknowledges;
 use crate::quota::{flown_by, may_count};
 use indexmap::{IndexMap, IndexSet};
 use mq_packet::Qos;
-use mq_rules::{Bare, BareFields, Brisk, Faults, Memory, Rule, step_apart};
+use mq_rules::{Bare, BareFields, Brisk, Fate, Faults, Memory, Rule, step_apart};
 use mq_trace::{Direction, Place3};
 
 // The identifier that a PUBLISH opens: its QoS is above 0, and DUP is 0.
@@ -73,6 +74,25 @@ fn either(a: bool, b: bool) -> bool
     ensures { result ≡ (a || b) }
 {
     a || b
+}
+
+// Takes in what is sent, and what sets an identifier free, if the connection is resumed. Most
+// aren't.
+#[inline(always)]
+fn move_unanswered(
+    unanswered: &mut IndexSet<u16>,
+    fate: Fate,
+    opener: Option<u16>,
+    closer: Option<u16>,
+    pubrel: Option<u16>,
+) -> Result<(), Memory>
+    ensures { OnOk result ((i : ℕ) → contains nat_eq unanswered.new i ≡ cond (resumes fate) (is_id i (option_or opener pubrel) || (not (is_id i closer) && contains nat_eq unanswered.old i)) (contains nat_eq unanswered.old i)) }
+{
+    if !fate.resumes() {
+        return Ok(());
+    }
+    keep_unanswered(unanswered, opener.or(pubrel), closer)?;
+    Ok(())
 }
 
 // Takes an identifier out of a set. Most sets are empty.
@@ -132,6 +152,7 @@ impl Inflight {
         close(&mut self.entries, closer);
         let busy = open_new(&mut self.entries, opener, exactly_once, false, at)?;
         remove(&mut self.stray, closer);
+        move_unanswered(&mut self.unanswered, self.fate, opener, closer, pubrel)?;
         Ok(busy)
     }
 

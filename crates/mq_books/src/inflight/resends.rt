@@ -1,8 +1,8 @@
 //! What a resumed session owes (MQTT 5.0, section 4.4).
-ghost use Rattle.std.specs.Prelude.{◌≡◌, ◌&&◌, ◌||◌, ℕ, Bool, true, false, OnOk, OnErr, IfOk, cond, not, nat_eq, nat_lt, is_some};
+ghost use Rattle.std.specs.Prelude.{◌≡◌, ◌==◌, ◌&&◌, ◌||◌, ℕ, Bool, true, false, OnOk, OnErr, IfOk, cond, not, nat_eq, nat_lt, is_some};
 ghost use Rattle.std.specs.List.{list_any};
 ghost use Rattle.indexmap.specs.IndexMap.{get, values};
-ghost use Rattle.indexmap.specs.IndexSet.{contains};
+ghost use Rattle.indexmap.specs.IndexSet.{contains, index_set_len};
 ghost use Rattle.mq_rules.specs.Words.{is_some_and, is_id};
 ghost use Rattle.mq_rules.specs.Notes.{is_open as opens};
 ghost use Rattle.mq_books.specs.Owings.{Keeps};
@@ -401,8 +401,22 @@ pub fn settle(
     settle_all(resent, entries, opened, excused.apart(), decided, faults)
 }
 
-/// Whether this is a REST that binds, on a resumed connection.
-pub fn rests_now(fate: Fate, known: bool, ended: bool, note: &Note) -> bool
+/// Whether this is a REST that settles what a resumed session owes: nothing that was sent on the
+/// connection waits for its answer.
+pub fn settles_now(
+    fate: Fate,
+    known: bool,
+    ended: bool,
+    unanswered: &IndexSet<u16>,
+    note: &Note,
+) -> bool
+    ensures { result ≡ (settles fate known ended note.now && (index_set_len unanswered.now == 0)) }
+{
+    rests_now(fate, known, ended, note) && unanswered.len() == 0
+}
+
+// Whether this is a REST that binds, on a resumed connection.
+fn rests_now(fate: Fate, known: bool, ended: bool, note: &Note) -> bool
     ensures { result ≡ settles fate known ended note.now }
 {
     fate.resumes() && (note.is_rest() && (known && (fate.accepts() && !ended)))

@@ -3,7 +3,8 @@
 pub const ROWS: &str = "\
 does a PUBACK end a message of QoS 2? yes | client OPEN >CONNECT <CONNACK >PUBLISH2:1 <PUBACK:1 >PUBLISH1:1 | pass 6 events
 and a PUBCOMP without a PUBREC? | client OPEN >CONNECT <CONNACK >PUBLISH2:1 <PUBCOMP:1 >PUBLISH1:1 | pass 6 events
-S06, client: owed by a PUBREC that comes after another message was sent again | client OPEN >CONNECT-KEPT <CONNACK >PUBLISH2:1 >PUBLISH1:2 CLOSE OPEN >RECONNECT <CONNACK-RESUMED >RESEND1:2 <PUBREC:1 REST | fault 4 S06 MQTT-4.4.0-1 decided 12 record 4 offset -; fault 11 E3R MQTT-4.3.3-4 decided 12 record 11 offset -; fail 2 faults 12 events
+S06, client: owed by a PUBREC that comes after another message was sent again and acknowledged | client OPEN >CONNECT-KEPT <CONNACK >PUBLISH2:1 >PUBLISH1:2 CLOSE OPEN >RECONNECT <CONNACK-RESUMED >RESEND1:2 <PUBACK:2 <PUBREC:1 REST | fault 4 S06 MQTT-4.4.0-1 decided 13 record 4 offset -; fault 12 E3R MQTT-4.3.3-4 decided 13 record 12 offset -; fail 2 faults 13 events
+S06, client: while that waits for its answer nothing is owed | client OPEN >CONNECT-KEPT <CONNACK >PUBLISH2:1 >PUBLISH1:2 CLOSE OPEN >RECONNECT <CONNACK-RESUMED >RESEND1:2 <PUBREC:1 REST | fault 11 E3R MQTT-4.3.3-4 decided 12 record 11 offset -; fail 1 faults 12 events
 E7R, server: at rest before the CONNACK nothing is owed | server OPEN <CONNECT-NAMED <PINGREQ REST >CONNACK >PINGRESP | pass 6 events
 does a SUBACK answer an UNSUBSCRIBE? no | server OPEN <CONNECT-NAMED >CONNACK <UNSUBSCRIBE:1 >SUBACK:1 REST | fault 4 E6R MQTT-3.10.4-4 decided 6 record 4 offset -; fault 5 E5A MQTT-2.2.1-6 decided 5 record 5 offset -; fail 2 faults 6 events
 B04, server: of two UNSUBSCRIBEs under one identifier the first is counted | server OPEN <CONNECT-NAMED >CONNACK <UNSUBSCRIBE:1 <A209000100000161000162 >B00400010000 | pass 6 events

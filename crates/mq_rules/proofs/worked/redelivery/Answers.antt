@@ -40,3 +40,23 @@ returns-clause-breaks_unretained c = refl
 pub returns-clause-breaks_confirmed : goal.returns-clause-breaks_confirmed
 unfolding gives_fate fails found_line lines line_of shows_S06 is_binding
 returns-clause-breaks_confirmed c = refl
+
+pub returns-clause-keeps_waiting : goal.returns-clause-keeps_waiting
+unfolding gives_fate fails found_line lines line_of shows_S06 is_binding
+returns-clause-keeps_waiting c = refl
+
+pub returns-clause-keeps_released : goal.returns-clause-keeps_released
+unfolding gives_fate fails found_line lines line_of shows_S06 is_binding
+returns-clause-keeps_released c = refl
+
+pub returns-clause-breaks_answered : goal.returns-clause-breaks_answered
+unfolding gives_fate fails found_line lines line_of shows_S06 is_binding
+returns-clause-breaks_answered c = refl
+
+pub returns-clause-breaks_asked_before : goal.returns-clause-breaks_asked_before
+unfolding gives_fate fails found_line lines line_of shows_S06 is_binding
+returns-clause-breaks_asked_before c = refl
+
+pub returns-clause-server_keeps_early : goal.returns-clause-server_keeps_early
+unfolding gives_fate fails found_line lines line_of shows_S06 is_binding
+returns-clause-server_keeps_early c = refl

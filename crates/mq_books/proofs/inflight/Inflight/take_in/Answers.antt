@@ -6,7 +6,7 @@ use Rattle.mq_books.specs.declared.inflight.Inflight.{Inflight}
 use Rattle.mq_books.specs.declared.inflight.resends.Resent.{Resent}
 use Rattle.mq_books.specs.Opened.{entry_next}
 use Rattle.mq_books.specs.Resending.{by_itself, bounds_next, IsResent, confirmed_next}
-use Rattle.mq_books.specs.Using.{waits_next, stray_next, void_next}
+use Rattle.mq_books.specs.Using.{waits_next, stray_next, unanswered_next, void_next}
 use Rattle.mq_books.proofs.AgainLaws.{again-next, bounds-keep}
 use Rattle.mq_books.proofs.inflight.Inflight.take_in.Goals as goal
 
@@ -35,6 +35,9 @@ returns-clause-stray c = λ i.
     c.in_ok-take_waiting.ensures.stray i
     ∙ ap (λ (s : Inflight). stray_next c.args.fate c.args.note.now (get nat_eq s.entries) i (contains nat_eq c.take_connection.new.self.stray i)) (sym c.in_ok-take_waiting.ensures.same)
     ∙ ap (λ (s : Inflight). stray_next c.args.fate c.args.note.now (get nat_eq c.take_waiting.new.self.entries) i (contains nat_eq s.stray i)) c.take_connection.ensures.state
+
+pub returns-clause-unanswered : goal.returns-clause-unanswered
+returns-clause-unanswered c = λ i. c.in_ok-take_waiting.ensures.unanswered i ∙ ap (λ (s : Inflight). unanswered_next c.args.fate c.args.note.now i (contains nat_eq s.unanswered i)) c.take_connection.ensures.state
 
 pub returns-clause-void : goal.returns-clause-void
 returns-clause-void c = λ i. c.in_ok-take_waiting.ensures.void i ∙ ap (λ (s : Inflight). void_next c.args.fate c.args.note.now i (contains nat_eq s.void i)) c.take_connection.ensures.state

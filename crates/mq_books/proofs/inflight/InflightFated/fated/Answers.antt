@@ -28,7 +28,7 @@ returns-clause-agrees c = λ tested past under u.
     let d = under.follows.placed.0 in
     omega (arith, a, b, d) in
     let itself : apart c.excused_now-excused.result ≡ by_itself s.bounds = ap apart c.excused_now-excused.ensures in
-    inflight-next tested c.args.self.now c.take_in.new.self c.args.fate c.args.decided (seen c.args.at c.args.note.now) past under u t.role t.fate t.ordered (t.distinct u.distinct) t.entries t.stray t.void t.subscribing t.unsubscribing t.resent t.ended t.opened t.peer t.flying t.bounds
+    inflight-next tested c.args.self.now c.take_in.new.self c.args.fate c.args.decided (seen c.args.at c.args.note.now) past under u t.role t.fate t.ordered (t.distinct u.distinct) t.entries t.stray t.unanswered t.void t.subscribing t.unsubscribing t.resent t.ended t.opened t.peer t.flying t.bounds
     (t.again below
     (same-single s.opened (apart c.excused_now-excused.result) (by_itself s.bounds) (get nat_eq s.entries) (contains nat_eq s.confirmed) _ itself
     (c.in_ok-self.ensures.resent
@@ -39,8 +39,8 @@ returns-clause-grows c = λ tested past under u.
     let s = c.args.self.now in
     let e = seen c.args.at c.args.note.now in
     subst (λ (n : FaultMap). Gains (λ k r. is_inflight r && turns_with tested c.args.fate e past k r) tested (e ∷ past) c.args.decided c.args.faults.now n)
-    (sym (c.in_ok-self.ensures.ok ∙ ap (λ n. told c.rests_now-rests.result s.again c.excused_now-excused.result s.opened c.args.decided (values_of s.entries.entries) (get nat_eq s.entries) s.confirmed.keys n) c.in_ok-judge_all.ensures.ok))
-    (inflight-gains tested s c.args.fate c.args.decided e past c.args.faults.now c.broken_by-broken.result c.rests_now-rests.result c.excused_now-excused.result under u c.broken_by-broken.ensures c.rests_now-rests.ensures c.excused_now-excused.ensures)
+    (sym (c.in_ok-self.ensures.ok ∙ ap (λ n. told c.settles_now-settles.result s.again c.excused_now-excused.result s.opened c.args.decided (values_of s.entries.entries) (get nat_eq s.entries) s.confirmed.keys n) c.in_ok-judge_all.ensures.ok))
+    (inflight-gains tested s c.args.fate c.args.decided e past c.args.faults.now c.broken_by-broken.result c.settles_now-settles.result c.excused_now-excused.result under u c.broken_by-broken.ensures c.settles_now-settles.ensures c.excused_now-excused.ensures)
 
 pub returns-in_err-judge_all-clause-memory : goal.returns-in_err-judge_all-clause-memory
 returns-in_err-judge_all-clause-memory c =
@@ -63,8 +63,8 @@ returns-in_err-self-clause-memory c =
     within_either_second is_at_once (λ r. same_rule r S06) (λ k r. turns_with tested c.args.fate e past k r) tested (e ∷ past) c.args.decided m mid c.settle.new.faults
     (subst (λ (n : FaultMap). Gains (λ k r. is_at_once r && turns_with tested c.args.fate e past k r) tested (e ∷ past) c.args.decided m n) (sym c.in_ok-judge_all.ensures.ok)
     (using-gains tested s c.args.fate c.args.decided e past m c.broken_by-broken.result under u c.broken_by-broken.ensures))
-    (within_kept (λ k r. same_rule r S06 && turns_with tested c.args.fate e past k r) tested (e ∷ past) c.args.decided mid c.settle.new.faults (told c.rests_now-rests.result s.again c.excused_now-excused.result s.opened c.args.decided (values_of s.entries.entries) (get nat_eq s.entries) s.confirmed.keys mid)
-    (resends-gains tested s c.args.fate c.args.decided e past mid c.rests_now-rests.result c.excused_now-excused.result under u c.rests_now-rests.ensures c.excused_now-excused.ensures)
+    (within_kept (λ k r. same_rule r S06 && turns_with tested c.args.fate e past k r) tested (e ∷ past) c.args.decided mid c.settle.new.faults (told c.settles_now-settles.result s.again c.excused_now-excused.result s.opened c.args.decided (values_of s.entries.entries) (get nat_eq s.entries) s.confirmed.keys mid)
+    (resends-gains tested s c.args.fate c.args.decided e past mid c.settles_now-settles.result c.excused_now-excused.result under u c.settles_now-settles.ensures c.excused_now-excused.ensures)
     c.in_err-self.ensures.memory c.in_err-self.ensures.partial))
 
 pub returns-in_err-take_in-clause-memory : goal.returns-in_err-take_in-clause-memory
@@ -74,5 +74,5 @@ returns-in_err-take_in-clause-memory c =
     let e = seen c.args.at c.args.note.now in
     within_all (λ k r. is_inflight r && turns_with tested c.args.fate e past k r) tested (e ∷ past) c.args.decided c.args.faults.now c.settle.new.faults
     (subst (λ (n : FaultMap). Gains (λ k r. is_inflight r && turns_with tested c.args.fate e past k r) tested (e ∷ past) c.args.decided c.args.faults.now n)
-    (sym (c.in_ok-self.ensures.ok ∙ ap (λ n. told c.rests_now-rests.result s.again c.excused_now-excused.result s.opened c.args.decided (values_of s.entries.entries) (get nat_eq s.entries) s.confirmed.keys n) c.in_ok-judge_all.ensures.ok))
-    (inflight-gains tested s c.args.fate c.args.decided e past c.args.faults.now c.broken_by-broken.result c.rests_now-rests.result c.excused_now-excused.result under u c.broken_by-broken.ensures c.rests_now-rests.ensures c.excused_now-excused.ensures)))
+    (sym (c.in_ok-self.ensures.ok ∙ ap (λ n. told c.settles_now-settles.result s.again c.excused_now-excused.result s.opened c.args.decided (values_of s.entries.entries) (get nat_eq s.entries) s.confirmed.keys n) c.in_ok-judge_all.ensures.ok))
+    (inflight-gains tested s c.args.fate c.args.decided e past c.args.faults.now c.broken_by-broken.result c.settles_now-settles.result c.excused_now-excused.result under u c.broken_by-broken.ensures c.settles_now-settles.ensures c.excused_now-excused.ensures)))

@@ -1,0 +1,25 @@
+use Rattle.std.proofs.Common.{rules, refl}
+use Rattle.mq_books.proofs.inflight.Inflight.new.Goals as goal
+
+pub returns : goal.returns
+returns c = record {
+  same_role = refl;
+  same_fate = refl;
+  is_ordered = search rules;
+  distinct = search rules;
+  entries_are = search rules;
+  delivering_are = search rules;
+  stray_are = search rules;
+  published_are = search rules;
+  void_are = search rules;
+  unanswered_are = search rules;
+  subscribing_are = search rules;
+  unsubscribing_are = search rules;
+  resent_is = refl;
+  is_ended = refl;
+  opened_is = refl;
+  same_peer = search rules;
+  flying = search rules;
+  bounds_are = search rules;
+  resent_are = search rules;
+}
