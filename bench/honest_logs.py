@@ -4,7 +4,7 @@ same bytes.
 
 A log has one to six connections of a client or of a server. They are accepted, with a new session or the one before, or refused,
 or closed without a CONNACK, which may have begun a session all the same. There are messages of all QoS in both directions, PUBLISHes
-and PUBRELs that are sent again, PUBLISHes that a bound of the peer forbids, subscriptions, Topic Aliases, what the peer announces, packets before the CONNACK, also where that then says of the
+and PUBRELs that are sent again, at once or one after the other, PUBLISHes that a bound of the peer forbids, subscriptions, Topic Aliases, what the peer announces, packets before the CONNACK, also where that then says of the
 session what the client didn't expect, RELEASEs and RESTs; and packets are split over records anywhere. A judge must pass each log:
 `bench/fuzz.py` looks at that, and at what it says of these logs when changed. A third of the logs are of version 2.
 
@@ -73,15 +73,17 @@ class Limits:
     aliases: int = 0
     qos: int = 2
     size: int = 0  # 0: any
+    retains: bool = True
 
     def forbid(self, message: Message) -> bool:
         """Whether the message may be passed over."""
-        return message.qos > self.qos or 0 < self.size < message.size
+        return message.qos > self.qos or 0 < self.size < message.size or (message.retain and not self.retains)
 
     def properties(self) -> bytes:
         found = b"\x21" + number(self.in_flight) if self.in_flight < 65_535 else b""
         found += b"\x22" + number(self.aliases) if self.aliases else b""
         found += bytes([0x24, self.qos]) if self.qos < 2 else b""
+        found += b"" if self.retains else b"\x25\0"
         return found + (b"\x27\0\0" + number(self.size) if self.size else b"")
 
 
@@ -116,7 +118,8 @@ class Honest:
         self.has_releases = self.chance(0.8)
         self.is_named = self.chance(0.8)
         self.is_hurried = self.chance(0.4)  # connections are short, and leave much open
-        self.bounds = self.draw.choice(((), (), (), ("size",), ("qos",)))  # that the peer announces often
+        self.is_patient = self.chance(0.4)  # sends again one after the other
+        self.bounds = self.draw.choice(((), (), (), ("size",), ("qos",), ("retain",)))  # that the peer announces often
         self.is_kept = False  # there is a session that may be resumed
         self.is_alive = False  # as far as the log tells
         self.has_accepted = False  # a connection was accepted
@@ -241,6 +244,8 @@ class Honest:
             limits.aliases = self.draw.randint(1, 3)
         if self.role == CLIENT and self._is_bounded("qos"):
             limits.qos = self.draw.randrange(2)
+        if self.role == CLIENT and self._is_bounded("retain"):
+            limits.retains = False
         if self._is_bounded("size"):
             limits.size = self.draw.randint(LONGEST, 300)
         return limits
@@ -333,7 +338,7 @@ class Honest:
                 break
             self._answer()
             self._send_again()
-            if self.line.again and not self._has_quota():
+            if self.line.again and (self._waits() or not self._has_quota()):
                 self._peer_answer()
         if self.chance(0.5):
             self._be_answered()
@@ -347,7 +352,11 @@ class Honest:
 
     def _is_at_rest(self) -> bool:
         waits_for_quota = not self._has_quota() and not any(one.is_received for one in self.line.again)
-        return not self.line.owed and (not self.line.again or waits_for_quota)
+        return not self.line.owed and (not self.line.again or waits_for_quota or self._waits())
+
+    def _waits(self) -> bool:
+        """For an answer, before it sends the next message again."""
+        return self.is_patient and bool(self.line.unanswered)
 
     def _rest(self) -> None:
         if self._is_at_rest() and not self.line.is_early:
@@ -391,7 +400,7 @@ class Honest:
         qos = min(self.draw.choice((0, 1, 1, 2, 2)), most)
         if topic == "" or (qos > 0 and (identifier is None or not self._has_quota())):
             return None
-        retain = self.chance(0.4)
+        retain = self.line.limits.retains and self.chance(0.4)
         return Message(identifier or 0, qos, topic, retain) if qos > 0 else Message(0, 0, topic, retain)
 
     def _publish(self) -> None:
@@ -431,7 +440,7 @@ class Honest:
 
     def _send_again(self) -> None:
         line = self.line
-        if not line.again:
+        if not line.again or (self._waits() and self.chance(0.8)):
             return
         message = line.again[0 if self.role == CLIENT else self.draw.randrange(len(line.again))]
         if message.is_received:

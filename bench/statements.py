@@ -11,7 +11,9 @@ from reading import (
     PINGREQ, PINGRESP, PUBACK, PUBCOMP, PUBLISH, PUBREC, PUBREL,
     Packet, RECV, RELEASE, REST, SENT, SUBACK, SUBSCRIBE, Subject, UNSUBACK, UNSUBSCRIBE,
 )
-from sessions import Log, MAXIMUM_PACKET_SIZE, MAXIMUM_QOS, NEW, RECEIVE_MAXIMUM, RESUMED, TOPIC_ALIAS_MAXIMUM, VOID
+from sessions import (
+    Log, MAXIMUM_PACKET_SIZE, MAXIMUM_QOS, NEW, RECEIVE_MAXIMUM, RESUMED, RETAIN_AVAILABLE, TOPIC_ALIAS_MAXIMUM, VOID,
+)
 
 # ---- names and citations, in the order of reports: code, citation for a client, citation for a server (None: isn't bound)
 
@@ -482,12 +484,21 @@ def is_owed_again(log: Log, k: int, i: int, t: int) -> bool:
         return False
     if latest_opener(log, t, i) != k or open_by(log, t, i) is None:
         return False
-    if sends_on(log, c, t, i):
+    if sends_on(log, c, t, i) or waits_for_an_answer(log, t):
         return False
     if is_received(log, k, t, i):
         return True
     quota = log.parameter(RECEIVE_MAXIMUM, t) - stretches_used(log, t)
-    return not (quota <= 0 or log.announced(MAXIMUM_PACKET_SIZE, c, t) or log.announced(MAXIMUM_QOS, c, t))
+    may_not_retain = log.role == "client" and log.sent_packet(k).retain and log.parameter(RETAIN_AVAILABLE, t) == 0
+    is_bounded = log.announced(MAXIMUM_PACKET_SIZE, c, t) or log.announced(MAXIMUM_QOS, c, t)
+    return not (quota <= 0 or is_bounded or may_not_retain)
+
+
+def waits_for_an_answer(log: Log, t: int) -> bool:
+    """A PUBLISH of QoS above 0 or a PUBREL was sent on t's connection before t, and no closer of its identifier came there after it:
+    the end may send one after the other."""
+    before = log.before_on(t)
+    return any(not any(closer(log, m) == i for m in before if m > j) for j in before if (i := in_flight(log, j)) is not None)
 
 
 @says("S07", sent([PUBLISH]))

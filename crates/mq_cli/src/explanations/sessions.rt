@@ -93,9 +93,10 @@ pub const S06: &str = "S06 both MQTT-4.4.0-1\n\
     open for ever: the message is lost and its identifier is never free.\n\n\
     Judged: At the PUBLISH with DUP 0 that was sent on an earlier connection and\n\
     isn't acknowledged. Decided at the first binding REST on a later resumed\n\
-    connection on which neither it nor its PUBREL was sent. It is excused without a\n\
-    PUBREC, if the send quota is used up or the peer announced Maximum Packet Size\n\
-    or Maximum QoS.\n\n\
+    connection on which neither it nor its PUBREL was sent, and nothing that was\n\
+    sent waits for its answer. It is excused without a PUBREC, if the send quota is\n\
+    used up, if the peer announced Maximum Packet Size or Maximum QoS, or if it has\n\
+    RETAIN 1 and the server announced Retain Available 0.\n\n\
     In a client: The list of unacknowledged messages is in memory and cleared with\n\
     the connection, or it is sent only if Clean Start was 0 and not by Session\n\
     Present. Keep it with the session, and send it when the CONNACK says that the\n\

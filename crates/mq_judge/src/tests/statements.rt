@@ -20,6 +20,7 @@ mod packets;
 mod pasts;
 mod releases;
 mod resends;
+mod rests;
 mod shapes;
 mod subscriptions;
 pub mod suite;
@@ -308,6 +309,12 @@ fn judges_packets_before_the_connack(rt: HostRuntime) -> Result<(), Fail> {
 #[test]
 fn judges_what_an_end_cannot_know(rt: HostRuntime) -> Result<(), Fail> {
     assert_eq!(rt; first_wrong(rt.alloc(), untold::ROWS)?, None);
+    Ok(())
+}
+
+#[test]
+fn judges_what_a_rest_shows(rt: HostRuntime) -> Result<(), Fail> {
+    assert_eq!(rt; first_wrong(rt.alloc(), rests::ROWS)?, None);
     Ok(())
 }
 
