@@ -22,7 +22,7 @@ item_of items.Lost = lost
 
 abbrev pub event_of : EmittedEvent → Event
 event_of emitted.Open = opened
-event_of emitted.Close = closed
+event_of (emitted.Close begun) = closed begun
 event_of emitted.Rest = rested
 event_of (emitted.Release identifier) = released identifier
 event_of (emitted.Sent item) = sent (item_of item)

@@ -18,6 +18,10 @@ open_bytes = 1 ∷ 0 ∷ 0 ∷ 0 ∷ 0 ∷ []
 abbrev pub close_bytes : List ℕ
 close_bytes = 4 ∷ 0 ∷ 0 ∷ 0 ∷ 0 ∷ []
 
+-- a CLOSE, but for its last byte
+abbrev pub close_start : List ℕ
+close_start = 4 ∷ 0 ∷ 0 ∷ 0 ∷ []
+
 -- a RELEASE of identifier 1
 abbrev pub release_bytes : List ℕ
 release_bytes = 6 ∷ 0 ∷ 0 ∷ 0 ∷ 2 ∷ 0 ∷ 1 ∷ []

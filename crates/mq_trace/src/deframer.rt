@@ -10,7 +10,7 @@ ghost use Rattle.mq_packet.specs.Reading.{view};
 ghost use Rattle.mq_packet.specs.Sizes.{size_with, remaining_length};
 ghost use Rattle.mq_packet.specs.declared.header.FixedHeader.TheVariants as headers;
 ghost use Rattle.mq_packet.specs.declared.packet.Packet.TheVariants as packets;
-ghost use Rattle.mq_trace.specs.Events.{Placed, bad, lost, read_frame};
+ghost use Rattle.mq_trace.specs.Events.{Placed, bad, lost, first_byte, read_frame};
 ghost use Rattle.mq_trace.specs.Context.{put};
 ghost use Rattle.mq_trace.specs.Reception.{AreEvents, Declines};
 ghost use Rattle.mq_trace.specs.Emission.{NotEmitted, event_refusal, connections_with, next_placed};
@@ -101,6 +101,17 @@ impl Deframer {
         ensures { IsTrue result → state_in self.now ≡ record { unfinished = []; lost = false } }
     {
         !self.lost && self.unfinished.is_empty()
+    }
+
+    /// The first byte of the packet that has begun and not ended, if there is one and the direction
+    /// isn't lost.
+    pub fn begun(&self) -> Option<u8>
+        ensures { result ≡ first_byte self.now.unfinished.items }
+    {
+        match *self.unfinished.as_slice() {
+            [] => None,
+            [first, ..] => Some(first),
+        }
     }
 
     /// Takes in the next bytes of the direction, which are this and don't begin with a whole

@@ -33,7 +33,12 @@ pub enum Event<'a> {
     /// A network connection begins.
     Open,
     /// The network connection ends.
-    Close,
+    Close {
+        /// The first byte of the packet that the tested end had begun to send, and of which not all
+        /// bytes were sent (MQTT 5.0, section 2.1): `None` if it had sent whole packets only, or
+        /// its direction is lost.
+        begun: Option<u8>,
+    },
     /// The tested end is at rest: what it owes on this connection is done.
     Rest,
     /// The tested end took the QoS 2 message received under this Packet Identifier out of its

@@ -563,7 +563,10 @@ impl Reading {
     {
         match kind {
             RecordKind::Open => self.end_mark(Effect::Begins, Event::Open, moment, sink),
-            RecordKind::Close => self.end_mark(Effect::Ends, Event::Close, moment, sink),
+            RecordKind::Close => {
+                let begun = self.sent.begun();
+                self.end_mark(Effect::Ends, Event::Close { begun }, moment, sink)
+            }
             RecordKind::Rest => self.end_mark(Effect::Nothing, Event::Rest, moment, sink),
             RecordKind::Release => {
                 self.begin_release(moment);

@@ -46,11 +46,18 @@ impl Lines {
         }
         match event {
             Event::Open => self.text.push_str("OPEN\n"),
-            Event::Close => self.text.push_str("CLOSE\n"),
+            Event::Close { begun } => self.write_close(*begun),
             Event::Rest => self.text.push_str("REST\n"),
             Event::Release(identifier) => writeln!(self.text, "RELEASE {identifier}"),
             Event::Sent(item) => self.write_item("SENT", item),
             Event::Recv(item) => self.write_item("RECV", item),
+        }
+    }
+
+    fn write_close(&mut self, begun: Option<u8>) -> Result<(), AllocError> {
+        match begun {
+            Some(first) => writeln!(self.text, "CLOSE after {first}"),
+            None => self.text.push_str("CLOSE\n"),
         }
     }
 

@@ -10,7 +10,7 @@ use crate::{Header, Refusal, Tracer};
 use std::process::Abort;
 use std::test::Fail;
 
-pub static SESSIONS: [Row; 15] = [
+pub static SESSIONS: [Row; 17] = [
     // A log needs no record.
     Row {
         connack_seen: false,
@@ -135,9 +135,45 @@ pub static SESSIONS: [Row; 15] = [
             Recv(CONNACK),
             Sent(CONNECT),
         ],
-        lines: "4 record 5 RECV LOST\n5 record 6 CLOSE\n6 record 7 RELEASE 9\n7 record 8 OPEN\n8 record 9 SENT Connect 15\n\
+        lines: "4 record 5 RECV LOST\n5 record 6 CLOSE after 50\n6 record 7 RELEASE 9\n7 record 8 OPEN\n8 record 9 SENT Connect 15\n\
             9 record 10 RECV Connack 5\n10 record 11 SENT Publish 9\n11 record 12 SENT LOST\n12 record 14 CLOSE\n\
             13 record 15 OPEN\n14 record 16 RECV Connack 5\n15 record 17 SENT Connect 15\n",
+        answer: Ok(()),
+    },
+    // A CLOSE says the first byte of the packet that the tested end had begun, however many of its
+    // bytes came, and whatever came before it.
+    Row {
+        connack_seen: true,
+        parts: &[
+            Sent(b"\x32"),
+            Close,
+            Open,
+            Sent(CONNECT),
+            Recv(CONNACK),
+            Sent(b"\xc0\x00\x34\x07\x00\x01"),
+            Recv(b"\xd0\x00\x30"),
+            Close,
+            Open,
+            Close,
+        ],
+        lines: "4 record 5 CLOSE after 50\n5 record 6 OPEN\n6 record 7 SENT Connect 15\n7 record 8 RECV Connack 5\n\
+            8 record 9 SENT Pingreq 2\n9 record 10 RECV Pingresp 2\n10 record 11 CLOSE after 52\n\
+            11 record 12 OPEN\n12 record 13 CLOSE\n",
+        answer: Ok(()),
+    },
+    // It says none of a packet that ended, of one that was received, or after the direction is lost.
+    Row {
+        connack_seen: true,
+        parts: &[
+            Sent(BEGINNING),
+            Sent(END),
+            Recv(BEGINNING),
+            Close,
+            Open,
+            Sent(b"\x82\x80\x80\x80\x80"),
+            Close,
+        ],
+        lines: "4 record 5 SENT Publish 9\n5 record 7 CLOSE\n6 record 8 OPEN\n7 record 9 SENT LOST\n8 record 10 CLOSE\n",
         answer: Ok(()),
     },
     // A tested server sends the CONNACK.

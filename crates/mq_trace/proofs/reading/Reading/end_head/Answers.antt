@@ -6,7 +6,7 @@ use Rattle.mq_trace.specs.declared.kind.Direction.TheVariants as directions
 use Rattle.mq_trace.specs.Framing.{direction_of}
 use Rattle.mq_trace.specs.Events.{event_of_head}
 use Rattle.mq_trace.proofs.ReadingLaws.{comes_quietly}
-use Rattle.mq_trace.proofs.EndLaws.{body_advances, body_begins_sound}
+use Rattle.mq_trace.proofs.EndLaws.{begun_by, body_advances, body_begins_sound}
 use Rattle.mq_trace.proofs.reading.Reading.end_head.Goals as goal
 
 pub returns-in-Sent-clause-sound : goal.returns-in-Sent-clause-sound
@@ -20,7 +20,7 @@ returns-in-Sent-clause-comes g c =
     let r = c.args.self.now in
     let is : c.begin_body.new.self ≡ leaving (record r { at = r.at + 1; moment = c.args.moment }) directions.Sent c.args.length = search rules in
     comes_quietly g.S.Sink.agrees r _ (c.args.byte ∷ []) c.args.sink.now (subst (λ (x : Reading). Advances r x (c.args.byte ∷ []) []) (sym is)
-    (body_advances r c.args.kind c.args.length c.args.moment c.args.byte c.requires.sound c.requires.ends directions.Sent (ap (λ k. direction_of (Some k)) c.in-Sent.is) (ap event_of_head c.in-Sent.is)))
+    (body_advances r c.args.kind c.args.length c.args.moment c.args.byte c.requires.sound c.requires.ends directions.Sent (ap (λ k. direction_of (Some k)) c.in-Sent.is) (ap (event_of_head (begun_by r)) c.in-Sent.is)))
 
 pub returns-in-Recv-clause-sound : goal.returns-in-Recv-clause-sound
 returns-in-Recv-clause-sound g c =
@@ -33,4 +33,4 @@ returns-in-Recv-clause-comes g c =
     let r = c.args.self.now in
     let is : c.begin_body-in-Recv.new.self ≡ leaving (record r { at = r.at + 1; moment = c.args.moment }) directions.Recv c.args.length = search rules in
     comes_quietly g.S.Sink.agrees r _ (c.args.byte ∷ []) c.args.sink.now (subst (λ (x : Reading). Advances r x (c.args.byte ∷ []) []) (sym is)
-    (body_advances r c.args.kind c.args.length c.args.moment c.args.byte c.requires.sound c.requires.ends directions.Recv (ap (λ k. direction_of (Some k)) c.in-Recv.is) (ap event_of_head c.in-Recv.is)))
+    (body_advances r c.args.kind c.args.length c.args.moment c.args.byte c.requires.sound c.requires.ends directions.Recv (ap (λ k. direction_of (Some k)) c.in-Recv.is) (ap (event_of_head (begun_by r)) c.in-Recv.is)))

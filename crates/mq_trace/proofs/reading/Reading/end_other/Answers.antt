@@ -7,7 +7,7 @@ use Rattle.mq_trace.specs.Refusals.{allows_length}
 use Rattle.mq_trace.specs.Keeping.{IsSound, Advances}
 use Rattle.mq_trace.specs.Reception.{Declines}
 use Rattle.mq_trace.proofs.ReadingLaws.{comes_quietly}
-use Rattle.mq_trace.proofs.EndLaws.{mark_emits, release_advances, release_sound}
+use Rattle.mq_trace.proofs.EndLaws.{begun_by, mark_emits, release_advances, release_sound}
 use Rattle.mq_trace.proofs.EmissionLaws.{emitted_comes, emitted_stops}
 use Rattle.mq_trace.proofs.reading.Reading.end_other.Goals as goal
 
@@ -15,37 +15,37 @@ pub returns-in-Open-clause-comes : goal.returns-in-Open-clause-comes
 returns-in-Open-clause-comes g c =
     let r = c.args.self.now in
     let s = c.end_mark.ensures in
-    emitted_comes g.S.Sink.agrees r _ c.args.moment c.args.byte opened _ _ _ (mark_emits r c.args.kind c.args.length c.args.moment c.args.byte c.requires.sound c.requires.ends opened (ap event_of_head c.in-Open.is)) s.met s.kept s.receives
+    emitted_comes g.S.Sink.agrees r _ c.args.moment c.args.byte opened _ _ _ (mark_emits r c.args.kind c.args.length c.args.moment c.args.byte c.requires.sound c.requires.ends opened (ap (event_of_head (begun_by r)) c.in-Open.is)) s.met s.kept s.receives
 
 pub returns-in-Open-clause-stops : goal.returns-in-Open-clause-stops
 returns-in-Open-clause-stops g c =
     let r = c.args.self.now in
     let s = c.end_mark.ensures in
-    emitted_stops (Declines g.S.Sink.agrees g.S.Sink.refuses) r c.args.moment c.args.byte opened _ _ _ (mark_emits r c.args.kind c.args.length c.args.moment c.args.byte c.requires.sound c.requires.ends opened (ap event_of_head c.in-Open.is)) s.err
+    emitted_stops (Declines g.S.Sink.agrees g.S.Sink.refuses) r c.args.moment c.args.byte opened _ _ _ (mark_emits r c.args.kind c.args.length c.args.moment c.args.byte c.requires.sound c.requires.ends opened (ap (event_of_head (begun_by r)) c.in-Open.is)) s.err
 
 pub returns-in-Close-clause-comes : goal.returns-in-Close-clause-comes
 returns-in-Close-clause-comes g c =
     let r = c.args.self.now in
     let s = c.end_mark-in-Close.ensures in
-    emitted_comes g.S.Sink.agrees r _ c.args.moment c.args.byte closed _ _ _ (mark_emits r c.args.kind c.args.length c.args.moment c.args.byte c.requires.sound c.requires.ends closed (ap event_of_head c.in-Close.is)) s.met s.kept s.receives
+    emitted_comes g.S.Sink.agrees r _ c.args.moment c.args.byte (closed c.begun-begun.result) _ _ _ (mark_emits r c.args.kind c.args.length c.args.moment c.args.byte c.requires.sound c.requires.ends (closed c.begun-begun.result) (ap (event_of_head (begun_by r)) c.in-Close.is ∙ ap (λ o. Some (closed o)) (sym c.begun-begun.ensures))) s.met s.kept s.receives
 
 pub returns-in-Close-clause-stops : goal.returns-in-Close-clause-stops
 returns-in-Close-clause-stops g c =
     let r = c.args.self.now in
     let s = c.end_mark-in-Close.ensures in
-    emitted_stops (Declines g.S.Sink.agrees g.S.Sink.refuses) r c.args.moment c.args.byte closed _ _ _ (mark_emits r c.args.kind c.args.length c.args.moment c.args.byte c.requires.sound c.requires.ends closed (ap event_of_head c.in-Close.is)) s.err
+    emitted_stops (Declines g.S.Sink.agrees g.S.Sink.refuses) r c.args.moment c.args.byte (closed c.begun-begun.result) _ _ _ (mark_emits r c.args.kind c.args.length c.args.moment c.args.byte c.requires.sound c.requires.ends (closed c.begun-begun.result) (ap (event_of_head (begun_by r)) c.in-Close.is ∙ ap (λ o. Some (closed o)) (sym c.begun-begun.ensures))) s.err
 
 pub returns-in-Rest-clause-comes : goal.returns-in-Rest-clause-comes
 returns-in-Rest-clause-comes g c =
     let r = c.args.self.now in
     let s = c.end_mark-in-Rest.ensures in
-    emitted_comes g.S.Sink.agrees r _ c.args.moment c.args.byte rested _ _ _ (mark_emits r c.args.kind c.args.length c.args.moment c.args.byte c.requires.sound c.requires.ends rested (ap event_of_head c.in-Rest.is)) s.met s.kept s.receives
+    emitted_comes g.S.Sink.agrees r _ c.args.moment c.args.byte rested _ _ _ (mark_emits r c.args.kind c.args.length c.args.moment c.args.byte c.requires.sound c.requires.ends rested (ap (event_of_head (begun_by r)) c.in-Rest.is)) s.met s.kept s.receives
 
 pub returns-in-Rest-clause-stops : goal.returns-in-Rest-clause-stops
 returns-in-Rest-clause-stops g c =
     let r = c.args.self.now in
     let s = c.end_mark-in-Rest.ensures in
-    emitted_stops (Declines g.S.Sink.agrees g.S.Sink.refuses) r c.args.moment c.args.byte rested _ _ _ (mark_emits r c.args.kind c.args.length c.args.moment c.args.byte c.requires.sound c.requires.ends rested (ap event_of_head c.in-Rest.is)) s.err
+    emitted_stops (Declines g.S.Sink.agrees g.S.Sink.refuses) r c.args.moment c.args.byte rested _ _ _ (mark_emits r c.args.kind c.args.length c.args.moment c.args.byte c.requires.sound c.requires.ends rested (ap (event_of_head (begun_by r)) c.in-Rest.is)) s.err
 
 pub returns-in-Release-clause-sound : goal.returns-in-Release-clause-sound
 returns-in-Release-clause-sound g c =
@@ -59,4 +59,4 @@ returns-in-Release-clause-comes g c =
     let two = eqb-true c.args.length 2 (ap (λ k. allows_length r.header.version (Some k) c.args.length) (sym c.in-Release.is) ∙ c.requires.ends.allowed) in
     let is : c.begin_release.new.self ≡ record r { at = r.at + 1; stage = stages.Release None; moment = c.args.moment } = c.begin_release.ensures in
     comes_quietly g.S.Sink.agrees r _ (c.args.byte ∷ []) c.args.sink.now (subst (λ (x : Reading). Advances r x (c.args.byte ∷ []) []) (sym is)
-    (release_advances r c.args.kind c.args.length c.args.moment c.args.byte c.requires.sound c.requires.ends c.in-Release.is (ap event_of_head c.in-Release.is) two))
+    (release_advances r c.args.kind c.args.length c.args.moment c.args.byte c.requires.sound c.requires.ends c.in-Release.is (ap (event_of_head (begun_by r)) c.in-Release.is) two))
