@@ -36,7 +36,7 @@ is_timed log = (header_by log).version == 2
 -- the text of an event
 abbrev pub event_text : Event → List ℕ
 event_text opened = codes "OPEN"
-event_text closed = codes "CLOSE"
+event_text (closed begun) = codes "CLOSE"
 event_text rested = codes "REST"
 event_text (released identifier) = spaced (codes "RELEASE" ∷ decimal identifier ∷ [])
 event_text (sent item) = spaced (codes "SENT" ∷ item_text item ∷ [])

@@ -177,7 +177,7 @@ item_note direction lost = items.Lost
 
 abbrev pub note_of : Event → Note
 note_of opened = notes.Open
-note_of closed = notes.Close
+note_of (closed begun) = notes.Close
 note_of rested = notes.Rest
 note_of (released identifier) = notes.Release identifier
 note_of (sent item) = notes.Sent (item_note directions.Sent item)

@@ -513,7 +513,7 @@ impl Note {
                 Ok(Note::Recv(note))
             }
             Event::Open => Ok(Note::Open),
-            Event::Close => Ok(Note::Close),
+            Event::Close { .. } => Ok(Note::Close),
             Event::Rest => Ok(Note::Rest),
             Event::Release(identifier) => Ok(Note::Release(*identifier)),
         }

@@ -37,7 +37,7 @@ pub fn put_details<W: Write>(out: &mut Outgoing<'_, W>, event: &Event<'_>)
 {
     match event {
         Event::Sent(item) | Event::Recv(item) => put_item_details(out, item),
-        Event::Open | Event::Close | Event::Rest | Event::Release(_) => {}
+        Event::Open | Event::Close { .. } | Event::Rest | Event::Release(_) => {}
     }
 }
 
@@ -59,7 +59,7 @@ pub fn put_broken_details<W: Write>(out: &mut Outgoing<'_, W>, event: &Event<'_>
 {
     match event {
         Event::Sent(item) | Event::Recv(item) => put_broken_item(out, item),
-        Event::Open | Event::Close | Event::Rest | Event::Release(_) => {}
+        Event::Open | Event::Close { .. } | Event::Rest | Event::Release(_) => {}
     }
 }
 

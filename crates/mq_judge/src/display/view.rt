@@ -305,7 +305,7 @@ fn put_event(lines: &mut Lines, event: &Event<'_>) -> fmt::Result
 {
     match event {
         Event::Open => lines.put(" OPEN"),
-        Event::Close => lines.put(" CLOSE"),
+        Event::Close { .. } => lines.put(" CLOSE"),
         Event::Rest => lines.put(" REST"),
         Event::Release(identifier) => {
             lines.put(" RELEASE ")?;

@@ -143,7 +143,8 @@ fn has_no_details(alloc: Global, event: &Event<'_>) -> bool {
 fn nothing_is_said_of_other_events(rt: HostRuntime) {
     for event in [
         Event::Open,
-        Event::Close,
+        Event::Close { begun: None },
+        Event::Close { begun: Some(0x32) },
         Event::Rest,
         Event::Release(7),
         Event::Recv(Item::Lost),
