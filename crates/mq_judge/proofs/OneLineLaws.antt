@@ -233,7 +233,7 @@ item_fits lost_item = refl
 -- whatever the event
 pub details_fit : (event : Event) → is_on_one_line (detail_text event) ≡ true
 details_fit opened = refl
-details_fit closed = refl
+details_fit (closed begun) = refl
 details_fit rested = refl
 details_fit (released identifier) = refl
 details_fit (sent item) = spaces_fit (item_details item) (item_fits item)
@@ -241,7 +241,7 @@ details_fit (received item) = spaces_fit (item_details item) (item_fits item)
 
 pub broken_details_fit : (event : Event) → is_on_one_line (broken_detail_text event) ≡ true
 broken_details_fit opened = refl
-broken_details_fit closed = refl
+broken_details_fit (closed begun) = refl
 broken_details_fit rested = refl
 broken_details_fit (released identifier) = refl
 broken_details_fit (sent item) = spaces_fit (broken_details item) (broken_item_fits item)
