@@ -107,6 +107,14 @@ longest_least version = by (version == 2)
     by true = omega arith
     by false = omega arith
 
+pub longest_most : (version : ℕ) → 1048576 ≤ longest_body version
+unfolding longest_body
+longest_most version = by (version == 2)
+  where
+    by : (b : Bool) → 1048576 ≤ (if b then 16777216 else 1048576)
+    by true = omega arith
+    by false = omega arith
+
 short_of : (version : ℕ) (kind : RecordKind) (number : ℕ) (direction : Direction) → direction_of (Some kind) ≡ Some direction → allows_length version (Some kind) number ≡ true → number ≤ 16777216
 short_of version kinds.Sent number direction goes allowed = let most = longest_least version in let short = leb-true number (longest_body version) allowed in omega arith
 short_of version kinds.Recv number direction goes allowed = let most = longest_least version in let short = leb-true number (longest_body version) allowed in omega arith

@@ -2,6 +2,7 @@
 ghost use Rattle.std.specs.Prelude.{◌≡◌, ◌==◌, ◌≤◌, true, false, Some, ◌++◌, ◌∷◌, length, codes, OnOk, OnErr};
 ghost use Rattle.std.specs.Int.{w32, w64, to_be_bytes};
 ghost use Rattle.std.specs.Io.KnownBytes.{Appends};
+ghost use Rattle.mq_trace.specs.Framing.{is_version, longest_body};
 ghost use Rattle.mq_trace.specs.Writing.{header_bytes, kind_byte, framed, open_record, close_record, rest_record, sent_record, received_record, release_record, record_bytes, AppendsBeginning, WritesAll, FailsToWrite};
 
 mod laws;
@@ -95,12 +96,13 @@ impl<W: Write> TraceWriter<W> {
         self.moment = moment;
     }
 
-    /// Writes the header of a log.
+    /// Writes the header of a log, of version 1 or 2.
     ///
     /// # Errors
     ///
     /// `Write` if a write failed, in this call or in an earlier one.
     pub fn header(&mut self, header: &Header) -> Result<(), WriteFault>
+        requires { is_version header.now.version ≡ true }
         ensures ok { OnOk result (WritesAll W.contents self.old self.new (header_bytes header.now)) }
         ensures write { OnErr result (FailsToWrite W.contents self.old self.new (header_bytes header.now)) }
         ensures version { self.new.version ≡ header.now.version }
@@ -129,8 +131,9 @@ impl<W: Write> TraceWriter<W> {
     /// # Errors
     ///
     /// `Write` if a write failed, in this call or in an earlier one.
+    #[tactic(auto, using(crate::proofs::EndLaws::longest_least))]
     pub fn sent(&mut self, body: &[u8]) -> Result<(), WriteFault>
-        requires { length body.now ≤ 16777216 }
+        requires { length body.now ≤ longest_body self.old.version }
         ensures ok { OnOk result (WritesAll W.contents self.old self.new (record_bytes self.old.version self.old.moment (sent_record body.now))) }
         ensures write { OnErr result (FailsToWrite W.contents self.old self.new (record_bytes self.old.version self.old.moment (sent_record body.now))) }
         ensures same { (self.new.version ≡ self.old.version) × (self.new.moment ≡ self.old.moment) }
@@ -144,8 +147,9 @@ impl<W: Write> TraceWriter<W> {
     /// # Errors
     ///
     /// `Write` if a write failed, in this call or in an earlier one.
+    #[tactic(auto, using(crate::proofs::EndLaws::longest_least))]
     pub fn recv(&mut self, body: &[u8]) -> Result<(), WriteFault>
-        requires { length body.now ≤ 16777216 }
+        requires { length body.now ≤ longest_body self.old.version }
         ensures ok { OnOk result (WritesAll W.contents self.old self.new (record_bytes self.old.version self.old.moment (received_record body.now))) }
         ensures write { OnErr result (FailsToWrite W.contents self.old self.new (record_bytes self.old.version self.old.moment (received_record body.now))) }
         ensures same { (self.new.version ≡ self.old.version) × (self.new.moment ≡ self.old.moment) }

@@ -41,6 +41,7 @@ fn refusing_a_log(rt: HostRuntime) -> Result<(), Fail> {
 }
 
 #[test]
+#[tactic(auto, using(crate::proofs::EndLaws::longest_most))]
 fn writing_a_log(rt: HostRuntime) -> Result<(), Fail> {
     let mut log = TraceWriter::new(Vec::new(rt.alloc()));
     log.header(&Header {

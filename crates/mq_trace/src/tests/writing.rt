@@ -22,6 +22,7 @@ const WORKED: &[u8] = b"MQTR\x01\x00\x01\x00\
 const ENDS: [usize; 8] = [8, 13, 33, 43, 57, 66, 71, 76];
 
 // Makes one of the worked log's calls, which are numbered from 0.
+#[tactic(auto, using(crate::proofs::EndLaws::longest_most))]
 fn call<W: Write>(trace: &mut TraceWriter<W>, number: usize) -> Result<(), WriteFault> {
     match number {
         0 => trace.header(&Header {
@@ -109,6 +110,7 @@ fn writes_a_servers_header_and_a_release(rt: HostRuntime) {
 }
 
 #[test]
+#[tactic(auto, using(crate::proofs::EndLaws::longest_most))]
 fn writes_moments_in_version_2(rt: HostRuntime) {
     let mut trace = TraceWriter::new(Vec::new(rt.alloc()));
     let header = Header {
@@ -130,6 +132,7 @@ fn writes_moments_in_version_2(rt: HostRuntime) {
 }
 
 #[test]
+#[tactic(auto, using(crate::proofs::EndLaws::longest_most))]
 fn writes_the_shortest_and_the_longest_body(rt: HostRuntime) -> Result<(), AllocError> {
     let body = vec![in rt.alloc(); 0xA5; 1_048_576]?;
     let mut trace = TraceWriter::new(Vec::new(rt.alloc()));
