@@ -17,7 +17,7 @@ use Rattle.mq_rules.specs.Exchanges.{Exchange, causes, answers, breaks_A}
 use Rattle.mq_rules.specs.Rules.{binds, same_rule}
 use Rattle.mq_rules.specs.Faults.{offset_of}
 use Rattle.mq_rules.specs.FaultKeys.{FaultMap}
-use Rattle.mq_rules.specs.Statements.{statement, in_session}
+use Rattle.mq_rules.specs.Statements.{statement, in_session, if_early}
 use Rattle.mq_rules.proofs.Exports.{and_false, begun-closed, begun-open-of-given as begun-open, both_true, differ, session-members, session_since-next}
 use Rattle.mq_rules.specs.Under.{fate_before, turns_with, IsUnder}
 use Rattle.mq_rules.specs.Growing.{Gains}
@@ -27,7 +27,7 @@ use Rattle.mq_books.specs.Askings.{caused, owed, is_before, answered_next, is_un
 use Rattle.mq_books.proofs.JudgeLaws.{session-turns_with, gains_judged}
 use Rattle.mq_books.proofs.VoidLaws.{numbers}
 use Rattle.mq_books.proofs.KnowingLaws.{and-out, excused-known}
-use Rattle.mq_books.specs.Knowing.{excused, if_early}
+use Rattle.mq_books.specs.Knowing.{excused}
 
 abbrev pub owed_next : Fate → Note → Bool → Bool → Bool → Bool → Bool
 owed_next f n s t all old = cond (is_open n) (not (begins (Some f)) && all) (cond (accepts f) (s || (not t && old)) old)

@@ -24,7 +24,7 @@ use Rattle.mq_rules.specs.Pasts.{set_alias}
 use Rattle.mq_rules.specs.Subscriptions.{Standing, is_shared}
 use Rattle.mq_rules.specs.Exchanges.{Exchange, breaks_A, breaks_O, shows_R}
 use Rattle.mq_rules.specs.Rules.{same_rule, binds}
-use Rattle.mq_rules.specs.Statements.{statement, in_session, at_rest}
+use Rattle.mq_rules.specs.Statements.{statement, in_session, at_rest, if_early}
 use Rattle.mq_rules.specs.Faults.{offset_of}
 use Rattle.mq_rules.specs.FaultKeys.{FaultMap}
 use Rattle.mq_rules.specs.Under.{IsUnder, fate_before, turns_with}
@@ -44,7 +44,7 @@ use Rattle.mq_books.specs.Quotas.{announced, may_count, flown, exceeds, IsQuota}
 use Rattle.mq_books.specs.Releasing as releasing
 use Rattle.mq_books.specs.Releasing.{IsReleasing, is_inside, starts_over, kept_next, lasting}
 use Rattle.mq_books.specs.Standings.{Waits, IsStanding, allows, weighed, asked, is_answered, goes_on, grants_some, judged_topic, delivers_so, is_unasked as unasked, is_above}
-use Rattle.mq_books.specs.Knowing.{excused, if_early, is_placed}
+use Rattle.mq_books.specs.Knowing.{excused, is_placed}
 use Rattle.mq_books.proofs.AskedLaws.{asked-next, asked-gains}
 use Rattle.mq_books.proofs.CountLaws.{counted-next, counted-gains}
 use Rattle.mq_books.proofs.DeliveryLaws.{B01-gains, B02-gains}

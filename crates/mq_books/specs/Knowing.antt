@@ -1,10 +1,7 @@
 -- What an end couldn't know before the CONNACK. An event of a connection is known where the connection is decided at it or before it.
-use Rattle.std.specs.Prelude.{Bool, true, false, ◌&&◌, not, Some}
+use Rattle.std.specs.Prelude.{Bool, ◌&&◌, not, Some}
 use Rattle.mq_rules.specs.declared.fate.Fate.{Fate}
 use Rattle.mq_rules.specs.Connections.{is_unasked, surprises, is_untold, begins}
-use Rattle.mq_rules.specs.Statements.{knowing}
-use Rattle.mq_rules.specs.declared.role.Role.{Role}
-use Rattle.mq_rules.specs.Moments.{Moment}
 use Rattle.mq_books.specs.declared.inflight.broken.Broken.{Broken}
 
 -- it is false, unless the event isn't known and may surprise the end
@@ -24,8 +21,3 @@ all_excused f known b = record {
 -- at a RELEASE it is known to which session the message belongs
 abbrev pub is_placed : Fate → Bool → Bool
 is_placed f known = not (is_untold f) && not (begins (Some f) && not known)
-
--- a predicate on answers that may be sent before the CONNACK, or may not
-abbrev pub if_early : Bool → Role → (Fate → Moment → Bool) → Fate → Moment → Bool
-if_early true role breaks = knowing role breaks
-if_early false role breaks = breaks

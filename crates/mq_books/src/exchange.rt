@@ -16,10 +16,9 @@ pub trait Exchange {
     ghost use Rattle.mq_rules.specs.declared.role.Role.{Role};
     ghost use Rattle.mq_rules.specs.declared.rule.Rule.{Rule};
     ghost use Rattle.mq_rules.specs.Exchanges as exchanges;
-    ghost use Rattle.mq_rules.specs.Statements.{statement, in_session, at_rest};
+    ghost use Rattle.mq_rules.specs.Statements.{statement, in_session, at_rest, if_early};
     ghost use Rattle.mq_rules.specs.Notes.{note_of_bare};
     ghost use Rattle.mq_books.specs.Answering.{IsApart};
-    ghost use Rattle.mq_books.specs.Knowing.{if_early};
 
     // The cause, and the answer.
     ghost exchange: { exchanges.Exchange };

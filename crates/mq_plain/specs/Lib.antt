@@ -13,4 +13,3 @@ pub mod Owing
 pub mod Deliveries
 pub mod Events
 pub mod Waiting
-pub mod Knowing

@@ -21,9 +21,8 @@ pub trait Exchange {
     ghost use Rattle.mq_rules.specs.declared.role.Role.{Role};
     ghost use Rattle.mq_rules.specs.declared.rule.Rule.{Rule};
     ghost use Rattle.mq_rules.specs.Exchanges as exchanges;
-    ghost use Rattle.mq_rules.specs.Statements.{statement, in_session, at_rest};
+    ghost use Rattle.mq_rules.specs.Statements.{statement, in_session, at_rest, if_early};
     ghost use Rattle.mq_plain.specs.Received.{IsReceived, IsSent};
-    ghost use Rattle.mq_plain.specs.Knowing.{if_early};
 
     // The cause, and the answer.
     ghost exchange: { exchanges.Exchange };

@@ -84,7 +84,7 @@ is_void Resumed = false
 is_void Unasked = false
 is_void Unknown = false
 
--- the client has a session that it hadn't asked for, or hadn't; or it asked for its own, and has a new one
+-- the client has a session that it hadn't asked for, or didn't have; or it asked for its own, and has a new one
 abbrev pub is_unasked : Fate → Bool
 is_unasked Unasked = true
 is_unasked _ = false

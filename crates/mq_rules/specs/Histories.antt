@@ -37,8 +37,12 @@ accepts_now role h n = is_none (answered h) && accepted (decides role n)
 abbrev pub begins_now : Role → History → Note → Bool
 begins_now role h n = accepts_now role h n && (begins (decides role n) || not h.has_accepted)
 
+-- the client asks for a new session
+abbrev pub asks_to_begin_now : History → Bool
+asks_to_begin_now h = is_some_and (λ c. c.clean_start) h.connection.connect
+
 abbrev pub may_change_now : Role → History → Bool
-may_change_now Client h = is_some_and (λ c. c.clean_start) h.connection.connect
+may_change_now Client h = asks_to_begin_now h
 may_change_now Server h = is_some_and (λ c. c.clean_start || h.changed) h.connection.connect
 
 abbrev pub disturbs_now : Role → History → Note → Bool

@@ -42,6 +42,11 @@ pub data Statement : Type 0 where
 abbrev pub knowing : Role → (Fate → Moment → Bool) → Fate → Moment → Bool
 knowing role breaks f m = breaks f m && not (couldnt_know role f m)
 
+-- a predicate on answers: one that may be sent before the CONNACK is no fault where the end couldn't know
+abbrev pub if_early : Bool → Role → (Fate → Moment → Bool) → Fate → Moment → Bool
+if_early true role breaks = knowing role breaks
+if_early false role breaks = breaks
+
 abbrev pub knowing_resumed : Role → (Fate → Moment → Bool) → Fate → Moment → Bool
 knowing_resumed role breaks f m = breaks f m && not (couldnt_know_resumed role f m)
 

@@ -451,46 +451,6 @@ impl Note {
         }
     }
 
-    /// What the statements look at in a PUBLISH of `size` bytes, which went this way.
-    ///
-    /// # Errors
-    ///
-    /// `Memory` if there is no memory for its Topic Name, which is kept of a PUBLISH that was sent.
-    #[inline(always)]
-    pub fn of_publish(
-        alloc: Global,
-        direction: Direction,
-        size: u32,
-        publish: &Publish<'_>,
-    ) -> Result<Note, Memory>
-        ensures exact { IfOk result (λ note. note ≡ note_of (item_event direction (packet size (publish_entry (publish_view publish.now))))) }
-        ensures needed { OnErr result (note_keeps_text (note_of (item_event direction (packet size (publish_entry (publish_view publish.now))))) ≡ true) }
-    {
-        match kept_topic(alloc, direction, publish.topic) {
-            Ok(topic) => Ok(Note::with_topic(direction, size, topic, publish)),
-            Err(memory) => Err(memory),
-        }
-    }
-
-    // The note of a PUBLISH in this direction, of which this is kept of the Topic Name. It is made
-    // in one piece, since each move of a note costs more than what is noted.
-    #[inline(always)]
-    fn with_topic(direction: Direction, size: u32, topic: Text, publish: &Publish<'_>) -> Note
-        ensures { topic ≡ only_list (is_sent_direction direction) publish.now.topic.now → result ≡ note_of (item_event direction (packet size (publish_entry (publish_view publish.now)))) }
-    {
-        let properties = nonempty(&publish.properties);
-        let note = ItemNote::Packet(PacketNote {
-            size,
-            has_reason_string: has_reason_string(properties),
-            has_user_property: has_user_property(properties),
-            fields: PacketFields::Publish(PublishNote::with_topic(topic, publish)),
-        });
-        match direction {
-            Direction::Sent => Note::Sent(note),
-            Direction::Recv => Note::Recv(note),
-        }
-    }
-
     /// What the statements look at in this event.
     ///
     /// # Errors

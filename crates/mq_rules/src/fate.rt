@@ -52,7 +52,7 @@ impl Fate {
         matches!(self, Fate::New | Fate::Forgotten)
     }
 
-    /// Whether a session was resumed that the client hadn't asked for, or hadn't.
+    /// Whether a session was resumed that the client hadn't asked for, or didn't have.
     #[inline(always)]
     pub fn is_unasked(self) -> bool
         ensures { result ≡ connections.is_unasked self }

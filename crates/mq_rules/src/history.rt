@@ -2,7 +2,6 @@
 ghost use Rattle.std.specs.Prelude.{ℕ, ◌≡◌, ◌&&◌, ◌||◌, [], cond};
 ghost use Rattle.mq_rules.specs.declared.role.Role.{Role as TheRole};
 ghost use Rattle.mq_rules.specs.declared.fate.Fate.TheVariants as fates;
-ghost use Rattle.mq_rules.specs.declared.role.Role.TheVariants as roles;
 ghost use Rattle.mq_trace.specs.declared.kind.Direction.TheVariants as directions;
 ghost use Rattle.mq_rules.specs.Words.{is_some_and};
 ghost use Rattle.mq_rules.specs.Notes.{is_acknowledged, received_publish, bare_note, bare_fields, note_of_bare};
@@ -215,8 +214,9 @@ impl History {
         }
     }
 
+    // Whether the client asks for a new session by Clean Start 1.
     fn asks_to_begin(&self) -> bool
-        ensures { result ≡ histories.may_change_now roles.Client self.now }
+        ensures { result ≡ histories.asks_to_begin_now self.now }
     {
         match self.connection.connect {
             Some(connect) => connect.clean_start,

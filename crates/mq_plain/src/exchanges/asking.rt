@@ -20,7 +20,7 @@ pub struct Asked<X: Exchange>(PhantomData<X>);
 
 impl<X: Exchange> SessionStatement for Asked<X> {
     ghost use Rattle.mq_rules.specs.Exchanges.{breaks_A};
-    ghost use Rattle.mq_plain.specs.Knowing.{if_early};
+    ghost use Rattle.mq_rules.specs.Statements.{if_early};
 
     ghost judged = { X.asked };
 

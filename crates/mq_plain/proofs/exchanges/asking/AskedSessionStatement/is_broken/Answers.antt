@@ -1,7 +1,7 @@
 use Rattle.std.proofs.Common.{◌&&◌, not, ap, sym, ◌∙◌, reverse}
 use Rattle.mq_rules.specs.Moments.{newest}
 use Rattle.mq_rules.specs.Exchanges.{breaks_A}
-use Rattle.mq_plain.specs.Knowing.{if_early}
+use Rattle.mq_rules.specs.Statements.{if_early}
 use Rattle.mq_plain.proofs.exchanges.asking.AskedSessionStatement.is_broken.Goals as goal
 
 pub returns : goal.returns
