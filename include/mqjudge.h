@@ -169,8 +169,9 @@ uint32_t mqjudge_fault_from(mqjudge *judge, uint32_t position, mqjudge_fault_row
 uint32_t mqjudge_fault_at(mqjudge *judge, uint32_t position, size_t index, mqjudge_fault_row *fault);
 
 /* How much the judge keeps: how many Packet Identifiers, filters, Topic Aliases and events of a connection that isn't
- * decided yet; not the faults, nor the bytes of unfinished packets. It is bounded by what is open in the log, so a weight
- * that grows says that the end leaves more and more open. OK, NO_JUDGE. */
+ * decided yet; not the faults, nor the bytes of unfinished packets. It is bounded by what is open in the log, and by the
+ * filters that a server granted in the session, so a weight that grows says that the end leaves more and more open, or
+ * grants more and more different filters. OK, NO_JUDGE. */
 uint32_t mqjudge_weight(mqjudge *judge, size_t *weight);
 
 /* Why the log is refused: the number of the refusal (docs/LOG_FORMAT.md), and the offset in the log of the refused byte.

@@ -1,0 +1,142 @@
+#!/usr/bin/env python3
+"""Checks that what docs/PROVED.md, docs/ARCHITECTURE.md and docs/WRONG_BODIES.md name is there.
+
+Each word in backticks has to be a word of the sources, or the name of a file. In the tables of PROVED.md each function in the column
+Call has to be one, and each clause one in the contract of a function of its row, or the field of a definition that the contract uses. In
+those tables of ARCHITECTURE.md that are about the inside of a crate, each module, each name of definitions and each name of laws has to
+be that of a file. Only names are compared: that a row says what its clauses say is for its reader.
+
+usage: bench/check_docs.py
+"""
+import re
+import sys
+from collections.abc import Iterator
+from pathlib import Path
+
+TOP = Path(__file__).resolve().parent.parent
+DOCS = [TOP / "docs" / name for name in ("PROVED.md", "ARCHITECTURE.md", "WRONG_BODIES.md")]
+PROVED, MAP, _ = DOCS
+CRATES = TOP / "crates"
+PARTS = ("src", "specs", "proofs", "must-fail")
+FOLDERS = [crate / part for crate in CRATES.iterdir() for part in PARTS]
+FOLDERS += [TOP / name for name in ("bench", "docs", "recorders", "examples", "include", ".ci")]
+TEXTS = {".rt", ".antt", ".py", ".c", ".h", ".scenarios", ".css", ".js", ".edit", ".txt", ".rs", ""}
+WORD = re.compile(r"\w+\.(?:antt|c|css|h|js|md|py|rs|rt|scenarios|txt)\b|\w+(?:-\w+)*")  # the name of a file, or any other word
+QUOTED = re.compile(r"`([^`]+)`")
+NAME = re.compile(r"\w+(?:::\w+)*")
+FUNCTION = re.compile(r'^\s*(?:pub(?:\(crate\))? )?(?:const )?(?:extern "C" )?fn (\w+)')
+CLAUSE = re.compile(r"\bensures (\w*) ?\{")
+FIELD = re.compile(r"^ +pub (\w+) :", re.MULTILINE)
+NO_NAME = re.compile(r"(^| )--?(?=\w)|[\w.]*\*[\w.]*")  # an option's first bytes; a pattern of names
+CELL = re.compile(r" *(?<!\\)\| *")
+UNNAMED = ""  # the only clause of a contract has no name
+
+Contracts = dict[str, set[str]]  # the clauses of each function
+
+
+def files() -> Iterator[Path]:
+    for folder in FOLDERS:
+        yield from (path for path in folder.rglob("*") if path.is_file() and "__pycache__" not in path.parts)
+
+
+def words() -> set[str]:
+    """All words of the sources, and the names of their files and folders."""
+    found = {path.name for path in (*CRATES.iterdir(), *TOP.iterdir())}
+    for path in files():
+        found.update({path.stem, *WORD.findall(str(path.relative_to(TOP)))})
+        if path.suffix in TEXTS:
+            found.update(WORD.findall(path.read_text()))
+    return found
+
+
+def contracts(crate: Path) -> Contracts:
+    """The clauses of each function of the crate. Functions of one name are taken together."""
+    found: Contracts = {}
+    for path in (crate / "src").rglob("*.rt"):
+        name = None
+        for line in path.read_text().splitlines():
+            if begun := FUNCTION.match(line):
+                name = begun[1]
+                found.setdefault(name, set())
+            elif line.strip() == "{":
+                name = None
+            if name is not None:
+                found[name].update(CLAUSE.findall(line))
+    return found
+
+
+def together(all_contracts: dict[str, Contracts]) -> Contracts:
+    found: Contracts = {}
+    for one in all_contracts.values():
+        for name, clauses in one.items():
+            found.setdefault(name, set()).update(clauses)
+    return found
+
+
+def sections(text: str) -> Iterator[tuple[str, list[list[str]]]]:
+    """The crate that the heading of each section names, and the rows of its tables, by cells."""
+    for section in text.split("\n## ")[1:]:
+        head, _, body = section.partition("\n")
+        if named := re.search(r"`(mq_\w+)`", head):
+            yield named[1], [CELL.split(line)[1:-1] for line in body.splitlines() if line.startswith("| ")][1:]
+
+
+def wrong_words(known: set[str]) -> Iterator[str]:
+    for doc in DOCS:
+        for quoted in QUOTED.findall(re.sub(r"```.*?```", "", doc.read_text(), flags=re.DOTALL)):
+            named = WORD.findall(NO_NAME.sub(" ", quoted))
+            yield from (f"{doc.name}: there is no {word} (`{quoted}`)" for word in named if word not in known)
+
+
+def wrong_row(crate: str, clauses: str, there: Contracts, fields: set[str]) -> Iterator[str]:
+    """What is wrong in a row on these functions, of which these are the clauses."""
+    for word in QUOTED.findall(clauses):
+        name, _, clause = word.rpartition(".")
+        having = there.get(name, set()) if name else set().union(*there.values(), fields)
+        if clause.islower() and clause not in having and word not in there:
+            yield f"PROVED.md: {crate}: no clause {word} of {', '.join(there)}"
+    if clauses in ("one clause", "one clause each"):
+        yield from (f"PROVED.md: {crate}: {name} has named clauses" for name, having in there.items() if UNNAMED not in having)
+
+
+def wrong_clauses() -> Iterator[str]:
+    by_crate = {path.name: contracts(path) for path in CRATES.iterdir()}
+    of_all = together(by_crate)
+    for crate, rows in sections(PROVED.read_text()):
+        fields = {name for path in (CRATES / crate / "specs").rglob("*.antt") for name in FIELD.findall(path.read_text())}
+        modules = {path.stem for path in (CRATES / crate / "src").rglob("*")}
+        functions: list[str] = []
+        for call, _, clauses, *_ in rows:
+            words = [word.rpartition("::")[2] for word in QUOTED.findall(call) if NAME.fullmatch(word) and word not in by_crate]
+            yield from (f"PROVED.md: {crate}: no function {word}" for word in words if word.islower() and word not in {*of_all, *modules})
+            # A row on "the same" is on the functions of the row before it.
+            functions = [word for word in words if word in of_all] or functions
+            # A method of a trait has the trait's contract, which may be in a crate below.
+            there = {name: by_crate[crate].get(name) or of_all[name] for name in functions}
+            yield from wrong_row(crate, clauses, there, fields)
+
+
+def names_in(cell: str) -> list[str]:
+    """The names that a cell explains: those before the colon of each of its parts. What another crate has isn't among them."""
+    parts = (part.partition(": ")[0] for part in cell.split("; ") if " of `mq_" not in part)
+    return [name.rpartition("::")[2] for part in parts for name in QUOTED.findall(part)]
+
+
+def wrong_files() -> Iterator[str]:
+    for crate, rows in sections(MAP.read_text()):
+        for modules, _, *others in rows:
+            for part, cell in zip(PARTS, (modules, *others)):
+                stems = {path.stem for path in (CRATES / crate / part).rglob("*")}
+                yield from (f"ARCHITECTURE.md: {crate}/{part} has no {name}" for name in names_in(cell) if name not in stems)
+
+
+def main() -> int:
+    wrong = [*wrong_words(words()), *wrong_clauses(), *wrong_files()]
+    for line in wrong:
+        print(line)
+    print(f"documents: {len(wrong)} names wrong")
+    return 1 if wrong else 0
+
+
+if __name__ == "__main__":
+    sys.exit(main())
