@@ -10,12 +10,14 @@ from what `show` prints, and from Python's dates. The bytes of packets that brea
 Each line of `show` is that of showing.py, and each of `show --long` begins with it.
 """
 import json
+import os
 import random
 import subprocess
 import sys
 import tempfile
 from collections import OrderedDict
 from collections.abc import Iterator
+from concurrent.futures import ThreadPoolExecutor
 from datetime import UTC, datetime, timedelta
 from itertools import zip_longest
 from pathlib import Path
@@ -213,27 +215,33 @@ def is_compact(text: str) -> bool:
     return json.dumps(json.loads(text), sort_keys=True, separators=(",", ":")) + "\n" == text
 
 
+def wrong_reports(program: str, name: str, log: bytes, sentences: dict[str, str]) -> tuple[int, list[str]]:
+    """How many reports the program has given of this log, and what is wrong with them, a text for each that is."""
+    wrong = []
+    with tempfile.TemporaryDirectory() as folder:
+        path = Path(folder) / "a.log"
+        path.write_bytes(log)
+        if lines := wrong_lines(program, log):
+            wrong.append("\n  ".join([f"{name} show", *(f"{line:.500}" for line in lines[:3])]))
+        wanted = wanted_of(program, log, str(path), sentences)
+        for words, answer in wanted.items():
+            given = run(program, log, *words)
+            if given != answer:
+                wrong.append(f"{name} {' '.join(words)}\n  wanted {answer!r:.500}\n  got    {given!r:.500}")
+            elif "--json" in words and not is_compact(given[1]):
+                wrong.append(f"{name}: JSON isn't compact with ascending keys")
+    return len(wanted), wrong
+
+
 def main() -> int:
     program, *paths = sys.argv[1:]
     sentences = all_sentences(program)
-    count, wrong = 0, 0
-    with tempfile.TemporaryDirectory() as folder:
-        path = Path(folder) / "a.log"
-        for name, log in logs(paths):
-            path.write_bytes(log)
-            if lines := wrong_lines(program, log):
-                wrong += 1
-                print(f"{name} show", *(f"{line:.500}" for line in lines[:3]), sep="\n  ")
-            for words, answer in wanted_of(program, log, str(path), sentences).items():
-                count += 1
-                given = run(program, log, *words)
-                if given != answer:
-                    wrong += 1
-                    print(f"{name} {' '.join(words)}", f"wanted {answer!r:.500}", f"got    {given!r:.500}", sep="\n  ")
-                elif "--json" in words and not is_compact(given[1]):
-                    wrong += 1
-                    print(f"{name}: JSON isn't compact with ascending keys")
-    print(f"{count} reports, {wrong} wrong")
+    with ThreadPoolExecutor(os.cpu_count()) as pool:
+        found = list(pool.map(lambda named: wrong_reports(program, *named, sentences), logs(paths)))
+    wrong = [text for _, texts in found for text in texts]
+    for text in wrong:
+        print(text)
+    print(f"{sum(count for count, _ in found)} reports, {len(wrong)} wrong")
     return 1 if wrong else 0
 
 

@@ -6,6 +6,7 @@ usage: recorders/test_gate.py
 from __future__ import annotations
 
 import os
+import re
 import shutil
 import subprocess
 import sys
@@ -18,14 +19,17 @@ from testing import PATIENCE, TOP, InFolder
 
 BUILT = "crates/mq_cli/out/mq_cli"
 RUN = "recorders run"
+CHECKED = ["bench/rules_table.py", "bench/check_docs.py", "bench/wrong_bodies.py --check"]
+SHOWN = [f"bench/program.py {BUILT}", f"bench/check_rows.py --mqjudge {BUILT}", f"bench/check_forms.py {BUILT}"]
 SUITE = f"bench/suite.py --check --program {BUILT}"
 CONVERTED = f"bench/check_convert.py --mqjudge {BUILT}"
-FUZZED = ["bench/fuzz.py --self-test", "bench/fuzz.py --seed 1 --count 20000"]
 REFUSED = "bench/refusing.py"
-TRIED = [SUITE, CONVERTED, REFUSED, *FUZZED]
-NOT_TRIED = "bench/suite.py, bench/check_convert.py, bench/refusing.py and bench/fuzz.py aren't run"
-LIBRARY_FOLDERS = ("crates/mq_ffi/out", "crates/mq_trace/src", "crates/mq_cli/src", "crates/mq_trace/out/src")
+FUZZED = ["bench/fuzz.py --self-test", "bench/fuzz.py --seed 1 --count 20000"]
+BEFORE = [*CHECKED, *SHOWN, SUITE, CONVERTED]
+TRIED = [*BEFORE, REFUSED, *FUZZED]
+SCRIPTS = ("rules_table", "check_docs", "wrong_bodies", "program", "check_rows", "check_forms", "suite", "check_convert", "fuzz")
 NO_LIBRARY = "examples/live/test isn't run: it needs the library, which this builds: (cd crates/mq_ffi && rt lib)"
+LIBRARY_FOLDERS = ("crates/mq_ffi/out", "crates/mq_trace/src", "crates/mq_cli/src", "crates/mq_trace/out/src")
 
 
 class Gate(InFolder):
@@ -50,24 +54,30 @@ class Gate(InFolder):
         path.write_text(f"#!/bin/sh\n{text}\n")
         path.chmod(0o755)
 
+    def bench(self, scripts: dict[str, int]) -> None:
+        """The scripts of bench/ that need nothing else, with the statuses of those that don't end with 0."""
+        for name in SCRIPTS:
+            self.script(f"bench/{name}.py", f'echo "bench/{name}.py${{1:+ $*}}"\nexit {scripts.get(name, 0)}')
+
     def gate(
         self,
         said: str,
         status: int,
         missing: str = "",
         recorders: int = 0,
-        suite: int = 0,
-        convert: int = 0,
         refusing: int = 0,
         compiler: str = "",
-        fuzz: int = 0,
         is_built: bool = True,
         live_missing: str = "",
         live: int = 0,
+        **scripts: int,
     ) -> tuple[int, list[str]]:
-        """The status and the lines of the gate, where `rt ci`, the recorders' tests and the others say this and end so."""
-        for name, ends in (("suite", suite), ("check_convert", convert), ("fuzz", fuzz)):
-            self.script(f"bench/{name}.py", f'echo "bench/{name}.py $*"\nexit {ends}')
+        """The status and the lines of the gate, where `rt ci`, the recorders' tests and the others say this and end so.
+
+        The scripts of bench/ that need nothing else end with 0, except for those that are named.
+        """
+        self.assertLessEqual(scripts.keys(), set(SCRIPTS))
+        self.bench(scripts)
         lacks = f'test "$1" = --missing && echo "{compiler}" && exit 0'
         self.script("bench/refusing.py", f'{lacks}\necho "{REFUSED}"\nexit {refusing}')
         if is_built:
@@ -86,6 +96,10 @@ class Gate(InFolder):
         self.assertRegex(lines[0], r"\A[0-9]+ processors, [0-9]+ MB free\Z")
         self.assertEqual(lines[1], str(self.folder.resolve()))
         return answer.returncode, lines[2:] + answer.stderr.splitlines()
+
+    def test_its_scripts_can_be_run(self) -> None:
+        for name in set(re.findall(r"bench/\w+\.py", (TOP / ".ci/run").read_text())):
+            self.assertTrue(os.access(TOP / name, os.X_OK), name)
 
     def test_all_pass(self) -> None:
         said = "14 passed, 0 failed"
@@ -134,8 +148,8 @@ class Gate(InFolder):
 
     def test_the_program_is_wrong(self) -> None:
         said = "14 passed, 0 failed"
-        self.assertEqual(self.gate(said, 0, suite=1), (1, [said, RUN, *TRIED, "14 passed, 1 failed"]))
-        self.assertEqual(self.gate(said, 0, convert=1), (1, [said, RUN, *TRIED, "14 passed, 1 failed"]))
+        for name in set(SCRIPTS) - {"fuzz"}:
+            self.assertEqual(self.gate(said, 0, **{name: 1}), (1, [said, RUN, *TRIED, "14 passed, 1 failed"]))
         self.assertEqual(self.gate(said, 0, refusing=1), (1, [said, RUN, *TRIED, "14 passed, 1 failed"]))
         self.assertEqual(self.gate(said, 0, fuzz=1), (1, [said, RUN, *TRIED, "14 passed, 2 failed"]))
         self.assertEqual(self.gate(said, 0, recorders=1, suite=1, fuzz=1), (1, [said, RUN, *TRIED, "14 passed, 4 failed"]))
@@ -143,16 +157,20 @@ class Gate(InFolder):
     def test_without_a_compiler(self) -> None:
         said = "14 passed, 0 failed"
         line = f"{REFUSED} isn't run: not installed: cc"
-        wanted = (0, [said, RUN, SUITE, CONVERTED, line, *FUZZED, said])
+        wanted = (0, [said, RUN, *BEFORE, line, *FUZZED, said])
         self.assertEqual(self.gate(said, 0, compiler="cc", refusing=1), wanted)
 
     def test_no_program_is_built(self) -> None:
         said = "12 passed, 2 failed"
-        self.assertEqual(self.gate(said, 1, is_built=False), (1, [said, RUN, f"{NOT_TRIED}: there is no {BUILT}", said]))
+        line = f"the program isn't tried by bench/: there is no {BUILT}"
+        self.assertEqual(self.gate(said, 1, is_built=False), (1, [said, RUN, *CHECKED, line, said]))
+        wanted = (1, [said, RUN, *CHECKED, line, "12 passed, 3 failed"])
+        self.assertEqual(self.gate(said, 1, is_built=False, check_docs=1, suite=1), wanted)
 
     def test_an_old_python(self) -> None:
         said, missing = "14 passed, 0 failed", "Python 3.11 or later, tshark"
-        lines = [f"recorders/test isn't run: not installed: {missing}", f"{NOT_TRIED}: not installed: Python 3.11 or later"]
+        unchecked = "what is checked by bench/ isn't: not installed: Python 3.11 or later"
+        lines = [f"recorders/test isn't run: not installed: {missing}", unchecked]
         self.assertEqual(self.gate(said, 0, missing=missing), (0, [said, *lines, said]))
 
     def test_programs_that_are_not_there(self) -> None:
@@ -177,6 +195,7 @@ class Gate(InFolder):
         said = "14 passed, 0 failed"
         self.script("recorders/test", "exit 1")
         self.script("examples/live/test", "exit 0")
+        self.bench({})
         self.script("bin/rt", f"pwd\necho {said}")
         paths = f"{self.folder / 'bin'}{os.pathsep}{os.environ.get('PATH', os.defpath)}"
         environment = os.environ | {"PATH": paths}
