@@ -1,5 +1,5 @@
 #!/usr/bin/env python3
-"""Checks that what docs/PROVED.md, docs/ARCHITECTURE.md and docs/WRONG_BODIES.md name is there.
+"""Checks that what PROVED.md, ARCHITECTURE.md, WRONG_BODIES.md, DECISIONS.md and GLOSSARY.md in docs/ name is there.
 
 Each word in backticks has to be a word of the sources, or the name of a file. In the tables of PROVED.md each function in the column
 Call has to be one, and each clause one in the contract of a function of its row, or the field of a definition that the contract uses. In
@@ -14,8 +14,8 @@ from collections.abc import Iterator
 from pathlib import Path
 
 TOP = Path(__file__).resolve().parent.parent
-DOCS = [TOP / "docs" / name for name in ("PROVED.md", "ARCHITECTURE.md", "WRONG_BODIES.md")]
-PROVED, MAP, _ = DOCS
+DOCS = [TOP / "docs" / name for name in ("PROVED.md", "ARCHITECTURE.md", "WRONG_BODIES.md", "DECISIONS.md", "GLOSSARY.md")]
+PROVED, MAP, *_ = DOCS
 CRATES = TOP / "crates"
 PARTS = ("src", "specs", "proofs", "must-fail")
 FOLDERS = [crate / part for crate in CRATES.iterdir() for part in PARTS]
