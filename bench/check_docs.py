@@ -2,7 +2,7 @@
 """Checks that what PROVED.md, ARCHITECTURE.md, WRONG_BODIES.md, DECISIONS.md and GLOSSARY.md in docs/ name is there.
 
 Each word in backticks has to be a word of the sources, or the name of a file. In the tables of PROVED.md each function in the column
-Call has to be one, and each clause one in the contract of a function of its row, or the field of a definition that the contract uses. In
+Call has to be one, and each clause one in the contract of a function of its row; if none of these has a name, a field of a definition. In
 those tables of ARCHITECTURE.md that are about the inside of a crate, each module, each name of definitions and each name of laws has to
 be that of a file. Only names are compared: that a row says what its clauses say is for its reader.
 
@@ -45,7 +45,7 @@ def words() -> set[str]:
     for path in files():
         found.update({path.stem, *WORD.findall(str(path.relative_to(TOP)))})
         if path.suffix in TEXTS:
-            found.update(WORD.findall(path.read_text()))
+            found.update(WORD.findall(path.read_text(errors="replace")))
     return found
 
 
@@ -74,11 +74,11 @@ def together(all_contracts: dict[str, Contracts]) -> Contracts:
 
 
 def sections(text: str) -> Iterator[tuple[str, list[list[str]]]]:
-    """The crate that the heading of each section names, and the rows of its tables, by cells."""
+    """The crate that the heading of each section names, or nothing, and the rows of its tables, by cells."""
     for section in text.split("\n## ")[1:]:
         head, _, body = section.partition("\n")
-        if named := re.search(r"`(mq_\w+)`", head):
-            yield named[1], [CELL.split(line)[1:-1] for line in body.splitlines() if line.startswith("| ")][1:]
+        crate = re.search(r"`(mq_\w+)`", head)
+        yield crate[1] if crate else "", [CELL.split(line)[1:-1] for line in body.splitlines() if line.startswith("| ")][1:]
 
 
 def wrong_words(known: set[str]) -> Iterator[str]:
@@ -88,11 +88,19 @@ def wrong_words(known: set[str]) -> Iterator[str]:
             yield from (f"{doc.name}: there is no {word} (`{quoted}`)" for word in named if word not in known)
 
 
-def wrong_row(crate: str, clauses: str, there: Contracts, fields: set[str]) -> Iterator[str]:
+def fields(crate: str) -> set[str]:
+    """The fields of the crate's definitions."""
+    return {name for path in (CRATES / crate / "specs").rglob("*.antt") for name in FIELD.findall(path.read_text())}
+
+
+def wrong_row(crate: str, clauses: str, there: Contracts) -> Iterator[str]:
     """What is wrong in a row on these functions, of which these are the clauses."""
+    all_there = set().union(*there.values())
+    if all_there <= {UNNAMED}:
+        all_there |= fields(crate)
     for word in QUOTED.findall(clauses):
         name, _, clause = word.rpartition(".")
-        having = there.get(name, set()) if name else set().union(*there.values(), fields)
+        having = there.get(name, set()) if name else all_there
         if clause.islower() and clause not in having and word not in there:
             yield f"PROVED.md: {crate}: no clause {word} of {', '.join(there)}"
     if clauses in ("one clause", "one clause each"):
@@ -102,18 +110,19 @@ def wrong_row(crate: str, clauses: str, there: Contracts, fields: set[str]) -> I
 def wrong_clauses() -> Iterator[str]:
     by_crate = {path.name: contracts(path) for path in CRATES.iterdir()}
     of_all = together(by_crate)
-    for crate, rows in sections(PROVED.read_text()):
-        fields = {name for path in (CRATES / crate / "specs").rglob("*.antt") for name in FIELD.findall(path.read_text())}
-        modules = {path.stem for path in (CRATES / crate / "src").rglob("*")}
-        functions: list[str] = []
-        for call, _, clauses, *_ in rows:
-            words = [word.rpartition("::")[2] for word in QUOTED.findall(call) if NAME.fullmatch(word) and word not in by_crate]
-            yield from (f"PROVED.md: {crate}: no function {word}" for word in words if word.islower() and word not in {*of_all, *modules})
+    modules = {path.stem for crate in by_crate for path in (CRATES / crate / "src").rglob("*")}
+    functions: list[str] = []
+    for of_section, rows in sections(PROVED.read_text()):
+        for call, _, clauses, _ in (row for row in rows if len(row) == 4):
+            words = QUOTED.findall(call)
+            crate = next((word for word in words if word in by_crate), of_section)
+            named = [word.rpartition("::")[2] for word in words if NAME.fullmatch(word) and word != crate]
+            yield from (f"PROVED.md: {crate}: no function {word}" for word in named if word.islower() and word not in {*of_all, *modules})
             # A row on "the same" is on the functions of the row before it.
-            functions = [word for word in words if word in of_all] or functions
+            functions = [word for word in named if word in of_all] or functions
             # A method of a trait has the trait's contract, which may be in a crate below.
             there = {name: by_crate[crate].get(name) or of_all[name] for name in functions}
-            yield from wrong_row(crate, clauses, there, fields)
+            yield from wrong_row(crate, clauses, there)
 
 
 def names_in(cell: str) -> list[str]:
@@ -124,7 +133,7 @@ def names_in(cell: str) -> list[str]:
 
 def wrong_files() -> Iterator[str]:
     for crate, rows in sections(MAP.read_text()):
-        for modules, _, *others in rows:
+        for modules, _, *others in rows if crate else ():
             for part, cell in zip(PARTS, (modules, *others)):
                 stems = {path.stem for path in (CRATES / crate / part).rglob("*")}
                 yield from (f"ARCHITECTURE.md: {crate}/{part} has no {name}" for name in names_in(cell) if name not in stems)
