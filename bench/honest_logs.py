@@ -4,7 +4,8 @@ same bytes.
 
 A log has one to six connections of a client or of a server. They are accepted, with a new session or the one before, or refused,
 or closed without a CONNACK, which may have begun a session all the same. There are messages of all QoS in both directions, PUBLISHes
-and PUBRELs that are sent again, at once or one after the other, PUBLISHes that a bound of the peer forbids, subscriptions, Topic Aliases, what the peer announces, packets before the CONNACK, also where that then says of the
+and PUBRELs that are sent again, at once or one after the other, PUBLISHes that a connection's end cuts off, or that a bound of the
+peer forbids, subscriptions, Topic Aliases, what the peer announces, packets before the CONNACK, also where that then says of the
 session what the client didn't expect, RELEASEs and RESTs; and packets are split over records anywhere. A judge must pass each log:
 `bench/fuzz.py` looks at that, and at what it says of these logs when changed. A third of the logs are of version 2.
 
@@ -56,10 +57,12 @@ class State:
     filters: dict[str, int] = field(default_factory=dict)  # that the client subscribed to, each with the QoS
     # Identifiers that were released before the session began: L2 would take the next release of each for the second one.
     released_before: set[int] = field(default_factory=set)
+    # Those of discarded messages of the tested end: S05 would take the next message under each for the one before, were it no event.
+    discarded: set[int] = field(default_factory=set)
 
     def copy(self) -> "State":
         messages = [replace(one) for one in self.own], [replace(one) for one in self.of_peer]
-        return State(*messages, dict(self.to_complete), dict(self.filters), set(self.released_before))
+        return State(*messages, dict(self.to_complete), dict(self.filters), set(self.released_before), set(self.discarded))
 
     def to_release(self) -> list[int]:
         return [one for one, is_released in self.to_complete.items() if not is_released]
@@ -76,8 +79,8 @@ class Limits:
     retains: bool = True
 
     def forbid(self, message: Message) -> bool:
-        """Whether the message may be passed over."""
-        return message.qos > self.qos or 0 < self.size < message.size or (message.retain and not self.retains)
+        """Whether the message may be passed over, and even discarded."""
+        return message.qos > self.qos or 0 < self.size < message.size
 
     def properties(self) -> bytes:
         found = b"\x21" + number(self.in_flight) if self.in_flight < 65_535 else b""
@@ -199,16 +202,18 @@ class Honest:
             self._begin_anew()
         if resumes:
             self._pass_over()
-        for _ in range(self.draw.randint(0, 6 if self.is_hurried else 20)):
+        most = 2 if is_surprised and self.chance(0.6) else 6 if self.is_hurried else 20
+        for _ in range(self.draw.randint(0, most)):
             self._hurry() if self.is_hurried and self.chance(0.6) else self._step()
         if self.chance(0.5):
             self._come_to_rest()
         return True
 
     def _begin_anew(self) -> None:
-        """The client discards its session. What it sent anew before the CONNACK is in the new one; what it had sent again it forgets."""
+        """The client discards its session. What it sent before the CONNACK is in the new one; what it had sent again it may forget."""
         line, old = self.line, self.state
-        kept = [one for one in old.own if one.identifier in line.unanswered and one not in line.resent]
+        forgotten = [one for one in line.resent if one.is_received or self.chance(0.3)]
+        kept = [one for one in old.own if one.identifier in line.unanswered and one not in forgotten]
         self.state = State(own=kept, released_before=line.released)
         line.again, numbers = [], {one.identifier for one in kept}
         others = (Type.SUBACK, Type.UNSUBACK, Type.PINGRESP)
@@ -216,9 +221,14 @@ class Honest:
         line.to_come = [one for one in line.to_come if one[0] in others] + of_kept
 
     def _pass_over(self) -> None:
-        """What the peer's bounds forbid isn't sent again on this connection."""
-        line = self.line
-        line.again = [one for one in line.again if one.is_received or not line.limits.forbid(one)]
+        """What the peer's bounds forbid isn't sent again on this connection; or it is discarded, as a server has to."""
+        limits = self.line.limits
+        for one in [one for one in self.line.again if not one.is_received]:
+            if limits.forbid(one) or (one.retain and not limits.retains):
+                self.line.again.remove(one)
+                if limits.forbid(one) and (self.role == SERVER or self.chance(0.5)):
+                    self.state.own.remove(one)
+                    self.state.discarded.add(one.identifier)
 
     def _be_turned_away(self, fate: str, wants_session: bool, keeps: bool, before: State, was_kept: bool) -> None:
         """The connection isn't accepted. What the ends make of what was sent on it the log can't tell."""
@@ -318,9 +328,22 @@ class Honest:
             self._say(end, packet(0xE0, b"\0" + listed(change) if change else b""))
         elif self.line.is_accepted and self.chance(0.15):
             self._peer(b"\x30\x05\x00")  # a packet that the connection's end cuts off
+        elif (self.line.is_accepted or self.role == CLIENT) and goes_on and self.chance(0.25):
+            self._begin_publish()
         self._mark(CLOSE)
         while self.line.is_accepted and goes_on and self.chance(0.3):
             self._release()
+
+    def _begin_publish(self) -> None:
+        """A PUBLISH that the connection's end cuts off."""
+        message = self._next_message(is_whole=False)
+        if message is None:
+            return
+        said = self._publish_packet(message, message.topic)
+        self._own(said[: self.draw.randrange(1, len(said))])
+        if message.qos > 0:
+            message.size = len(said)
+            self.state.own.append(message)
 
     # -- what happens on a connection
 
@@ -382,8 +405,9 @@ class Honest:
         """A client isn't bound before its CONNACK."""
         return (self.line.is_early and self.role == CLIENT) or self.line.used < self.line.limits.in_flight
 
-    def _free_identifier(self) -> int | None:
+    def _free_identifier(self, is_whole: bool) -> int | None:
         taken = {one.identifier for one in self.state.own} | (self.line.asked if self.role == CLIENT else set())
+        taken |= set() if is_whole and self.line.is_accepted else self.state.discarded
         return self.draw.choice([one for one in IDENTIFIERS if one not in taken] or [None])
 
     def _topic(self) -> tuple[str, int]:
@@ -394,9 +418,9 @@ class Honest:
         one = self.draw.choice(filters)
         return self.draw.choice(FILTERS.get(one, ("",))), self.state.filters.get(one, 0)
 
-    def _next_message(self) -> Message | None:
+    def _next_message(self, is_whole: bool = True) -> Message | None:
         """What the tested end may publish now. At QoS 0 it has the identifier 0."""
-        (topic, most), identifier = self._topic(), self._free_identifier()
+        (topic, most), identifier = self._topic(), self._free_identifier(is_whole)
         qos = min(self.draw.choice((0, 1, 1, 2, 2)), most)
         if topic == "" or (qos > 0 and (identifier is None or not self._has_quota())):
             return None
@@ -411,6 +435,7 @@ class Honest:
         if message.qos > 0:
             message.size = len(said)
             self.state.own.append(message)
+            self.state.discarded.discard(message.identifier)
             self._sent(message)
         self._own(said)
 

@@ -402,12 +402,25 @@ def is_busy(log: Log, k: int, i: int) -> bool:
         for j in before:
             if log.sends(j, asked, i) and not any(log.receives(m, answered, i) for m in before if m > j):
                 return True
-    return open_by(log, k, i) is not None
+    by = open_by(log, k, i)
+    return by is not None and not may_be_discarded(log, by, k, i)
 
 
 def is_received(log: Log, k: int, t: int, i: int) -> bool:
     """A PUBREC i below 0x80 came between an opener of i at k and t."""
     return any(log.receives(j, PUBREC, i) and log.received_packet(j).code < 0x80 for j in log.before_in(t) if j > k)
+
+
+def may_be_discarded(log: Log, k: int, t: int, i: int) -> bool:
+    """The end may have discarded by t what it sent by an opener of i at k, as if it were completed: a resumed connection has a bound
+    that the message may pass, it was passed over there, and no PUBREC says that the peer has it."""
+    return any(passes_over(log, c, t, i) for c in range(log.places[k] + 1, log.places[t] + 1)) and not is_received(log, k, t, i)
+
+
+def passes_over(log: Log, c: int, t: int, i: int) -> bool:
+    """On this resumed connection with such a bound nothing of i was sent before t."""
+    is_bounded = log.announced(MAXIMUM_PACKET_SIZE, c, t) or log.announced(MAXIMUM_QOS, c, t)
+    return log.fates[c] == RESUMED and is_bounded and not sends_on(log, c, t, i)
 
 
 def sends_on(log: Log, c: int, t: int, i: int) -> bool:
@@ -428,12 +441,28 @@ def resends_what_is_not_open(log: Log, k: int) -> bool:
     i = resend(log, k)
     if i is None or open_by(log, k, i) is not None or is_sent_unknowing(log, k):
         return False
-    return not was_sent_in_vain(log, k, i)
+    return not (was_sent_in_vain(log, k, i) or was_sent_before_the_session(log, k, i) or was_begun(log, k))
 
 
 def was_sent_in_vain(log: Log, k: int, i: int) -> bool:
     """A PUBLISH i was sent on a void connection."""
     return any(publish_id(log, j) == i and log.fates[log.places[j]] == VOID for j in range(1, k) if log.places[j] > 0)
+
+
+def was_sent_before_the_session(log: Log, k: int, i: int) -> bool:
+    """A client sent a PUBLISH i on an earlier connection before its CONNACK, with which the session began."""
+    first = log.sessions_of_connections[log.places[k]]
+    if log.role == "server" or first == log.places[k]:
+        return False
+    return any(publish_id(log, j) == i for j in log.before_on(log.first_connacks[first]))
+
+
+def was_begun(log: Log, k: int) -> bool:
+    """Some PUBLISH of QoS 1 or 2 was cut off by the end of an earlier connection that is void, or is one of k's session. Which one it
+    was the log doesn't say."""
+    ends = [(c, log.begun(c)) for c in range(1, log.places[k])]
+    cut_off = [c for c, first in ends if first is not None and first >> 4 == PUBLISH and first >> 1 & 3 in (1, 2)]
+    return any(log.fates[c] == VOID or log.sessions_of_connections[c] == log.sessions[k] for c in cut_off)
 
 
 @says("S03", sent([PUBLISH]))
@@ -490,8 +519,7 @@ def is_owed_again(log: Log, k: int, i: int, t: int) -> bool:
         return True
     quota = log.parameter(RECEIVE_MAXIMUM, t) - stretches_used(log, t)
     may_not_retain = log.role == "client" and log.sent_packet(k).retain and log.parameter(RETAIN_AVAILABLE, t) == 0
-    is_bounded = log.announced(MAXIMUM_PACKET_SIZE, c, t) or log.announced(MAXIMUM_QOS, c, t)
-    return not (quota <= 0 or is_bounded or may_not_retain)
+    return not (quota <= 0 or may_be_discarded(log, k, t, i) or may_not_retain)
 
 
 def waits_for_an_answer(log: Log, t: int) -> bool:
