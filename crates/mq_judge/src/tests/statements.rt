@@ -24,6 +24,7 @@ mod rests;
 mod shapes;
 mod subscriptions;
 pub mod suite;
+mod unseen;
 mod untold;
 mod worked;
 
@@ -315,6 +316,24 @@ fn judges_what_an_end_cannot_know(rt: HostRuntime) -> Result<(), Fail> {
 #[test]
 fn judges_what_a_rest_shows(rt: HostRuntime) -> Result<(), Fail> {
     assert_eq!(rt; first_wrong(rt.alloc(), rests::ROWS)?, None);
+    Ok(())
+}
+
+#[test]
+fn judges_what_may_be_discarded(rt: HostRuntime) -> Result<(), Fail> {
+    assert_eq!(rt; first_wrong(rt.alloc(), unseen::PASSED_OVER)?, None);
+    Ok(())
+}
+
+#[test]
+fn judges_what_was_cut_off(rt: HostRuntime) -> Result<(), Fail> {
+    assert_eq!(rt; first_wrong(rt.alloc(), unseen::CUT_OFF)?, None);
+    Ok(())
+}
+
+#[test]
+fn judges_what_was_sent_before_its_session(rt: HostRuntime) -> Result<(), Fail> {
+    assert_eq!(rt; first_wrong(rt.alloc(), unseen::SENT_EARLY)?, None);
     Ok(())
 }
 
