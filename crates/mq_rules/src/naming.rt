@@ -68,7 +68,7 @@ impl Rule {
             Rule::C02 => "The first packet that a client sends on a connection is a CONNECT.",
             Rule::C03 => "A client sends only one CONNECT on a connection.",
             Rule::C04 => "A server sends a CONNACK only after a CONNECT was received.",
-            Rule::C05 => "A server sends a CONNACK before any packet other than AUTH.",
+            Rule::C05 => "Before its CONNACK a server sends no packet other than AUTH.",
             Rule::C06 => "A server sends only one CONNACK on a connection.",
             Rule::C07 => "Session Present is 0 if Clean Start was 1.",
             Rule::C08 => "Session Present is 1 only if the server has a session.",
@@ -87,13 +87,14 @@ impl Rule {
             Rule::C19 => "A server sends no Session Expiry Interval in a DISCONNECT.",
             Rule::C20 => "A DISCONNECT doesn't change a Session Expiry Interval of 0.",
             Rule::C21 =>
-                "No Reason String and no User Property is sent if the client asked for none.",
+                "A client that asked for none gets a Reason String or User Property only in a PUBLISH, CONNACK or DISCONNECT.",
             Rule::C22 => "Response Information is sent only if the client asked for it.",
             Rule::C23 =>
                 "An end that sent a DISCONNECT, or a CONNACK that refuses, closes the connection.",
             Rule::S01 =>
                 "A new PUBLISH, SUBSCRIBE or UNSUBSCRIBE takes no Packet Identifier that is in use.",
-            Rule::S02 => "A PUBLISH with DUP 1 was sent before with DUP 0.",
+            Rule::S02 =>
+                "A PUBLISH with DUP 1 was sent before, and isn't acknowledged in its session.",
             Rule::S03 => "A PUBLISH isn't sent again on the same connection.",
             Rule::S04 => "A PUBLISH isn't sent again once its PUBREL was sent.",
             Rule::S05 => "A client sends PUBLISHes again in their original order.",

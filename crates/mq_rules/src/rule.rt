@@ -63,7 +63,7 @@ pub enum Rule {
     C03,
     /// A server sends a CONNACK only after a CONNECT was received (MQTT 5.0, section 3.2).
     C04,
-    /// A server sends a CONNACK before any packet other than AUTH (MQTT 5.0, section 3.2).
+    /// Before its CONNACK a server sends no packet other than AUTH (MQTT 5.0, section 3.2).
     C05,
     /// A server sends only one CONNACK on a connection (MQTT 5.0, section 3.2).
     C06,
@@ -102,8 +102,8 @@ pub enum Rule {
     C19,
     /// A DISCONNECT doesn't change a Session Expiry Interval of 0 (MQTT 5.0, section 3.14.2.2.2).
     C20,
-    /// No Reason String and no User Property is sent if the client asked for none (MQTT 5.0,
-    /// section 3.1.2.11.7).
+    /// A client that asked for none gets a Reason String or User Property only in a PUBLISH,
+    /// CONNACK or DISCONNECT (MQTT 5.0, section 3.1.2.11.7).
     C21,
     /// Response Information is sent only if the client asked for it (MQTT 5.0, section 3.1.2.11.6).
     C22,
@@ -113,7 +113,8 @@ pub enum Rule {
     /// A new PUBLISH, SUBSCRIBE or UNSUBSCRIBE takes no Packet Identifier that is in use (MQTT
     /// 5.0, section 2.2.1).
     S01,
-    /// A PUBLISH with DUP 1 was sent before with DUP 0 (MQTT 5.0, sections 4.3.2 and 4.3.3).
+    /// A PUBLISH with DUP 1 was sent before, and isn't acknowledged in its session (MQTT 5.0,
+    /// sections 4.3.2 and 4.3.3).
     S02,
     /// A PUBLISH isn't sent again on the same connection (MQTT 5.0, section 4.4).
     S03,

@@ -51,7 +51,7 @@ pub const C04: &str = "C04 server sec-3.2\n\
 
 /// The text of `explain C05`.
 pub const C05: &str = "C05 server MQTT-3.2.0-1\n\
-    A server sends a CONNACK before any packet other than AUTH.\n\n\
+    Before its CONNACK a server sends no packet other than AUTH.\n\n\
     Why: The client learns from the CONNACK whether it is accepted and what it may\n\
     send. AUTH alone may come before it, for extended authentication.\n\n\
     Judged: At each packet other than CONNACK and AUTH that is sent before the\n\
@@ -246,7 +246,8 @@ pub const C20: &str = "C20 client sec-3.14.2\n\
 
 /// The text of `explain C21`.
 pub const C21: &str = "C21 server MQTT-3.1.2-29\n\
-    No Reason String and no User Property is sent if the client asked for none.\n\n\
+    A client that asked for none gets a Reason String or User Property only in a\n\
+    PUBLISH, CONNACK or DISCONNECT.\n\n\
     Why: A client that asked for no problem information may have no room for it.\n\
     PUBLISH, CONNACK and DISCONNECT may carry it anyway.\n\n\
     Judged: At each other packet with a Reason String or a User Property, where\n\

@@ -25,7 +25,7 @@ pub const S01: &str = "S01 both MQTT-2.2.1-3;MQTT-2.2.1-4\n\
 
 /// The text of `explain S02`.
 pub const S02: &str = "S02 both MQTT-4.3.2-2,MQTT-4.3.3-2\n\
-    A PUBLISH with DUP 1 was sent before with DUP 0.\n\n\
+    A PUBLISH with DUP 1 was sent before, and isn't acknowledged in its session.\n\n\
     Why: DUP says that this may be a repetition. On a first sending it misleads the\n\
     receiver, and its bookkeeping.\n\n\
     Judged: At a PUBLISH with DUP 1 of QoS above 0, whose identifier isn't open in\n\
