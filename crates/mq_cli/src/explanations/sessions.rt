@@ -11,8 +11,10 @@ pub const S01: &str = "S01 both MQTT-2.2.1-3;MQTT-2.2.1-4\n\
     UNSUBSCRIBE, on a connection that the server accepted. Decided at once, or at\n\
     the CONNACK if that comes later. An identifier is in use in the whole session\n\
     until a PUBACK, a PUBCOMP or a PUBREC of 0x80 or more; that of a SUBSCRIBE or\n\
-    UNSUBSCRIBE until its answer. Before a CONNACK that resumes a session which the\n\
-    client couldn't expect it isn't judged.\n\n\
+    UNSUBSCRIBE until its answer. One without a PUBREC is free too once nothing was\n\
+    sent under it on a resumed connection on which the peer announced Maximum Packet\n\
+    Size or Maximum QoS: its message may have been discarded. Before a CONNACK that\n\
+    resumes a session which the client couldn't expect it isn't judged.\n\n\
     In a client: The counter continues or starts over without regard to what is\n\
     unacknowledged, often after a reconnect or a restart. Keep the set of\n\
     identifiers in use with the session's store, and draw only free ones, for all\n\
@@ -31,9 +33,12 @@ pub const S02: &str = "S02 both MQTT-4.3.2-2,MQTT-4.3.3-2\n\
     Judged: At a PUBLISH with DUP 1 of QoS above 0, whose identifier isn't open in\n\
     the session and which wasn't sent before on a void connection (refused, or\n\
     closed without a CONNACK), on a connection that the server accepted. Decided at\n\
-    once, or at the CONNACK if that comes later. Before a CONNACK it isn't judged if\n\
-    that begins a session though the client asked for its own, or resumes one that\n\
-    it couldn't expect.\n\n\
+    once, or at the CONNACK if that comes later. It isn't judged where the end of an\n\
+    earlier connection, void or of the session, cut off a PUBLISH of QoS 1 or 2 that\n\
+    was being sent; nor where a client sent a PUBLISH under the identifier before\n\
+    the CONNACK with which the session began, on an earlier connection. Before a\n\
+    CONNACK it isn't judged if that begins a session though the client asked for its\n\
+    own, or resumes one that it couldn't expect.\n\n\
     In a client: DUP is set for every message from the queue after a reconnect, also\n\
     for those that never left. Set it only where a PUBLISH was written before; and\n\
     drop a message when its acknowledgement comes.\n\n\
@@ -95,8 +100,9 @@ pub const S06: &str = "S06 both MQTT-4.4.0-1\n\
     isn't acknowledged. Decided at the first binding REST on a later resumed\n\
     connection on which neither it nor its PUBREL was sent, and nothing that was\n\
     sent waits for its answer. It is excused without a PUBREC, if the send quota is\n\
-    used up, if the peer announced Maximum Packet Size or Maximum QoS, or if it has\n\
-    RETAIN 1 and the server announced Retain Available 0.\n\n\
+    used up; if the peer announced Maximum Packet Size or Maximum QoS, there or on a\n\
+    resumed connection between on which it wasn't sent either; or if it has RETAIN 1\n\
+    and the server announced Retain Available 0.\n\n\
     In a client: The list of unacknowledged messages is in memory and cleared with\n\
     the connection, or it is sent only if Clean Start was 0 and not by Session\n\
     Present. Keep it with the session, and send it when the CONNACK says that the\n\
