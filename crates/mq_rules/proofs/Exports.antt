@@ -5,7 +5,7 @@ pub use Rattle.mq_rules.proofs.ConnLaws.{connection-next as connection-newest, f
 pub use Rattle.mq_rules.proofs.CounterLaws.{S07-before, used_up-counted}
 pub use Rattle.mq_rules.proofs.DecidedLaws.{fault_in-start, fault_in-step}
 pub use Rattle.mq_rules.proofs.DropLaws.{fault_in-dropped}
-pub use Rattle.mq_rules.proofs.FateLaws.{begun-least, begun-open, begun-same, connection-next, fate-elsewhere, latest_fate-next, latest_fate-open, latest_fate-same}
+pub use Rattle.mq_rules.proofs.FateLaws.{accepted-gives, begins-gives, begun-least, begun-open, begun-same, connection-next, fate-elsewhere, fate-outcome, gives-decides, latest_fate-next, latest_fate-open, latest_fate-same, open-decides}
 pub use Rattle.mq_rules.proofs.FatedLaws.{fated-known, fated-on, fated-open}
 pub use Rattle.mq_rules.proofs.FaultKeyLaws.{fault_at-judged, fault_at-with_fault, on_err}
 pub use Rattle.mq_rules.proofs.FoldLaws.{session_since-next, under-next}

@@ -10,9 +10,11 @@ use Rattle.mq_rules.specs.declared.fate.Fate.TheVariants.{Void, Adrift, New, For
 use Rattle.mq_rules.specs.declared.note.Note.{Note}
 use Rattle.mq_rules.specs.declared.note.Note.TheVariants as notes
 use Rattle.mq_rules.specs.declared.note.Seen.{Seen}
+use Rattle.mq_rules.specs.declared.packet_note.ConnackNote.{ConnackNote}
+use Rattle.mq_rules.specs.Words.{is_some_and}
 use Rattle.mq_rules.specs.Notes.{is_open, is_close, decides, fate_by, connack_of}
 use Rattle.mq_rules.specs.Moments.{Moment, newest, note, first_given}
-use Rattle.mq_rules.specs.Connections.{begun, of_connection, connection, first_fate, outcome, latest_outcome, fate, latest_fate, fate_by_answer, gives_fate, begins, is_adrift, asks_to_resume, resumes_unknown, has_none, is_connected}
+use Rattle.mq_rules.specs.Connections.{begun, of_connection, connection, first_fate, outcome, latest_outcome, fate, latest_fate, fate_by_answer, gives_fate, begins, accepted, is_void, is_adrift, asks_to_resume, resumes_unknown, has_none, is_connected}
 use Rattle.mq_rules.proofs.BoolLaws.{differ, option_or-none, option_or-other, option_or-there}
 
 -- ---- connections
@@ -112,7 +114,7 @@ fate-none role c log h =
 pub open-decides : (role : Role) (note : Note) → is_open note ≡ true → decides role note ≡ None
 open-decides Client notes.Open h = refl
 open-decides Server notes.Open h = refl
-open-decides role notes.Close h = absurd (cc)
+open-decides role (notes.Close cuts) h = absurd (cc)
 open-decides role notes.Rest h = absurd (cc)
 open-decides role (notes.Release identifier) h = absurd (cc)
 open-decides role (notes.Sent item) h = absurd (cc)
@@ -158,6 +160,34 @@ begins-gives role m = go (decides role (note m))
     go (Some Forgotten) = refl
     go (Some Unasked) = refl
     go (Some Unknown) = refl
+
+-- what gives a fate that isn't void is what accepts
+pub accepted-gives : (role : Role) (m : Moment) → is_some_and (λ f. not (is_void f)) (gives_fate role m) ≡ accepted (decides role (note m))
+unfolding gives_fate
+accepted-gives role m = go (is_close (note m)) (connack_of role (note m))
+  where
+    void : (b : Bool) → not (is_void (cond b Adrift Void)) ≡ false
+    void true = refl
+    void false = refl
+
+    new : (b : Bool) → not (is_void (cond b Forgotten New)) ≡ true
+    new true = refl
+    new false = refl
+
+    old : (b c : Bool) → not (is_void (cond b Unknown (cond c Unasked Resumed))) ≡ true
+    old true c = refl
+    old false true = refl
+    old false false = refl
+
+    by : (accepts present : Bool) → not (is_void (fate_by_answer role m (cond accepts (cond present Resumed New) Void))) ≡ accepted (Some (cond accepts (cond present Resumed New) Void))
+    by true true = old (resumes_unknown role m) (has_none role m)
+    by true false = new (asks_to_resume role m)
+    by false present = void (is_adrift role (m.event ∷ m.past))
+
+    go : (b : Bool) (o : Option ConnackNote) → is_some_and (λ f. not (is_void f)) (option_map (fate_by_answer role m) (cond b (Some Void) (option_map fate_by o))) ≡ accepted (cond b (Some Void) (option_map fate_by o))
+    go true o = void (is_adrift role (m.event ∷ m.past))
+    go false None = refl
+    go false (Some c) = by (c.code == 0) c.session_present
 
 latest-open : (gives : Moment → Option Fate) (e : Seen) (past : List Seen) → is_open e.note ≡ true → gives (newest e past) ≡ None → first_fate gives (begun (e ∷ past)) (e ∷ past) ≡ None
 latest-open gives e past h none =

@@ -70,7 +70,7 @@ session_since-next role starts ends f e past = go (has_session role f e past) (i
 
 open-idle : (n : Note) → is_open n ≡ true → needs_session n ≡ false
 open-idle notes.Open h = refl
-open-idle notes.Close h = absurd (cc)
+open-idle (notes.Close cuts) h = absurd (cc)
 open-idle notes.Rest h = absurd (cc)
 open-idle (notes.Release identifier) h = absurd (cc)
 open-idle (notes.Sent item) h = absurd (cc)

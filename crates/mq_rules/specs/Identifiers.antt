@@ -6,9 +6,9 @@ use Rattle.mq_rules.specs.declared.role.Role.TheVariants.{Client, Server}
 use Rattle.mq_rules.specs.declared.fate.Fate.{Fate}
 use Rattle.mq_rules.specs.declared.note.Note.{Note}
 use Rattle.mq_rules.specs.Words.{is_some_and, is_id}
-use Rattle.mq_rules.specs.Notes.{opener_of, resend_of, delivery_of, closer_of, sent_publish, is_exactly_once, sent_as, received_as, pubrel_in, accepting_pubrec_in, subscribe_in, suback_in, unsubscribe_in, unsuback_in}
+use Rattle.mq_rules.specs.Notes.{opener_of, resend_of, delivery_of, closer_of, sent_publish, is_exactly_once, sent_as, received_as, pubrel_in, accepting_pubrec_in, subscribe_in, suback_in, unsubscribe_in, unsuback_in, is_cutting}
 use Rattle.mq_rules.specs.Moments.{Moment, position, note, moments, is_same, some, since, is_unended, those, latest, count, some_stretch}
-use Rattle.mq_rules.specs.Connections.{number, connection, fate, latest_fate, resumed, voided, session}
+use Rattle.mq_rules.specs.Connections.{number, connection, fate, latest_fate, resumed, voided, session, begins_session}
 use Rattle.mq_rules.specs.Pasts.{peer_receive_maximum, peer_maximum_packet_size, connack_before}
 
 -- ---- identifiers in use (MQTT 5.0, section 2.2.1)
@@ -61,9 +61,24 @@ breaks_S01 role f k = is_some_and (λ i. is_busy_at role f i k) (taken_by role (
 abbrev pub was_sent_on_void : Role → ℕ → Moment → Bool
 was_sent_on_void role i k = some (λ j. delivers i j && voided (fate role (number j) k.past)) (moments k.past)
 
--- S02: a resend of what isn't open, and was sent on no void connection.
+-- A PUBLISH under the identifier was sent before the CONNACK with which the session of k began, on an earlier connection than k's. A client may send again what it has
+-- before it learns that the server has no session for it; then it owes that to the new one. A server sends its CONNACK first (MQTT 5.0, sections 3.1.4 and 3.2).
+abbrev pub was_sent_before_session : Role → Fate → ℕ → Moment → Bool
+was_sent_before_session Client f i k = some (λ m. begins_session Client m && (nat_lt (number m) (number k) && some (delivers i) (connection m.past))) (session_before Client f k)
+was_sent_before_session Server f i k = false
+
+-- The moment is a CLOSE that cut off a PUBLISH of QoS 1 or 2, which the tested end had begun to send. It has to set DUP where it sends it again (MQTT 5.0, section
+-- 3.3.1.1), which is the first one that the log has: a packet that was cut off is no event, and nobody knows its identifier.
+abbrev pub cuts_publish : Moment → Bool
+cuts_publish m = is_cutting (note m)
+
+-- a PUBLISH was cut off before k, on a void connection or in k's session
+abbrev pub was_cut_off : Role → Fate → Moment → Bool
+was_cut_off role f k = some (λ j. cuts_publish j && voided (fate role (number j) k.past)) (moments k.past) || some cuts_publish (session_before role f k)
+
+-- S02: a resend of what isn't open, was sent on no void connection and by no client before the session began, where no PUBLISH was cut off either.
 unfoldable pub breaks_S02 : Role → Fate → Moment → Bool
-breaks_S02 role f k = is_some_and (λ i. not (is_open_at role f i k || was_sent_on_void role i k)) (resend_of (note k))
+breaks_S02 role f k = is_some_and (λ i. not (is_open_at role f i k || (was_sent_on_void role i k || (was_sent_before_session role f i k || was_cut_off role f k)))) (resend_of (note k))
 
 -- S03: a resend, and a PUBLISH under its identifier was sent before on the connection, with no closer between.
 unfoldable pub breaks_S03 : Moment → Bool

@@ -1,5 +1,5 @@
 -- What the statements look at in one event, and what one event is to them.
-use Rattle.std.specs.Prelude.{ℕ, ◌/◌, ◌==◌, nat_le, Bool, true, false, ◌&&◌, ◌||◌, not, cond, if◌then◌else◌, List, [], ◌∷◌, length, map, slice_index, Option, Some, None, is_some, unwrap_or, option_map}
+use Rattle.std.specs.Prelude.{ℕ, ◌/◌, ◌%◌, ◌==◌, nat_le, Bool, true, false, ◌&&◌, ◌||◌, not, cond, if◌then◌else◌, List, [], ◌∷◌, length, map, slice_index, Option, Some, None, is_some, unwrap_or, option_map}
 use Rattle.std.specs.Option.{option_and_then}
 use Rattle.mq_props.specs.Values.{Property}
 use Rattle.mq_props.specs.First.{first_byte, first_two_bytes, first_four_bytes, first_varint, first_text, first_pair}
@@ -169,15 +169,20 @@ packet_note direction size entry = record {
   fields = packet_fields direction entry;
 }
 
--- of an item that went this way, and of an event
+-- of an item that went this way
 abbrev pub item_note : Direction → Item → ItemNote
 item_note direction (packet size entry) = items.Packet (packet_note direction size entry)
 item_note direction (bad bytes rule at) = items.Bad (slice_index bytes 0) rule at
 item_note direction lost = items.Lost
 
+-- A packet with this first byte is a PUBLISH of QoS 1 or 2: its type, the high four bits, is 3, and its QoS, bits 2 and 1, is 1 or 2 (MQTT 5.0, sections 2.1.2 and 3.3.1.2).
+abbrev pub begins_acknowledged : ℕ → Bool
+begins_acknowledged first = (first / 16 == 3) && ((first / 2 % 4 == 1) || (first / 2 % 4 == 2))
+
+-- of an event
 abbrev pub note_of : Event → Note
 note_of opened = notes.Open
-note_of (closed begun) = notes.Close
+note_of (closed begun) = notes.Close (is_some_and begins_acknowledged begun)
 note_of rested = notes.Rest
 note_of (released identifier) = notes.Release identifier
 note_of (sent item) = notes.Sent (item_note directions.Sent item)
@@ -232,8 +237,13 @@ is_open notes.Open = true
 is_open _ = false
 
 abbrev pub is_close : Note → Bool
-is_close notes.Close = true
+is_close (notes.Close cuts) = true
 is_close _ = false
+
+-- a CLOSE that cut off a PUBLISH of QoS 1 or 2, which the tested end had begun to send
+abbrev pub is_cutting : Note → Bool
+is_cutting (notes.Close cuts) = cuts
+is_cutting _ = false
 
 -- a network connection begins or ends
 abbrev pub is_boundary : Note → Bool

@@ -51,6 +51,13 @@ failing tested rule ns = failing_at tested rule (log_of ns) (log_of ns)
 abbrev pub packet_of : ℕ → Bool → PacketFields → PacketNote
 packet_of size explains fields = record { size = size; has_reason_string = explains; has_user_property = false; fields = fields }
 
+-- a CLOSE that cut off nothing, and one that cut off a PUBLISH of QoS 1 or 2
+abbrev pub Close : Note
+Close = notes.Close false
+
+abbrev pub Cut : Note
+Cut = notes.Close true
+
 -- a packet of 10 bytes that is sent, or received
 abbrev pub sends : PacketFields → Note
 sends fields = notes.Sent (items.Packet (packet_of 10 false fields))

@@ -13,8 +13,9 @@ ghost use Rattle.mq_packet.specs.Entries.{publish as publish_entry};
 ghost use Rattle.mq_trace.specs.Events.{packet, packet as packet_item};
 ghost use Rattle.mq_trace.specs.Flows.{item_event};
 ghost use Rattle.mq_trace.specs.Reception.{item_of, event_of};
+ghost use Rattle.mq_rules.specs.Words.{is_some_and};
 ghost use Rattle.mq_rules.specs.declared.packet_note.PacketFields.TheVariants as fields;
-ghost use Rattle.mq_rules.specs.Notes.{only_list, is_sent_direction, is_acknowledged, connect_note, connack_note, publish_note, disconnect_note, packet_fields, properties_of, packet_note, item_note, note_of, request_fields, answer_fields, keeps_text, item_keeps_text, note_keeps_text};
+ghost use Rattle.mq_rules.specs.Notes.{only_list, is_sent_direction, is_acknowledged, begins_acknowledged, connect_note, connack_note, publish_note, disconnect_note, packet_fields, properties_of, packet_note, item_note, note_of, request_fields, answer_fields, keeps_text, item_keeps_text, note_keeps_text};
 
 use crate::faults::Memory;
 use crate::note::{ItemNote, Note};
@@ -390,6 +391,24 @@ impl PacketNote {
     }
 }
 
+// Whether a packet with this first byte is a PUBLISH of QoS 1 or 2 (MQTT 5.0, sections 2.1.2 and
+// 3.3.1.2).
+fn is_acknowledged_publish(first: u8) -> bool
+    ensures { result ≡ begins_acknowledged first }
+{
+    first / 16 == 3 && (first / 2 % 4 == 1 || first / 2 % 4 == 2)
+}
+
+// Whether there is such a first byte.
+fn is_publish_cut(begun: Option<u8>) -> bool
+    ensures { result ≡ is_some_and begins_acknowledged begun }
+{
+    match begun {
+        Some(first) => is_acknowledged_publish(first),
+        None => false,
+    }
+}
+
 // The first byte of a packet's bytes. Without any it is 0, but each packet has two at least.
 fn first_of(bytes: &[u8]) -> u8
     ensures { result ≡ slice_index bytes.now 0 }
@@ -473,7 +492,9 @@ impl Note {
                 Ok(Note::Recv(note))
             }
             Event::Open => Ok(Note::Open),
-            Event::Close { .. } => Ok(Note::Close),
+            Event::Close { begun } => Ok(Note::Close {
+                cuts_publish: is_publish_cut(*begun),
+            }),
             Event::Rest => Ok(Note::Rest),
             Event::Release(identifier) => Ok(Note::Release(*identifier)),
         }

@@ -38,7 +38,10 @@ pub enum Note {
     /// A connection begins.
     Open,
     /// The connection ends.
-    Close,
+    Close {
+        /// Whether the tested end had begun to send a PUBLISH of QoS 1 or 2, and hadn't ended it.
+        cuts_publish: bool,
+    },
     /// The tested end is at rest.
     Rest,
     /// The tested end released the message received under this Packet Identifier.
@@ -167,7 +170,7 @@ impl Note {
     pub fn is_close(&self) -> bool
         ensures { result ≡ notes.is_close self.now }
     {
-        matches!(self, Note::Close)
+        matches!(self, Note::Close { .. })
     }
 
     /// Whether a network connection begins or ends.
@@ -175,7 +178,7 @@ impl Note {
     pub fn is_boundary(&self) -> bool
         ensures { result ≡ notes.is_boundary self.now }
     {
-        matches!(self, Note::Open | Note::Close)
+        matches!(self, Note::Open | Note::Close { .. })
     }
 
     /// Whether the tested end is at rest.

@@ -104,7 +104,9 @@ impl Note {
     {
         match self {
             Note::Open => Ok(Note::Open),
-            Note::Close => Ok(Note::Close),
+            Note::Close { cuts_publish } => Ok(Note::Close {
+                cuts_publish: *cuts_publish,
+            }),
             Note::Rest => Ok(Note::Rest),
             Note::Release(identifier) => Ok(Note::Release(*identifier)),
             Note::Sent(item) => Ok(Note::Sent(copy_item(alloc, item)?)),

@@ -4,9 +4,9 @@
 ghost use Rattle.std.specs.Prelude.{◌≡◌, ◌∷◌, [], true, false, Some, None};
 ghost use Rattle.mq_packet.specs.declared.rule.PacketRule.TheVariants as packets;
 ghost use Rattle.mq_rules.specs.declared.rule.Rule.TheVariants.{W01, W02, W03, W04, W05, W06, W07, W08, W09, W10, W11, W12, W13, W14, W15, W16, W17, W18, W19, W20, W21, C01, C02, C03, C04, C05, C06, C07, C08, C09, C10, C11, C12, C13, C14, C15, C16, C17, C18, C19, C20, C21, C22, C23, S01, S02, S03, S04, S05, S06, S07, E1A, E1R, E1O, E2A, E2R, E2O, E3A, E3R, E3O, E4A, E4R, E5A, E5R, E6A, E6R, E7R, L1, L2, L3, B01, B02, B03, B04};
-ghost use Rattle.mq_rules.specs.declared.note.Note.TheVariants.{Open, Close, Rest, Release};
+ghost use Rattle.mq_rules.specs.declared.note.Note.TheVariants.{Open, Rest, Release};
 ghost use Rattle.mq_rules.specs.declared.packet_note.PacketFields.TheVariants.{Puback, Pubrec, Pubrel, Pubcomp, Suback, Unsubscribe, Unsuback, Pingreq, Pingresp, Auth};
-ghost use Rattle.mq_rules.specs.Worked.{client, client_unrecorded, server, failing, sends, gets, sends_sized, sends_explained, sends_bad, gets_bad, sends_lost, gets_lost, lasting, again, fleeting, unnamed, asking, connack_with, accepting, resuming, refusing, limiting, retaining, assigning, informing, leaving, at_most_once, once, exactly, retained_once, retained_exactly, expiring, aliased, subscribed, asks_a, asks_b};
+ghost use Rattle.mq_rules.specs.Worked.{client, client_unrecorded, server, failing, Close, Cut, sends, gets, sends_sized, sends_explained, sends_bad, gets_bad, sends_lost, gets_lost, lasting, again, fleeting, unnamed, asking, connack_with, accepting, resuming, refusing, limiting, retaining, assigning, informing, leaving, at_most_once, once, exactly, retained_once, retained_exactly, expiring, aliased, subscribed, asks_a, asks_b};
 
 /// Bytes of a client that break a rule, and those that it receives (W01 to W21).
 pub fn bytes_of_a_client()
@@ -191,6 +191,15 @@ pub fn resends()
     ensures unknown_breaks { failing client S02 (Open ∷ sends lasting ∷ gets accepting ∷ sends (once false 1) ∷ Close ∷ Open ∷ sends again ∷ gets accepting ∷ sends (once true 1) ∷ []) ≡ 9 ∷ [] }
     ensures unknown_keeps { failing client S02 (Open ∷ sends lasting ∷ gets accepting ∷ sends (once false 1) ∷ Close ∷ Open ∷ sends again ∷ gets resuming ∷ sends (once true 1) ∷ []) ≡ [] }
     ensures void_keeps { failing client S02 (Open ∷ sends lasting ∷ gets refusing ∷ sends (once false 1) ∷ Close ∷ Open ∷ sends again ∷ gets accepting ∷ sends (once true 1) ∷ []) ≡ [] }
+    ensures cut_keeps { failing client S02 (Open ∷ sends lasting ∷ gets accepting ∷ Cut ∷ Open ∷ sends again ∷ gets resuming ∷ sends (once true 1) ∷ []) ≡ [] }
+    ensures uncut_breaks { failing client S02 (Open ∷ sends lasting ∷ gets accepting ∷ Close ∷ Open ∷ sends again ∷ gets resuming ∷ sends (once true 1) ∷ []) ≡ 8 ∷ [] }
+    ensures cut_breaks_new { failing client S02 (Open ∷ sends lasting ∷ gets accepting ∷ Cut ∷ Open ∷ sends lasting ∷ gets accepting ∷ sends (once true 1) ∷ []) ≡ 8 ∷ [] }
+    ensures cut_keeps_void { failing client S02 (Open ∷ sends lasting ∷ gets refusing ∷ Cut ∷ Open ∷ sends lasting ∷ gets accepting ∷ sends (once true 1) ∷ []) ≡ [] }
+    ensures early_keeps { failing client S02 (Open ∷ sends lasting ∷ gets accepting ∷ sends (once false 1) ∷ Close ∷ Open ∷ sends again ∷ sends (once true 1) ∷ gets accepting ∷ Close ∷ Open ∷ sends again ∷ gets resuming ∷ sends (once true 1) ∷ []) ≡ [] }
+    ensures early_breaks_other { failing client S02 (Open ∷ sends lasting ∷ gets accepting ∷ sends (once false 1) ∷ Close ∷ Open ∷ sends again ∷ sends (once true 1) ∷ gets accepting ∷ Close ∷ Open ∷ sends again ∷ gets resuming ∷ sends (once true 2) ∷ []) ≡ 13 ∷ [] }
+    ensures early_breaks_same { failing client S02 (Open ∷ sends lasting ∷ gets accepting ∷ sends (once false 1) ∷ Close ∷ Open ∷ sends again ∷ sends (once true 1) ∷ gets accepting ∷ sends (once true 1) ∷ []) ≡ 10 ∷ [] }
+    ensures server_cut_keeps { failing server S02 (Open ∷ gets lasting ∷ sends accepting ∷ Cut ∷ Open ∷ gets again ∷ sends resuming ∷ sends (once true 1) ∷ []) ≡ [] }
+    ensures server_early_breaks { failing server S02 (Open ∷ gets lasting ∷ sends (once true 1) ∷ sends accepting ∷ Close ∷ Open ∷ gets again ∷ sends resuming ∷ sends (once true 1) ∷ []) ≡ 8 ∷ 3 ∷ [] }
     ensures server_unknown_breaks { failing server S02 (Open ∷ gets lasting ∷ sends accepting ∷ sends (once true 1) ∷ []) ≡ 4 ∷ [] }
     ensures server_unknown_keeps { failing server S02 (Open ∷ gets lasting ∷ sends accepting ∷ sends (once false 1) ∷ Close ∷ Open ∷ gets again ∷ sends resuming ∷ sends (once true 1) ∷ []) ≡ [] }
     ensures same_breaks { failing client S03 (Open ∷ sends lasting ∷ gets accepting ∷ sends (once false 1) ∷ sends (once true 1) ∷ []) ≡ 5 ∷ [] }

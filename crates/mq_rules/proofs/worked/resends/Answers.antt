@@ -64,3 +64,39 @@ returns-clause-server_same_keeps c = refl
 pub returns-clause-server_released_keeps : goal.returns-clause-server_released_keeps
 unfolding gives_fate fails found_line lines line_of breaks_S04
 returns-clause-server_released_keeps c = refl
+
+pub returns-clause-cut_keeps : goal.returns-clause-cut_keeps
+unfolding gives_fate fails found_line lines line_of breaks_S02
+returns-clause-cut_keeps c = refl
+
+pub returns-clause-uncut_breaks : goal.returns-clause-uncut_breaks
+unfolding gives_fate fails found_line lines line_of breaks_S02
+returns-clause-uncut_breaks c = refl
+
+pub returns-clause-cut_breaks_new : goal.returns-clause-cut_breaks_new
+unfolding gives_fate fails found_line lines line_of breaks_S02
+returns-clause-cut_breaks_new c = refl
+
+pub returns-clause-cut_keeps_void : goal.returns-clause-cut_keeps_void
+unfolding gives_fate fails found_line lines line_of breaks_S02
+returns-clause-cut_keeps_void c = refl
+
+pub returns-clause-early_keeps : goal.returns-clause-early_keeps
+unfolding gives_fate fails found_line lines line_of breaks_S02
+returns-clause-early_keeps c = refl
+
+pub returns-clause-early_breaks_other : goal.returns-clause-early_breaks_other
+unfolding gives_fate fails found_line lines line_of breaks_S02
+returns-clause-early_breaks_other c = refl
+
+pub returns-clause-early_breaks_same : goal.returns-clause-early_breaks_same
+unfolding gives_fate fails found_line lines line_of breaks_S02
+returns-clause-early_breaks_same c = refl
+
+pub returns-clause-server_cut_keeps : goal.returns-clause-server_cut_keeps
+unfolding gives_fate fails found_line lines line_of breaks_S02
+returns-clause-server_cut_keeps c = refl
+
+pub returns-clause-server_early_breaks : goal.returns-clause-server_early_breaks
+unfolding gives_fate fails found_line lines line_of breaks_S02
+returns-clause-server_early_breaks c = refl
