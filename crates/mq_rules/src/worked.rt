@@ -195,11 +195,11 @@ pub fn resends()
     ensures uncut_breaks { failing client S02 (Open ∷ sends lasting ∷ gets accepting ∷ Close ∷ Open ∷ sends again ∷ gets resuming ∷ sends (once true 1) ∷ []) ≡ 8 ∷ [] }
     ensures cut_breaks_new { failing client S02 (Open ∷ sends lasting ∷ gets accepting ∷ Cut ∷ Open ∷ sends lasting ∷ gets accepting ∷ sends (once true 1) ∷ []) ≡ 8 ∷ [] }
     ensures cut_keeps_void { failing client S02 (Open ∷ sends lasting ∷ gets refusing ∷ Cut ∷ Open ∷ sends lasting ∷ gets accepting ∷ sends (once true 1) ∷ []) ≡ [] }
-    ensures early_keeps { failing client S02 (Open ∷ sends lasting ∷ gets accepting ∷ sends (once false 1) ∷ Close ∷ Open ∷ sends again ∷ sends (once true 1) ∷ gets accepting ∷ Close ∷ Open ∷ sends again ∷ gets resuming ∷ sends (once true 1) ∷ []) ≡ [] }
-    ensures early_breaks_other { failing client S02 (Open ∷ sends lasting ∷ gets accepting ∷ sends (once false 1) ∷ Close ∷ Open ∷ sends again ∷ sends (once true 1) ∷ gets accepting ∷ Close ∷ Open ∷ sends again ∷ gets resuming ∷ sends (once true 2) ∷ []) ≡ 13 ∷ [] }
+    ensures early_keeps { failing client S02 (Open ∷ sends lasting ∷ gets accepting ∷ sends (once false 1) ∷ Close ∷ Open ∷ sends again ∷ sends (once true 1) ∷ gets accepting ∷ sends Pingreq ∷ Close ∷ Open ∷ sends again ∷ gets resuming ∷ sends (once true 1) ∷ []) ≡ [] }
+    ensures early_breaks_other { failing client S02 (Open ∷ sends lasting ∷ gets accepting ∷ sends (once false 1) ∷ Close ∷ Open ∷ sends again ∷ sends (once true 1) ∷ gets accepting ∷ sends Pingreq ∷ Close ∷ Open ∷ sends again ∷ gets resuming ∷ sends (once true 2) ∷ []) ≡ 15 ∷ [] }
     ensures early_breaks_same { failing client S02 (Open ∷ sends lasting ∷ gets accepting ∷ sends (once false 1) ∷ Close ∷ Open ∷ sends again ∷ sends (once true 1) ∷ gets accepting ∷ sends (once true 1) ∷ []) ≡ 10 ∷ [] }
     ensures server_cut_keeps { failing server S02 (Open ∷ gets lasting ∷ sends accepting ∷ Cut ∷ Open ∷ gets again ∷ sends resuming ∷ sends (once true 1) ∷ []) ≡ [] }
-    ensures server_early_breaks { failing server S02 (Open ∷ gets lasting ∷ sends (once true 1) ∷ sends accepting ∷ Close ∷ Open ∷ gets again ∷ sends resuming ∷ sends (once true 1) ∷ []) ≡ 8 ∷ 3 ∷ [] }
+    ensures server_early_breaks { failing server S02 (Open ∷ gets lasting ∷ sends (once true 1) ∷ sends accepting ∷ Close ∷ Open ∷ gets again ∷ sends resuming ∷ sends (once true 1) ∷ []) ≡ 9 ∷ 3 ∷ [] }
     ensures server_unknown_breaks { failing server S02 (Open ∷ gets lasting ∷ sends accepting ∷ sends (once true 1) ∷ []) ≡ 4 ∷ [] }
     ensures server_unknown_keeps { failing server S02 (Open ∷ gets lasting ∷ sends accepting ∷ sends (once false 1) ∷ Close ∷ Open ∷ gets again ∷ sends resuming ∷ sends (once true 1) ∷ []) ≡ [] }
     ensures same_breaks { failing client S03 (Open ∷ sends lasting ∷ gets accepting ∷ sends (once false 1) ∷ sends (once true 1) ∷ []) ≡ 5 ∷ [] }
