@@ -26,6 +26,7 @@ pub mod SessionLaws
 pub mod PositionLaws
 pub mod FoldLaws
 pub mod AliveLaws
+pub mod PassedLaws
 pub mod PlainLaws
 pub mod CounterLaws
 pub mod FirstRestLaws

@@ -1,15 +1,16 @@
 -- Packet Identifiers, resends and the send quota (S01 to S07). Each statement says when it is false at a moment k whose connection is accepted and has the fate f.
-use Rattle.std.specs.Prelude.{ℕ, ◌+◌, nat_le, nat_lt, Bool, true, false, ◌&&◌, ◌||◌, not, List, ◌∷◌, Option, Some, None, is_some}
-use Rattle.std.specs.Option.{option_and_then, option_or}
+use Rattle.std.specs.Prelude.{ℕ, ◌+◌, nat_le, nat_lt, Bool, true, false, ◌&&◌, ◌||◌, not, List, ◌∷◌, Option, Some, is_some}
+use Rattle.std.specs.Option.{option_or}
 use Rattle.mq_rules.specs.declared.role.Role.{Role}
 use Rattle.mq_rules.specs.declared.role.Role.TheVariants.{Client, Server}
 use Rattle.mq_rules.specs.declared.fate.Fate.{Fate}
 use Rattle.mq_rules.specs.declared.note.Note.{Note}
+use Rattle.mq_rules.specs.declared.note.Seen.{Seen}
 use Rattle.mq_rules.specs.Words.{is_some_and, is_id}
-use Rattle.mq_rules.specs.Notes.{opener_of, resend_of, delivery_of, closer_of, sent_publish, is_exactly_once, sent_as, received_as, pubrel_in, accepting_pubrec_in, subscribe_in, suback_in, unsubscribe_in, unsuback_in, is_cutting}
-use Rattle.mq_rules.specs.Moments.{Moment, position, note, moments, is_same, some, since, is_unended, those, latest, count, some_stretch}
-use Rattle.mq_rules.specs.Connections.{number, connection, fate, latest_fate, resumed, voided, session, begins_session}
-use Rattle.mq_rules.specs.Pasts.{peer_receive_maximum, peer_maximum_packet_size, connack_before}
+use Rattle.mq_rules.specs.Notes.{opener_of, resend_of, delivery_of, closer_of, sent_publish, is_exactly_once, sent_as, received_as, pubrel_in, accepting_pubrec_in, subscribe_in, suback_in, unsubscribe_in, unsuback_in, is_cutting, is_open}
+use Rattle.mq_rules.specs.Moments.{Moment, position, note, moments, is_same, some, since, is_unended, those, latest, count, some_stretch, is_after}
+use Rattle.mq_rules.specs.Connections.{number, connection, fate, latest_fate, resumed, voided, session, begins_session, of_connection, fate_under, first_connect, first_connack}
+use Rattle.mq_rules.specs.Pasts.{peer_receive_maximum, connack_before}
 
 -- ---- identifiers in use (MQTT 5.0, section 2.2.1)
 
@@ -42,9 +43,39 @@ awaits_suback i k = since (λ m. is_id i (sent_as subscribe_in (note m))) (λ m.
 abbrev pub awaits_unsuback : ℕ → Moment → Bool
 awaits_unsuback i k = since (λ m. is_id i (sent_as unsubscribe_in (note m))) (λ m. is_id i (received_as unsuback_in (note m))) (connection k.past)
 
--- The identifier is busy at k: it is open, or a SUBSCRIBE or UNSUBSCRIBE under it waits for its answer.
+-- ---- what may have been discarded (MQTT 5.0, sections 3.1.2.11.4, 3.2.2.3.4 and 3.2.2.3.6)
+
+-- the moment sends a PUBREL under the identifier; a PUBLISH of QoS above 0 or a PUBREL; receives a PUBREC below 0x80 under it
+abbrev pub sends_pubrel : ℕ → Moment → Bool
+sends_pubrel i m = is_id i (sent_as pubrel_in (note m))
+
+abbrev pub sends_again : ℕ → Moment → Bool
+sends_again i m = delivers i m || sends_pubrel i m
+
+abbrev pub confirms_id : ℕ → Moment → Bool
+confirms_id i m = is_id i (received_as accepting_pubrec_in (note m))
+
+-- among these moments of a connection the peer announced a Maximum Packet Size, or a Maximum QoS, which only a server may, whatever its value
+abbrev pub announces_bound : Role → List Moment → Bool
+announces_bound Client ms = is_some_and (λ a. is_some a.maximum_packet_size || is_some a.maximum_qos) (first_connack Client ms)
+announces_bound Server ms = is_some_and (λ c. is_some c.maximum_packet_size) (first_connect Server ms)
+
+-- This connection passes over what is open under i, by what this log has of it, if the latest connection has this fate: it is resumed, the peer announced a bound
+-- there, and neither a PUBLISH of QoS above 0 nor a PUBREL was sent there under i. A message that is too large has to be discarded as if it were completed.
+abbrev pub passes_over : Role → Option Fate → ℕ → List Seen → ℕ → Bool
+passes_over role f i log c = resumed (fate_under role f log c) && (announces_bound role (of_connection c log) && not (some (sends_again i) (of_connection c log)))
+
+-- an opener k of i was passed over in this log: some connection that began after it passes over i
+abbrev pub is_passed_over : Role → Option Fate → ℕ → List Seen → Moment → Bool
+is_passed_over role f i log k = some (λ w. is_open (note w) && (is_after w k && passes_over role f i log (number w))) (moments log)
+
+-- What is open under i may have been discarded before k: its latest opener was passed over, and no PUBREC below 0x80 came since that opener.
+abbrev pub may_be_discarded : Role → Fate → ℕ → Moment → Bool
+may_be_discarded role f i k = is_some_and (is_passed_over role (Some f) i k.past) (latest_opener role f i k) && not (since (confirms_id i) (opens_id i) (session_before role f k))
+
+-- The identifier is busy at k: it is open, and what is open can't have been discarded; or a SUBSCRIBE or UNSUBSCRIBE under it waits for its answer.
 abbrev pub is_busy_at : Role → Fate → ℕ → Moment → Bool
-is_busy_at role f i k = is_open_at role f i k || (awaits_suback i k || awaits_unsuback i k)
+is_busy_at role f i k = (is_open_at role f i k && not (may_be_discarded role f i k)) || (awaits_suback i k || awaits_unsuback i k)
 
 -- the identifier that a packet takes: an opener, and a client's SUBSCRIBE or UNSUBSCRIBE
 abbrev pub taken_by : Role → Note → Option ℕ
@@ -84,12 +115,9 @@ breaks_S02 role f k = is_some_and (λ i. not (is_open_at role f i k || (was_sent
 unfoldable pub breaks_S03 : Moment → Bool
 breaks_S03 k = is_some_and (λ i. since (delivers i) (closes_id i) (connection k.past)) (resend_of (note k))
 
--- the moment opens the identifier by a PUBLISH of QoS 2; sends a PUBREL under it
+-- the moment opens the identifier by a PUBLISH of QoS 2
 abbrev pub opens_exactly_once : ℕ → Moment → Bool
 opens_exactly_once i m = opens_id i m && is_some_and (λ p. is_exactly_once p.qos) (sent_publish (note m))
-
-abbrev pub sends_pubrel : ℕ → Moment → Bool
-sends_pubrel i m = is_id i (sent_as pubrel_in (note m))
 
 -- S04: a resend of what is open by an opener of QoS 2, and a PUBREL of it was sent since that opener.
 unfoldable pub breaks_S04 : Role → Fate → Moment → Bool
@@ -133,15 +161,6 @@ is_used_up role t = some_stretch (λ stretch. nat_le (peer_receive_maximum role 
 
 -- ---- what a resumed session owes (MQTT 5.0, section 4.4)
 
--- the Maximum QoS that the peer announced: only a server may
-abbrev pub announced_qos : Role → Moment → Option ℕ
-announced_qos Client t = option_and_then (λ a. a.maximum_qos) (connack_before Client t)
-announced_qos Server t = None
-
--- the peer announced a Maximum Packet Size or a Maximum QoS on t's connection, whatever its value
-abbrev pub has_announced : Role → Moment → Bool
-has_announced role t = is_some (peer_maximum_packet_size role t) || is_some (announced_qos role t)
-
 -- the moment sends a PUBLISH with RETAIN 1 and a QoS above 0
 abbrev pub is_retained : Moment → Bool
 is_retained m = is_some_and (λ p. p.retain) (sent_publish (note m))
@@ -151,15 +170,15 @@ abbrev pub refuses_retained : Role → Moment → Bool
 refuses_retained Client t = is_some_and (λ a. is_id 0 a.retain_available) (connack_before Client t)
 refuses_retained Server t = false
 
--- An opener k that wasn't sent again by t is excused: no PUBREC below 0x80 came after it, and the quota is used up, or the peer announced a bound, or that it
--- doesn't take what is retained, as k's PUBLISH is.
+-- An opener k that wasn't sent again by t is excused: no PUBREC below 0x80 came after it, and the quota is used up, or it was passed over, or the peer doesn't take
+-- what is retained, as k's PUBLISH is.
 abbrev pub is_excused : Role → ℕ → Moment → Moment → Bool
-is_excused role i t k = is_unended k (λ m. is_id i (received_as accepting_pubrec_in (note m))) (session role (latest_fate role t.past) t.past)
-    && ((is_used_up role t || has_announced role t) || (refuses_retained role t && is_retained k))
+is_excused role i t k = is_unended k (confirms_id i) (session role (latest_fate role t.past) t.past)
+    && ((is_used_up role t || is_passed_over role (latest_fate role t.past) i t.past k) || (refuses_retained role t && is_retained k))
 
 -- a PUBLISH, or a PUBREL, of the identifier was sent on t's connection before t
 abbrev pub was_sent_again : ℕ → Moment → Bool
-was_sent_again i t = some (λ m. delivers i m || sends_pubrel i m) (connection t.past)
+was_sent_again i t = some (sends_again i) (connection t.past)
 
 -- the identifier of a PUBLISH of QoS above 0, or of a PUBREL, that is sent: a closer answers it
 abbrev pub sent_under : Note → Option ℕ

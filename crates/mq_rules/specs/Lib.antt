@@ -6,6 +6,7 @@ pub mod Moments
 pub mod Connections
 pub mod Pasts
 pub mod Identifiers
+pub mod Passing
 pub mod Exchanges
 pub mod Releases
 pub mod Subscriptions

@@ -110,6 +110,10 @@ unnamed = Connect (record { clean_start = true; is_unnamed = true; session_expir
 abbrev pub asking : Option ℕ → Option ℕ → Option ℕ → Option ℕ → Option ℕ → PacketFields
 asking problem response receive aliases size = Connect (record { clean_start = true; is_unnamed = false; session_expiry = Some 60; request_problem_information = problem; request_response_information = response; receive_maximum = receive; topic_alias_maximum = aliases; maximum_packet_size = size })
 
+-- of one that asks for its session again, with this Maximum Packet Size
+abbrev pub asking_again : Option ℕ → PacketFields
+asking_again size = Connect (record { clean_start = false; is_unnamed = false; session_expiry = Some 60; request_problem_information = None; request_response_information = None; receive_maximum = None; topic_alias_maximum = None; maximum_packet_size = size })
+
 -- with Session Present or not, and this Reason Code
 abbrev pub connack_with : Bool → ℕ → PacketFields
 connack_with present code = Connack (record { session_present = present; code = code; session_expiry = None; receive_maximum = None; topic_alias_maximum = None; maximum_qos = None; retain_available = None; maximum_packet_size = None; has_assigned_identifier = false; has_response_information = false })

@@ -6,7 +6,7 @@ ghost use Rattle.mq_packet.specs.declared.rule.PacketRule.TheVariants as packets
 ghost use Rattle.mq_rules.specs.declared.rule.Rule.TheVariants.{W01, W02, W03, W04, W05, W06, W07, W08, W09, W10, W11, W12, W13, W14, W15, W16, W17, W18, W19, W20, W21, C01, C02, C03, C04, C05, C06, C07, C08, C09, C10, C11, C12, C13, C14, C15, C16, C17, C18, C19, C20, C21, C22, C23, S01, S02, S03, S04, S05, S06, S07, E1A, E1R, E1O, E2A, E2R, E2O, E3A, E3R, E3O, E4A, E4R, E5A, E5R, E6A, E6R, E7R, L1, L2, L3, B01, B02, B03, B04};
 ghost use Rattle.mq_rules.specs.declared.note.Note.TheVariants.{Open, Rest, Release};
 ghost use Rattle.mq_rules.specs.declared.packet_note.PacketFields.TheVariants.{Puback, Pubrec, Pubrel, Pubcomp, Suback, Unsubscribe, Unsuback, Pingreq, Pingresp, Auth};
-ghost use Rattle.mq_rules.specs.Worked.{client, client_unrecorded, server, failing, Close, Cut, sends, gets, sends_sized, sends_explained, sends_bad, gets_bad, sends_lost, gets_lost, lasting, again, fleeting, unnamed, asking, connack_with, accepting, resuming, refusing, limiting, retaining, assigning, informing, leaving, at_most_once, once, exactly, retained_once, retained_exactly, expiring, aliased, subscribed, asks_a, asks_b};
+ghost use Rattle.mq_rules.specs.Worked.{client, client_unrecorded, server, failing, Close, Cut, sends, gets, sends_sized, sends_explained, sends_bad, gets_bad, sends_lost, gets_lost, lasting, again, fleeting, unnamed, asking, connack_with, accepting, resuming, refusing, limiting, retaining, assigning, informing, leaving, at_most_once, once, exactly, retained_once, retained_exactly, expiring, aliased, subscribed, asks_a, asks_b, asking_again};
 
 /// Bytes of a client that break a rule, and those that it receives (W01 to W21).
 pub fn bytes_of_a_client()
@@ -182,6 +182,12 @@ pub fn identifiers_in_use()
     ensures client_subscribes_breaks { failing client S01 (Open ∷ sends lasting ∷ gets accepting ∷ sends (asks_a 1 0) ∷ sends (asks_a 1 0) ∷ []) ≡ 5 ∷ [] }
     ensures client_subscribes_keeps { failing client S01 (Open ∷ sends lasting ∷ gets accepting ∷ sends (asks_a 1 0) ∷ gets (Suback 1 []) ∷ sends (asks_a 1 0) ∷ []) ≡ [] }
     ensures client_breaks_void_closer { failing client S01 (Open ∷ sends lasting ∷ gets accepting ∷ sends (once false 1) ∷ Close ∷ Open ∷ sends again ∷ gets refusing ∷ gets (Puback 1 0) ∷ Close ∷ Open ∷ sends again ∷ gets resuming ∷ sends (once false 1) ∷ []) ≡ 14 ∷ [] }
+    ensures client_keeps_passed_over { failing client S01 (Open ∷ sends lasting ∷ gets accepting ∷ sends (once false 1) ∷ Close ∷ Open ∷ sends again ∷ gets (limiting true None None None (Some 9)) ∷ sends (once false 1) ∷ []) ≡ [] }
+    ensures client_breaks_sent_again { failing client S01 (Open ∷ sends lasting ∷ gets accepting ∷ sends (once false 1) ∷ Close ∷ Open ∷ sends again ∷ gets (limiting true None None None (Some 9)) ∷ sends (once true 1) ∷ sends (once false 1) ∷ []) ≡ 10 ∷ [] }
+    ensures client_breaks_early { failing client S01 (Open ∷ sends lasting ∷ gets accepting ∷ sends (once false 1) ∷ Close ∷ Open ∷ sends again ∷ sends (once false 1) ∷ gets (limiting true None None None (Some 9)) ∷ []) ≡ 8 ∷ [] }
+    ensures client_breaks_confirmed { failing client S01 (Open ∷ sends lasting ∷ gets accepting ∷ sends (exactly false 1) ∷ gets (Pubrec 1 0) ∷ Close ∷ Open ∷ sends again ∷ gets (limiting true None None (Some 1) None) ∷ sends (exactly false 1) ∷ []) ≡ 10 ∷ [] }
+    ensures server_keeps_passed_over { failing server S01 (Open ∷ gets lasting ∷ sends accepting ∷ sends (once false 1) ∷ Close ∷ Open ∷ gets (asking_again (Some 9)) ∷ sends resuming ∷ Close ∷ Open ∷ gets again ∷ sends resuming ∷ sends (once false 1) ∷ []) ≡ [] }
+    ensures server_breaks_unbounded { failing server S01 (Open ∷ gets lasting ∷ sends accepting ∷ sends (once false 1) ∷ Close ∷ Open ∷ gets (asking_again None) ∷ sends resuming ∷ Close ∷ Open ∷ gets again ∷ sends resuming ∷ sends (once false 1) ∷ []) ≡ 13 ∷ [] }
     ensures server_breaks { failing server S01 (Open ∷ gets lasting ∷ sends accepting ∷ sends (once false 1) ∷ sends (once false 1) ∷ []) ≡ 5 ∷ [] }
     ensures server_keeps { failing server S01 (Open ∷ gets lasting ∷ sends accepting ∷ sends (once false 1) ∷ gets (Puback 1 0) ∷ sends (once false 1) ∷ []) ≡ [] }
 {}
@@ -228,6 +234,8 @@ pub fn redelivery()
     ensures breaks_answered { failing client S06 (Open ∷ sends lasting ∷ gets accepting ∷ sends (once false 1) ∷ sends (once false 2) ∷ Close ∷ Open ∷ sends again ∷ gets resuming ∷ sends (once true 1) ∷ gets (Puback 1 0) ∷ Rest ∷ []) ≡ 5 ∷ [] }
     ensures breaks_asked_before { failing client S06 (Open ∷ sends lasting ∷ gets accepting ∷ sends (once false 1) ∷ Close ∷ Open ∷ sends again ∷ gets resuming ∷ sends (asks_a 2 0) ∷ Rest ∷ []) ≡ 4 ∷ [] }
     ensures server_keeps_early { failing server S06 (Open ∷ gets lasting ∷ sends accepting ∷ sends (once false 1) ∷ Close ∷ Open ∷ gets again ∷ sends (once false 2) ∷ sends resuming ∷ Rest ∷ []) ≡ [] }
+    ensures server_keeps_passed_over { failing server S06 (Open ∷ gets lasting ∷ sends accepting ∷ sends (once false 1) ∷ Close ∷ Open ∷ gets (asking_again (Some 9)) ∷ sends resuming ∷ Close ∷ Open ∷ gets again ∷ sends resuming ∷ Rest ∷ []) ≡ [] }
+    ensures server_breaks_sent_again { failing server S06 (Open ∷ gets lasting ∷ sends accepting ∷ sends (once false 1) ∷ Close ∷ Open ∷ gets (asking_again (Some 9)) ∷ sends resuming ∷ sends (once true 1) ∷ Close ∷ Open ∷ gets again ∷ sends resuming ∷ Rest ∷ []) ≡ 4 ∷ [] }
     ensures server_breaks { failing server S06 (Open ∷ gets lasting ∷ sends accepting ∷ sends (once false 1) ∷ Close ∷ Open ∷ gets again ∷ sends resuming ∷ Rest ∷ []) ≡ 4 ∷ [] }
     ensures server_keeps { failing server S06 (Open ∷ gets lasting ∷ sends accepting ∷ sends (once false 1) ∷ Close ∷ Open ∷ gets again ∷ sends resuming ∷ sends (once true 1) ∷ Rest ∷ []) ≡ [] }
 {}

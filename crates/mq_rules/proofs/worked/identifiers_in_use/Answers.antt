@@ -48,3 +48,27 @@ returns-clause-server_breaks c = refl
 pub returns-clause-server_keeps : goal.returns-clause-server_keeps
 unfolding gives_fate fails found_line lines line_of breaks_S01
 returns-clause-server_keeps c = refl
+
+pub returns-clause-client_keeps_passed_over : goal.returns-clause-client_keeps_passed_over
+unfolding gives_fate fails found_line lines line_of breaks_S01
+returns-clause-client_keeps_passed_over c = refl
+
+pub returns-clause-client_breaks_sent_again : goal.returns-clause-client_breaks_sent_again
+unfolding gives_fate fails found_line lines line_of breaks_S01
+returns-clause-client_breaks_sent_again c = refl
+
+pub returns-clause-client_breaks_early : goal.returns-clause-client_breaks_early
+unfolding gives_fate fails found_line lines line_of breaks_S01
+returns-clause-client_breaks_early c = refl
+
+pub returns-clause-client_breaks_confirmed : goal.returns-clause-client_breaks_confirmed
+unfolding gives_fate fails found_line lines line_of breaks_S01
+returns-clause-client_breaks_confirmed c = refl
+
+pub returns-clause-server_keeps_passed_over : goal.returns-clause-server_keeps_passed_over
+unfolding gives_fate fails found_line lines line_of breaks_S01
+returns-clause-server_keeps_passed_over c = refl
+
+pub returns-clause-server_breaks_unbounded : goal.returns-clause-server_breaks_unbounded
+unfolding gives_fate fails found_line lines line_of breaks_S01
+returns-clause-server_breaks_unbounded c = refl

@@ -60,3 +60,11 @@ returns-clause-breaks_asked_before c = refl
 pub returns-clause-server_keeps_early : goal.returns-clause-server_keeps_early
 unfolding gives_fate fails found_line lines line_of shows_S06 is_binding
 returns-clause-server_keeps_early c = refl
+
+pub returns-clause-server_keeps_passed_over : goal.returns-clause-server_keeps_passed_over
+unfolding gives_fate fails found_line lines line_of shows_S06 is_binding
+returns-clause-server_keeps_passed_over c = refl
+
+pub returns-clause-server_breaks_sent_again : goal.returns-clause-server_breaks_sent_again
+unfolding gives_fate fails found_line lines line_of shows_S06 is_binding
+returns-clause-server_breaks_sent_again c = refl
