@@ -5,8 +5,8 @@ use Rattle.std.specs.Option.{option_or}
 use Rattle.std.specs.Str.{str_eq_ignore_ascii_case}
 use Rattle.mq_rules.specs.declared.role.Role.TheVariants.{Client, Server}
 use Rattle.mq_rules.specs.declared.rule.Rule.{Rule}
-use Rattle.mq_rules.specs.Naming.{coded_rule}
-use Rattle.mq_rules.specs.Rules.{all_rules, citation_of}
+use Rattle.mq_rules.specs.Naming.{citation_of, coded_rule}
+use Rattle.mq_rules.specs.Rules.{all_rules}
 use Rattle.mq_cli.specs.Explaining.{explanation_of}
 
 -- a comma (44) is between two citations for one end, and a semicolon (59) between those for the two ends

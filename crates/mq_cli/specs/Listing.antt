@@ -5,8 +5,8 @@ use Rattle.std.specs.Str.{bytes_eq}
 use Rattle.mq_rules.specs.declared.role.Role.{Role}
 use Rattle.mq_rules.specs.declared.role.Role.TheVariants.{Client, Server}
 use Rattle.mq_rules.specs.declared.rule.Rule.{Rule}
-use Rattle.mq_rules.specs.Rules.{all_rules, binds_end, citation_of, code_of}
-use Rattle.mq_rules.specs.Naming.{sentence_of}
+use Rattle.mq_rules.specs.Rules.{all_rules, binds_end, code_of}
+use Rattle.mq_rules.specs.Naming.{citation_of, sentence_of}
 
 -- whom a statement binds, as a word
 abbrev pub bound_ends : Rule → List ℕ

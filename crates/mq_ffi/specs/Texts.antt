@@ -2,7 +2,7 @@
 use Rattle.std.specs.Prelude.{◌≡◌, ℕ, ◌+◌, ◌<◌, ◌≤◌, List, ◌∷◌, ◌++◌, length, drop, Option, Some, None, Result, Ok, Err}
 use Rattle.mq_rules.specs.declared.rule.Rule.{Rule}
 use Rattle.mq_rules.specs.declared.role.Role.{Role}
-use Rattle.mq_rules.specs.Rules.{citation_of}
+use Rattle.mq_rules.specs.Naming.{citation_of}
 use Rattle.mq_ffi.specs.declared.answer.Trouble.{Trouble}
 use Rattle.mq_ffi.specs.declared.answer.Trouble.TheVariants as troubles
 use Rattle.mq_ffi.specs.Answers.{answer_code}

@@ -15,8 +15,8 @@ use Rattle.mq_rules.specs.declared.rule.Rule.{Rule}
 use Rattle.mq_rules.specs.declared.fault.Fault.{Fault}
 use Rattle.mq_rules.specs.declared.faults.FaultKey.{FaultKey}
 use Rattle.mq_rules.specs.FaultKeys.{faults_at}
-use Rattle.mq_rules.specs.Naming.{sentence_of}
-use Rattle.mq_rules.specs.Rules.{code_of, citation_of}
+use Rattle.mq_rules.specs.Naming.{citation_of, sentence_of}
+use Rattle.mq_rules.specs.Rules.{code_of}
 use Rattle.mq_judge.specs.declared.report.RunFault.{RunFault}
 use Rattle.mq_judge.specs.declared.report.RunFault.TheVariants as run_faults
 use Rattle.mq_judge.specs.Calendar.{time_words}

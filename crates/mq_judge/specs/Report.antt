@@ -19,7 +19,8 @@ use Rattle.mq_rules.specs.declared.faults.FaultKey.{FaultKey}
 use Rattle.mq_rules.specs.Notes.{tested_by, seen_in}
 use Rattle.mq_rules.specs.Faults.{listed_faults}
 use Rattle.mq_judge.specs.Chosen.{is_judged}
-use Rattle.mq_rules.specs.Rules.{all_rules, same_rule, code_of, citation_of}
+use Rattle.mq_rules.specs.Rules.{all_rules, same_rule, code_of}
+use Rattle.mq_rules.specs.Naming.{citation_of}
 
 -- a line: its text, and a line feed
 abbrev pub line : List ℕ → List ℕ

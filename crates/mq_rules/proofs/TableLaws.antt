@@ -16,7 +16,8 @@ use Rattle.mq_rules.specs.declared.rule.Rule.{Rule}
 use Rattle.mq_rules.specs.declared.table.Ends.{Ends}
 use Rattle.mq_rules.specs.declared.rule.Rule.TheVariants.{W01}
 use Rattle.mq_rules.specs.Bindings.{is_among, on_releases, only_client, only_server}
-use Rattle.mq_rules.specs.Rules.{StatementLine, line_view, lines_of, lines, line_of, found_line, binds_end, citation_of, all_rules, rule_cmp, same_rule}
+use Rattle.mq_rules.specs.Naming.{citation_of}
+use Rattle.mq_rules.specs.Rules.{StatementLine, line_view, lines_of, lines, line_of, found_line, binds_end, cites, all_rules, rule_cmp, same_rule}
 
 cond-map : {A B : Type 0} (view : A → B) (b : Bool) (x : A) (o : Option A) (q : Option B) → option_map view o ≡ q → option_map view (cond b (Some x) o) ≡ cond b (Some (view x)) q
 cond-map view true x o q h = refl
@@ -94,13 +95,29 @@ unfolding line_of found_line lines
 server_bound W01 = refl
 server_bound _ = refl
 
+-- ---- what they cite
+
+client_cites : (rule : Rule) → cites Client (line_of rule) ≡ citation_of rule Client
+unfolding citation_of line_of found_line lines
+client_cites W01 = refl
+client_cites _ = refl
+
+server_cites : (rule : Rule) → cites Server (line_of rule) ≡ citation_of rule Server
+unfolding citation_of line_of found_line lines
+server_cites W01 = refl
+server_cites _ = refl
+
+pub row_cites : (rule : Rule) (role : Role) → cites role (line_of rule) ≡ citation_of rule role
+row_cites rule Client = client_cites rule
+row_cites rule Server = server_cites rule
+
 cited_for_client : (rule : Rule) → not (length (citation_of rule Client) == 0) ≡ binds_end rule Client
-unfolding line_of found_line lines
+unfolding citation_of line_of found_line lines
 cited_for_client W01 = refl
 cited_for_client _ = refl
 
 cited_for_server : (rule : Rule) → not (length (citation_of rule Server) == 0) ≡ binds_end rule Server
-unfolding line_of found_line lines
+unfolding citation_of line_of found_line lines
 cited_for_server W01 = refl
 cited_for_server _ = refl
 

@@ -1,7 +1,9 @@
--- What each statement says, and which one a code names.
-use Rattle.std.specs.Prelude.{ℕ, List, codes, Option, option_map}
+-- What each statement says, where MQTT 5.0 has it, and which one a code names.
+use Rattle.std.specs.Prelude.{ℕ, List, [], codes, Option, option_map}
 use Rattle.std.specs.List.{find}
 use Rattle.std.specs.Str.{str_eq_ignore_ascii_case}
+use Rattle.mq_rules.specs.declared.role.Role.{Role}
+use Rattle.mq_rules.specs.declared.role.Role.TheVariants.{Client, Server}
 use Rattle.mq_rules.specs.declared.rule.Rule.{Rule}
 use Rattle.mq_rules.specs.declared.rule.Rule.TheVariants.{W01, W02, W03, W04, W05, W06, W07, W08, W09, W10, W11, W12, W13, W14, W15, W16, W17, W18, W19, W20, W21, C01, C02, C03, C04, C05, C06, C07, C08, C09, C10, C11, C12, C13, C14, C15, C16, C17, C18, C19, C20, C21, C22, C23, S01, S02, S03, S04, S05, S06, S07, E1A, E1R, E1O, E2A, E2R, E2O, E3A, E3R, E3O, E4A, E4R, E5A, E5R, E6A, E6R, E7R, L1, L2, L3, B01, B02, B03, B04}
 use Rattle.mq_rules.specs.Rules.{StatementLine, lines}
@@ -82,6 +84,106 @@ sentence_of B01 = codes "A PUBLISH from the server matches a subscription."
 sentence_of B02 = codes "A PUBLISH from the server isn't at a QoS above what was granted."
 sentence_of B03 = codes "A SUBACK has a Reason Code for each filter."
 sentence_of B04 = codes "An UNSUBACK has a Reason Code for each filter."
+
+-- ---- where MQTT 5.0 has each statement: its citation for each end
+
+-- the same citation for a client and for a server
+abbrev pub for_both : List ℕ → Role → List ℕ
+for_both text role = text
+
+-- one for a client, another for a server
+abbrev pub for_each : List ℕ → List ℕ → Role → List ℕ
+for_each client server Client = client
+for_each client server Server = server
+
+-- one for a client: the statement binds no server
+abbrev pub for_client : List ℕ → Role → List ℕ
+for_client text Client = text
+for_client text Server = []
+
+-- one for a server: the statement binds no client
+abbrev pub for_server : List ℕ → Role → List ℕ
+for_server text Client = []
+for_server text Server = text
+
+-- the numbers of the conformance statements that a statement rests on, separated by commas, or a section
+unfoldable pub citation_of : Rule → Role → List ℕ
+citation_of W01 = for_both (codes "MQTT-2.1.3-1")
+citation_of W02 = for_both (codes "sec-2.1.2")
+citation_of W03 = for_both (codes "MQTT-1.5.5-1")
+citation_of W04 = for_both (codes "MQTT-1.5.4-1")
+citation_of W05 = for_both (codes "MQTT-1.5.4-2")
+citation_of W06 = for_both (codes "sec-2.1.4")
+citation_of W07 = for_both (codes "MQTT-3.3.1-4")
+citation_of W08 = for_both (codes "MQTT-3.3.1-2")
+citation_of W09 = for_both (codes "sec-2.2.1")
+citation_of W10 = for_both (codes "sec-2.2.2.2")
+citation_of W11 = for_both (codes "sec-2.2.2.2")
+citation_of W12 = for_both (codes "sec-2.2.2.2")
+citation_of W13 = for_both (codes "sec-2.4")
+citation_of W14 = for_both (codes "sec-3.3.2")
+citation_of W15 = for_both (codes "sec-4.7")
+citation_of W16 = for_both (codes "MQTT-3.8.3-2,MQTT-3.10.3-2")
+citation_of W17 = for_both (codes "sec-3.8.3")
+citation_of W18 = for_both (codes "sec-3.1.2")
+citation_of W19 = for_both (codes "sec-3.1.2")
+citation_of W20 = for_both (codes "MQTT-3.2.2-1")
+citation_of W21 = for_both (codes "sec-3.3.2")
+citation_of C01 = for_both (codes "sec-2.1.2")
+citation_of C02 = for_client (codes "MQTT-3.1.0-1")
+citation_of C03 = for_client (codes "sec-3.1")
+citation_of C04 = for_server (codes "sec-3.2")
+citation_of C05 = for_server (codes "MQTT-3.2.0-1")
+citation_of C06 = for_server (codes "MQTT-3.2.0-2")
+citation_of C07 = for_server (codes "MQTT-3.2.2-2")
+citation_of C08 = for_server (codes "MQTT-3.2.2-3")
+citation_of C09 = for_server (codes "MQTT-3.2.2-6")
+citation_of C10 = for_server (codes "MQTT-3.2.2-16")
+citation_of C11 = for_both (codes "MQTT-3.14.4-1")
+citation_of C12 = for_server (codes "MQTT-3.2.2-7")
+citation_of C13 = for_client (codes "MQTT-3.2.2-4")
+citation_of C14 = for_each (codes "MQTT-3.2.2-15") (codes "MQTT-3.1.2-24")
+citation_of C15 = for_each (codes "MQTT-3.2.2-17") (codes "MQTT-3.1.2-26")
+citation_of C16 = for_both (codes "sec-3.3.2")
+citation_of C17 = for_client (codes "MQTT-3.2.2-11")
+citation_of C18 = for_client (codes "MQTT-3.3.4-6")
+citation_of C19 = for_server (codes "MQTT-3.14.2-2")
+citation_of C20 = for_client (codes "sec-3.14.2")
+citation_of C21 = for_server (codes "MQTT-3.1.2-29")
+citation_of C22 = for_server (codes "MQTT-3.1.2-28")
+citation_of C23 = for_each (codes "MQTT-3.14.4-2") (codes "MQTT-3.14.4-2,MQTT-3.2.2-7")
+citation_of S01 = for_each (codes "MQTT-2.2.1-3") (codes "MQTT-2.2.1-4")
+citation_of S02 = for_both (codes "MQTT-4.3.2-2,MQTT-4.3.3-2")
+citation_of S03 = for_both (codes "MQTT-4.4.0-1")
+citation_of S04 = for_both (codes "MQTT-4.3.3-6")
+citation_of S05 = for_client (codes "MQTT-4.6.0-1")
+citation_of S06 = for_both (codes "MQTT-4.4.0-1")
+citation_of S07 = for_both (codes "MQTT-4.9.0-2")
+citation_of E1A = for_both (codes "MQTT-2.2.1-5")
+citation_of E1R = for_both (codes "MQTT-4.3.2-4")
+citation_of E1O = for_client (codes "MQTT-4.6.0-2")
+citation_of E2A = for_both (codes "MQTT-2.2.1-5")
+citation_of E2R = for_both (codes "MQTT-4.3.3-8")
+citation_of E2O = for_client (codes "MQTT-4.6.0-3")
+citation_of E3A = for_both (codes "MQTT-2.2.1-5")
+citation_of E3R = for_both (codes "MQTT-4.3.3-4")
+citation_of E3O = for_client (codes "MQTT-4.6.0-4")
+citation_of E4A = for_both (codes "MQTT-2.2.1-5")
+citation_of E4R = for_both (codes "MQTT-4.3.3-11")
+citation_of E5A = for_server (codes "MQTT-2.2.1-6")
+citation_of E5R = for_server (codes "MQTT-3.8.4-1")
+citation_of E6A = for_server (codes "MQTT-2.2.1-6")
+citation_of E6R = for_server (codes "MQTT-3.10.4-4")
+citation_of E7R = for_server (codes "MQTT-3.12.4-1")
+citation_of L1 = for_both (codes "sec-4.3.3")
+citation_of L2 = for_both (codes "MQTT-4.3.3-10")
+citation_of L3 = for_both (codes "sec-4.3.3")
+citation_of B01 = for_server (codes "MQTT-3.3.2-3")
+citation_of B02 = for_server (codes "MQTT-3.8.4-8")
+citation_of B03 = for_server (codes "MQTT-3.8.4-6")
+citation_of B04 = for_server (codes "sec-3.11.3")
+
+-- ---- the statement that a code names
 
 -- the line of the table whose code is the text, in capital or small letters
 unfoldable pub coded_line : List ℕ → Option StatementLine

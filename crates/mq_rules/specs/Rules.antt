@@ -63,9 +63,6 @@ abbrev pub cites : Role → StatementLine → List ℕ
 cites Client line = line.client
 cites Server line = line.server
 
-abbrev pub citation_of : Rule → Role → List ℕ
-citation_of rule role = cites role (line_of rule)
-
 -- whether this end is among these ends
 abbrev pub includes : Ends → Role → Bool
 includes OnlyClient Client = true

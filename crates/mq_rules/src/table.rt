@@ -1,7 +1,8 @@
 //! The table of the chosen statements: a row for each, in the order of reports.
 ghost use Rattle.std.specs.Prelude.{◌≡◌, option_map};
 ghost use Rattle.std.specs.List.{find};
-ghost use Rattle.mq_rules.specs.Rules.{all_rules, found_line, line_view, lines_of, same_rule, code_of, citation_of, includes, line_of, binds, binds_end};
+ghost use Rattle.mq_rules.specs.Naming.{citation_of};
+ghost use Rattle.mq_rules.specs.Rules.{all_rules, found_line, line_view, lines_of, same_rule, code_of, cites, includes, line_of, binds, binds_end};
 
 use crate::role::{Role, Tested};
 use crate::rule::Rule;
@@ -226,6 +227,20 @@ fn find_row(rule: Rule) -> Option<Row>
     found_in(&TABLE, rule)
 }
 
+// The citation for this end in a statement's row.
+#[tactic(auto, unfolding(crate::specs::Rules::line_of))]
+fn citation_in_row(rule: Rule, role: Role) -> &'static str
+    ensures { result.now ≡ cites role (line_of rule) }
+{
+    match find_row(rule) {
+        Some((_, _, _, client, server, _)) => match role {
+            Role::Client => client,
+            Role::Server => server,
+        },
+        None => "",
+    }
+}
+
 impl Ends {
     // Whether this end is among them.
     fn include(self, role: Role) -> bool
@@ -262,17 +277,11 @@ impl Rule {
     /// The statement's citation of MQTT 5.0 for this end: the numbers of conformance statements,
     /// separated by commas, or the section, for example `sec-2.4`. It is empty if the statement
     /// doesn't bind this end.
-    #[tactic(auto, unfolding(crate::specs::Rules::line_of))]
+    #[tactic(auto, using(crate::proofs::TableLaws::row_cites))]
     pub fn citation(self, role: Role) -> &'static str
         ensures { result.now ≡ citation_of self role }
     {
-        match find_row(self) {
-            Some((_, _, _, client, server, _)) => match role {
-                Role::Client => client,
-                Role::Server => server,
-            },
-            None => "",
-        }
+        citation_in_row(self, role)
     }
 
     /// Whether the statement binds this end. Some statements are judged only if the log records

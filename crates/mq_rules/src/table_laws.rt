@@ -5,7 +5,8 @@ ghost use Rattle.mq_rules.specs.declared.role.Role.{Role};
 ghost use Rattle.mq_rules.specs.declared.role.Role.TheVariants.{Client, Server};
 ghost use Rattle.mq_rules.specs.declared.rule.Rule.{Rule};
 ghost use Rattle.mq_rules.specs.Bindings.{is_among, on_releases, only_client, only_server};
-ghost use Rattle.mq_rules.specs.Rules.{all_rules, binds_end, citation_of, found_line, line_of, rule_cmp};
+ghost use Rattle.mq_rules.specs.Naming.{citation_of};
+ghost use Rattle.mq_rules.specs.Rules.{all_rules, binds_end, found_line, line_of, rule_cmp};
 
 /// Each statement has a row, which names it.
 pub fn each_statement_has_its_row()
