@@ -197,7 +197,7 @@ unasking (notes.Sent items.Lost) h = unasking-neither _ refl refl
 unasking (notes.Recv (items.Bad first rule at)) h = unasking-neither _ refl refl
 unasking (notes.Recv items.Lost) h = unasking-neither _ refl refl
 unasking notes.Open h = unasking-neither _ refl refl
-unasking notes.Close h = unasking-neither _ refl refl
+unasking (notes.Close cuts) h = unasking-neither _ refl refl
 unasking notes.Rest h = unasking-neither _ refl refl
 unasking (notes.Release identifier) h = unasking-neither _ refl refl
 

@@ -3,8 +3,8 @@ ghost use Rattle.std.specs.Prelude.{◌≡◌, None, cond, reverse};
 ghost use Rattle.std.specs.Option.{option_or};
 ghost use Rattle.mq_rules.specs.Notes.{is_open};
 ghost use Rattle.mq_rules.specs.Moments.{newest, note, some, since};
-ghost use Rattle.mq_rules.specs.Connections.{connection, gives_fate, latest_fate};
-ghost use Rattle.mq_rules.specs.Histories.{gives_now};
+ghost use Rattle.mq_rules.specs.Connections.{begins_session, connection, gives_fate, latest_fate};
+ghost use Rattle.mq_rules.specs.Histories.{begins_now, gives_now, history};
 
 use crate::lookback::{Never, NoteTest};
 use mq_rules::{Fate, History, Note, Role, Seen};
@@ -80,9 +80,23 @@ pub fn fate_after(fate: Option<Fate>, role: Role, event: &Seen, before: &[Seen])
 fn given_by(role: Role, event: &Seen, before: &[Seen]) -> Option<Fate>
     ensures { result ≡ gives_fate role (newest event.now (reverse before.now)) }
 {
+    history_of(role, before).gives(role, &event.note)
+}
+
+/// Whether a session begins by an event.
+pub fn begins_by(role: Role, event: &Seen, before: &[Seen]) -> bool
+    ensures { result ≡ begins_session role (newest event.now (reverse before.now)) }
+{
+    history_of(role, before).begins(role, &event.note)
+}
+
+// What is kept of these events.
+fn history_of(role: Role, before: &[Seen]) -> History
+    ensures { result ≡ history role (reverse before.now) }
+{
     let mut history = History::new();
-    for earlier in before {
-        history.consume(role, &earlier.note);
+    for event in before {
+        history.consume(role, &event.note);
     }
-    history.gives(role, &event.note)
+    history
 }

@@ -3,18 +3,19 @@ ghost use Rattle.std.specs.Prelude.{◌≡◌, ◌&&◌, ◌||◌, reverse};
 ghost use Rattle.mq_rules.specs.Words.{is_id, is_some_and};
 ghost use Rattle.mq_rules.specs.Notes.{delivery_of, sent_publish, is_exactly_once};
 ghost use Rattle.mq_rules.specs.Moments.{newest};
-ghost use Rattle.mq_rules.specs.Connections.{voided};
 ghost use Rattle.mq_rules.specs.Identifiers.{breaks_S02, breaks_S03, breaks_S04};
 ghost use Rattle.mq_plain.specs.Lookback.{is_open_after};
-ghost use Rattle.mq_plain.specs.Resends.{is_void_delivery, is_delivering, is_last_exactly_once, is_pubrel_sent};
+ghost use Rattle.mq_plain.specs.Resends.{is_delivering, is_last_exactly_once, is_pubrel_sent};
 
+mod earlier;
 mod order;
 
-use crate::connection::{latest_fate_of, since_on_connection};
+use crate::connection::since_on_connection;
 use crate::identifiers::{Closes, Opens, is_open_id};
 use crate::judging::SessionStatement;
 use crate::lookback::NoteTest;
-use crate::session::{couldnt_know, fate_before, is_voided, since_in_session, unless_unknown};
+use crate::session::{couldnt_know, since_in_session, unless_unknown};
+use earlier::may_be_resent;
 use mq_packet::Qos;
 use mq_rules::{Fate, Memory, Note, Role, Rule, Seen};
 pub use order::ResendsInOrder;
@@ -76,42 +77,8 @@ impl NoteTest for SendsPubrel {
     }
 }
 
-// Whether a PUBLISH under an identifier was sent on a void connection, anywhere in these events.
-fn is_sent_on_void(role: Role, identifier: u16, before: &[Seen]) -> bool
-    ensures { result ≡ is_void_delivery role identifier (reverse before.now) }
-{
-    let mut earlier = before;
-    let mut fate = latest_fate_of(role, before);
-    while let Some((event, rest)) = earlier.split_last() {
-        if is_void_at(identifier, fate, &event.note) {
-            return true;
-        }
-        fate = fate_before(role, fate, &event.note, rest);
-        earlier = rest;
-    }
-    false
-}
-
-// Whether an event sends a PUBLISH under an identifier on a void connection; its connection has
-// this fate.
-fn is_void_at(identifier: u16, fate: Option<Fate>, note: &Note) -> bool
-    ensures { result ≡ (is_id identifier (delivery_of note.now) && voided fate) }
-{
-    Delivers(identifier).passes(note) && is_voided(fate)
-}
-
-// Whether the PUBLISH of an identifier may be sent again: it is open, or was sent on a void
-// connection.
-fn may_be_resent(role: Role, fate: Fate, identifier: u16, before: &[Seen]) -> bool
-    ensures { result ≡ (is_open_after role fate identifier (reverse before.now) || is_void_delivery role identifier (reverse before.now)) }
-{
-    if is_open_id(role, fate, identifier, before) {
-        return true;
-    }
-    is_sent_on_void(role, identifier, before)
-}
-
-// Whether a packet sends a PUBLISH again that isn't open, and wasn't sent on a void connection.
+// Whether a packet sends a PUBLISH again that isn't open, and of which nothing was sent that the
+// session doesn't show.
 #[tactic(auto, unfolding(mq_rules::specs::Identifiers::breaks_S02))]
 fn resends_unopened(role: Role, fate: Fate, event: &Seen, before: &[Seen]) -> bool
     ensures { result ≡ breaks_S02 role fate (newest event.now (reverse before.now)) }
@@ -188,7 +155,8 @@ fn resends_past_pubrel(role: Role, fate: Fate, event: &Seen, before: &[Seen]) ->
     }
 }
 
-/// S02: a PUBLISH is sent again only if it is open, or may have been lost on a void connection.
+/// S02: a PUBLISH is sent again only if it is open, or may have been sent before though the session
+/// doesn't show it: on a void connection, before the session began, or in part.
 pub struct ResendsOpen;
 
 impl SessionStatement for ResendsOpen {

@@ -2,13 +2,13 @@
 ghost use Rattle.std.specs.Prelude.{◌≡◌, ◌∷◌, ◌&&◌, not, cond, reverse};
 ghost use Rattle.mq_rules.specs.Notes.{is_open};
 ghost use Rattle.mq_rules.specs.declared.note.Seen.{Seen as TheSeen};
-ghost use Rattle.mq_rules.specs.Moments.{newest, note, since};
+ghost use Rattle.mq_rules.specs.Moments.{newest, note, some, since};
 ghost use Rattle.mq_rules.specs.Connections.{accepts as is_accepting, any_accepted, accepted, begins, comes_early, has_session, is_placed_release, latest_fate, session, voided};
 ghost use Rattle.mq_rules.specs.Connections as connections;
 ghost use Rattle.mq_plain.specs.Lookback.{answer_by};
 
 use crate::connection::latest_fate_of;
-use crate::lookback::NoteTest;
+use crate::lookback::{Never, NoteTest};
 use mq_rules::{Fate, Note, Role, Seen};
 
 /// Whether in the current session after these events, if the latest connection has this fate, some
@@ -35,6 +35,20 @@ pub fn since_in_session<S: NoteTest, E: NoteTest>(
         earlier = rest;
     }
     false
+}
+
+/// Whether in the current session after these events, if the latest connection has this fate, some
+/// event passes the test.
+#[tactic(auto, using(crate::proofs::LookbackLaws::some_since))]
+pub fn some_in_session<T: NoteTest>(
+    role: Role,
+    fate: Option<Fate>,
+    test: &T,
+    before: &[Seen],
+) -> bool
+    ensures { result ≡ some (λ m. T.test test.now (note m)) (session role fate (reverse before.now)) }
+{
+    since_in_session(role, fate, test, &Never, before)
 }
 
 // What an event decides by itself, if it is in the session. The tests come first, since few events
@@ -76,8 +90,8 @@ pub fn fate_before(role: Role, fate: Option<Fate>, note: &Note, before: &[Seen])
     fate
 }
 
-// Whether an event on or after the latest connection, which has this fate, is in a session.
-fn is_in_session(role: Role, fate: Option<Fate>, event: &Seen, before: &[Seen]) -> bool
+/// Whether an event on or after the latest connection, which has this fate, is in a session.
+pub fn is_in_session(role: Role, fate: Option<Fate>, event: &Seen, before: &[Seen]) -> bool
     ensures { result ≡ has_session role fate event.now (reverse before.now) }
 {
     is_accepted(fate)

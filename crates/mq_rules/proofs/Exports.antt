@@ -23,4 +23,4 @@ pub use Rattle.mq_rules.proofs.SessionLaws.{session-members}
 pub use Rattle.mq_rules.proofs.StepLaws.{fails-step, fate-step, moment-newest as moment-newest-of-step, moment-next, moment-stays, moment-within}
 pub use Rattle.mq_rules.proofs.SubjectLaws.{in_order-releases, in_order-turns, release-needs, resend-needs, taken-needs}
 pub use Rattle.mq_rules.proofs.TurnLaws.{turned, turned_for}
-pub use Rattle.mq_rules.proofs.HistoryLaws.{gives-is, history-left, history-next, session-gives, session-opens}
+pub use Rattle.mq_rules.proofs.HistoryLaws.{begins-is, gives-is, history-left, history-next, session-gives, session-opens}

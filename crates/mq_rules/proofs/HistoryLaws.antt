@@ -35,7 +35,7 @@ answered-is role past = turned (begun past == 0) (Some Void) (kept role past).fa
 accepts-is : (role : Role) (e : Seen) (past : List Seen) → accepts_at role (newest e past) ≡ accepts_now role (history role past) e.note
 accepts-is role e past = ap (λ o. is_none o && accepted (decides role e.note)) (answered-is role past)
 
-begins-is : (role : Role) (e : Seen) (past : List Seen) → begins_session role (newest e past) ≡ begins_now role (history role past) e.note
+pub begins-is : (role : Role) (e : Seen) (past : List Seen) → begins_session role (newest e past) ≡ begins_now role (history role past) e.note
 unfolding history
 begins-is role e past = ap (λ b. b && (begins (decides role e.note) || not (has_accepted role past))) (accepts-is role e past)
 

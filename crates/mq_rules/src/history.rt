@@ -140,8 +140,9 @@ impl History {
         self.answered().is_none() && is_accepted(note.decides(role))
     }
 
-    // Whether a session begins by this event.
-    fn begins(&self, role: Role, note: &Note) -> bool
+    /// Whether a session begins by this event: the server accepts the connection, and doesn't
+    /// resume a session, or none was accepted before (MQTT 5.0, section 4.1).
+    pub fn begins(&self, role: Role, note: &Note) -> bool
         ensures { result ≡ histories.begins_now role self.now note.now }
     {
         self.accepts(role, note) && (is_new(note.decides(role)) || !self.has_accepted)
