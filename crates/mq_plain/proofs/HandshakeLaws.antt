@@ -9,10 +9,10 @@ use Rattle.mq_rules.specs.Notes.{is_open, connect_of, connack_of}
 use Rattle.mq_rules.specs.Moments.{newest, first_found}
 use Rattle.mq_rules.specs.Connections.{connection, first_connect, first_connack}
 use Rattle.mq_rules.specs.Pasts.{peer_receive_maximum}
-use Rattle.mq_rules.specs.Identifiers.{counts, has_announced, refuses_retained}
+use Rattle.mq_rules.specs.Identifiers.{counts, announces_bound, refuses_retained}
 use Rattle.mq_plain.specs.declared.handshake.Handshake.{Handshake}
 use Rattle.mq_plain.specs.Handshakes.{handshake, receive_maximum_in, counts_after, bounds_sending, refuses_retained as refused_by}
-use Rattle.mq_rules.proofs.Exports.{or_false, connection-next}
+use Rattle.mq_rules.proofs.Exports.{connection-next}
 
 -- what is found at the earliest event of a connection, with one event more
 pub first_found-next : {A : Type 0} (found : Note → Option A) (e : Seen) (past : List Seen)
@@ -89,9 +89,9 @@ pub counts-next : (role : Role) (e : Seen) (past : List Seen) → counts role (n
 counts-next Client e past = refl
 counts-next Server e past = refl
 
-pub announced-next : (role : Role) (e : Seen) (past : List Seen) → has_announced role (newest e past) ≡ bounds_sending role (handshake role past)
-announced-next Client e past = refl
-announced-next Server e past = or_false (bounds_sending Server (handshake Server past))
+pub bound-announced : (role : Role) (past : List Seen) → bounds_sending role (handshake role past) ≡ announces_bound role (connection past)
+bound-announced Client past = refl
+bound-announced Server past = refl
 
 pub refused-next : (role : Role) (e : Seen) (past : List Seen) → refuses_retained role (newest e past) ≡ refused_by role (handshake role past)
 refused-next Client e past = refl

@@ -22,3 +22,4 @@ pub mod QuietLaws
 pub mod JudgedLaws
 pub mod WaitingLaws
 pub mod GrowthLaws
+pub mod PassedOverLaws

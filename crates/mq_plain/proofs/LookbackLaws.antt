@@ -6,7 +6,7 @@ use Rattle.mq_rules.specs.declared.note.Note.{Note}
 use Rattle.mq_rules.specs.declared.note.Note.TheVariants as notes
 use Rattle.mq_rules.specs.declared.note.Seen.{Seen}
 use Rattle.mq_rules.specs.Notes.{is_open, is_release}
-use Rattle.mq_rules.specs.Moments.{Moment, newest, note, some, since}
+use Rattle.mq_rules.specs.Moments.{Moment, newest, note, some, since, latest}
 use Rattle.mq_rules.specs.Connections.{connection, latest_fate, session, has_session, with_first, begins, accepted, voided, any_accepted}
 use Rattle.mq_plain.specs.Lookback.{answer_by}
 use Rattle.std.specs.Prelude.{reverse}
@@ -137,3 +137,50 @@ same_place xs ys =
     same_test (length (reverse xs) + 1 == length (reverse ys) + 1) (length xs == length ys)
     (λ h. let same : length (reverse xs) + 1 ≡ length (reverse ys) + 1 = eqb-true _ _ h in eq-eqb (length xs) (length ys) (omega arith))
     (λ h. let same : length xs ≡ length ys = eqb-true _ _ h in eq-eqb (length (reverse xs) + 1) (length (reverse ys) + 1) (omega arith))
+
+-- ---- the latest in a session
+
+-- one event further back
+pub latest-session : (test : Note → Bool) (role : Role) (f : Option Fate) (e : Seen) (past : List Seen)
+    → latest (λ m. test (note m)) (session role f (e ∷ past))
+    ≡ cond (has_session role f e past && test e.note) (Some (newest e past)) (cond (is_open e.note && begins f) None (latest (λ m. test (note m)) (session role (cond (is_open e.note) (latest_fate role past) f) past)))
+latest-session test role f e past = first (has_session role f e past) ∙ ap (cond (has_session role f e past && test e.note) (Some (newest e past))) (after (is_open e.note) (begins f))
+  where
+    rest : List Moment
+    rest = cond (is_open e.note) (cond (begins f) [] (session role (latest_fate role past) past)) (session role f past)
+
+    first : (b : Bool) → latest (λ m. test (note m)) (with_first b (newest e past) rest) ≡ cond (b && test e.note) (Some (newest e past)) (latest (λ m. test (note m)) rest)
+    first true = refl
+    first false = refl
+
+    after : (o n : Bool) → latest (λ m. test (note m)) (cond o (cond n [] (session role (latest_fate role past) past)) (session role f past))
+        ≡ cond (o && n) None (latest (λ m. test (note m)) (session role (cond o (latest_fate role past) f) past))
+    after true true = refl
+    after true false = refl
+    after false n = refl
+
+-- where the event doesn't pass, and the session doesn't begin there
+pub latest-on : (test : Note → Bool) (role : Role) (f g : Option Fate) (e : Seen) (past : List Seen) (passes begun : Bool)
+    → passes ≡ (has_session role f e past && test e.note) → passes ≡ false → begun ≡ (is_open e.note && begins f) → begun ≡ false → g ≡ cond (is_open e.note) (latest_fate role past) f
+    → latest (λ m. test (note m)) (session role f (e ∷ past)) ≡ latest (λ m. test (note m)) (session role g past)
+latest-on test role f g e past passes begun here none at over before =
+    latest-session test role f e past
+    ∙ ap (λ b. cond b (Some (newest e past)) (cond (is_open e.note && begins f) None (latest (λ m. test (note m)) (session role (cond (is_open e.note) (latest_fate role past) f) past)))) (sym here ∙ none)
+    ∙ ap (λ b. cond b None (latest (λ m. test (note m)) (session role (cond (is_open e.note) (latest_fate role past) f) past))) (sym at ∙ over)
+    ∙ ap (λ h. latest (λ m. test (note m)) (session role h past)) (sym before)
+
+-- where it passes
+pub latest-here : (test : Note → Bool) (role : Role) (f : Option Fate) (e : Seen) (past : List Seen) (passes : Bool) → passes ≡ (has_session role f e past && test e.note) → passes ≡ true
+    → latest (λ m. test (note m)) (session role f (e ∷ past)) ≡ Some (newest e past)
+latest-here test role f e past passes here does =
+    latest-session test role f e past
+    ∙ ap (λ b. cond b (Some (newest e past)) (cond (is_open e.note && begins f) None (latest (λ m. test (note m)) (session role (cond (is_open e.note) (latest_fate role past) f) past)))) (sym here ∙ does)
+
+-- where the session begins, and it doesn't pass
+pub latest-begun : (test : Note → Bool) (role : Role) (f : Option Fate) (e : Seen) (past : List Seen) (passes begun : Bool)
+    → passes ≡ (has_session role f e past && test e.note) → passes ≡ false → begun ≡ (is_open e.note && begins f) → begun ≡ true
+    → latest (λ m. test (note m)) (session role f (e ∷ past)) ≡ None
+latest-begun test role f e past passes begun here none at over =
+    latest-session test role f e past
+    ∙ ap (λ b. cond b (Some (newest e past)) (cond (is_open e.note && begins f) None (latest (λ m. test (note m)) (session role (cond (is_open e.note) (latest_fate role past) f) past)))) (sym here ∙ none)
+    ∙ ap (λ b. cond b None (latest (λ m. test (note m)) (session role (cond (is_open e.note) (latest_fate role past) f) past))) (sym at ∙ over)

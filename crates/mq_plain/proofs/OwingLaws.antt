@@ -13,10 +13,10 @@ use Rattle.mq_rules.specs.declared.note.Seen.{Seen}
 use Rattle.mq_rules.specs.Words.{is_id, is_some_and, only}
 use Rattle.mq_rules.specs.Notes.{is_open, is_release, opener_of, opener_in, delivery_of, delivery_in, sent_publish, sent_as, pubrel_in}
 use Rattle.mq_rules.specs.declared.packet_note.PublishNote.{PublishNote}
-use Rattle.mq_rules.specs.Moments.{Moment, newest, position, note, moments, moment, is_same, some, since, IsPlaced}
-use Rattle.mq_rules.specs.Connections.{begun, number, connection, session, has_session, begins, accepted, resumed, voided, any_accepted, latest_fate, accepts, resumes, with_first}
+use Rattle.mq_rules.specs.Moments.{Moment, newest, position, note, moments, moment, is_same, is_after, some, since, IsPlaced}
+use Rattle.mq_rules.specs.Connections.{begun, number, connection, of_connection, session, has_session, begins, accepted, resumed, voided, any_accepted, fate as fate_of, latest_fate, accepts, resumes, with_first}
 use Rattle.mq_rules.specs.declared.fate.Fate.TheVariants.{Void, Adrift, New, Forgotten, Resumed, Unasked, Unknown}
-use Rattle.mq_rules.specs.Identifiers.{opens_id, closes_id, is_used_up, has_announced, refuses_retained, is_retained, shows_S06, is_waiting}
+use Rattle.mq_rules.specs.Identifiers.{opens_id, closes_id, is_used_up, announces_bound, sends_again, passes_over, is_passed_over, refuses_retained, is_retained, is_waiting, shows_S06}
 use Rattle.mq_rules.proofs.Exports.{and_false, or_false, moment-newest, moment-older, moment-beginning, moment-placed, among-moment, those-among, some-among, among-some}
 use Rattle.mq_plain.specs.Owing.{moves, confirms, sends_under, is_owed, owes}
 use Rattle.mq_plain.specs.Shown.{IsShown}
@@ -85,6 +85,17 @@ owed-newest role lenient again whole f e past moved confirmed is_in moves_so con
         ap (λ b. b && (not (again i) && not (since (is_same (newest e past)) (λ m. confirms i (note m)) whole && lenient (newest e past)))) (marked_now moves moved i is moves_so)
         ∙ ap (λ b. (not (moved i) && is_in) && (not (again i) && not (b && lenient (newest e past)))) (marked_now confirms confirmed i is confirms_so)
         ∙ bits (moved i) (confirmed i) is_in (again i) (lenient (newest e past))
+
+-- what is excused matters only of what is owed otherwise
+pub owed-candidate : (lenient : Bool) (again moved confirmed : ℕ → Bool) (o : Option ℕ) → is_owed (is_owed false again moved confirmed o && lenient) again moved confirmed o ≡ is_owed lenient again moved confirmed o
+owed-candidate lenient again moved confirmed None = refl
+owed-candidate lenient again moved confirmed (Some i) = bits (moved i) (again i) (confirmed i)
+  where
+    bits : (m a c : Bool) → (not m && (not a && not (not c && ((not m && (not a && not (not c && false))) && lenient)))) ≡ (not m && (not a && not (not c && lenient)))
+    bits true a c = refl
+    bits false true c = refl
+    bits false false true = refl
+    bits false false false = refl
 
 -- no opener before the session is
 owed-none : (lenient : Moment → Bool) (again : ℕ → Bool) (whole : List Moment) (k : Moment) → ((i : ℕ) → since (is_same k) (λ m. moves i (note m)) whole ≡ false) → owes lenient again whole k ≡ false
@@ -214,23 +225,55 @@ same-session role f (e ∷ past) h =
     ∙ ap (λ n. newest e past ∷ cond (is_open e.note) (cond n [] (session role (latest_fate role past) past)) (session role (Some f) past)) (resumed-parts f h).1
     ∙ ap (λ ms. newest e past ∷ cond (is_open e.note) (session role (latest_fate role past) past) ms) (same-session role f past h)
 
+-- and passes over the same
+same-passed : (role : Role) (f : Fate) (i : ℕ) (log : List Seen) (k : Moment) → resumes f ≡ true → is_passed_over role (Some f) i log k ≡ is_passed_over role (Some Resumed) i log k
+same-passed role Resumed i log k h = refl
+same-passed role Unasked i log k h = some-alike (moments log)
+  where
+    over : Fate → Moment → Bool
+    over g w = is_open (note w) && (is_after w k && passes_over role (Some g) i log (number w))
+
+    under : (b : Bool) (o : Option Fate) → resumed (cond b (Some Unasked) o) ≡ resumed (cond b (Some Resumed) o)
+    under true o = refl
+    under false o = refl
+
+    some-alike : (ms : List Moment) → some (over Unasked) ms ≡ some (over Resumed) ms
+    some-alike [] = refl
+    some-alike (w ∷ ms) =
+        ap (λ r. (is_open (note w) && (is_after w k && (r && (announces_bound role (of_connection (number w) log) && not (some (sends_again i) (of_connection (number w) log)))))) || some (over Unasked) ms) (under (number w == begun log) (fate_of role (number w) log))
+        ∙ ap (λ b. over Resumed w || b) (some-alike ms)
+same-passed role Void i log k h = absurd (cc)
+same-passed role Adrift i log k h = absurd (cc)
+same-passed role New i log k h = absurd (cc)
+same-passed role Forgotten i log k h = absurd (cc)
+same-passed role Unknown i log k h = absurd (cc)
+
 shows-owes : (role : Role) (d : Seen) (past : List Seen) (again : ℕ → Bool) (lenient : Moment → Bool) (k : ℕ) (m : Moment) (f : Fate) → moment past k ≡ Some m → latest_fate role past ≡ Some f → resumes f ≡ true → is_waiting (newest d past) ≡ false
-    → ((i : ℕ) → again i ≡ some (λ n. sends_under i (note n)) (connection past)) → lenient m ≡ ((is_used_up role (newest d past) || has_announced role (newest d past)) || (refuses_retained role (newest d past) && is_retained m))
+    → ((i : ℕ) → again i ≡ some (λ n. sends_under i (note n)) (connection past)) → ((i : ℕ) → opener_of (note m) ≡ Some i → lenient m ≡ ((is_used_up role (newest d past) || is_passed_over role (Some Resumed) i past m) || (refuses_retained role (newest d past) && is_retained m)))
     → shows_S06 role (newest d past) m ≡ owes lenient again (session role (Some Resumed) past) m
 unfolding shows_S06
 shows-owes role d past again lenient k m f at fate resumes_f still sent allowed =
-    ap (λ f. resumed f && (not (is_waiting (newest d past)) && is_some_and (λ i. since (is_same m) (λ n. opens_id i n || closes_id i n) (session role f past)
-    && (not (some (is_same m) (connection past)) && (not (some (λ n. sends_under i (note n)) (connection past))
-    && not (since (is_same m) (λ n. confirms i (note n)) (session role f past) && ((is_used_up role (newest d past) || has_announced role (newest d past)) || (refuses_retained role (newest d past) && is_retained m)))))) (opener_of (note m)))) fate
-    ∙ ap (λ b. b && (not (is_waiting (newest d past)) && asked (session role (Some f) past))) resumes_f
-    ∙ ap (λ w. not w && asked (session role (Some f) past)) still
-    ∙ ap asked (same-session role f past resumes_f)
+    ap (λ g. resumed g && (not (is_waiting (newest d past)) && is_some_and (asked g (session role g past)) (opener_of (note m)))) fate
+    ∙ ap (λ b. b && (not (is_waiting (newest d past)) && is_some_and (asked (Some f) (session role (Some f) past)) (opener_of (note m)))) resumes_f
+    ∙ ap (λ w. not w && is_some_and (asked (Some f) (session role (Some f) past)) (opener_of (note m))) still
+    ∙ ap (λ ms. is_some_and (asked (Some f) ms) (opener_of (note m))) (same-session role f past resumes_f)
+    ∙ same-asked (opener_of (note m))
     ∙ go (opener_of (note m)) refl
   where
-    asked : List Moment → Bool
-    asked ms = is_some_and (λ i. since (is_same m) (λ n. opens_id i n || closes_id i n) ms
+    whole : List Moment
+    whole = session role (Some Resumed) past
+
+    asked_if : (ℕ → Bool) → List Moment → ℕ → Bool
+    asked_if passed ms i = since (is_same m) (λ n. opens_id i n || closes_id i n) ms
         && (not (some (is_same m) (connection past)) && (not (some (λ n. sends_under i (note n)) (connection past))
-        && not (since (is_same m) (λ n. confirms i (note n)) ms && ((is_used_up role (newest d past) || has_announced role (newest d past)) || (refuses_retained role (newest d past) && is_retained m)))))) (opener_of (note m))
+        && not (since (is_same m) (λ n. confirms i (note n)) ms && ((is_used_up role (newest d past) || passed i) || (refuses_retained role (newest d past) && is_retained m)))))
+
+    asked : Option Fate → List Moment → ℕ → Bool
+    asked g ms i = asked_if (λ j. is_passed_over role g j past m) ms i
+
+    same-asked : (o : Option ℕ) → is_some_and (asked (Some f) whole) o ≡ is_some_and (asked (Some Resumed) whole) o
+    same-asked None = refl
+    same-asked (Some i) = ap (λ p. asked_if (λ j. p) whole i) (same-passed role f i past m resumes_f)
 
     bits : (a h g x : Bool) → (h ≡ true → g ≡ true) → (a && (not h && (not g && x))) ≡ (a && (not g && x))
     bits a true true x so = refl
@@ -240,24 +283,24 @@ shows-owes role d past again lenient k m f at fate resumes_f still sent allowed 
     go : (o : Option ℕ) → opener_of (note m) ≡ o
         → is_some_and (λ i. since (is_same m) (λ n. moves i (note n)) (session role (Some Resumed) past)
         && (not (some (is_same m) (connection past)) && (not (some (λ n. sends_under i (note n)) (connection past))
-        && not (since (is_same m) (λ n. confirms i (note n)) (session role (Some Resumed) past) && ((is_used_up role (newest d past) || has_announced role (newest d past)) || (refuses_retained role (newest d past) && is_retained m)))))) o
+        && not (since (is_same m) (λ n. confirms i (note n)) (session role (Some Resumed) past) && ((is_used_up role (newest d past) || is_passed_over role (Some Resumed) i past m) || (refuses_retained role (newest d past) && is_retained m)))))) o
         ≡ is_some_and (λ i. since (is_same m) (λ n. moves i (note n)) (session role (Some Resumed) past)
         && (not (again i) && not (since (is_same m) (λ n. confirms i (note n)) (session role (Some Resumed) past) && lenient m))) o
     go None is = refl
     go (Some i) is =
         bits (since (is_same m) (λ n. moves i (note n)) (session role (Some Resumed) past)) (some (is_same m) (connection past)) (some (λ n. sends_under i (note n)) (connection past))
-        (not (since (is_same m) (λ n. confirms i (note n)) (session role (Some Resumed) past) && ((is_used_up role (newest d past) || has_announced role (newest d past)) || (refuses_retained role (newest d past) && is_retained m)))) (here-again past k i m at is)
+        (not (since (is_same m) (λ n. confirms i (note n)) (session role (Some Resumed) past) && ((is_used_up role (newest d past) || is_passed_over role (Some Resumed) i past m) || (refuses_retained role (newest d past) && is_retained m)))) (here-again past k i m at is)
         ∙ ap (λ g. since (is_same m) (λ n. moves i (note n)) (session role (Some Resumed) past)
-        && (not g && not (since (is_same m) (λ n. confirms i (note n)) (session role (Some Resumed) past) && ((is_used_up role (newest d past) || has_announced role (newest d past)) || (refuses_retained role (newest d past) && is_retained m))))) (sym (sent i))
+        && (not g && not (since (is_same m) (λ n. confirms i (note n)) (session role (Some Resumed) past) && ((is_used_up role (newest d past) || is_passed_over role (Some Resumed) i past m) || (refuses_retained role (newest d past) && is_retained m))))) (sym (sent i))
         ∙ ap (λ l. since (is_same m) (λ n. moves i (note n)) (session role (Some Resumed) past)
-        && (not (again i) && not (since (is_same m) (λ n. confirms i (note n)) (session role (Some Resumed) past) && l))) (sym allowed)
+        && (not (again i) && not (since (is_same m) (λ n. confirms i (note n)) (session role (Some Resumed) past) && l))) (sym (allowed i is))
 
 pub resumed-is : (o : Option Fate) → resumed o ≡ true → (f : Fate) × (o ≡ Some f) × (resumes f ≡ true)
 resumed-is None h = absurd (cc)
 resumed-is (Some f) h = (f, refl, h)
 
 pub shown-owed : (role : Role) (d : Seen) (past : List Seen) (again : ℕ → Bool) (lenient : Moment → Bool) (places : List Place3) (f : Fate) → latest_fate role past ≡ Some f → resumes f ≡ true → is_waiting (newest d past) ≡ false
-    → ((i : ℕ) → again i ≡ some (λ n. sends_under i (note n)) (connection past)) → ((m : Moment) → lenient m ≡ ((is_used_up role (newest d past) || has_announced role (newest d past)) || (refuses_retained role (newest d past) && is_retained m)))
+    → ((i : ℕ) → again i ≡ some (λ n. sends_under i (note n)) (connection past)) → ((m : Moment) (i : ℕ) → opener_of (note m) ≡ Some i → lenient m ≡ ((is_used_up role (newest d past) || is_passed_over role (Some Resumed) i past m) || (refuses_retained role (newest d past) && is_retained m)))
     → IsShown (owes lenient again (session role (Some Resumed) past)) past places → IsShown (shows_S06 role (newest d past)) past places
 shown-owed role d past again lenient places f fate resumes_f still sent allowed shown = record { each = λ k. shown.each k ∙ go k (moment past k) refl; own = shown.own }
   where

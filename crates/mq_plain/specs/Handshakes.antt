@@ -24,8 +24,8 @@ counts_after Server h = true
 
 -- the peer announced a Maximum Packet Size or a Maximum QoS, whatever its value
 abbrev pub bounds_sending : Role → Handshake → Bool
-bounds_sending Client h = is_some (option_and_then (λ a. a.maximum_packet_size) h.connack) || is_some (option_and_then (λ a. a.maximum_qos) h.connack)
-bounds_sending Server h = is_some (option_and_then (λ c. c.maximum_packet_size) h.connect)
+bounds_sending Client h = is_some_and (λ a. is_some a.maximum_packet_size || is_some a.maximum_qos) h.connack
+bounds_sending Server h = is_some_and (λ c. is_some c.maximum_packet_size) h.connect
 
 -- the peer announced that it takes no PUBLISH with RETAIN 1 (MQTT 5.0, section 3.2.2.3.5)
 abbrev pub refuses_retained : Role → Handshake → Bool

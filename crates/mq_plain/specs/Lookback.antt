@@ -1,14 +1,14 @@
 -- What one event decides when looking back over events.
-use Rattle.std.specs.Prelude.{ℕ, Bool, true, false, ◌||◌, not, cond, List, Option, Some, None, is_some}
+use Rattle.std.specs.Prelude.{ℕ, Bool, true, false, ◌&&◌, ◌||◌, not, cond, List, Option, Some, None, is_some}
 use Rattle.mq_rules.specs.declared.role.Role.{Role}
 use Rattle.mq_rules.specs.declared.fate.Fate.{Fate}
 use Rattle.mq_rules.specs.declared.note.Note.{Note}
 use Rattle.mq_rules.specs.declared.note.Seen.{Seen}
 use Rattle.mq_rules.specs.Words.{is_id, is_some_and}
 use Rattle.mq_rules.specs.Notes.{is_broken, sent_item, received_item, sent_fields, received_fields, disconnect_in, sent_as, received_as, subscribe_in, suback_in, unsubscribe_in, unsuback_in, received_publish, unmatched_pubrec_in}
-use Rattle.mq_rules.specs.Moments.{Moment, note, is_same, since, earliest_since}
+use Rattle.mq_rules.specs.Moments.{Moment, note, is_same, since, latest, earliest_since}
 use Rattle.mq_rules.specs.Connections.{connection, session}
-use Rattle.mq_rules.specs.Identifiers.{opens_id, closes_id}
+use Rattle.mq_rules.specs.Identifiers.{opens_id, closes_id, confirms_id, is_passed_over}
 use Rattle.mq_rules.specs.Exchanges.{subscribe_suback, unsubscribe_unsuback, causes, answers}
 use Rattle.mq_rules.specs.Releases.{brings, releases_message, ends}
 
@@ -29,8 +29,13 @@ awaits_suback_after i past = since (λ m. is_id i (sent_as subscribe_in (note m)
 abbrev pub awaits_unsuback_after : ℕ → List Seen → Bool
 awaits_unsuback_after i past = since (λ m. is_id i (sent_as unsubscribe_in (note m))) (λ m. is_id i (received_as unsuback_in (note m))) (connection past)
 
+-- its latest opener was passed over, and no PUBREC below 0x80 came since
+abbrev pub may_be_discarded_after : Role → Fate → ℕ → List Seen → Bool
+may_be_discarded_after role f i past =
+    is_some_and (is_passed_over role (Some f) i past) (latest (opens_id i) (session role (Some f) past)) && not (since (confirms_id i) (opens_id i) (session role (Some f) past))
+
 abbrev pub is_busy_after : Role → Fate → ℕ → List Seen → Bool
-is_busy_after role f i past = is_open_after role f i past || (awaits_suback_after i past || awaits_unsuback_after i past)
+is_busy_after role f i past = (is_open_after role f i past && not (may_be_discarded_after role f i past)) || (awaits_suback_after i past || awaits_unsuback_after i past)
 
 -- ---- REST
 

@@ -1,12 +1,13 @@
 //! Packet Identifiers in use (MQTT 5.0, section 2.2.1).
-ghost use Rattle.std.specs.Prelude.{◌≡◌, reverse};
+ghost use Rattle.std.specs.Prelude.{◌≡◌, ◌&&◌, not, reverse};
 ghost use Rattle.mq_rules.specs.Moments.{newest};
 ghost use Rattle.mq_rules.specs.Identifiers.{breaks_S01};
-ghost use Rattle.mq_plain.specs.Lookback.{is_open_after, awaits_suback_after, awaits_unsuback_after, is_busy_after};
+ghost use Rattle.mq_plain.specs.Lookback.{is_open_after, may_be_discarded_after, awaits_suback_after, awaits_unsuback_after, is_busy_after};
 
 use crate::connection::since_on_connection;
 use crate::judging::SessionStatement;
 use crate::lookback::NoteTest;
+use crate::passing::may_be_discarded;
 use crate::session::{accepts, couldnt_know_resumed, since_in_session, unless_unknown};
 use mq_rules::{Fate, Memory, Note, Role, Rule, Seen};
 use std::alloc::Global;
@@ -138,12 +139,19 @@ fn is_unsubscribing(identifier: u16, before: &[Seen]) -> bool
     )
 }
 
+// Whether an identifier is open, and what is open can't have been discarded.
+fn is_held(role: Role, fate: Fate, identifier: u16, before: &[Seen]) -> bool
+    ensures { result ≡ (is_open_after role fate identifier (reverse before.now) && not (may_be_discarded_after role fate identifier (reverse before.now))) }
+{
+    is_open_id(role, fate, identifier, before) && !may_be_discarded(role, fate, identifier, before)
+}
+
 // Whether an identifier is busy after these events, if the latest connection has this fate: it is
-// open, or a SUBSCRIBE or UNSUBSCRIBE under it waits for its answer.
+// open and can't have been discarded, or a SUBSCRIBE or UNSUBSCRIBE under it waits for its answer.
 fn is_busy_id(role: Role, fate: Fate, identifier: u16, before: &[Seen]) -> bool
     ensures { result ≡ is_busy_after role fate identifier (reverse before.now) }
 {
-    if is_open_id(role, fate, identifier, before) {
+    if is_held(role, fate, identifier, before) {
         return true;
     }
     if is_subscribing(identifier, before) {

@@ -16,6 +16,7 @@ mod judging;
 mod lookback;
 mod owing;
 mod pass;
+mod passing;
 mod plain;
 mod quota;
 mod releases;

@@ -1,13 +1,13 @@
 //! What a resumed session owes (MQTT 5.0, section 4.4).
-ghost use Rattle.std.specs.Prelude.{ℕ, ◌≡◌, ◌&&◌, ◌||◌, Some, IfOk, cond, ◌++◌, ◌∷◌, [], reverse};
+ghost use Rattle.std.specs.Prelude.{ℕ, ◌≡◌, ◌&&◌, ◌||◌, Some, IfOk, cond, ◌++◌, ◌∷◌, [], length, reverse};
 ghost use Rattle.mq_rules.specs.declared.fate.Fate.TheVariants.{Resumed};
 ghost use Rattle.mq_rules.specs.declared.note.Seen.{Seen as TheSeen};
 ghost use Rattle.mq_rules.specs.Words.{is_id, is_some_and, only};
 ghost use Rattle.mq_rules.specs.Notes.{sent_publish, closer_of};
-ghost use Rattle.mq_rules.specs.Moments.{newest, note, since, some, IsPlaced};
+ghost use Rattle.mq_rules.specs.Moments.{Moment, newest, note, since, some, IsPlaced};
 ghost use Rattle.mq_rules.specs.Connections.{connection, session, resumed};
-ghost use Rattle.mq_rules.specs.Identifiers.{shows_S06, is_used_up as uses_up, has_announced, refuses_retained as takes_none, sent_under as under, is_waiting as waits};
-ghost use Rattle.mq_plain.specs.Owing.{covers, moves, confirms, sends_under, is_owed as owed_so, owes};
+ghost use Rattle.mq_rules.specs.Identifiers.{shows_S06, refuses_retained as takes_none, sent_under as under, is_waiting as waits};
+ghost use Rattle.mq_plain.specs.Owing.{covers, opener_over, moves, confirms, sends_under, is_owed as owed_so, owes};
 ghost use Rattle.mq_plain.specs.Shown.{IsShown};
 ghost use Rattle.mq_plain.specs.Tables.{at};
 
@@ -15,6 +15,7 @@ use crate::connection::{latest_fate_of, since_on_connection, some_on_connection}
 use crate::handshake::handshake_of;
 use crate::identifiers::Closes;
 use crate::lookback::NoteTest;
+use crate::passing::is_passed_over;
 use crate::quota::is_used_up;
 use crate::resting::RestStatement;
 use crate::session::{begins_at, fate_before, is_accepted};
@@ -35,8 +36,7 @@ fn mark(marked: &mut Table<bool>, identifier: Option<u16>)
 /// What needn't be sent again, unless a PUBREC below 0x80 came for it.
 #[derive(Clone, Copy)]
 pub struct Excuse {
-    /// All of it: the send quota is used up, or the peer announced a Maximum Packet Size or a
-    /// Maximum QoS.
+    /// All of it: the send quota is used up.
     pub all: bool,
     /// What was sent with RETAIN 1: the peer takes nothing that is retained.
     pub retained: bool,
@@ -52,12 +52,48 @@ fn is_retained(note: &Note) -> bool
     }
 }
 
+// Whether an opener was passed over before these events end, if the latest connection resumed its
+// session; so many events come before it.
+fn is_opener_passed_over(role: Role, note: &Note, opener: usize, before: &[Seen]) -> bool
+    ensures { (k : Moment) → k.event.note ≡ note.now → length k.past ≡ opener → result ≡ opener_over role (reverse before.now) k }
+{
+    match note.opener() {
+        Some(identifier) => is_passed_over(role, Fate::Resumed, identifier, opener, before),
+        None => false,
+    }
+}
+
 impl Excuse {
-    // Whether it excuses this opener.
-    fn covers(self, note: &Note) -> bool
-        ensures { result ≡ (self.all || (self.retained && is_some_and (λ p. p.retain) (sent_publish note.now))) }
+    // Whether it excuses this opener, before which so many events come.
+    fn covers(self, role: Role, note: &Note, opener: usize, before: &[Seen]) -> bool
+        ensures { (k : Moment) → k.event.note ≡ note.now → length k.past ≡ opener → result ≡ covers role self (reverse before.now) k }
     {
-        self.all || (self.retained && is_retained(note))
+        let passed = is_opener_passed_over(role, note, opener, before);
+        self.excuses(passed, is_retained(note))
+    }
+
+    // Whether it excuses what was passed over or not, and retained or not.
+    fn excuses(self, passed: bool, retained: bool) -> bool
+        ensures { result ≡ ((self.all || passed) || (self.retained && retained)) }
+    {
+        (self.all || passed) || (self.retained && retained)
+    }
+
+    // The same of an opener that is owed if it isn't excused.
+    fn covers_owed(
+        self,
+        is_candidate: bool,
+        role: Role,
+        note: &Note,
+        opener: usize,
+        before: &[Seen],
+    ) -> bool
+        ensures { (k : Moment) → k.event.note ≡ note.now → length k.past ≡ opener → result ≡ (is_candidate && covers role self (reverse before.now) k) }
+    {
+        if !is_candidate {
+            return false;
+        }
+        self.covers(role, note, opener, before)
     }
 }
 
@@ -207,7 +243,7 @@ fn owed_in_session(
     again: &Table<bool>,
     before: &[Seen],
 ) -> Result<Vec<Place3>, Memory>
-    ensures { IsPlaced (reverse before.now) → IfOk result (λ places. IsShown (owes (covers excuse) (at again.now) (session role (Some Resumed) (reverse before.now))) (reverse before.now) places.items) }
+    ensures { IsPlaced (reverse before.now) → IfOk result (λ places. IsShown (owes (covers role excuse (reverse before.now)) (at again.now) (session role (Some Resumed) (reverse before.now))) (reverse before.now) places.items) }
 {
     let mut moved = Table::new(alloc, false)?;
     let mut confirmed = Table::new(alloc, false)?;
@@ -217,13 +253,9 @@ fn owed_in_session(
     while let Some((event, rest)) = earlier.split_last() {
         let is_in = is_accepted(fate);
         let opener = only_if(is_in, event.note.opener());
-        let is_due = is_owed(
-            excuse.covers(&event.note),
-            again,
-            &moved,
-            &confirmed,
-            opener,
-        );
+        let is_candidate = is_owed(false, again, &moved, &confirmed, opener);
+        let is_excused = excuse.covers_owed(is_candidate, role, &event.note, rest.len(), before);
+        let is_due = is_owed(is_excused, again, &moved, &confirmed, opener);
         push_if(&mut places, event.place, is_due)?;
         if begins_at(fate, &event.note) {
             return Ok(places);
@@ -234,17 +266,6 @@ fn owed_in_session(
         earlier = rest;
     }
     Ok(places)
-}
-
-// Whether what wasn't confirmed needn't all be sent again: the send quota is used up, or the peer
-// announced a Maximum Packet Size or a Maximum QoS.
-fn is_excused(role: Role, before: &[Seen]) -> bool
-    ensures { (rest : TheSeen) → result ≡ (uses_up role (newest rest (reverse before.now)) || has_announced role (newest rest (reverse before.now))) }
-{
-    if is_used_up(role, before) {
-        return true;
-    }
-    handshake_of(role, before).bounds_sending(role)
 }
 
 // Whether the peer announced that it takes no PUBLISH with RETAIN 1.
@@ -278,7 +299,7 @@ fn owed_at_rest(alloc: Global, role: Role, before: &[Seen]) -> Result<Vec<Place3
     }
     let again = sent_again(alloc, before)?;
     let excuse = Excuse {
-        all: is_excused(role, before),
+        all: is_used_up(role, before),
         retained: refuses_retained(role, before),
     };
     owed_in_session(alloc, role, excuse, &again, before)

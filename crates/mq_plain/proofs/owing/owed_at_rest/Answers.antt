@@ -4,7 +4,8 @@ use Rattle.std.proofs.lemmas.Result.{IfOk-weaker}
 use Rattle.mq_rules.specs.declared.fate.Fate.TheVariants.{Resumed}
 use Rattle.mq_rules.specs.Moments.{newest}
 use Rattle.mq_rules.specs.Connections.{latest_fate, session, resumed}
-use Rattle.mq_rules.specs.Identifiers.{is_used_up, has_announced, is_retained, shows_S06}
+use Rattle.mq_rules.specs.Identifiers.{is_used_up, is_passed_over, is_retained, shows_S06}
+use Rattle.mq_rules.specs.Words.{is_some_and}
 use Rattle.mq_plain.specs.Owing.{covers, owes}
 use Rattle.mq_plain.specs.Shown.{IsShown}
 use Rattle.mq_plain.specs.declared.owing.Excuse.{Excuse}
@@ -33,10 +34,12 @@ returns c = λ rest placed.
     let is : c.is_resumed.result ≡ true = search rules in
     let f = resumed-is c.latest_fate_of.result (sym c.is_resumed.ensures ∙ is) in
     let fate : latest_fate c.args.role past ≡ Some f.0 = sym c.latest_fate_of.ensures ∙ f.1 in
-    let excuse : Excuse = record { all = c.is_excused.result; retained = c.refuses_retained.result } in
-    IfOk-weaker c.owed_in_session.result (λ places. IsShown (owes (covers excuse) (at c.in_ok-again.again) (session c.args.role (Some Resumed) past)) past places.items)
+    let excuse : Excuse = record { all = c.is_used_up.result; retained = c.refuses_retained.result } in
+    IfOk-weaker c.owed_in_session.result (λ places. IsShown (owes (covers c.args.role excuse past) (at c.in_ok-again.again) (session c.args.role (Some Resumed) past)) past places.items)
     (λ places. IsShown (shows_S06 c.args.role (newest rest past)) past places.items)
-    (λ places shown. shown-owed c.args.role rest past (at c.in_ok-again.again) (covers excuse) places.items f.0 fate f.2 still c.in_ok-again.ensures
-    (λ m. ap (λ b. b || (c.refuses_retained.result && is_retained m)) (c.is_excused.ensures rest)
-    ∙ ap (λ b. (is_used_up c.args.role (newest rest past) || has_announced c.args.role (newest rest past)) || (b && is_retained m)) (c.refuses_retained.ensures rest)) shown)
+    (λ places shown. shown-owed c.args.role rest past (at c.in_ok-again.again) (covers c.args.role excuse past) places.items f.0 fate f.2 still c.in_ok-again.ensures
+    (λ m i opens.
+    ap (λ o. (c.is_used_up.result || is_some_and (λ j. is_passed_over c.args.role (Some Resumed) j past m) o) || (c.refuses_retained.result && is_retained m)) opens
+    ∙ ap (λ b. (b || is_passed_over c.args.role (Some Resumed) i past m) || (c.refuses_retained.result && is_retained m)) (c.is_used_up.ensures rest)
+    ∙ ap (λ b. (is_used_up c.args.role (newest rest past) || is_passed_over c.args.role (Some Resumed) i past m) || (b && is_retained m)) (c.refuses_retained.ensures rest)) shown)
     (c.owed_in_session.ensures placed)
