@@ -21,6 +21,7 @@ use Rattle.mq_rules.specs.Growing.{Gains}
 use Rattle.mq_books.specs.Pingings.{ends_by}
 use Rattle.mq_books.specs.Quotas.{announced, peer_room, may_count, flown}
 use Rattle.mq_books.specs.Opened.{entry_next}
+use Rattle.mq_books.specs.Earlier.{GoesOn}
 use Rattle.mq_books.specs.Resending.{by_itself, bounds_next, excuses, settles, told, IsResent}
 use Rattle.mq_books.specs.Using.{in_delivery, delivering, stray_next, ArePublished, waits_next, void_next, resent_next, breaks, judged_all, is_at_once, is_inflight, IsUsing, unanswered_next}
 use Rattle.mq_books.specs.Knowing.{all_excused}
@@ -28,6 +29,7 @@ use Rattle.mq_books.proofs.DueLaws.{opened-within}
 use Rattle.mq_books.proofs.StrayLaws.{delivering-next, listed-connected, published-next}
 use Rattle.mq_books.proofs.QuotaLaws.{peer-next, flown-next, flying-most}
 use Rattle.mq_books.proofs.VoidLaws.{void_sent-next}
+use Rattle.mq_books.proofs.EarlierLaws.{earlier-next}
 use Rattle.mq_books.proofs.OpenedLaws.{entry-under}
 use Rattle.mq_books.proofs.UsingLaws.{unanswered-under, waiting, delivering-waits, sent-none, resent-next, using-gains}
 use Rattle.mq_books.proofs.ResendsLaws.{bounds-next, resends-gains}
@@ -46,12 +48,13 @@ pub inflight-next : (tested : Tested) (s t : Inflight) (f : Fate) (at : ℕ) (e 
     → ((i : ℕ) → contains nat_eq t.stray i ≡ stray_next f e.note (get nat_eq t.entries) i (contains nat_eq s.stray i))
     → ((i : ℕ) → contains nat_eq t.unanswered i ≡ unanswered_next f e.note i (contains nat_eq s.unanswered i))
     → ((i : ℕ) → contains nat_eq t.void i ≡ void_next f e.note i (contains nat_eq s.void i))
+    → GoesOn s.earlier t.earlier s.role s.fate f (at == e.place.position) e.note
     → ((i : ℕ) → contains nat_eq t.subscribing i ≡ waits_next (sent_as subscribe_in e.note) (received_as suback_in e.note) (is_boundary e.note) i (contains nat_eq s.subscribing i))
     → ((i : ℕ) → contains nat_eq t.unsubscribing i ≡ waits_next (sent_as unsubscribe_in e.note) (received_as unsuback_in e.note) (is_boundary e.note) i (contains nat_eq s.unsubscribing i))
     → t.resent ≡ resent_next e.note (get nat_eq s.entries) s.resent → t.ended ≡ (ends_by e.note || (not (is_open e.note) && s.ended)) → t.opened ≡ cond (is_open e.note) e.place.position s.opened
     → t.peer ≡ option_or (cond (is_open e.note) None s.peer) (announced s.role e.note) → (s.in_flight < e.place.position → t.in_flight ≡ flown (may_count s.role s.peer) e.note s.in_flight)
     → t.bounds ≡ bounds_next s.role e.note s.bounds → IsResent t.opened (by_itself t.bounds) (get nat_eq t.entries) (contains nat_eq t.confirmed) t.again → IsUsing t tested (Some f) (e ∷ past)
-inflight-next tested s t f at e past under u role fate ordered distinct entries stray unanswered void subscribing unsubscribing resent ended opened peer flying bounds again = record {
+inflight-next tested s t f at e past under u role fate ordered distinct entries stray unanswered void earlier subscribing unsubscribing resent ended opened peer flying bounds again = record {
   same_role = role ∙ u.same_role;
   same_fate = ap Some (sym fate);
   is_ordered = ordered ∙ u.is_ordered;
@@ -63,6 +66,7 @@ inflight-next tested s t f at e past under u role fate ordered distinct entries 
       (subst (λ o. ArePublished f o (get nat_eq t.entries) (e ∷ past)) (sym opened) (published-next f s.fate e s.opened (get nat_eq s.entries) (get nat_eq t.entries) past under.follows.placed.0 u.published_are same entries));
   unanswered_are = λ i. unanswered i ∙ unanswered-under f s.fate t.fate i e past (contains nat_eq s.unanswered i) on fate same (u.unanswered_are i);
   void_are = λ i. void i ∙ ap (void_next f e.note i) (u.void_are i) ∙ sym (void_sent-next tested i f e past);
+  earlier_is = earlier-next tested s.earlier t.earlier s.fate f at e past under u.same_fate u.earlier_is (subst (λ r. GoesOn s.earlier t.earlier r s.fate f (at == e.place.position) e.note) u.same_role earlier);
   subscribing_are = waiting (sent_as subscribe_in) (received_as suback_in) (contains nat_eq s.subscribing) (contains nat_eq t.subscribing) e past (sent-none subscribe_in e.note) on u.subscribing_are subscribing;
   unsubscribing_are = waiting (sent_as unsubscribe_in) (received_as unsuback_in) (contains nat_eq s.unsubscribing) (contains nat_eq t.unsubscribing) e past (sent-none unsubscribe_in e.note) on u.unsubscribing_are unsubscribing;
   resent_is = resent ∙ resent-next tested s f e past u;

@@ -16,6 +16,7 @@ pub mod ReleaseLaws
 pub mod ReceivingLaws
 pub mod WaitLaws
 pub mod VoidLaws
+pub mod EarlierLaws
 pub mod AskedLaws
 pub mod QueueLaws
 pub mod OrderLaws

@@ -2,6 +2,7 @@
 use Rattle.std.proofs.Common.{◌≡◌, ℕ, ◌+◌, ◌-◌, ◌<◌, ◌≤◌, ◌==◌, nat_eq, nat_lt, arith, Bool, true, false, cond, ◌&&◌, ◌||◌, not, List, ◌∷◌, length, Option, Some, None, Bor, refl, ap, sym, subst, ◌∙◌}
 use Rattle.std.specs.Prelude.{is_some}
 use Rattle.std.specs.Option.{option_or}
+use Rattle.std.proofs.lemmas.Bool.{eq-eqb}
 use Rattle.indexmap.specs.IndexMap.{get}
 use Rattle.indexmap.specs.IndexSet.{contains, index_set_len}
 use Rattle.mq_trace.specs.declared.place.Place3.{Place3}
@@ -38,6 +39,8 @@ use Rattle.mq_books.specs.Pingings.{ends_by}
 use Rattle.mq_books.specs.Quotas.{announced, may_count, flown, judged_by}
 use Rattle.mq_books.specs.Resending.{by_itself, bounds_by, confirmed_next, confirms_untouched, excuses, settles, IsResent}
 use Rattle.mq_books.specs.Using.{delivering, stray_next, void_next, resent_next, breaks, unopened, past_pubrel, out_of_order, is_inflight, IsUsing, unanswered_next}
+use Rattle.mq_books.specs.Earlier.{may_resend, GoesOn}
+use Rattle.mq_books.proofs.EarlierLaws.{earlier-stays, inside-uncut}
 use Rattle.mq_books.proofs.KnowingLaws.{all_excused-late}
 use Rattle.mq_books.proofs.VoidLaws.{accepted-unvoided}
 use Rattle.mq_books.proofs.AgainLaws.{again-next}
@@ -102,14 +105,16 @@ resent-moves n opened at single entry new confirmed r opener x closer pubrel pub
 
 -- ---- what is kept
 
-pub moved-next : (tested : Tested) (s t : Inflight) (f : Fate) (at : ℕ) (e : Seen) (past : List Seen) (opener : Option ℕ) (x : Bool) (closer pubrel pubrec : Option ℕ) → IsUnder tested f at e past → IsUsing s tested (fate_before tested f e past) past
+pub moved-next : (tested : Tested) (s t : Inflight) (f : Fate) (at : ℕ) (e : Seen) (past : List Seen) (opener : Option ℕ) (x : Bool) (closer pubrel pubrec : Option ℕ) → IsUnder tested f at e past → at ≡ e.place.position → IsUsing s tested (fate_before tested f e past) past
     → Moves e.note opener x closer pubrel pubrec → accepts f ≡ true → f ≡ s.fate → IsMoved e.place opener x closer pubrel pubrec s t → IsUsing t tested (Some f) (e ∷ past)
-moved-next tested s t f at e past opener x closer pubrel pubrec under u m accepted same w =
+moved-next tested s t f at e past opener x closer pubrel pubrec under now u m accepted same w =
     inflight-next tested s t f at e past under u w.others.role (w.others.fate ∙ sym same) w.others.ordered (w.distinct u.distinct) entries
     (λ i. w.stray i ∙ sym (stray-moves i))
     (λ i. w.unanswered i ∙ ap (λ g. cond (resumes g) (is_id i (option_or opener pubrel) || (not (is_id i closer) && contains nat_eq s.unanswered i)) (contains nat_eq s.unanswered i)) (sym same) ∙ sym (unanswered-moves i))
     (λ i. ap (λ v. contains nat_eq v i) w.others.void
     ∙ sym (ap (λ b. (is_id i (delivery_of n) && b) || contains nat_eq s.void i) (accepted-unvoided f accepted) ∙ ap (λ b. b || contains nat_eq s.void i) (and_false (is_id i (delivery_of n)))))
+    (subst (λ r. GoesOn s.earlier r s.role s.fate f (at == e.place.position) n) (sym w.others.earlier)
+    (earlier-stays s.earlier s.role s.fate f (at == e.place.position) n m.closed (inside-uncut n m.inside) (λ i. ap (λ b. not b && is_id i (delivery_of n)) (eq-eqb at e.place.position now))))
     (λ i. ap (λ v. contains nat_eq v i) w.others.subscribing ∙ sym (wait-stays (sent_as subscribe_in n) (received_as suback_in n) (is_boundary n) i (contains nat_eq s.subscribing i) m.subscribe m.suback m.inside))
     (λ i. ap (λ v. contains nat_eq v i) w.others.unsubscribing ∙ sym (wait-stays (sent_as unsubscribe_in n) (received_as unsuback_in n) (is_boundary n) i (contains nat_eq s.unsubscribing i) m.unsubscribe m.unsuback m.inside))
     (w.others.resent ∙ sym (resent-stays n (get nat_eq s.entries) s.resent m.closed m.resends))
@@ -176,7 +181,7 @@ breaks-moves s f n opener x closer pubrel pubrec m accepted =
   where
     broken : Bool → Option ℕ → Option ℕ → Broken
     broken a t o =
-        broken_by (a && is_some_and (busy s) t) (a && is_some_and (unopened (get nat_eq s.entries) (contains nat_eq s.void)) o) (a && is_some_and (delivering s) o)
+        broken_by (a && is_some_and (busy s) t) (a && is_some_and (unopened (get nat_eq s.entries) (contains nat_eq s.void) (may_resend s.earlier f)) o) (a && is_some_and (delivering s) o)
         (a && is_some_and (past_pubrel (get nat_eq s.entries)) o) (s.ordered && (a && is_some_and (out_of_order (get nat_eq s.entries) s.resent) o))
 
 pub moved-gains : (tested : Tested) (s : Inflight) (f : Fate) (at : ℕ) (e : Seen) (past : List Seen) (m : FaultMap) (opener : Option ℕ) (x : Bool) (closer pubrel pubrec : Option ℕ) → IsUnder tested f at e past
@@ -196,7 +201,7 @@ moved-step tested s t taken e past m new opener x closer pubrel pubrec follows k
     let k = knows tested s.fate taken e past follows known u.same_fate in
     let v = subst (λ o. IsUsing s tested o past) k.before u in
     record {
-      agrees = subst (λ o. IsUsing t tested o (e ∷ past)) k.after (moved-next tested s t s.fate e.place.position e past opener x closer pubrel pubrec k.under v w accepted refl is);
+      agrees = subst (λ o. IsUsing t tested o (e ∷ past)) k.after (moved-next tested s t s.fate e.place.position e past opener x closer pubrel pubrec k.under refl v w accepted refl is);
       grows = known-gains tested s.fate taken is_inflight e past m new k
           (subst (λ (n : FaultMap). Gains (λ k r. is_inflight r && turns_with tested s.fate e past k r) tested (e ∷ past) e.place.position m n) (sym now)
           (moved-gains tested s s.fate e.place.position e past m opener x closer pubrel pubrec k.under refl v w accepted));

@@ -61,7 +61,7 @@ no_offset-L3 tested m = refl
 -- an OPEN is none of what is looked at
 open-unseen : (n : Note) → is_open n ≡ true → (received_exactly_once n ≡ None) × (released_id n ≡ None) × (sent_as success_pubcomp_in n ≡ None) × (is_release n ≡ false)
 open-unseen notes.Open h = (refl, refl, refl, refl)
-open-unseen notes.Close h = absurd (cc)
+open-unseen (notes.Close cuts) h = absurd (cc)
 open-unseen notes.Rest h = absurd (cc)
 open-unseen (notes.Release identifier) h = absurd (cc)
 open-unseen (notes.Sent item) h = absurd (cc)
@@ -70,7 +70,7 @@ open-unseen (notes.Recv item) h = absurd (cc)
 -- what brings a message doesn't end an exchange
 brought-on : (i : ℕ) (n : Note) → is_id i (received_exactly_once n) ≡ true → is_id i (sent_as ended_in n) ≡ false
 brought-on i notes.Open h = refl
-brought-on i notes.Close h = refl
+brought-on i (notes.Close cuts) h = refl
 brought-on i notes.Rest h = refl
 brought-on i (notes.Release identifier) h = refl
 brought-on i (notes.Sent item) h = absurd (cc)

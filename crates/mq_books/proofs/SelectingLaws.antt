@@ -85,7 +85,7 @@ messages-received size a b Auth h = refl
 
 pub messages-unconcerned : (n : Note) → may_concern_messages n ≡ false → ((exchange_concerns publish_puback n || exchange_concerns publish_pubrec n) || (exchange_concerns pubrec_pubrel n || exchange_concerns pubrel_pubcomp n)) ≡ false
 messages-unconcerned notes.Open h = absurd (cc)
-messages-unconcerned notes.Close h = refl
+messages-unconcerned (notes.Close cuts) h = refl
 messages-unconcerned notes.Rest h = absurd (cc)
 messages-unconcerned (notes.Release i) h = refl
 messages-unconcerned (notes.Sent (items.Packet p)) h = messages-sent p.size p.has_reason_string p.has_user_property p.fields h
@@ -133,7 +133,7 @@ requests-received size a b Auth h = refl
 
 pub requests-unconcerned : (n : Note) → may_concern_requests n ≡ false → (exchange_concerns subscribe_suback n || exchange_concerns unsubscribe_unsuback n) ≡ false
 requests-unconcerned notes.Open h = absurd (cc)
-requests-unconcerned notes.Close h = refl
+requests-unconcerned (notes.Close cuts) h = refl
 requests-unconcerned notes.Rest h = absurd (cc)
 requests-unconcerned (notes.Release i) h = refl
 requests-unconcerned (notes.Sent (items.Packet p)) h = requests-sent p.size p.has_reason_string p.has_user_property p.fields h
@@ -207,7 +207,7 @@ releases-received size a b Auth h = refl
 
 pub releases-unconcerned : (n : Note) → may_concern_releases n ≡ false → concerns_releases n ≡ false
 releases-unconcerned notes.Open h = absurd (cc)
-releases-unconcerned notes.Close h = refl
+releases-unconcerned (notes.Close cuts) h = refl
 releases-unconcerned notes.Rest h = refl
 releases-unconcerned (notes.Release i) h = absurd (cc)
 releases-unconcerned (notes.Sent (items.Packet p)) h = releases-sent p.size p.has_reason_string p.has_user_property p.fields h
@@ -255,7 +255,7 @@ pings-received size a b Auth h = refl
 
 pub pings-unconcerned : (n : Note) → may_concern_pings n ≡ false → concerns_pings n ≡ false
 pings-unconcerned notes.Open h = absurd (cc)
-pings-unconcerned notes.Close h = refl
+pings-unconcerned (notes.Close cuts) h = refl
 pings-unconcerned notes.Rest h = absurd (cc)
 pings-unconcerned (notes.Release i) h = refl
 pings-unconcerned (notes.Sent (items.Packet p)) h = pings-sent p.size p.has_reason_string p.has_user_property p.fields h
@@ -333,8 +333,8 @@ quota-received roles.Server releases size a b Auth h = refl
 
 pub quota-unconcerned : (role : Role) (releases : Bool) (n : Note) → may_concern_quota n ≡ false → concerns_quota (record { role = role; releases = releases }) n ≡ false
 quota-unconcerned role releases notes.Open h = absurd (cc)
-quota-unconcerned roles.Client releases notes.Close h = refl
-quota-unconcerned roles.Server releases notes.Close h = refl
+quota-unconcerned roles.Client releases (notes.Close cuts) h = refl
+quota-unconcerned roles.Server releases (notes.Close cuts) h = refl
 quota-unconcerned roles.Client releases notes.Rest h = refl
 quota-unconcerned roles.Server releases notes.Rest h = refl
 quota-unconcerned roles.Client releases (notes.Release i) h = refl
@@ -416,7 +416,7 @@ identifiers-received roles.Server releases size a b Auth h = refl
 
 pub identifiers-unconcerned : (role : Role) (releases : Bool) (n : Note) → may_concern_identifiers n ≡ false → concerns_flight (record { role = role; releases = releases }) n ≡ false
 identifiers-unconcerned role releases notes.Open h = absurd (cc)
-identifiers-unconcerned role releases notes.Close h = absurd (cc)
+identifiers-unconcerned role releases (notes.Close cuts) h = absurd (cc)
 identifiers-unconcerned role releases notes.Rest h = absurd (cc)
 identifiers-unconcerned roles.Client releases (notes.Release i) h = refl
 identifiers-unconcerned roles.Server releases (notes.Release i) h = refl
@@ -472,7 +472,7 @@ subscriptions-received tested bound is size a b Auth h = refl
 
 pub subscriptions-unconcerned : (tested : Tested) (bound : Bool) → bound ≡ binds B01 tested → (n : Note) → may_concern_subscriptions bound n ≡ false → (concerns_deliveries tested n || (concerns_count subscribes n || concerns_count unsubscribes n)) ≡ false
 subscriptions-unconcerned tested bound is notes.Open h = absurd (cc)
-subscriptions-unconcerned tested bound is notes.Close h = absurd (cc)
+subscriptions-unconcerned tested bound is (notes.Close cuts) h = absurd (cc)
 subscriptions-unconcerned tested bound is notes.Rest h = refl
 subscriptions-unconcerned tested bound is (notes.Release i) h = refl
 subscriptions-unconcerned tested bound is (notes.Sent (items.Packet p)) h = subscriptions-sent tested bound is p.size p.has_reason_string p.has_user_property p.fields h

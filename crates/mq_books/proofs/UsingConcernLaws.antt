@@ -33,6 +33,8 @@ use Rattle.mq_books.specs.Using.{delivering, waits_next, void_next, resent_next,
 use Rattle.mq_books.specs.Knowing.{all_excused}
 use Rattle.mq_books.proofs.ConcernLaws.{nothing, neither, same_cond, some-same, and2_false, closed-before}
 use Rattle.mq_books.proofs.StrayLaws.{stray-stays}
+use Rattle.mq_books.specs.Earlier.{may_resend}
+use Rattle.mq_books.proofs.EarlierLaws.{earlier-stays, inside-uncut}
 use Rattle.mq_books.proofs.InflightLaws.{inflight-next, inflight-gains}
 
 -- nothing of these is there
@@ -162,7 +164,7 @@ unbroken tested s f n q =
 
     broken : Bool → Option ℕ → Broken
     broken a o =
-        broken_by a (accepts f && is_some_and (unopened (get nat_eq s.entries) (contains nat_eq s.void)) o) (accepts f && is_some_and (delivering s) o)
+        broken_by a (accepts f && is_some_and (unopened (get nat_eq s.entries) (contains nat_eq s.void) (may_resend s.earlier f)) o) (accepts f && is_some_and (delivering s) o)
         (accepts f && is_some_and (past_pubrel (get nat_eq s.entries)) o) (s.ordered && (accepts f && is_some_and (out_of_order (get nat_eq s.entries) s.resent) o))
 
 pub inflight-passes : (tested : Tested) (s : Inflight) (f : Fate) (at : ℕ) (e : Seen) (past : List Seen) → concerns_flight tested e.note ≡ false → IsUnder tested f at e past → IsUsing s tested (fate_before tested f e past) past
@@ -178,6 +180,7 @@ inflight-passes tested s f at e past h under before =
           (λ i. sym (stray-stays f n (get nat_eq s.entries) i (contains nat_eq s.stray i) q.inside q.delivery q.closer))
           (λ i. sym (unanswered-stays f n i (contains nat_eq s.unanswered i) q))
           (λ i. sym (ap (λ o. (is_id i o && is_void f) || contains nat_eq s.void i) q.delivery))
+          (earlier-stays s.earlier s.role s.fate f (at == e.place.position) n q.closed (inside-uncut n q.inside) (λ i. ap (λ o. not (at == e.place.position) && is_id i o) q.delivery ∙ and_false (not (at == e.place.position))))
           (λ i. sym (wait-stays (sent_as subscribe_in n) (received_as suback_in n) (is_boundary n) i (contains nat_eq s.subscribing i) q.subscribe q.suback q.inside))
           (λ i. sym (wait-stays (sent_as unsubscribe_in n) (received_as unsuback_in n) (is_boundary n) i (contains nat_eq s.unsubscribing i) q.unsubscribe q.unsuback q.inside))
           (sym (resent-stays n (get nat_eq s.entries) s.resent q.closed q.resend))

@@ -19,7 +19,7 @@ use Rattle.mq_rules.specs.Words.{is_some_and, is_id}
 use Rattle.mq_rules.specs.Notes.{is_open, is_close, is_boundary, delivery_of, closer_of, resend_of, sent_as, received_as, pubrel_in, subscribe_in, suback_in, unsubscribe_in, unsuback_in}
 use Rattle.mq_rules.specs.Moments.{Moment, newest, note, position, some, since, latest, is_next, IsPlaced, IsDescending}
 use Rattle.mq_rules.specs.Connections.{is_connected, connection, needs_connection, IsOnConnection, latest_fate, accepts, session, is_unasked, surprises, couldnt_know, couldnt_know_resumed, resumes}
-use Rattle.mq_rules.specs.Identifiers.{opens_id, closes_id, delivers, is_open_at, latest_opener, awaits_suback, is_busy_at, taken_by, was_sent_on_void, opens_exactly_once, sends_pubrel, comes_after, breaks_S01, breaks_S02, breaks_S03, breaks_S04, breaks_S05, sent_under}
+use Rattle.mq_rules.specs.Identifiers.{opens_id, closes_id, delivers, is_open_at, latest_opener, awaits_suback, is_busy_at, taken_by, was_sent_on_void, was_sent_before_session, was_cut_off, opens_exactly_once, sends_pubrel, comes_after, breaks_S01, breaks_S02, breaks_S03, breaks_S04, breaks_S05, sent_under}
 use Rattle.mq_rules.specs.Rules.{binds, found_line, line_of, lines}
 use Rattle.mq_rules.specs.Statements.{in_session, statement, knowing, knowing_resumed}
 use Rattle.mq_rules.specs.FaultKeys.{FaultMap}
@@ -34,6 +34,8 @@ use Rattle.mq_books.specs.Using.{delivering, waits, waits_next, unanswered_next,
 use Rattle.mq_books.proofs.JudgeLaws.{session-turns_with}
 use Rattle.mq_books.proofs.OpenedLaws.{entry-there, entry-is, IsEntry}
 use Rattle.mq_books.proofs.StrayLaws.{boundary-opens}
+use Rattle.mq_books.specs.Earlier.{may_resend}
+use Rattle.mq_books.proofs.EarlierLaws.{may_resend-is}
 use Rattle.mq_books.proofs.VoidLaws.{void_sent-read}
 use Rattle.mq_books.proofs.BrokenLaws.{all-gains}
 use Rattle.mq_books.proofs.KnowingLaws.{and-apart, excused-known}
@@ -66,8 +68,8 @@ binds-S04 Server releases = refl
 taken-none : (role : Role) (n : Note) → has_item n ≡ false → taken_by role n ≡ None
 taken-none Client notes.Open h = refl
 taken-none Server notes.Open h = refl
-taken-none Client notes.Close h = refl
-taken-none Server notes.Close h = refl
+taken-none Client (notes.Close cuts) h = refl
+taken-none Server (notes.Close cuts) h = refl
 taken-none Client notes.Rest h = refl
 taken-none Server notes.Rest h = refl
 taken-none Client (notes.Release identifier) h = refl
@@ -77,7 +79,7 @@ taken-none role (notes.Recv item) h = absurd (cc)
 
 resend-none : (n : Note) → has_item n ≡ false → resend_of n ≡ None
 resend-none notes.Open h = refl
-resend-none notes.Close h = refl
+resend-none (notes.Close cuts) h = refl
 resend-none notes.Rest h = refl
 resend-none (notes.Release identifier) h = refl
 resend-none (notes.Sent item) h = absurd (cc)
@@ -85,7 +87,7 @@ resend-none (notes.Recv item) h = absurd (cc)
 
 pub sent-none : (found : PacketFields → Option ℕ) (n : Note) → has_item n ≡ false → sent_as found n ≡ None
 sent-none found notes.Open h = refl
-sent-none found notes.Close h = refl
+sent-none found (notes.Close cuts) h = refl
 sent-none found notes.Rest h = refl
 sent-none found (notes.Release identifier) h = refl
 sent-none found (notes.Sent item) h = absurd (cc)
@@ -93,7 +95,7 @@ sent-none found (notes.Recv item) h = absurd (cc)
 
 delivery-none : (n : Note) → has_item n ≡ false → delivery_of n ≡ None
 delivery-none notes.Open h = refl
-delivery-none notes.Close h = refl
+delivery-none (notes.Close cuts) h = refl
 delivery-none notes.Rest h = refl
 delivery-none (notes.Release identifier) h = refl
 delivery-none (notes.Sent item) h = absurd (cc)
@@ -291,13 +293,14 @@ S02-turns : (tested : Tested) (s : Inflight) (f : Fate) (at : ℕ) (e : Seen) (p
     → (k : ℕ) → turns_with tested f e past k S02 ≡ (is_next past k && excused (surprises f) (at == e.place.position) (breaks s f e.note).unopened)
 unfolding breaks_S02
 S02-turns tested s f at e past under u =
-    known-resend-turns tested S02 (breaks_S02 tested.role) refl (binds-S02 tested.role tested.releases) f at e past (λ i. not (is_open_at tested.role f i (newest e past) || was_sent_on_void tested.role i (newest e past)))
-    (unopened (get nat_eq s.entries) (contains nat_eq s.void)) under refl
+    known-resend-turns tested S02 (breaks_S02 tested.role) refl (binds-S02 tested.role tested.releases) f at e past (λ i. not (is_open_at tested.role f i (newest e past) || (was_sent_on_void tested.role i (newest e past) || (was_sent_before_session tested.role f i (newest e past) || was_cut_off tested.role f (newest e past)))))
+    (unopened (get nat_eq s.entries) (contains nat_eq s.void) (may_resend s.earlier f)) under refl
     (λ item accepted i.
     let n = now s tested f e past (item-closed e.note item) u in
-    ap (λ x. not (is_some x || contains nat_eq s.void i)) (n.entries_are i)
-    ∙ ap (λ b. not (b || contains nat_eq s.void i)) (entry-there i (session tested.role (Some f) past))
-    ∙ ap (λ b. not (is_open_at tested.role f i (newest e past) || b)) (n.void_are i ∙ sym (void_sent-read tested i f at e past under (item-closed e.note item) accepted)))
+    ap (λ x. not (is_some x || (contains nat_eq s.void i || may_resend s.earlier f i))) (n.entries_are i)
+    ∙ ap (λ b. not (b || (contains nat_eq s.void i || may_resend s.earlier f i))) (entry-there i (session tested.role (Some f) past))
+    ∙ ap (λ b. not (is_open_at tested.role f i (newest e past) || (b || may_resend s.earlier f i))) (n.void_are i ∙ sym (void_sent-read tested i f at e past under (item-closed e.note item) accepted))
+    ∙ ap (λ b. not (is_open_at tested.role f i (newest e past) || (was_sent_on_void tested.role i (newest e past) || b))) (may_resend-is tested s.earlier i f at e past under (item-closed e.note item) accepted n.earlier_is))
 
 S03-turns : (tested : Tested) (s : Inflight) (f : Fate) (e : Seen) (past : List Seen) → IsOnConnection e past → IsUsing s tested (fate_before tested f e past) past → (k : ℕ) → turns_with tested f e past k S03 ≡ (is_next past k && (breaks s f e.note).twice)
 unfolding breaks_S03
@@ -361,7 +364,7 @@ under-none n h = ap (λ o. option_or o (sent_as pubrel_in n)) (delivery-none n h
 
 boundary-itemless : (n : Note) → is_boundary n ≡ true → has_item n ≡ false
 boundary-itemless notes.Open h = refl
-boundary-itemless notes.Close h = refl
+boundary-itemless (notes.Close cuts) h = refl
 boundary-itemless _ h = absurd (cc)
 
 inside-closed : (n : Note) → is_boundary n ≡ false → is_open n ≡ false
@@ -394,7 +397,7 @@ unanswered-under f g now i e past old on is same was =
 -- a connection is open after an event: it began with it, or it didn't end with it
 goes-on : (n : Note) (connected : Bool) → (is_open n || (not (is_close n) && connected)) ≡ true → (is_close n ≡ false) × (is_open n ≡ false → connected ≡ true)
 goes-on notes.Open connected h = (refl, λ closed. absurd (cc))
-goes-on notes.Close connected h = absurd (cc)
+goes-on (notes.Close cuts) connected h = absurd (cc)
 goes-on notes.Rest connected h = (refl, λ closed. h)
 goes-on (notes.Release identifier) connected h = (refl, λ closed. h)
 goes-on (notes.Sent item) connected h = (refl, λ closed. h)

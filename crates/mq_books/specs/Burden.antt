@@ -18,6 +18,7 @@ use Rattle.mq_rules.specs.Rules.{binds_end}
 use Rattle.mq_rules.specs.Exchanges.{Exchange, causes, answers, publish_puback, publish_pubrec, pubrec_pubrel, pubrel_pubcomp, subscribe_suback, unsubscribe_unsuback}
 use Rattle.mq_rules.specs.Releases.{brings, releases_message, ends}
 use Rattle.mq_rules.specs.Subscriptions.{Standing, last_set}
+use Rattle.mq_books.specs.Earlier.{sent_first}
 use Rattle.mq_books.specs.Holding.{settled, waiting}
 use Rattle.mq_books.specs.Standings.{codes_in, standing_by, waiting_from, weighed, total}
 
@@ -45,6 +46,10 @@ delivering_ids log = ids_where (λ i. since (λ m. is_id i (sent_under (note m))
 -- how many have a PUBLISH of QoS above 0 sent on a void connection
 unfoldable pub void_ids : Role → Option Fate → List Seen → ℕ
 void_ids role taken log = ids_where (λ i. some (λ m. delivers i m && voided (fate_under role taken log (number m))) (moments log))
+
+-- how many have a PUBLISH of QoS above 0 that a client sent before the CONNACK with which the session began, or begins
+unfoldable pub first_ids : Role → Option Fate → List Seen → ℕ
+first_ids role taken log = ids_where (λ i. sent_first role i taken log)
 
 -- how many have a SUBSCRIBE sent on the open connection, and no SUBACK received after it there
 unfoldable pub subscribing_ids : List Seen → ℕ
@@ -107,7 +112,7 @@ aliased_ids log = ids_where (λ alias. is_some (last_set alias (on_open log)))
 
 -- what is sent under Packet Identifiers
 abbrev pub sending_burden : Role → Option Fate → List Seen → ℕ
-sending_burden role taken log = open_ids role taken log + delivering_ids log + void_ids role taken log + subscribing_ids log + unsubscribing_ids log
+sending_burden role taken log = open_ids role taken log + delivering_ids log + void_ids role taken log + first_ids role taken log + subscribing_ids log + unsubscribing_ids log
 
 -- the causes of the exchanges that bind the tested end
 abbrev pub exchange_burden : Role → Option Fate → List Seen → ℕ

@@ -8,6 +8,7 @@ pub mod Orderings
 pub mod Answering
 pub mod Askings
 pub mod Using
+pub mod Earlier
 pub mod Moving
 pub mod Opened
 pub mod Resending

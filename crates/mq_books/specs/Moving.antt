@@ -52,6 +52,7 @@ pub record KeepsOthers (old new : Inflight) : Type 0 where
   pub fate : new.fate ≡ old.fate
   pub ordered : new.ordered ≡ old.ordered
   pub void : new.void ≡ old.void
+  pub earlier : new.earlier ≡ old.earlier
   pub subscribing : new.subscribing ≡ old.subscribing
   pub unsubscribing : new.unsubscribing ≡ old.unsubscribing
   pub resent : new.resent ≡ old.resent

@@ -22,6 +22,7 @@ use Rattle.mq_books.specs.declared.inflight.Inflight.{Inflight}
 use Rattle.mq_books.specs.declared.inflight.broken.Broken.{Broken}
 use Rattle.mq_books.specs.declared.inflight.entry.Entry.{Entry}
 use Rattle.mq_books.specs.Quotas.{judged_by, peer_room}
+use Rattle.mq_books.specs.Earlier.{may_resend, IsEarlier}
 use Rattle.mq_books.specs.Opened.{entry_in}
 use Rattle.mq_books.specs.Resending.{opened_at, peer_bounds, by_itself, IsResent}
 
@@ -88,9 +89,9 @@ resent_in role taken (e ∷ past) = resent_next e.note (λ i. entry_in i (sessio
 abbrev pub takes_busy : Fate → Role → Note → (ℕ → Option Entry) → (ℕ → Bool) → (ℕ → Bool) → Bool
 takes_busy f role n entry subscribing unsubscribing = accepts f && is_some_and (λ i. is_some (entry i) || (subscribing i || unsubscribing i)) (taken_by role n)
 
--- the identifier of a PUBLISH that is sent again is not open and not of a void connection; is past its PUBREL; was opened before one that was sent again
-abbrev pub unopened : (ℕ → Option Entry) → (ℕ → Bool) → ℕ → Bool
-unopened entry void i = not (is_some (entry i) || void i)
+-- the identifier of a PUBLISH that is sent again is not open, not of a void connection, and not excused; is past its PUBREL; was opened before one that was sent again
+abbrev pub unopened : (ℕ → Option Entry) → (ℕ → Bool) → (ℕ → Bool) → ℕ → Bool
+unopened entry void excused i = not (is_some (entry i) || (void i || excused i))
 
 abbrev pub past_pubrel : (ℕ → Option Entry) → ℕ → Bool
 past_pubrel entry i = is_some_and (λ o. o.exactly_once && o.released) (entry i)
@@ -102,7 +103,7 @@ out_of_order entry resent i = is_some_and (λ o. nat_lt o.place.position resent)
 abbrev pub breaks : Inflight → Fate → Note → Broken
 breaks s f n = record {
   takes_busy = takes_busy f s.role n (get nat_eq s.entries) (contains nat_eq s.subscribing) (contains nat_eq s.unsubscribing);
-  unopened = accepts f && is_some_and (unopened (get nat_eq s.entries) (contains nat_eq s.void)) (resend_of n);
+  unopened = accepts f && is_some_and (unopened (get nat_eq s.entries) (contains nat_eq s.void) (may_resend s.earlier f)) (resend_of n);
   twice = accepts f && is_some_and (delivering s) (resend_of n);
   past_pubrel = accepts f && is_some_and (past_pubrel (get nat_eq s.entries)) (resend_of n);
   out_of_order = s.ordered && (accepts f && is_some_and (out_of_order (get nat_eq s.entries) s.resent) (resend_of n));
@@ -131,6 +132,7 @@ pub record IsUsing (s : Inflight) (tested : Tested) (taken : Option Fate) (past 
   pub stray_are : (i : ℕ) → contains nat_eq s.stray i ≡ true → is_connected past ≡ true
   pub published_are : ArePublished s.fate s.opened (get nat_eq s.entries) past
   pub void_are : (i : ℕ) → contains nat_eq s.void i ≡ void_sent tested.role i taken past
+  pub earlier_is : IsEarlier s.earlier tested.role taken past
   pub unanswered_are : (i : ℕ) → contains nat_eq s.unanswered i ≡ (resumes s.fate && waits sent_under closer_of i past)
   pub subscribing_are : (i : ℕ) → contains nat_eq s.subscribing i ≡ waits (sent_as subscribe_in) (received_as suback_in) i past
   pub unsubscribing_are : (i : ℕ) → contains nat_eq s.unsubscribing i ≡ waits (sent_as unsubscribe_in) (received_as unsuback_in) i past

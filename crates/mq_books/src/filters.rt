@@ -170,7 +170,7 @@ fn may_change(note: &Note) -> bool
     ensures { result ≡ changes_filters note.now }
 {
     match note {
-        Note::Open | Note::Close => true,
+        Note::Open | Note::Close { .. } => true,
         Note::Sent(ItemNote::Packet(packet)) => {
             matches!(packet.fields, PacketFields::Suback { .. })
         }

@@ -7,9 +7,10 @@ ghost use Rattle.indexmap.specs.IndexSet.{contains};
 ghost use Rattle.mq_rules.specs.declared.fate.Fate.TheVariants.{Void};
 ghost use Rattle.mq_rules.specs.Notes.{sent_as, received_as, subscribe_in, suback_in, unsubscribe_in, unsuback_in, is_open as opens, is_boundary};
 ghost use Rattle.mq_rules.specs.Under.{IsKnown, turns_known};
-ghost use Rattle.mq_books.specs.Burden.{open_ids, delivering_ids, void_ids, subscribing_ids, unsubscribing_ids};
+ghost use Rattle.mq_books.specs.Burden.{open_ids, delivering_ids, void_ids, first_ids, subscribing_ids, unsubscribing_ids};
 ghost use Rattle.mq_books.specs.Pingings.{ends_by};
 ghost use Rattle.mq_books.specs.Quotas.{announced, may_count as counts_now, flown as flown_by};
+ghost use Rattle.mq_books.specs.Earlier.{GoesOn};
 ghost use Rattle.mq_books.specs.Opened.{entry_next};
 ghost use Rattle.mq_books.specs.Resending.{bounds_next, by_itself, IsResent};
 ghost use Rattle.mq_rules.specs.Connections.{accepts};
@@ -22,6 +23,7 @@ ghost use Rattle.mq_rules.specs.Notes.{note_of_bare};
 ghost use Rattle.mq_books.specs.Selecting as selecting;
 
 mod broken;
+mod earlier;
 mod entry;
 mod moving;
 mod resends;
@@ -37,6 +39,7 @@ use broken::{
     Broken, all_excused, is_out_of_order, is_past_pubrel, is_twice, is_unopened, judge_all,
     resent_after, takes,
 };
+use earlier::Earlier;
 use entry::{Entry, take_entries};
 use indexmap::{IndexMap, IndexSet};
 use mq_rules::{
@@ -70,6 +73,8 @@ pub struct Inflight {
     unanswered: IndexSet<u16>,
     /// Those of PUBLISH packets that were sent on void connections.
     void: IndexSet<u16>,
+    /// What was cut off, or sent before the session began.
+    earlier: Earlier,
     /// Those of SUBSCRIBE packets that were sent on the connection that is open, and not answered.
     subscribing: IndexSet<u16>,
     /// Those of UNSUBSCRIBE packets that were sent on the connection that is open, and not answered.
@@ -249,6 +254,7 @@ impl Inflight {
             stray: IndexSet::new(alloc),
             unanswered: IndexSet::new(alloc),
             void: IndexSet::new(alloc),
+            earlier: Earlier::new(alloc),
             subscribing: IndexSet::new(alloc),
             unsubscribing: IndexSet::new(alloc),
             resent: 0,
@@ -280,7 +286,7 @@ impl Inflight {
                 &self.subscribing,
                 &self.unsubscribing,
             ),
-            unopened: is_unopened(fate, note, &self.entries, &self.void),
+            unopened: is_unopened(fate, note, &self.entries, &self.void, &self.earlier),
             twice: is_twice(fate, note, &self.entries, self.opened, &self.stray),
             past_pubrel: is_past_pubrel(fate, note, &self.entries),
             out_of_order: is_out_of_order(self.ordered, fate, note, &self.entries, self.resent),
@@ -326,7 +332,7 @@ impl Inflight {
     }
 
     // Takes in an event of a connection with this fate.
-    fn take_in(&mut self, at: Place3, fate: Fate, note: &Note) -> Result<(), Memory>
+    fn take_in(&mut self, at: Place3, fate: Fate, known: bool, note: &Note) -> Result<(), Memory>
         ensures role { OnOk result (self.new.role ≡ self.old.role) }
         ensures fate { OnOk result (self.new.fate ≡ fate) }
         ensures ordered { OnOk result (self.new.ordered ≡ self.old.ordered) }
@@ -337,6 +343,7 @@ impl Inflight {
         ensures void { OnOk result ((i : ℕ) → contains nat_eq self.new.void i ≡ void_next fate note.now i (contains nat_eq self.old.void i)) }
         ensures subscribing { OnOk result ((i : ℕ) → contains nat_eq self.new.subscribing i ≡ waits_next (sent_as subscribe_in note.now) (received_as suback_in note.now) (is_boundary note.now) i (contains nat_eq self.old.subscribing i)) }
         ensures unsubscribing { OnOk result ((i : ℕ) → contains nat_eq self.new.unsubscribing i ≡ waits_next (sent_as unsubscribe_in note.now) (received_as unsuback_in note.now) (is_boundary note.now) i (contains nat_eq self.old.unsubscribing i)) }
+        ensures earlier { OnOk result (GoesOn self.old.earlier self.new.earlier self.old.role self.old.fate fate known note.now) }
         ensures resent { OnOk result (self.new.resent ≡ resent_next note.now (get nat_eq self.old.entries) self.old.resent) }
         ensures ended { OnOk result (self.new.ended ≡ (ends_by note.now || (not (opens note.now) && self.old.ended))) }
         ensures opened { OnOk result (self.new.opened ≡ cond (opens note.now) at.position self.old.opened) }
@@ -346,6 +353,10 @@ impl Inflight {
         ensures again { self.old.opened ≤ at.position → IsResent self.old.opened (by_itself self.old.bounds) (get nat_eq self.old.entries) (contains nat_eq self.old.confirmed) self.old.again → OnOk result (IsResent self.new.opened (by_itself self.new.bounds) (get nat_eq self.new.entries) (contains nat_eq self.new.confirmed) self.new.again) }
     {
         let alloc = self.alloc;
+        let role = self.role;
+        let before = self.fate;
+        self.earlier
+            .take_in(alloc, role, before, fate, known, note)?;
         self.again = resent_still(self.again, &self.entries, self.opened, note);
         self.take_connection(at, fate, note);
         take_confirmed(&mut self.confirmed, alloc, &self.entries, fate, note)?;
@@ -362,7 +373,7 @@ impl Watch for Inflight {
 
     ghost adds = { λ tested e past k r. is_inflight r && turns_known tested e past k r };
 
-    ghost bound = { λ tested taken past. 2 * open_ids tested.role taken past + 2 * delivering_ids past + void_ids tested.role taken past + subscribing_ids past + unsubscribing_ids past };
+    ghost bound = { λ tested taken past. 2 * open_ids tested.role taken past + 2 * delivering_ids past + void_ids tested.role taken past + first_ids tested.role taken past + subscribing_ids past + unsubscribing_ids past };
 
     fn step(&mut self, at: Place3, note: &Note, faults: &mut Faults) -> Result<(), Memory> {
         let fate = self.fate;
@@ -370,13 +381,14 @@ impl Watch for Inflight {
         Ok(())
     }
 
-    // The map and all six sets of the struct.
+    // The map and all seven sets of the struct.
     fn weight(&self) -> usize {
         map_size(&self.entries)
             .saturating_add(set_size(&self.confirmed))
             .saturating_add(set_size(&self.stray))
             .saturating_add(set_size(&self.unanswered))
             .saturating_add(set_size(&self.void))
+            .saturating_add(set_size(&self.earlier.first))
             .saturating_add(set_size(&self.subscribing))
             .saturating_add(set_size(&self.unsubscribing))
     }
@@ -408,7 +420,7 @@ impl Fated for Inflight {
             decided,
             faults,
         )?;
-        self.take_in(at, fate, note)?;
+        self.take_in(at, fate, known, note)?;
         Ok(())
     }
 
@@ -439,7 +451,7 @@ fn may_concern_identifiers(note: &Note) -> bool
     ensures { result ≡ selecting.may_concern_identifiers note.now }
 {
     match note {
-        Note::Open | Note::Close | Note::Rest => true,
+        Note::Open | Note::Close { .. } | Note::Rest => true,
         Note::Release(_) => false,
         Note::Sent(ItemNote::Packet(packet)) => uses_identifier(&packet.fields),
         Note::Recv(ItemNote::Packet(packet)) => frees_identifier(&packet.fields),

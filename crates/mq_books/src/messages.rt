@@ -120,7 +120,7 @@ fn may_concern_messages(note: &Note) -> bool
 {
     match note {
         Note::Open | Note::Rest => true,
-        Note::Close | Note::Release(_) => false,
+        Note::Close { .. } | Note::Release(_) => false,
         Note::Sent(ItemNote::Packet(packet)) => answers_message(&packet.fields),
         Note::Recv(ItemNote::Packet(packet)) => asks_by_message(&packet.fields),
         Note::Sent(_) | Note::Recv(_) => true,

@@ -213,7 +213,7 @@ fn may_concern_pings(note: &Note) -> bool
 {
     match note {
         Note::Open | Note::Rest => true,
-        Note::Close | Note::Release(_) => false,
+        Note::Close { .. } | Note::Release(_) => false,
         Note::Sent(ItemNote::Packet(packet)) => matches!(
             packet.fields,
             PacketFields::Pingresp | PacketFields::Disconnect(_)

@@ -295,7 +295,7 @@ fn may_concern_quota(note: &Note) -> bool
 {
     match note {
         Note::Open => true,
-        Note::Close | Note::Rest | Note::Release(_) => false,
+        Note::Close { .. } | Note::Rest | Note::Release(_) => false,
         Note::Sent(ItemNote::Packet(packet)) => match &packet.fields {
             PacketFields::Publish(publish) => is_acknowledged(publish.qos),
             _ => false,

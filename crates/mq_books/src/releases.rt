@@ -282,7 +282,7 @@ fn may_concern_releases(note: &Note) -> bool
 {
     match note {
         Note::Open | Note::Release(_) => true,
-        Note::Close | Note::Rest => false,
+        Note::Close { .. } | Note::Rest => false,
         Note::Sent(ItemNote::Packet(packet)) => matches!(
             packet.fields,
             PacketFields::Pubrec { .. } | PacketFields::Pubcomp { .. }

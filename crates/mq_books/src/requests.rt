@@ -138,7 +138,7 @@ fn may_concern_requests(note: &Note) -> bool
 {
     match note {
         Note::Open | Note::Rest => true,
-        Note::Close | Note::Release(_) => false,
+        Note::Close { .. } | Note::Release(_) => false,
         Note::Sent(ItemNote::Packet(packet)) => answers_request(&packet.fields),
         Note::Recv(ItemNote::Packet(packet)) => asks_by_request(&packet.fields),
         Note::Sent(_) | Note::Recv(_) => true,

@@ -119,7 +119,7 @@ fn may_concern_subscriptions(bound: bool, note: &Note) -> bool
     ensures { result ≡ selecting.may_concern_subscriptions bound note.now }
 {
     match note {
-        Note::Open | Note::Close => true,
+        Note::Open | Note::Close { .. } => true,
         Note::Rest | Note::Release(_) => false,
         Note::Sent(ItemNote::Packet(packet)) => delivers_or_grants(bound, &packet.fields),
         Note::Recv(ItemNote::Packet(packet)) => matches!(

@@ -6,9 +6,11 @@ ghost use Rattle.mq_rules.specs.Words.{is_some_and};
 ghost use Rattle.mq_rules.specs.Notes.{resend_of};
 ghost use Rattle.mq_rules.specs.Connections.{accepts};
 ghost use Rattle.mq_books.specs.Owings.{Keeps};
+ghost use Rattle.mq_books.specs.Earlier.{may_resend};
 ghost use Rattle.mq_books.specs.Knowing as knowing;
 ghost use Rattle.mq_books.specs.Using.{in_delivery, takes_busy, judged_all, unopened, past_pubrel, out_of_order, resent_by, resent_next};
 
+use super::earlier::Earlier;
 use super::entry::Entry;
 use crate::known::{excuse, judge_by};
 use indexmap::{IndexMap, IndexSet};
@@ -20,7 +22,7 @@ use mq_trace::Place3;
 pub struct Broken {
     /// S01: it takes an identifier that is busy.
     pub takes_busy: bool,
-    /// S02: it sends a PUBLISH again that isn't open, and wasn't sent on a void connection.
+    /// S02: it sends a PUBLISH again that isn't open, and that no earlier connection excuses.
     pub unopened: bool,
     /// S03: it sends a PUBLISH again that was sent on its connection.
     pub twice: bool,
@@ -74,18 +76,21 @@ pub fn takes(
         }
 }
 
-/// Whether an event sends a PUBLISH again that isn't open, and wasn't sent on a void connection.
+/// Whether an event sends a PUBLISH again that isn't open, wasn't sent on a void connection, and
+/// isn't excused by what was cut off, or sent before the session began.
 pub fn is_unopened(
     fate: Fate,
     note: &Note,
     entries: &IndexMap<u16, Entry>,
     void: &IndexSet<u16>,
+    earlier: &Earlier,
 ) -> bool
-    ensures { result ≡ (accepts fate && is_some_and (unopened (get nat_eq entries.now) (contains nat_eq void.now)) (resend_of note.now)) }
+    ensures { result ≡ (accepts fate && is_some_and (unopened (get nat_eq entries.now) (contains nat_eq void.now) (may_resend earlier.now fate)) (resend_of note.now)) }
 {
     fate.accepts()
         && match note.resend() {
-            Some(i) => !(entries.contains_key(&i) || void.contains(&i)),
+            Some(i) => !(entries.contains_key(&i)
+                || (void.contains(&i) || earlier.may_resend(fate, i))),
             None => false,
         }
 }

@@ -12,6 +12,7 @@ returns c = record {
   stray_are = search rules;
   published_are = search rules;
   void_are = search rules;
+  earlier_is = search rules;
   unanswered_are = search rules;
   subscribing_are = search rules;
   unsubscribing_are = search rules;

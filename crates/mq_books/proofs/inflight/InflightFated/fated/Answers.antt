@@ -28,7 +28,7 @@ returns-clause-agrees c = λ tested past under u.
     let d = under.follows.placed.0 in
     omega (arith, a, b, d) in
     let itself : apart c.excused_now-excused.result ≡ by_itself s.bounds = ap apart c.excused_now-excused.ensures in
-    inflight-next tested c.args.self.now c.take_in.new.self c.args.fate c.args.decided (seen c.args.at c.args.note.now) past under u t.role t.fate t.ordered (t.distinct u.distinct) t.entries t.stray t.unanswered t.void t.subscribing t.unsubscribing t.resent t.ended t.opened t.peer t.flying t.bounds
+    inflight-next tested c.args.self.now c.take_in.new.self c.args.fate c.args.decided (seen c.args.at c.args.note.now) past under u t.role t.fate t.ordered (t.distinct u.distinct) t.entries t.stray t.unanswered t.void t.earlier t.subscribing t.unsubscribing t.resent t.ended t.opened t.peer t.flying t.bounds
     (t.again below
     (same-single s.opened (apart c.excused_now-excused.result) (by_itself s.bounds) (get nat_eq s.entries) (contains nat_eq s.confirmed) _ itself
     (c.in_ok-self.ensures.resent
