@@ -1,9 +1,10 @@
-"""What version 2 of the log costs `check` and `show`, and what `convert` costs."""
+"""What version 2 of the log costs `check` and `show`, what `convert` costs, and whether an event takes more instructions than it may."""
 import tempfile
+from collections.abc import Iterator
 from pathlib import Path
 
 import kinds
-from measuring import Bounds, Measure, counter, instructions, measure
+from measuring import GNU_TIME, Bounds, Measure, counter, instructions, measure
 
 MOST_OF_VERSION_2 = 1.05  # instructions an event over those in version 1
 MOST_OF_CONVERT = 2.0  # its time over that of `show`
@@ -13,17 +14,49 @@ SHOWN = "small"  # the kind of log that is converted: each packet in a record of
 COLUMNS = "{:<24} {:<6} {:>12} {:>12} {:>6}  {}"
 
 
-def cost(kind: str, version: int, command: list[str], amount: int, folder: Path, bounds: Bounds) -> float | None:
+def words_for(mqjudge: Path, task: str, log: Path) -> list[str]:
+    """The command that does a task with a log."""
+    return [str(mqjudge), task, str(log)] if task != "convert" else [str(mqjudge), task, "--force", str(log), str(log.with_suffix(".out"))]
+
+
+def cost(kind: str, version: int, mqjudge: Path, task: str, amount: int, folder: Path, bounds: Bounds) -> float | None:
     """How many instructions an event takes: those of a log less those of half of it. None where they aren't known."""
     counts, halves = [], (amount // 2, amount)
     for number in halves:
         log = folder / f"{kind}-{number}-{version}.log"
         if not log.exists():
             kinds.write(log, kind, number, version)
-        counts.append(instructions([*command, str(log)], folder, bounds)[0])
+        counts.append(instructions(words_for(mqjudge, task, log), folder, bounds)[0])
     if None in counts:
         return None
     return (counts[1] - counts[0]) / (kinds.events(kind, halves[1]) - kinds.events(kind, halves[0]))
+
+
+def most_allowed(table: Path) -> Iterator[tuple[str, str, int]]:
+    """The kinds of logs, the commands and the bounds of a table. What is after a `#` isn't read."""
+    for line in table.read_text().splitlines():
+        if words := line.partition("#")[0].split():
+            kind, task, most = words
+            yield kind, task, int(most)
+
+
+def print_bounded(mqjudge: Path, table: Path, messages: int, bounds: Bounds) -> bool:
+    """Prints how many instructions an event takes beside how many it may take, and says whether it never takes more. Where they can't
+    be counted it says so, and that nothing takes more."""
+    if counter() is None or not Path(GNU_TIME).exists():
+        print(f"{table.name} isn't compared: not installed: GNU time, or valgrind where perf can't count instructions")
+        return True
+    above = count = 0
+    print(f"{'log':<24} {'task':<8} {'at most':>9} {'takes':>9}  instructions an event, by {counter()}", flush=True)
+    with tempfile.TemporaryDirectory(prefix="mqjudge-bench-") as name:
+        for kind, task, most in most_allowed(table):
+            takes = cost(kind, 1, mqjudge, task, messages, Path(name), bounds)
+            is_above = takes is None or takes > most
+            above, count = above + is_above, count + 1
+            figure = "-" if takes is None else f"{takes:,.0f}"
+            print(f"{kind:<24} {task:<8} {most:>9,} {figure:>9}  {'more than it may' if is_above else ''}".rstrip(), flush=True)
+    print(f"{count} counted, {above} above the bounds")
+    return above == 0
 
 
 def print_versions(mqjudge: Path, chosen: list[str], messages: int, bounds: Bounds) -> bool:
@@ -36,8 +69,8 @@ def print_versions(mqjudge: Path, chosen: list[str], messages: int, bounds: Boun
     with tempfile.TemporaryDirectory(prefix="mqjudge-bench-") as name:
         for kind in chosen:
             for task in ("check", "show"):
-                command, amount = [str(mqjudge), task], min(messages, 8) if kind == "large" else messages
-                costs = [cost(kind, version, command, amount, Path(name), bounds) for version in (1, 2)]
+                amount = min(messages, 8) if kind == "large" else messages
+                costs = [cost(kind, version, mqjudge, task, amount, Path(name), bounds) for version in (1, 2)]
                 ratio = None if None in costs else costs[1] / max(costs[0], 1e-9)
                 is_above = ratio is None or ratio > MOST_OF_VERSION_2
                 above += is_above

@@ -18,7 +18,7 @@ same events; the status is 1 if one takes more than 1.05 times as many. With --c
 records takes beside `show` of it; the status is 1 if that is more than twice the time, or its memory grows with the log.
 
 usage: bench/run.py [--mqjudge PATH] [--megabytes 200] [--rounds 1]
-       bench/run.py --instructions [--mqjudge PATH] [--messages 4000]
+       bench/run.py --instructions [--mqjudge PATH] [--messages 4000] [--at-most TABLE]
        bench/run.py --growth [--mqjudge PATH] [--events 66000] [--by-time]
        bench/run.py --versions [--mqjudge PATH] [--messages 4000]
        bench/run.py --convert [--mqjudge PATH] [--megabytes 200] [--rounds 1]
@@ -34,7 +34,7 @@ from pathlib import Path
 sys.dont_write_bytecode = True  # the repository stays as it is
 import kinds
 import make_log
-from costs import print_convert, print_versions, quickest
+from costs import print_bounded, print_convert, print_versions, quickest
 from growth import print_growth
 from measuring import Bounds, Measure, counter, instructions
 
@@ -149,6 +149,7 @@ def parse() -> argparse.Namespace:
     words.add_argument("--seconds", type=int, default=600, help="after which a program is stopped")
     words.add_argument("--gigabytes", type=int, default=8, help="of memory that a program may have")
     words.add_argument("--instructions", action="store_true", help="count instructions an event instead")
+    words.add_argument("--at-most", type=Path, metavar="TABLE", help="with --instructions, compare them with the bounds of this table")
     words.add_argument("--messages", type=int, default=4_000, help="of each log whose instructions are counted (default 4000)")
     words.add_argument("--growth", action="store_true", help="show instead whether `check` is linear in the events")
     words.add_argument("--events", type=int, default=66_000, help="with --growth, of the shorter log of each kind (default 66000)")
@@ -166,6 +167,8 @@ def main() -> int:
         # (One of its messages is as long as many logs, and all of them take no more than their copies.)
         chosen = given.kinds or [kind for kind in kinds.KINDS if kind != "large"]
         return 0 if mqjudge_tasks(mqjudge) and print_growth(mqjudge, chosen, given.events, bounds, given.by_time) else 1
+    if given.instructions and given.at_most:
+        return 0 if mqjudge_tasks(mqjudge) and print_bounded(mqjudge, given.at_most, given.messages, bounds) else 1
     chosen = given.kinds or list(make_log.KINDS)
     if given.versions:
         return 0 if mqjudge_tasks(mqjudge) and print_versions(mqjudge, chosen, given.messages, bounds) else 1
