@@ -11,7 +11,7 @@ import os
 import subprocess
 import sys
 import tempfile
-from collections.abc import Callable
+from collections.abc import Callable, Iterator
 from dataclasses import dataclass, field
 from pathlib import Path
 
@@ -546,6 +546,32 @@ def on_terminal(program: Path) -> tuple[tuple, tuple]:
     return (process.returncode, output.decode(), said), (1, LONG_FAIL, f"{lines}\r\n")
 
 
+def kept(path: Path) -> tuple[bytes, int, int, int]:
+    """The bytes of a file, which file it is, and when it was changed."""
+    told = path.stat()
+    return path.read_bytes(), told.st_ino, told.st_size, told.st_mtime_ns
+
+
+# Nothing but `convert` changes a file; these read one.
+READING = [["check"], ["check", "--json"], ["check", "--summary"], ["show"], ["show", "--long"], ["show", "--faults"]]
+
+
+def changes(program: Path) -> Iterator[tuple[str, tuple, tuple]]:
+    """A `check` or a `show` that writes to its file: what is found of each file afterwards, and what is wanted. And a `convert` that
+    ends with 0 and leaves OUT empty, or without the end of the log."""
+    for words in READING:
+        for name in ("good.log", "faulty.log", "nested.log", "short.log", "many.log", "timed.log", "a.pcap"):
+            before, others = kept(Path(name)), sorted(os.listdir())
+            run(program, [*words, name], GOOD)
+            yield f"{words}: {name} stays as it was", (str(kept(Path(name)) == before),), ("True",)
+            yield f"{words}: no file is made beside {name}", (str(sorted(os.listdir()) == others),), ("True",)
+    for name, wanted in (("good.log", GOOD_2), ("many.log", MANY_2)):
+        before = kept(Path(name))
+        status, _, _ = run(program, ["convert", name, f"whole-{name}"], b"")
+        yield f"convert {name}: OUT has the whole log", (status, str(held(Path(f"whole-{name}")) == wanted)), (0, "True")
+        yield f"convert {name}: IN stays as it was", (str(kept(Path(name)) == before),), ("True",)
+
+
 def held(path: Path) -> bytes | None:
     """The bytes of a file, if it is there."""
     return path.read_bytes() if path.exists() else None
@@ -566,6 +592,8 @@ def main() -> int:
             tally.compare(f"{case.words}", found, (case.status, case.output, case.errors))
             for name, data in case.files.items():
                 tally.compare(f"{case.words}: {name}", (held(Path(name)),), (data,))
+        for name, found, wanted in changes(program):
+            tally.compare(name, found, wanted)
         tally.compare("a file that may not be read", *unpermitted(program))
         tally.compare("a reader that ends", *cut_short(program))
         Path("long.log").write_bytes(long_log())
