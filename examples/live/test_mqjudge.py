@@ -251,12 +251,15 @@ class Misuse(unittest.TestCase):
             self.assertEqual(judge.refusal(), (8, "NotOpen", 8))
             self.assertEqual(self.answers("open", judge), "refused")
 
-    def test_values(self) -> None:
-        for limit, wanted in ((0, "ok"), (4, "value"), (5, "ok"), (268_435_460, "ok"), (268_435_461, "value")):
+    def test_every_limit_that_the_header_names_makes_a_judge(self) -> None:
+        limits = {0: "ok", 1: "value", 4: "value", 5: "ok", 100_000_001: "ok", 268_435_460: "ok", 268_435_461: "value"}
+        for limit, wanted in limits.items():
             judge = Judge.__new__(Judge)
             judge.library, judge.handle = ctypes.CDLL(str(library())), Handle()
             self.assertEqual(self.answers("new", judge, ctypes.c_uint32(limit)), wanted)
             self.assertEqual(self.answers("free", judge), "ok" if wanted == "ok" else "no judge")
+
+    def test_values(self) -> None:
         with Judge() as judge:
             self.assertEqual(self.answers("begin", judge, 2, 0), "value")
             self.assertEqual(self.answers("begin", judge, 0, 2), "value")
