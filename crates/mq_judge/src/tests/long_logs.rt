@@ -65,13 +65,13 @@ fn judges_70000_events(rt: HostRuntime) -> Result<(), Fail> {
 }
 
 #[test]
-fn reads_for_more_than_65536_turns(rt: HostRuntime) -> Result<(), Fail> {
-    let log = pings(rt.alloc(), &ACCEPTED, 18_000)?;
+fn reads_for_more_than_100000_turns(rt: HostRuntime) -> Result<(), Fail> {
+    let log = pings(rt.alloc(), &ACCEPTED, 26_000)?;
     let mut reader = Pieces::interrupted(log.as_slice(), 1, false);
     let mut written = Vec::new(rt.alloc());
     let answer = run(rt.alloc(), &mut reader, &mut written, Form::Text);
     assert_eq!(rt; answer, Ok(Outcome::Pass));
-    assert!(rt; written.as_slice() == b"pass 18003 events\n".as_slice());
+    assert!(rt; written.as_slice() == b"pass 26003 events\n".as_slice());
     Ok(())
 }
 
