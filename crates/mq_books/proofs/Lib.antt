@@ -50,3 +50,4 @@ pub mod StandingSizeLaws
 pub mod AskingSizeLaws
 pub mod BurdenLaws
 pub mod KnowingLaws
+pub mod PassingLaws

@@ -37,8 +37,8 @@ use Rattle.mq_books.specs.Moving.{Moves, KeepsOthers, IsMoved, moved, untouched,
 use Rattle.mq_books.specs.Opened.{entry_after, entry_next, opened_if, closed_if, confirmed_if, released_if, sent_if, sends_exactly_once, sends_retained}
 use Rattle.mq_books.specs.Pingings.{ends_by}
 use Rattle.mq_books.specs.Quotas.{announced, may_count, flown, judged_by}
-use Rattle.mq_books.specs.Resending.{by_itself, bounds_by, confirmed_next, confirms_untouched, excuses, settles, IsResent}
-use Rattle.mq_books.specs.Using.{delivering, stray_next, void_next, resent_next, breaks, unopened, past_pubrel, out_of_order, is_inflight, IsUsing, unanswered_next}
+use Rattle.mq_books.specs.Resending.{by_itself, bounds_by, confirmed_next, confirms_untouched, excuses, settles, IsResent, is_limited, passed_since}
+use Rattle.mq_books.specs.Using.{delivering, stray_next, void_next, resent_next, breaks, unopened, past_pubrel, out_of_order, is_inflight, IsUsing, unanswered_next, is_taken}
 use Rattle.mq_books.specs.Earlier.{may_resend, GoesOn}
 use Rattle.mq_books.proofs.EarlierLaws.{earlier-stays, inside-uncut}
 use Rattle.mq_books.proofs.KnowingLaws.{all_excused-late}
@@ -58,25 +58,25 @@ quality i None x y r place old h = refl
 quality i (Some j) x y r place old h = ap (λ b. opened_if (is_id i (Some j)) b r place old) (sym (h refl))
 
 -- what is sent under an identifier that is opened anew doesn't matter
-sent-anew : (b x y c p r : Bool) (place : Place3) (at : ℕ) (old : Option Entry) → opened_if b x y place (closed_if c (confirmed_if p (released_if r at old))) ≡ opened_if b x y place (closed_if c (confirmed_if p (released_if r at (sent_if b at old))))
-sent-anew true x y c p r place at old = refl
-sent-anew false x y c p r place at None = refl
-sent-anew false x y c p r place at (Some o) = refl
+sent-anew : (b x y c p r : Bool) (place : Place3) (bounded at : ℕ) (old : Option Entry) → opened_if b x y place (closed_if c (confirmed_if p (released_if r bounded at old))) ≡ opened_if b x y place (closed_if c (confirmed_if p (released_if r bounded at (sent_if b bounded at old))))
+sent-anew true x y c p r place bounded at old = refl
+sent-anew false x y c p r place bounded at None = refl
+sent-anew false x y c p r place bounded at (Some o) = refl
 
-entry-moves : (f : Fate) (n : Note) (place : Place3) (i : ℕ) (old : Option Entry) (opener : Option ℕ) (x : Bool) (closer pubrel pubrec : Option ℕ) → Moves n opener x closer pubrel pubrec → accepts f ≡ true
-    → opened_if (is_id i opener) x false place (closed_if (is_id i closer) (confirmed_if (is_id i pubrec) (released_if (is_id i pubrel) place.position old))) ≡ entry_next f n place i old
-entry-moves f n place i old opener x closer pubrel pubrec m accepted =
-    quality i opener x (sends_exactly_once n) false place (closed_if (is_id i closer) (confirmed_if (is_id i pubrec) (released_if (is_id i pubrel) place.position old))) m.quality
-    ∙ sent-anew (is_id i opener) (sends_exactly_once n) false (is_id i closer) (is_id i pubrec) (is_id i pubrel) place place.position old
+entry-moves : (f : Fate) (n : Note) (bounded : ℕ) (place : Place3) (i : ℕ) (old : Option Entry) (opener : Option ℕ) (x : Bool) (closer pubrel pubrec : Option ℕ) → Moves n opener x closer pubrel pubrec → accepts f ≡ true
+    → opened_if (is_id i opener) x false place (closed_if (is_id i closer) (confirmed_if (is_id i pubrec) (released_if (is_id i pubrel) bounded place.position old))) ≡ entry_next f n bounded place i old
+entry-moves f n bounded place i old opener x closer pubrel pubrec m accepted =
+    quality i opener x (sends_exactly_once n) false place (closed_if (is_id i closer) (confirmed_if (is_id i pubrec) (released_if (is_id i pubrel) bounded place.position old))) m.quality
+    ∙ sent-anew (is_id i opener) (sends_exactly_once n) false (is_id i closer) (is_id i pubrec) (is_id i pubrel) place bounded place.position old
     ∙ sym (
-    ap (λ b. cond b (cond (begins (Some f)) None old) (cond (accepts f) (entry_after i n place old) old)) m.closed
-    ∙ ap (λ b. cond b (entry_after i n place old) old) accepted
-    ∙ ap (λ o. opened_if (is_id i o) (sends_exactly_once n) (sends_retained n) place (closed_if (is_id i (closer_of n)) (confirmed_if (is_id i (received_as accepting_pubrec_in n)) (released_if (is_id i (sent_as pubrel_in n)) place.position (sent_if (is_id i (delivery_of n)) place.position old))))) m.opens
-    ∙ ap (λ o. opened_if (is_id i opener) (sends_exactly_once n) (sends_retained n) place (closed_if (is_id i o) (confirmed_if (is_id i (received_as accepting_pubrec_in n)) (released_if (is_id i (sent_as pubrel_in n)) place.position (sent_if (is_id i (delivery_of n)) place.position old))))) m.closes
-    ∙ ap (λ o. opened_if (is_id i opener) (sends_exactly_once n) (sends_retained n) place (closed_if (is_id i closer) (confirmed_if (is_id i o) (released_if (is_id i (sent_as pubrel_in n)) place.position (sent_if (is_id i (delivery_of n)) place.position old))))) m.confirms
-    ∙ ap (λ o. opened_if (is_id i opener) (sends_exactly_once n) (sends_retained n) place (closed_if (is_id i closer) (confirmed_if (is_id i pubrec) (released_if (is_id i o) place.position (sent_if (is_id i (delivery_of n)) place.position old))))) m.releases
-    ∙ ap (λ o. opened_if (is_id i opener) (sends_exactly_once n) (sends_retained n) place (closed_if (is_id i closer) (confirmed_if (is_id i pubrec) (released_if (is_id i pubrel) place.position (sent_if (is_id i o) place.position old))))) m.delivers
-    ∙ ap (λ b. opened_if (is_id i opener) (sends_exactly_once n) b place (closed_if (is_id i closer) (confirmed_if (is_id i pubrec) (released_if (is_id i pubrel) place.position (sent_if (is_id i opener) place.position old))))) m.plain)
+    ap (λ b. cond b (cond (begins (Some f)) None old) (cond (accepts f) (entry_after bounded i n place old) old)) m.closed
+    ∙ ap (λ b. cond b (entry_after bounded i n place old) old) accepted
+    ∙ ap (λ o. opened_if (is_id i o) (sends_exactly_once n) (sends_retained n) place (closed_if (is_id i (closer_of n)) (confirmed_if (is_id i (received_as accepting_pubrec_in n)) (released_if (is_id i (sent_as pubrel_in n)) bounded place.position (sent_if (is_id i (delivery_of n)) bounded place.position old))))) m.opens
+    ∙ ap (λ o. opened_if (is_id i opener) (sends_exactly_once n) (sends_retained n) place (closed_if (is_id i o) (confirmed_if (is_id i (received_as accepting_pubrec_in n)) (released_if (is_id i (sent_as pubrel_in n)) bounded place.position (sent_if (is_id i (delivery_of n)) bounded place.position old))))) m.closes
+    ∙ ap (λ o. opened_if (is_id i opener) (sends_exactly_once n) (sends_retained n) place (closed_if (is_id i closer) (confirmed_if (is_id i o) (released_if (is_id i (sent_as pubrel_in n)) bounded place.position (sent_if (is_id i (delivery_of n)) bounded place.position old))))) m.confirms
+    ∙ ap (λ o. opened_if (is_id i opener) (sends_exactly_once n) (sends_retained n) place (closed_if (is_id i closer) (confirmed_if (is_id i pubrec) (released_if (is_id i o) bounded place.position (sent_if (is_id i (delivery_of n)) bounded place.position old))))) m.releases
+    ∙ ap (λ o. opened_if (is_id i opener) (sends_exactly_once n) (sends_retained n) place (closed_if (is_id i closer) (confirmed_if (is_id i pubrec) (released_if (is_id i pubrel) bounded place.position (sent_if (is_id i o) bounded place.position old))))) m.delivers
+    ∙ ap (λ b. opened_if (is_id i opener) (sends_exactly_once n) b place (closed_if (is_id i closer) (confirmed_if (is_id i pubrec) (released_if (is_id i pubrel) bounded place.position (sent_if (is_id i opener) bounded place.position old))))) m.plain)
 
 -- ---- the others
 
@@ -123,21 +123,27 @@ moved-next tested s t f at e past opener x closer pubrel pubrec under now u m ac
     (w.others.peer ∙ sym (ap (λ o. option_or (cond (is_open n) None s.peer) o) (m.room s.role) ∙ ap (λ b. option_or (cond b None s.peer) None) m.closed ∙ option_or-none s.peer))
     (λ below. w.flying below ∙ flown-moves n (may_count s.role s.peer) s.in_flight opener x closer pubrel pubrec m)
     (w.others.bounds ∙ sym (ap (λ o. option_or (cond (is_open n) None s.bounds) o) (m.bounds s.role) ∙ ap (λ b. option_or (cond b None s.bounds) None) m.closed ∙ option_or-none s.bounds))
-    (subst (λ r. IsResent t.opened (by_itself t.bounds) (get nat_eq t.entries) (contains nat_eq t.confirmed) r) (sym w.again)
-    (subst (λ o. IsResent o (by_itself t.bounds) (get nat_eq t.entries) (contains nat_eq t.confirmed) known) (sym w.others.opened)
-    (subst (λ o. IsResent s.opened (by_itself o) (get nat_eq t.entries) (contains nat_eq t.confirmed) known) (sym w.others.bounds)
-    (resent-moves n s.opened e.place.position (by_itself s.bounds) (get nat_eq s.entries) (get nat_eq t.entries) (contains nat_eq t.confirmed) s.again opener x closer pubrel pubrec m
-    (again-next f n e.place s.opened (by_itself s.bounds) (by_itself s.bounds) (get nat_eq s.entries) (get nat_eq t.entries) (contains nat_eq s.confirmed) (contains nat_eq t.confirmed) s.again below (λ closed y h. h) entries
-    (λ i. w.confirmed i ∙ confirmed-moves f n (get nat_eq s.entries) i (contains nat_eq s.confirmed i) opener x closer pubrel pubrec m accepted) u.resent_are)))))
+    (w.others.bounded ∙ sym (ap (λ b. cond (b && (resumes s.fate && is_limited s.bounds)) s.opened s.bounded) m.closed))
+    (subst (λ r. IsResent t.opened (by_itself t.fate t.bounds t.opened t.bounded) (get nat_eq t.entries) (contains nat_eq t.confirmed) r) (sym w.again)
+    (subst (λ o. IsResent o (by_itself t.fate t.bounds o t.bounded) (get nat_eq t.entries) (contains nat_eq t.confirmed) known) (sym w.others.opened)
+    (subst (λ o. IsResent s.opened (by_itself t.fate o s.opened t.bounded) (get nat_eq t.entries) (contains nat_eq t.confirmed) known) (sym w.others.bounds)
+    (subst (λ o. IsResent s.opened (by_itself o s.bounds s.opened t.bounded) (get nat_eq t.entries) (contains nat_eq t.confirmed) known) (sym w.others.fate)
+    (subst (λ o. IsResent s.opened (by_itself s.fate s.bounds s.opened o) (get nat_eq t.entries) (contains nat_eq t.confirmed) known) (sym w.others.bounded)
+    (resent-moves n s.opened e.place.position single (get nat_eq s.entries) (get nat_eq t.entries) (contains nat_eq t.confirmed) s.again opener x closer pubrel pubrec m
+    (again-next f n s.bounded e.place s.opened single single (get nat_eq s.entries) (get nat_eq t.entries) (contains nat_eq s.confirmed) (contains nat_eq t.confirmed) s.again below (λ closed y h. h) entries
+    (λ i. w.confirmed i ∙ confirmed-moves f n (get nat_eq s.entries) i (contains nat_eq s.confirmed i) opener x closer pubrel pubrec m accepted) u.resent_are)))))))
   where
     n : Note
     n = e.note
+
+    single : Excused
+    single = by_itself s.fate s.bounds s.opened s.bounded
 
     known : Resent
     known = record { all = s.again.all && not (untouched s.opened (get nat_eq s.entries) pubrec); confirmed = s.again.confirmed && not (untouched s.opened (get nat_eq s.entries) pubrec) }
 
     rest : ℕ → Option Entry
-    rest i = closed_if (is_id i closer) (confirmed_if (is_id i pubrec) (released_if (is_id i pubrel) e.place.position (get nat_eq s.entries i)))
+    rest i = closed_if (is_id i closer) (confirmed_if (is_id i pubrec) (released_if (is_id i pubrel) s.bounded e.place.position (get nat_eq s.entries i)))
 
     stray-moves : (i : ℕ) → stray_next f n (get nat_eq t.entries) i (contains nat_eq s.stray i) ≡ (not (is_id i closer) && contains nat_eq s.stray i)
     stray-moves i =
@@ -155,40 +161,40 @@ moved-next tested s t f at e past opener x closer pubrel pubrec under now u m ac
         ∙ ap (λ o. cond (resumes f) (is_id i (option_or opener o) || (not (is_id i (closer_of n)) && contains nat_eq s.unanswered i)) (contains nat_eq s.unanswered i)) m.releases
         ∙ ap (λ o. cond (resumes f) (is_id i (option_or opener pubrel) || (not (is_id i o) && contains nat_eq s.unanswered i)) (contains nat_eq s.unanswered i)) m.closes
 
-    entries : (i : ℕ) → get nat_eq t.entries i ≡ entry_next f n e.place i (get nat_eq s.entries i)
-    entries i = w.entries i ∙ entry-moves f n e.place i (get nat_eq s.entries i) opener x closer pubrel pubrec m accepted
+    entries : (i : ℕ) → get nat_eq t.entries i ≡ entry_next f n s.bounded e.place i (get nat_eq s.entries i)
+    entries i = w.entries i ∙ entry-moves f n s.bounded e.place i (get nat_eq s.entries i) opener x closer pubrel pubrec m accepted
 
     below : s.opened ≤ e.place.position
     below = let a = u.opened_is in let b = opened-within past in let d = under.follows.placed.0 in omega (arith, a, b, d)
 
 -- ---- what it breaks
 
-abbrev busy : Inflight → ℕ → Bool
-busy s i = is_some (get nat_eq s.entries i) || (contains nat_eq s.subscribing i || contains nat_eq s.unsubscribing i)
+abbrev busy : Inflight → Fate → ℕ → Bool
+busy s f i = is_some_and (is_taken (passed_since f s.bounds s.opened s.bounded)) (get nat_eq s.entries i) || (contains nat_eq s.subscribing i || contains nat_eq s.unsubscribing i)
 
 abbrev broken_by : Bool → Bool → Bool → Bool → Bool → Broken
 broken_by a b c d e = record { takes_busy = a; unopened = b; twice = c; past_pubrel = d; out_of_order = e }
 
 -- only that it takes an identifier that is busy
 breaks-moves : (s : Inflight) (f : Fate) (n : Note) (opener : Option ℕ) (x : Bool) (closer pubrel pubrec : Option ℕ) → Moves n opener x closer pubrel pubrec → accepts f ≡ true
-    → record { takes_busy = is_some_and (busy s) opener; unopened = false; twice = false; past_pubrel = false; out_of_order = false } ≡ breaks s f n
+    → record { takes_busy = is_some_and (busy s f) opener; unopened = false; twice = false; past_pubrel = false; out_of_order = false } ≡ breaks s f n
 breaks-moves s f n opener x closer pubrel pubrec m accepted =
     sym (
     ap (λ o. broken (accepts f) o (resend_of n)) (m.takes s.role)
     ∙ ap (λ o. broken (accepts f) opener o) m.resends
     ∙ ap (λ a. broken a opener None) accepted
-    ∙ ap (λ b. broken_by (is_some_and (busy s) opener) false false false b) (and_false s.ordered))
+    ∙ ap (λ b. broken_by (is_some_and (busy s f) opener) false false false b) (and_false s.ordered))
   where
     broken : Bool → Option ℕ → Option ℕ → Broken
     broken a t o =
-        broken_by (a && is_some_and (busy s) t) (a && is_some_and (unopened (get nat_eq s.entries) (contains nat_eq s.void) (may_resend s.earlier f)) o) (a && is_some_and (delivering s) o)
+        broken_by (a && is_some_and (busy s f) t) (a && is_some_and (unopened (get nat_eq s.entries) (contains nat_eq s.void) (may_resend s.earlier f)) o) (a && is_some_and (delivering s) o)
         (a && is_some_and (past_pubrel (get nat_eq s.entries)) o) (s.ordered && (a && is_some_and (out_of_order (get nat_eq s.entries) s.resent) o))
 
 pub moved-gains : (tested : Tested) (s : Inflight) (f : Fate) (at : ℕ) (e : Seen) (past : List Seen) (m : FaultMap) (opener : Option ℕ) (x : Bool) (closer pubrel pubrec : Option ℕ) → IsUnder tested f at e past
     → at ≡ e.place.position → IsUsing s tested (fate_before tested f e past) past → Moves e.note opener x closer pubrel pubrec → accepts f ≡ true
-    → Gains (λ k r. is_inflight r && turns_with tested f e past k r) tested (e ∷ past) at m (judged_by (is_some_and (busy s) opener) S01 e.place at m)
+    → Gains (λ k r. is_inflight r && turns_with tested f e past k r) tested (e ∷ past) at m (judged_by (is_some_and (busy s f) opener) S01 e.place at m)
 moved-gains tested s f at e past m opener x closer pubrel pubrec under now u w accepted =
-    inflight-gains tested s f at e past m (record { takes_busy = is_some_and (busy s) opener; unopened = false; twice = false; past_pubrel = false; out_of_order = false }) false (excuses s.peer s.in_flight s.bounds) under u
+    inflight-gains tested s f at e past m (record { takes_busy = is_some_and (busy s f) opener; unopened = false; twice = false; past_pubrel = false; out_of_order = false }) false (excuses s.peer s.in_flight (by_itself s.fate s.bounds s.opened s.bounded)) under u
     (breaks-moves s f e.note opener x closer pubrel pubrec w accepted ∙ all_excused-late f at e.place.position (breaks s f e.note) now)
     (sym (ap (λ b. (resumes f && (b && ((at == e.place.position) && (accepts f && not s.ended)))) && (index_set_len s.unanswered == 0)) w.awake ∙ ap (λ b. b && (index_set_len s.unanswered == 0)) (and_false (resumes f))))
     refl
@@ -196,7 +202,7 @@ moved-gains tested s f at e past m opener x closer pubrel pubrec under now u w a
 -- ---- a step
 
 pub moved-step : (tested : Tested) (s t : Inflight) (taken : Option Fate) (e : Seen) (past : List Seen) (m new : FaultMap) (opener : Option ℕ) (x : Bool) (closer pubrel pubrec : Option ℕ) → Follows tested e past → IsKnown tested taken e past → IsUsing s tested taken past
-    → Moves e.note opener x closer pubrel pubrec → accepts s.fate ≡ true → IsMoved e.place opener x closer pubrel pubrec s t → new ≡ judged_by (is_some_and (busy s) opener) S01 e.place e.place.position m → IsStep e.place e.note t tested past m new
+    → Moves e.note opener x closer pubrel pubrec → accepts s.fate ≡ true → IsMoved e.place opener x closer pubrel pubrec s t → new ≡ judged_by (is_some_and (busy s s.fate) opener) S01 e.place e.place.position m → IsStep e.place e.note t tested past m new
 moved-step tested s t taken e past m new opener x closer pubrel pubrec follows known u w accepted is now =
     let k = knows tested s.fate taken e past follows known u.same_fate in
     let v = subst (λ o. IsUsing s tested o past) k.before u in

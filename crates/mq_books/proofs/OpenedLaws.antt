@@ -1,8 +1,9 @@
 -- Identifiers that are open in a session.
-use Rattle.std.proofs.Common.{◌≡◌, ℕ, ◌<◌, arith, Bool, true, false, cond, ◌&&◌, ◌||◌, not, List, [], ◌∷◌, Option, Some, None, refl, ap, sym, ◌∙◌, subst, inl, inr}
+use Rattle.std.proofs.Common.{◌≡◌, ℕ, ◌<◌, nat_lt, arith, Bool, true, false, cond, ◌&&◌, ◌||◌, not, List, [], ◌∷◌, Option, Some, None, refl, ap, sym, ◌∙◌, subst, inl, inr}
 use Rattle.std.specs.Prelude.{is_some}
 use Rattle.std.specs.Option.{option_and_then}
 use Rattle.std.proofs.lemmas.Bool.{eq-eqb}
+use Rattle.mq_rules.specs.declared.role.Role.{Role}
 use Rattle.mq_rules.specs.declared.role.Tested.{Tested}
 use Rattle.mq_rules.specs.declared.fate.Fate.{Fate}
 use Rattle.mq_rules.specs.declared.note.Note.{Note}
@@ -13,28 +14,29 @@ use Rattle.mq_rules.specs.declared.packet_note.PacketFields.{PacketFields}
 use Rattle.mq_rules.specs.declared.packet_note.PacketFields.TheVariants.{Publish}
 use Rattle.mq_rules.specs.declared.packet_note.PublishNote.{PublishNote}
 use Rattle.mq_rules.specs.Words.{is_id, only}
-use Rattle.mq_rules.specs.Notes.{is_open, is_release, opener_of, delivery_of, opener_in, delivery_in, publish_in, pubrel_in, sent_as}
+use Rattle.mq_rules.specs.Notes.{is_open, is_release, opener_of, delivery_of, opener_in, delivery_in, publish_in, pubrel_in, accepting_pubrec_in, sent_as, received_as}
 use Rattle.mq_rules.specs.Moments.{Moment, note, position, is_same, since, latest, Among, IsDescending}
 use Rattle.mq_rules.specs.Connections.{latest_fate, accepts, begins, voided, any_accepted, has_session, session}
 use Rattle.mq_rules.specs.Folds.{where_in}
-use Rattle.mq_rules.specs.Identifiers.{opens_id, closes_id, delivers, sends_pubrel}
+use Rattle.mq_rules.specs.Identifiers.{opens_id, closes_id, delivers, sends_pubrel, sends_again}
+use Rattle.mq_books.specs.Resending.{bounded_at}
 use Rattle.mq_rules.proofs.Exports.{differ, or_left, under-next}
 use Rattle.mq_books.specs.declared.inflight.entry.Entry.{Entry}
 use Rattle.mq_rules.specs.Under.{fate_before}
-use Rattle.mq_books.specs.Opened.{opened_by, sent_if, released_if, confirmed_if, closed_if, opened_if, sends_exactly_once, sends_retained, sends_again, confirms, moves, entry_after, entry_in, entry_next}
+use Rattle.mq_books.specs.Opened.{opened_by, sent_if, released_if, confirmed_if, closed_if, opened_if, sends_exactly_once, sends_retained, confirms, moves, entry_after, entry_in, entry_next}
 
 -- ---- one event
 
 -- an OPEN and a RELEASE change nothing
-idle : (i : ℕ) (n : Note) (old : Option Entry) (e : Seen) → (is_open n || is_release n) ≡ true → entry_after i n e.place old ≡ old
-idle i notes.Open None e h = refl
-idle i notes.Open (Some o) e h = refl
-idle i (notes.Release identifier) None e h = refl
-idle i (notes.Release identifier) (Some o) e h = refl
-idle i (notes.Close cuts) old e h = absurd (cc)
-idle i notes.Rest old e h = absurd (cc)
-idle i (notes.Sent item) old e h = absurd (cc)
-idle i (notes.Recv item) old e h = absurd (cc)
+idle : (bounded i : ℕ) (n : Note) (old : Option Entry) (e : Seen) → (is_open n || is_release n) ≡ true → entry_after bounded i n e.place old ≡ old
+idle bounded i notes.Open None e h = refl
+idle bounded i notes.Open (Some o) e h = refl
+idle bounded i (notes.Release identifier) None e h = refl
+idle bounded i (notes.Release identifier) (Some o) e h = refl
+idle bounded i (notes.Close cuts) old e h = absurd (cc)
+idle bounded i notes.Rest old e h = absurd (cc)
+idle bounded i (notes.Sent item) old e h = absurd (cc)
+idle bounded i (notes.Recv item) old e h = absurd (cc)
 
 only-is : (i : ℕ) (b : Bool) (o : Option ℕ) → is_id i (only b o) ≡ true → is_id i o ≡ true
 only-is i true o h = h
@@ -70,57 +72,62 @@ opener-releases i (notes.Sent (items.Packet p)) h = go p.fields h
     go (Publish q) h = refl
     go _ h = absurd (cc)
 
+-- nor a PUBREC
+opener-confirms : (i : ℕ) (n : Note) → is_id i (opener_of n) ≡ true → is_id i (received_as accepting_pubrec_in n) ≡ false
+opener-confirms i (notes.Recv item) h = absurd (cc)
+opener-confirms i _ h = refl
+
 -- ---- what is kept, with one event more
 
-pub entry-under : (tested : Tested) (f : Fate) (i : ℕ) (old : Option Entry) (e : Seen) (past : List Seen) → old ≡ entry_in i (session tested.role (fate_before tested f e past) past)
-    → entry_next f e.note e.place i old ≡ entry_in i (session tested.role (Some f) (e ∷ past))
-entry-under tested f i old e past h = sym (under-next (λ (m : Moment) (o : Option Entry). entry_after i (note m) m.event.place o) None tested.role (Some f) e past ∙ go (is_open e.note) refl h)
+pub entry-under : (tested : Tested) (f : Fate) (i : ℕ) (old : Option Entry) (e : Seen) (past : List Seen) → old ≡ entry_in tested.role i (session tested.role (fate_before tested f e past) past)
+    → entry_next f e.note (bounded_at tested.role past) e.place i old ≡ entry_in tested.role i (session tested.role (Some f) (e ∷ past))
+entry-under tested f i old e past h = sym (under-next (λ (m : Moment) (o : Option Entry). entry_after (bounded_at tested.role m.past) i (note m) m.event.place o) None tested.role (Some f) e past ∙ go (is_open e.note) refl h)
   where
     then : Option Fate → Option Entry
-    then o = entry_in i (session tested.role o past)
+    then o = entry_in tested.role i (session tested.role o past)
 
-    kept : (b : Bool) (x : Option Entry) → (is_open e.note || is_release e.note) ≡ true → where_in b (entry_after i e.note e.place) x ≡ x
-    kept true x n = idle i e.note x e n
+    kept : (b : Bool) (x : Option Entry) → (is_open e.note || is_release e.note) ≡ true → where_in b (entry_after (bounded_at tested.role past) i e.note e.place) x ≡ x
+    kept true x n = idle (bounded_at tested.role past) i e.note x e n
     kept false x n = refl
 
     or_true : (b : Bool) → (b || true) ≡ true
     or_true true = refl
     or_true false = refl
 
-    apart : (a r y : Bool) (x : Option Entry) → is_release e.note ≡ r → where_in (a || (r && y)) (entry_after i e.note e.place) x ≡ where_in a (entry_after i e.note e.place) x
+    apart : (a r y : Bool) (x : Option Entry) → is_release e.note ≡ r → where_in (a || (r && y)) (entry_after (bounded_at tested.role past) i e.note e.place) x ≡ where_in a (entry_after (bounded_at tested.role past) i e.note e.place) x
     apart true r y x n = refl
-    apart false true true x n = idle i e.note x e (ap (λ b. is_open e.note || b) n ∙ or_true (is_open e.note))
+    apart false true true x n = idle (bounded_at tested.role past) i e.note x e (ap (λ b. is_open e.note || b) n ∙ or_true (is_open e.note))
     apart false true false x n = refl
     apart false false y x n = refl
 
-    taken : (a : Bool) → old ≡ then (Some f) → where_in a (entry_after i e.note e.place) (then (Some f)) ≡ cond a (entry_after i e.note e.place old) old
-    taken true h = ap (entry_after i e.note e.place) (sym h)
+    taken : (a : Bool) → old ≡ then (Some f) → where_in a (entry_after (bounded_at tested.role past) i e.note e.place) (then (Some f)) ≡ cond a (entry_after (bounded_at tested.role past) i e.note e.place old) old
+    taken true h = ap (entry_after (bounded_at tested.role past) i e.note e.place) (sym h)
     taken false h = sym h
 
     go : (b : Bool) → is_open e.note ≡ b → old ≡ then (cond b (latest_fate tested.role past) (Some f))
-        → where_in (has_session tested.role (Some f) e past) (entry_after i e.note e.place) (cond b (cond (begins (Some f)) None (then (latest_fate tested.role past))) (then (Some f)))
-        ≡ cond b (cond (begins (Some f)) None old) (cond (accepts f) (entry_after i e.note e.place old) old)
+        → where_in (has_session tested.role (Some f) e past) (entry_after (bounded_at tested.role past) i e.note e.place) (cond b (cond (begins (Some f)) None (then (latest_fate tested.role past))) (then (Some f)))
+        ≡ cond b (cond (begins (Some f)) None old) (cond (accepts f) (entry_after (bounded_at tested.role past) i e.note e.place old) old)
     go true n h = kept (has_session tested.role (Some f) e past) (cond (begins (Some f)) None (then (latest_fate tested.role past))) (ap (λ b. b || is_release e.note) n) ∙ ap (cond (begins (Some f)) None) (sym h)
     go false n h = apart (accepts f) (is_release e.note) (voided (Some f) && any_accepted tested.role (Some f) past) (then (Some f)) refl ∙ taken (accepts f) h
 
 -- ---- what is kept says what came before
 
-still : (a b c : Bool) (at : ℕ) (x : Option Entry) → is_some (confirmed_if a (released_if b at (sent_if c at x))) ≡ is_some x
-still a b c at None = refl
-still a b c at (Some o) = refl
+still : (a b c : Bool) (bounded at : ℕ) (x : Option Entry) → is_some (confirmed_if a (released_if b bounded at (sent_if c bounded at x))) ≡ is_some x
+still a b c bounded at None = refl
+still a b c bounded at (Some o) = refl
 
 -- something is kept exactly if the identifier is open
-pub entry-there : (i : ℕ) (ms : List Moment) → is_some (entry_in i ms) ≡ since (opens_id i) (closes_id i) ms
-entry-there i [] = refl
-entry-there i (m ∷ ms) = go (opens_id i m) (closes_id i m) (entry-there i ms)
+pub entry-there : (role : Role) (i : ℕ) (ms : List Moment) → is_some (entry_in role i ms) ≡ since (opens_id i) (closes_id i) ms
+entry-there role i [] = refl
+entry-there role i (m ∷ ms) = go (opens_id i m) (closes_id i m) (entry-there role i ms)
   where
     touched : Option Entry
-    touched = confirmed_if (confirms i m) (released_if (sends_pubrel i m) m.event.place.position (sent_if (delivers i m) m.event.place.position (entry_in i ms)))
+    touched = confirmed_if (confirms i m) (released_if (sends_pubrel i m) (bounded_at role m.past) m.event.place.position (sent_if (delivers i m) (bounded_at role m.past) m.event.place.position (entry_in role i ms)))
 
-    go : (b c : Bool) → is_some (entry_in i ms) ≡ since (opens_id i) (closes_id i) ms → is_some (opened_if b (sends_exactly_once (note m)) (sends_retained (note m)) m.event.place (closed_if c touched)) ≡ (b || (not c && since (opens_id i) (closes_id i) ms))
+    go : (b c : Bool) → is_some (entry_in role i ms) ≡ since (opens_id i) (closes_id i) ms → is_some (opened_if b (sends_exactly_once (note m)) (sends_retained (note m)) m.event.place (closed_if c touched)) ≡ (b || (not c && since (opens_id i) (closes_id i) ms))
     go true c rest = refl
     go false true rest = refl
-    go false false rest = still (confirms i m) (sends_pubrel i m) (delivers i m) m.event.place.position (entry_in i ms) ∙ rest
+    go false false rest = still (confirms i m) (sends_pubrel i m) (delivers i m) (bounded_at role m.past) m.event.place.position (entry_in role i ms) ∙ rest
 
 -- what is kept of an identifier that is open after these moments of its session
 pub record IsEntry (i : ℕ) (ms : List Moment) (o : Entry) : Type 0 where
@@ -133,15 +140,16 @@ pub record IsEntry (i : ℕ) (ms : List Moment) (o : Entry) : Type 0 where
   pub same_quality : o.exactly_once ≡ sends_exactly_once (note opener)
   pub same_retained : o.retained ≡ sends_retained (note opener)
   pub is_released : o.released ≡ since (sends_pubrel i) (opens_id i) ms
+  pub since_confirmed : o.confirmed ≡ since (confirms i) (opens_id i) ms
   pub is_confirmed : not o.confirmed ≡ since (is_same opener) (confirms i) ms
   pub is_sent : (s : Moment) × (latest (sends_again i) ms ≡ Some s) × (o.sent ≡ s.event.place.position)
 
-pub entry-is : (i : ℕ) (ms : List Moment) (o : Entry) → IsDescending ms → entry_in i ms ≡ Some o → IsEntry i ms o
-entry-is i [] o d h = absurd (cc)
-entry-is i (m ∷ ms) o d h = go (opens_id i m) refl (closes_id i m) refl (entry_in i ms) (λ x is. entry-is i ms x d.1 is) h
+pub entry-is : (role : Role) (i : ℕ) (ms : List Moment) (o : Entry) → IsDescending ms → entry_in role i ms ≡ Some o → IsEntry i ms o
+entry-is role i [] o d h = absurd (cc)
+entry-is role i (m ∷ ms) o d h = go (opens_id i m) refl (closes_id i m) refl (entry_in role i ms) (λ x is. entry-is role i ms x d.1 is) h
   where
     touched : Option Entry → Option Entry
-    touched x = confirmed_if (confirms i m) (released_if (sends_pubrel i m) m.event.place.position (sent_if (delivers i m) m.event.place.position x))
+    touched x = confirmed_if (confirms i m) (released_if (sends_pubrel i m) (bounded_at role m.past) m.event.place.position (sent_if (delivers i m) (bounded_at role m.past) m.event.place.position x))
 
     new : opens_id i m ≡ true → IsEntry i (m ∷ ms) (opened_by (sends_exactly_once (note m)) (sends_retained (note m)) m.event.place)
     new t = record {
@@ -154,6 +162,7 @@ entry-is i (m ∷ ms) o d h = go (opens_id i m) refl (closes_id i m) refl (entry
       same_quality = refl;
       same_retained = refl;
       is_released = sym (ap (λ b. sends_pubrel i m || (not b && since (sends_pubrel i) (opens_id i) ms)) t ∙ ap (λ b. b || false) (opener-releases i (note m) t));
+      since_confirmed = sym (ap (λ b. confirms i m || (not b && since (confirms i) (opens_id i) ms)) t ∙ ap (λ b. b || false) (opener-confirms i (note m) t));
       is_confirmed = sym (or_left (is_same m m) (not (confirms i m) && since (is_same m) (confirms i) ms) (eq-eqb (position m) (position m) refl));
       is_sent = (m, ap (λ b. cond b (Some m) (latest (sends_again i) ms)) (or_left (delivers i m) (sends_pubrel i m) (opener-delivers i (note m) t)), refl);
     }
@@ -170,7 +179,7 @@ entry-is i (m ∷ ms) o d h = go (opens_id i m) refl (closes_id i m) refl (entry
     unsure false q s h = h
 
     older : (p : Entry) → opens_id i m ≡ false → closes_id i m ≡ false → IsEntry i ms p
-        → IsEntry i (m ∷ ms) (record { place = p.place; exactly_once = p.exactly_once; retained = p.retained; confirmed = confirms i m || p.confirmed; released = sends_pubrel i m || p.released; sent = cond (sends_pubrel i m) m.event.place.position (cond (delivers i m) m.event.place.position p.sent); published = cond (delivers i m) m.event.place.position p.published })
+        → IsEntry i (m ∷ ms) (record { place = p.place; exactly_once = p.exactly_once; retained = p.retained; confirmed = confirms i m || p.confirmed; released = sends_pubrel i m || p.released; passed = (sends_pubrel i m && nat_lt (cond (delivers i m) m.event.place.position p.sent) (bounded_at role m.past)) || ((delivers i m && nat_lt p.sent (bounded_at role m.past)) || p.passed); sent = cond (sends_pubrel i m) m.event.place.position (cond (delivers i m) m.event.place.position p.sent); published = cond (delivers i m) m.event.place.position p.published })
     older p t u r =
         let before : position r.opener < position m = d.0 r.opener r.there in
         let other : is_same r.opener m ≡ false = differ (position r.opener) (position m) (λ same. absurd (omega arith)) in
@@ -184,6 +193,7 @@ entry-is i (m ∷ ms) o d h = go (opens_id i m) refl (closes_id i m) refl (entry
           same_quality = r.same_quality;
           same_retained = r.same_retained;
           is_released = ap (λ b. sends_pubrel i m || b) r.is_released ∙ sym (ap (λ b. sends_pubrel i m || (not b && since (sends_pubrel i) (opens_id i) ms)) t);
+          since_confirmed = ap (λ b. confirms i m || b) r.since_confirmed ∙ sym (ap (λ b. confirms i m || (not b && since (confirms i) (opens_id i) ms)) t);
           is_confirmed = unsure (confirms i m) p.confirmed (since (is_same r.opener) (confirms i) ms) r.is_confirmed ∙ sym (ap (λ b. b || (not (confirms i m) && since (is_same r.opener) (confirms i) ms)) other);
           is_sent = sender p (delivers i m) (sends_pubrel i m) r.is_sent.0 r.is_sent.1 r.is_sent.2;
         }
@@ -194,5 +204,5 @@ entry-is i (m ∷ ms) o d h = go (opens_id i m) refl (closes_id i m) refl (entry
     go false t true u x rest h = absurd (cc)
     go false t false u None rest h = absurd (cc)
     go false t false u (Some p) rest h =
-        let same : record { place = p.place; exactly_once = p.exactly_once; retained = p.retained; confirmed = confirms i m || p.confirmed; released = sends_pubrel i m || p.released; sent = cond (sends_pubrel i m) m.event.place.position (cond (delivers i m) m.event.place.position p.sent); published = cond (delivers i m) m.event.place.position p.published } ≡ o = cc in
+        let same : record { place = p.place; exactly_once = p.exactly_once; retained = p.retained; confirmed = confirms i m || p.confirmed; released = sends_pubrel i m || p.released; passed = (sends_pubrel i m && nat_lt (cond (delivers i m) m.event.place.position p.sent) (bounded_at role m.past)) || ((delivers i m && nat_lt p.sent (bounded_at role m.past)) || p.passed); sent = cond (sends_pubrel i m) m.event.place.position (cond (delivers i m) m.event.place.position p.sent); published = cond (delivers i m) m.event.place.position p.published } ≡ o = cc in
         subst (IsEntry i (m ∷ ms)) same (older p t u (rest p refl))

@@ -12,7 +12,6 @@ use Rattle.mq_rules.specs.declared.role.Role.{Role}
 use Rattle.mq_rules.specs.declared.role.Role.TheVariants.{Client, Server}
 use Rattle.mq_rules.specs.declared.role.Tested.{Tested}
 use Rattle.mq_rules.specs.declared.fate.Fate.{Fate}
-use Rattle.mq_rules.specs.declared.fate.Fate.TheVariants.{Void, Adrift, New, Forgotten, Resumed, Unasked, Unknown}
 use Rattle.mq_rules.specs.declared.rule.Rule.TheVariants.{S06}
 use Rattle.mq_rules.specs.declared.note.Note.{Note}
 use Rattle.mq_rules.specs.declared.note.Note.TheVariants as notes
@@ -24,26 +23,29 @@ use Rattle.mq_rules.specs.Notes.{is_open, is_rest, connect_of, connack_of, opene
 use Rattle.mq_rules.specs.Moments.{Moment, newest, position, moment, moments, those, some, Among, IsPlaced, note, since}
 use Rattle.mq_rules.specs.Connections.{connection, latest_fate, accepts, resumes, accepted, resumed, ends_binding, is_binding, first_connect, first_connack, session, gives_fate, begun, number, is_connected, needs_connection}
 use Rattle.mq_rules.specs.Counter.{in_flight}
-use Rattle.mq_rules.specs.Identifiers.{counts, is_used_up, has_announced, refuses_retained, closes_id, sent_under, awaits_closer, is_waiting, shows_S06}
+use Rattle.mq_rules.specs.Identifiers.{counts, is_used_up, is_passed_over, refuses_retained, closes_id, sent_under, awaits_closer, is_waiting, shows_S06}
 use Rattle.mq_rules.specs.Rules.{binds, found_line, line_of, lines, same_rule}
 use Rattle.mq_rules.specs.Faults.{reported}
 use Rattle.mq_rules.specs.FaultKeys.{FaultMap}
 use Rattle.mq_rules.proofs.Exports.{among-moment, among-some, and_false, both_true, differ, first_found-next, latest_fate-same, moment-among, moment-placed, moment-stays, moments-descend, not_true, on_open-connected, or_false, or_left, rest-opens-nothing, session-descend, session-members, since-stands, some-among, those-descend, used_up-counted}
 use Rattle.mq_books.specs.declared.inflight.entry.Entry.{Entry}
 use Rattle.mq_books.specs.declared.inflight.Inflight.{Inflight}
+use Rattle.mq_rules.specs.Passing.{opened_at}
 use Rattle.mq_books.specs.declared.inflight.resends.Excused.{Excused}
+use Rattle.mq_books.specs.declared.inflight.resends.Bounds.{Bounds}
 use Rattle.mq_rules.specs.Under.{IsUnder, fate_before, turns_with}
 use Rattle.mq_rules.specs.Growing.{Gains}
 use Rattle.mq_books.specs.Quotas.{peer_room}
 use Rattle.mq_books.specs.Owings.{binds_by, blamed}
 use Rattle.mq_books.specs.Opened.{entry_in}
-use Rattle.mq_books.specs.Resending.{opened_at, connect_bounds, connack_bounds, peer_bounds, bounds_next, by_itself, excuses, apart, entire, is_due, due_places, blamed_due, blamed_under, told, settles}
+use Rattle.mq_books.specs.Resending.{connect_bounds, connack_bounds, peer_bounds, passed_since, is_passed, bounds_next, by_itself, excuses, apart, entire, is_due, due_places, blamed_due, blamed_under, told, settles}
 use Rattle.mq_books.specs.Using.{waits, IsUsing}
 use Rattle.mq_books.proofs.PingLaws.{binding-under}
 use Rattle.mq_books.proofs.BlameLaws.{place_at, blame_of, gains_blamed, gains_none}
 use Rattle.mq_books.proofs.QuotaLaws.{room-kept}
-use Rattle.mq_books.proofs.OpenedLaws.{entry-is}
-use Rattle.mq_books.proofs.DueLaws.{core, owes, due-owes, owes-due}
+use Rattle.mq_books.proofs.OpenedLaws.{entry-is, IsEntry}
+use Rattle.mq_books.proofs.PassingLaws.{over-is, resumed-accepts}
+use Rattle.mq_books.proofs.DueLaws.{owes, due-owes, owes-due}
 use Rattle.mq_books.proofs.PlacesLaws.{IsDueAt, value-due, key-due, places_under, under-due, listed-due, blamed_due-is, blamed_under-is}
 use Rattle.mq_books.proofs.AgainLaws.{due-listed}
 
@@ -53,18 +55,6 @@ binds-S06 Client releases = refl
 binds-S06 Server releases = refl
 
 -- ---- excuses
-
-announced-kept : (role : Role) (e : Seen) (past : List Seen) → has_announced role (newest e past) ≡ is_some_and (λ b. b.limits) (peer_bounds role past)
-announced-kept Client e past = go (first_connack Client (connection past))
-  where
-    go : (o : Option ConnackNote) → (is_some (option_and_then (λ a. a.maximum_packet_size) o) || is_some (option_and_then (λ a. a.maximum_qos) o)) ≡ is_some_and (λ b. b.limits) (connack_bounds o)
-    go None = refl
-    go (Some a) = refl
-announced-kept Server e past = go (first_connect Server (connection past))
-  where
-    go : (o : Option ConnectNote) → (is_some (option_and_then (λ c. c.maximum_packet_size) o) || false) ≡ is_some_and (λ b. b.limits) (connect_bounds o)
-    go None = refl
-    go (Some c) = or_false (is_some c.maximum_packet_size)
 
 refused-kept : (role : Role) (e : Seen) (past : List Seen) → refuses_retained role (newest e past) ≡ is_some_and (λ b. b.refuses_retained) (peer_bounds role past)
 refused-kept Client e past = go (first_connack Client (connection past))
@@ -78,18 +68,14 @@ refused-kept Server e past = go (first_connect Server (connection past))
     go None = refl
     go (Some c) = refl
 
--- what a REST e excuses of what wasn't confirmed
-excused_at : Role → Seen → List Seen → Excused
-excused_at role e past = record { all = is_used_up role (newest e past) || has_announced role (newest e past); retained = refuses_retained role (newest e past) }
+used-kept : (tested : Tested) (s : Inflight) (taken : Option Fate) (single : Excused) (e : Seen) (past : List Seen) → IsUsing s tested taken past → is_used_up tested.role (newest e past) ≡ (excuses s.peer s.in_flight single).all
+used-kept tested s taken single e past u =
+    used_up-counted tested.role (newest e past)
+    ∙ ap (λ n. nat_le n (in_flight (those (counts tested.role) (connection past)))) (room-kept tested.role e past)
+    ∙ sym (ap (λ p. nat_le (unwrap_or p 65535) s.in_flight) u.same_peer ∙ ap (λ n. nat_le (unwrap_or (peer_room tested.role past) 65535) n) u.flying)
 
-excuses-are : (tested : Tested) (s : Inflight) (taken : Option Fate) (e : Seen) (past : List Seen) → IsUsing s tested taken past → excused_at tested.role e past ≡ excuses s.peer s.in_flight s.bounds
-unfolding excused_at
-excuses-are tested s taken e past u =
-    ap (λ b. record { all = b || has_announced tested.role (newest e past); retained = refuses_retained tested.role (newest e past) }) (used_up-counted tested.role (newest e past)
-    ∙ ap (λ n. nat_le n (in_flight (those (counts tested.role) (connection past)))) (room-kept tested.role e past))
-    ∙ ap (λ b. record { all = nat_le (unwrap_or (peer_room tested.role past) 65535) (in_flight (those (counts tested.role) (connection past))) || b; retained = refuses_retained tested.role (newest e past) }) (announced-kept tested.role e past)
-    ∙ ap (λ b. record { all = (excuses (peer_room tested.role past) (in_flight (those (counts tested.role) (connection past))) (peer_bounds tested.role past)).all; retained = b }) (refused-kept tested.role e past)
-    ∙ sym (ap (λ p. excuses p s.in_flight s.bounds) u.same_peer ∙ ap (λ n. excuses (peer_room tested.role past) n s.bounds) u.flying ∙ ap (excuses (peer_room tested.role past) (in_flight (those (counts tested.role) (connection past)))) u.bounds_are)
+retained-kept : (tested : Tested) (s : Inflight) (taken : Option Fate) (e : Seen) (past : List Seen) → IsUsing s tested taken past → refuses_retained tested.role (newest e past) ≡ is_some_and (λ b. b.refuses_retained) s.bounds
+retained-kept tested s taken e past u = refused-kept tested.role e past ∙ ap (is_some_and (λ (b : Bounds). b.refuses_retained)) (sym u.bounds_are)
 
 -- ---- what waits for an answer
 
@@ -152,8 +138,9 @@ S06-turns : (tested : Tested) (f : Fate) (e : Seen) (past : List Seen) (k : ℕ)
 unfolding turns_with
 S06-turns tested f e past k = ap (λ b. b && (is_binding tested.role (newest e past) && is_some_and (shows_S06 tested.role (newest e past)) (moment past k))) (binds-S06 tested.role tested.releases)
 
-shows-owes : (role : Role) (e : Seen) (past : List Seen) (m : Moment) → shows_S06 role (newest e past) m ≡ (not (is_waiting (newest e past)) && owes role (latest_fate role past) (excused_at role e past) past m)
-unfolding shows_S06 excused_at
+shows-owes : (role : Role) (e : Seen) (past : List Seen) (m : Moment)
+    → shows_S06 role (newest e past) m ≡ (not (is_waiting (newest e past)) && owes role (latest_fate role past) (is_used_up role (newest e past)) (refuses_retained role (newest e past)) past m)
+unfolding shows_S06
 shows-owes role e past m = in-turn (resumed (latest_fate role past)) (not (is_waiting (newest e past))) _
   where
     in-turn : (a b c : Bool) → (a && (b && c)) ≡ (b && (a && c))
@@ -162,61 +149,58 @@ shows-owes role e past m = in-turn (resumed (latest_fate role past)) (not (is_wa
     in-turn false false c = refl
 
 -- what it shows
-shown-owes : (role : Role) (f : Fate) (x : Excused) (e : Seen) (past : List Seen) → latest_fate role past ≡ Some f → excused_at role e past ≡ x
-    → (q : Option Moment) → is_some_and (shows_S06 role (newest e past)) q ≡ (not (is_waiting (newest e past)) && is_some_and (owes role (Some f) x past) q)
-shown-owes role f x e past fate is None = sym (and_false (not (is_waiting (newest e past))))
-shown-owes role f x e past fate is (Some m) =
-    shows-owes role e past m ∙ ap (λ o. not (is_waiting (newest e past)) && owes role o (excused_at role e past) past m) fate ∙ ap (λ b. not (is_waiting (newest e past)) && owes role (Some f) b past m) is
+shown-owes : (role : Role) (f : Fate) (x : Excused) (e : Seen) (past : List Seen) → latest_fate role past ≡ Some f → is_used_up role (newest e past) ≡ x.all → refuses_retained role (newest e past) ≡ x.retained
+    → (q : Option Moment) → is_some_and (shows_S06 role (newest e past)) q ≡ (not (is_waiting (newest e past)) && is_some_and (owes role (Some f) x.all x.retained past) q)
+shown-owes role f x e past fate used refused None = sym (and_false (not (is_waiting (newest e past))))
+shown-owes role f x e past fate used refused (Some m) =
+    shows-owes role e past m ∙ ap (λ o. not (is_waiting (newest e past)) && owes role o (is_used_up role (newest e past)) (refuses_retained role (newest e past)) past m) fate
+    ∙ ap (λ b. not (is_waiting (newest e past)) && owes role (Some f) b (refuses_retained role (newest e past)) past m) used
+    ∙ ap (λ b. not (is_waiting (newest e past)) && owes role (Some f) x.all b past m) refused
 
-shown-nowhere : (role : Role) (f : Fate) (x : Excused) (past : List Seen) → resumes f ≡ false → (q : Option Moment) → is_some_and (owes role (Some f) x past) q ≡ false
+shown-nowhere : (role : Role) (f : Fate) (x : Excused) (past : List Seen) → resumes f ≡ false → (q : Option Moment) → is_some_and (owes role (Some f) x.all x.retained past) q ≡ false
 shown-nowhere role f x past h None = refl
-shown-nowhere role f x past h (Some m) = ap (λ b. b && is_some_and (λ i. core role f x past i m) (opener_of (note m))) h
+shown-nowhere role f x past h (Some m) = first-none (resumes f) _ h
+  where
+    first-none : (a b : Bool) → a ≡ false → (a && b) ≡ false
+    first-none a b h = ap (λ c. c && b) h
 
 rest-needs : (n : Note) → is_rest n ≡ true → needs_connection n ≡ true
 rest-needs notes.Rest h = refl
 rest-needs _ h = absurd (cc)
 
-resumed-accepts : (f : Fate) → resumes f ≡ true → accepts f ≡ true
-resumed-accepts Void h = absurd (cc)
-resumed-accepts Adrift h = absurd (cc)
-resumed-accepts New h = absurd (cc)
-resumed-accepts Forgotten h = absurd (cc)
-resumed-accepts Resumed h = refl
-resumed-accepts Unasked h = refl
-resumed-accepts Unknown h = absurd (cc)
-
 due-blamed : (tested : Tested) (f : Fate) (at opened : ℕ) (x : Excused) (e : Seen) (past : List Seen) (entry : ℕ → Option Entry) (places : List Place3) → IsPlaced past → resumes f ≡ true → opened ≡ opened_at past
-    → ((i : ℕ) → entry i ≡ entry_in i (session tested.role (Some f) past)) → ((k : ℕ) → turns_with tested f e past k S06 ≡ is_some_and (owes tested.role (Some f) x past) (moment past k))
+    → ((i : ℕ) → entry i ≡ entry_in tested.role i (session tested.role (Some f) past))
+    → ((i : ℕ) (o : Entry) → entry_in tested.role i (session tested.role (Some f) past) ≡ Some o → (r : IsEntry i (session tested.role (Some f) past) o) → is_passed_over tested.role (Some f) i past r.opener ≡ is_passed x.before o) → ((k : ℕ) → turns_with tested f e past k S06 ≡ is_some_and (owes tested.role (Some f) x.all x.retained past) (moment past k))
     → ((k : ℕ) (p : Place3) → place_at k places ≡ Some p → IsDueAt k opened x entry p)
     → ((k i : ℕ) (o : Entry) → entry i ≡ Some o → is_due opened x o ≡ true → k ≡ o.place.position → is_some (place_at k places) ≡ true)
     → (k : ℕ) → blame_of at (place_at k places) ≡ cond (turns_with tested f e past k S06) (Some (reported tested.role (moment (e ∷ past) k) S06 at)) None
-due-blamed tested f at opened x e past entry places placed resumed opened_is are turns sound complete k =
+due-blamed tested f at opened x e past entry places placed resumed opened_is are over turns sound complete k =
     go (place_at k places) refl ∙ ap (λ b. cond b (Some (reported tested.role (moment (e ∷ past) k) S06 at)) None) (sym (turns k))
   where
     a : accepts f ≡ true
     a = resumed-accepts f resumed
 
     shown : Bool
-    shown = is_some_and (owes tested.role (Some f) x past) (moment past k)
+    shown = is_some_and (owes tested.role (Some f) x.all x.retained past) (moment past k)
 
     of_entry : (p : Place3) → IsDueAt k opened x entry p → Some (record { decided = at; record_no = p.record_no; offset = None }) ≡ cond shown (Some (reported tested.role (moment (e ∷ past) k) S06 at)) None
     of_entry p v =
-        let kept : entry_in v.identifier (session tested.role (Some f) past) ≡ Some v.kept = sym (are v.identifier) ∙ v.is_kept in
-        let r = entry-is v.identifier (session tested.role (Some f) past) v.kept (session-descend tested.role (Some f) past) kept in
+        let kept : entry_in tested.role v.identifier (session tested.role (Some f) past) ≡ Some v.kept = sym (are v.identifier) ∙ v.is_kept in
+        let r = entry-is tested.role v.identifier (session tested.role (Some f) past) v.kept (session-descend tested.role (Some f) past) kept in
         let among : Among r.opener (moments past) = (session-members tested.role (Some f) past r.opener r.there).0 in
         let same : p ≡ r.opener.event.place = v.same_place ∙ r.same_place in
         let here : k ≡ position r.opener = v.here ∙ ap (λ (y : Place3). y.position) same ∙ moment-placed past (position r.opener) r.opener placed (among-moment r.opener past among) in
         let before : moment past k ≡ Some r.opener = ap (moment past) here ∙ among-moment r.opener past among in
         let due : is_due (opened_at past) x v.kept ≡ true = ap (λ n. is_due n x v.kept) (sym opened_is) ∙ v.due in
-        let yes : shown ≡ true = ap (is_some_and (owes tested.role (Some f) x past)) before ∙ due-owes tested.role f resumed a x past placed v.identifier v.kept r due in
+        let yes : shown ≡ true = ap (is_some_and (owes tested.role (Some f) x.all x.retained past)) before ∙ due-owes tested.role f resumed a x past placed v.identifier v.kept r (over v.identifier v.kept kept r) due in
         ap (λ (y : Place3). Some (record { decided = at; record_no = y.record_no; offset = None })) same
         ∙ ap (λ o. Some (reported tested.role o S06 at)) (sym (moment-stays e past k r.opener before))
         ∙ ap (λ b. cond b (Some (reported tested.role (moment (e ∷ past) k) S06 at)) None) (sym yes)
 
-    never : place_at k places ≡ None → (q : Option Moment) → moment past k ≡ q → is_some_and (owes tested.role (Some f) x past) q ≡ true → ⊥
+    never : place_at k places ≡ None → (q : Option Moment) → moment past k ≡ q → is_some_and (owes tested.role (Some f) x.all x.retained past) q ≡ true → ⊥
     never h None is t = absurd (cc)
     never h (Some m) is t =
-        let w = owes-due tested.role f a x past placed m (moment-among past k m is) t in
+        let w = owes-due tested.role f a x past placed over m (moment-among past k m is) t in
         let at_k : k ≡ w.entry.place.position = sym (ap (λ (y : Place3). y.position) w.same_place ∙ moment-placed past k m placed is) in
         let due : is_due opened x w.entry ≡ true = ap (λ n. is_due n x w.entry) opened_is ∙ w.due in
         let has = complete k w.identifier w.entry (are w.identifier ∙ w.is_kept) due at_k in
@@ -227,7 +211,7 @@ due-blamed tested f at opened x e past entry places placed resumed opened_is are
     go (Some p) h = of_entry p (sound k p h)
 
 pub resends-gains : (tested : Tested) (s : Inflight) (f : Fate) (at : ℕ) (e : Seen) (past : List Seen) (m : FaultMap) (rests : Bool) (excused : Excused) → IsUnder tested f at e past → IsUsing s tested (fate_before tested f e past) past
-    → rests ≡ (settles f (at == e.place.position) s.ended e.note && (index_set_len s.unanswered == 0)) → excused ≡ excuses s.peer s.in_flight s.bounds
+    → rests ≡ (settles f (at == e.place.position) s.ended e.note && (index_set_len s.unanswered == 0)) → excused ≡ excuses s.peer s.in_flight (by_itself s.fate s.bounds s.opened s.bounded)
     → Gains (λ k r. same_rule r S06 && turns_with tested f e past k r) tested (e ∷ past) at m (told rests s.again excused s.opened at (values_of s.entries.entries) (get nat_eq s.entries) s.confirmed.keys m)
 resends-gains tested s f at e past m rests excused under u rest_is excused_is = go rests refl
   where
@@ -249,13 +233,16 @@ resends-gains tested s f at e past m rests excused under u rest_is excused_is = 
     is : rests ≡ ((resumes f && is_binding tested.role (newest e past)) && vacant)
     is = rest_is ∙ ap (λ b. (resumes f && b) && vacant) (sym binding)
 
-    x_is : excused_at tested.role e past ≡ excused
-    x_is = excuses-are tested s (fate_before tested f e past) e past u ∙ sym excused_is
+    used : is_used_up tested.role (newest e past) ≡ excused.all
+    used = used-kept tested s (fate_before tested f e past) (by_itself s.fate s.bounds s.opened s.bounded) e past u ∙ ap (λ (x : Excused). x.all) (sym excused_is)
 
-    shown : is_binding tested.role (newest e past) ≡ true → (k : ℕ) → turns_with tested f e past k S06 ≡ (not waiting && is_some_and (owes tested.role (Some f) excused past) (moment past k))
+    refused : refuses_retained tested.role (newest e past) ≡ excused.retained
+    refused = retained-kept tested s (fate_before tested f e past) e past u ∙ ap (λ (x : Excused). x.retained) (sym excused_is)
+
+    shown : is_binding tested.role (newest e past) ≡ true → (k : ℕ) → turns_with tested f e past k S06 ≡ (not waiting && is_some_and (owes tested.role (Some f) excused.all excused.retained past) (moment past k))
     shown b k =
         S06-turns tested f e past k ∙ ap (λ t. t && is_some_and (shows_S06 tested.role (newest e past)) (moment past k)) b
-        ∙ shown-owes tested.role f excused e past (binding-fate tested f at e past under b) x_is (moment past k)
+        ∙ shown-owes tested.role f excused e past (binding-fate tested f at e past under b) used refused (moment past k)
 
     -- a REST that binds comes on a connection that is open
     awake : is_binding tested.role (newest e past) ≡ true → is_rest e.note ≡ true
@@ -271,11 +258,22 @@ resends-gains tested s f at e past m rests excused under u rest_is excused_is = 
     none : (b : Bool) → is_binding tested.role (newest e past) ≡ b → (r : Bool) → resumes f ≡ r → (v : Bool) → vacant ≡ v → ((r && b) && v) ≡ false → (k : ℕ) → turns_with tested f e past k S06 ≡ false
     none false b r t v w h k = S06-turns tested f e past k ∙ ap (λ t. t && is_some_and (shows_S06 tested.role (newest e past)) (moment past k)) b
     none true b true t true w h k = absurd (cc)
-    none true b true t false w h k = shown b k ∙ ap (λ v. v && is_some_and (owes tested.role (Some f) excused past) (moment past k)) (sym (silent t b) ∙ w)
+    none true b true t false w h k = shown b k ∙ ap (λ v. v && is_some_and (owes tested.role (Some f) excused.all excused.retained past) (moment past k)) (sym (silent t b) ∙ w)
     none true b false t v w h k = shown b k ∙ ap (λ o. not waiting && o) (shown-nowhere tested.role f excused past t (moment past k)) ∙ and_false (not waiting)
 
     closed : is_rest e.note ≡ true → IsUsing s tested (Some f) past
     closed rest = subst (λ b. IsUsing s tested (cond b (latest_fate tested.role past) (Some f)) past) (rest-opens-nothing e.note rest) u
+
+    over : resumes f ≡ true → IsUsing s tested (Some f) past → (i : ℕ) (o : Entry) → entry_in tested.role i (session tested.role (Some f) past) ≡ Some o → (r : IsEntry i (session tested.role (Some f) past) o)
+        → is_passed_over tested.role (Some f) i past r.opener ≡ is_passed excused.before o
+    over h n i o kept r =
+        let same : s.fate ≡ f = let g : Some s.fate ≡ Some f = sym n.same_fate in cc in
+        over-is tested.role f (resumed-accepts f h) i past under.follows.placed.1 o r (ap (λ p. is_passed p o) (sym n.bounded_is) ∙ n.passed_are i o (n.entries_are i ∙ kept))
+        ∙ sym (ap (λ (x : Excused). is_passed x.before o) excused_is
+        ∙ ap (λ g. is_passed (passed_since g s.bounds s.opened s.bounded) o) same
+        ∙ ap (λ b. is_passed (passed_since f b s.opened s.bounded) o) n.bounds_are
+        ∙ ap (λ p. is_passed (passed_since f (peer_bounds tested.role past) p s.bounded) o) n.opened_is
+        ∙ ap (λ p. is_passed (passed_since f (peer_bounds tested.role past) (opened_at past) p) o) n.bounded_is)
 
     -- by what is looked at, which has all that is due
     from : resumes f ≡ true → is_binding tested.role (newest e past) ≡ true → vacant ≡ true → IsUsing s tested (Some f) past → (places : List Place3)
@@ -283,7 +281,7 @@ resends-gains tested s f at e past m rests excused under u rest_is excused_is = 
         → ((k i : ℕ) (o : Entry) → entry i ≡ Some o → is_due s.opened excused o ≡ true → k ≡ o.place.position → is_some (place_at k places) ≡ true) → all (blamed S06 at places m)
     from resumed b v n places sound complete =
         gains_blamed tested S06 f e past at places m
-        (due-blamed tested f at s.opened excused e past entry places under.follows.placed.1 resumed n.opened_is n.entries_are (λ k. shown b k ∙ ap (λ w. w && is_some_and (owes tested.role (Some f) excused past) (moment past k)) (sym (silent resumed b) ∙ v)) sound complete)
+        (due-blamed tested f at s.opened excused e past entry places under.follows.placed.1 resumed n.opened_is n.entries_are (over resumed n) (λ k. shown b k ∙ ap (λ w. w && is_some_and (owes tested.role (Some f) excused.all excused.retained past) (moment past k)) (sym (silent resumed b) ∙ v)) sound complete)
 
     -- what is due by other excuses that come to the same
     as_due : (x : Excused) → ((o : Entry) → is_due s.opened x o ≡ is_due s.opened excused o) → (k : ℕ) (p : Place3) → IsDueAt k s.opened x entry p → IsDueAt k s.opened excused entry p
@@ -304,13 +302,13 @@ resends-gains tested s f at e past m rests excused under u rest_is excused_is = 
 
     -- the quota or a bound excuses all that wasn't confirmed
     whole : excused.all ≡ true → (o : Entry) → is_due s.opened excused o ≡ is_due s.opened entire o
-    whole all_is o = ap (λ b. nat_lt o.sent s.opened && (o.confirmed || not (b || (excused.retained && o.retained)))) all_is
+    whole all_is o = ap (λ b. nat_lt o.sent s.opened && (o.confirmed || not (b || (is_passed excused.before o || (excused.retained && o.retained))))) all_is
 
     -- or not, and then what is excused is so by itself
     single : excused.all ≡ false → (o : Entry) → is_due s.opened excused o ≡ is_due s.opened (apart excused) o
-    single all_is o = ap (λ b. nat_lt o.sent s.opened && (o.confirmed || not (b || (excused.retained && o.retained)))) all_is
+    single all_is o = ap (λ b. nat_lt o.sent s.opened && (o.confirmed || not (b || (is_passed excused.before o || (excused.retained && o.retained))))) all_is
 
-    itself : apart excused ≡ by_itself s.bounds
+    itself : apart excused ≡ by_itself s.fate s.bounds s.opened s.bounded
     itself = ap apart excused_is
 
     by : resumes f ≡ true → is_binding tested.role (newest e past) ≡ true → vacant ≡ true → IsUsing s tested (Some f) past → (x : Bool) → excused.all ≡ x → (a : Bool) → s.again.all ≡ a → (c : Bool) → s.again.confirmed ≡ c
@@ -324,11 +322,11 @@ resends-gains tested s f at e past m rests excused under u rest_is excused_is = 
         subst all (sym (blamed_under-is entry s.opened at s.confirmed.keys m))
         (from resumed b v n (places_under entry s.opened s.confirmed.keys) (λ k p h. as_due entire (λ o. sym (whole x_is o)) k p (under-due k s.opened entry s.confirmed.keys p h))
         (λ k i o h due at_k. let due_too : is_due s.opened entire o ≡ true = sym (whole x_is o) ∙ due in
-        listed-due k i s.opened entry s.confirmed.keys o h due_too at_k (due-listed s.opened (by_itself s.bounds) entry (contains nat_eq s.confirmed) s.again n.resent_are i o h due_too)))
+        listed-due k i s.opened entry s.confirmed.keys o h due_too at_k (due-listed s.opened (by_itself s.fate s.bounds s.opened s.bounded) entry (contains nat_eq s.confirmed) s.again n.resent_are i o h due_too)))
     by resumed b v n false x_is true a_is c c_is =
         from resumed b v n [] (absent excused) (nothing excused (λ i o h due.
-        let none : is_some_and (is_due s.opened (by_itself s.bounds)) (entry i) ≡ false = n.resent_are.all_are a_is i in
-        let bad : true ≡ false = sym (ap (is_some_and (is_due s.opened (by_itself s.bounds))) h ∙ ap (λ y. is_due s.opened y o) (sym itself) ∙ sym (single x_is o) ∙ due) ∙ none in
+        let none : is_some_and (is_due s.opened (by_itself s.fate s.bounds s.opened s.bounded)) (entry i) ≡ false = n.resent_are.all_are a_is i in
+        let bad : true ≡ false = sym (ap (is_some_and (is_due s.opened (by_itself s.fate s.bounds s.opened s.bounded))) h ∙ ap (λ y. is_due s.opened y o) (sym itself) ∙ sym (single x_is o) ∙ due) ∙ none in
         absurd (cc)))
     by resumed b v n false x_is false a_is c c_is =
         subst all (sym (blamed_due-is s.opened (apart excused) at (values_of s.entries.entries) m))

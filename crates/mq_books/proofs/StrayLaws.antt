@@ -52,48 +52,48 @@ apart (notes.Sent item) i h = refl
 apart (notes.Recv item) i h = absurd (cc)
 
 -- an entry after an event of its session, by what the event does to its identifier
-abbrev after : Bool → Bool → Bool → Bool → Bool → Bool → Bool → Place3 → Option Entry → Option Entry
-after o c p r d x y place old = opened_if o x y place (closed_if c (confirmed_if p (released_if r place.position (sent_if d place.position old))))
+abbrev after : Bool → Bool → Bool → Bool → Bool → Bool → Bool → ℕ → Place3 → Option Entry → Option Entry
+after o c p r d x y bounded place old = opened_if o x y place (closed_if c (confirmed_if p (released_if r bounded place.position (sent_if d bounded place.position old))))
 
-within-after : (o c p r d x y : Bool) (place : Place3) (n : ℕ) (old : Option Entry) → place.position ≡ n + 1 → beyond n old ≡ false → beyond (n + 1) (after o c p r d x y place old) ≡ false
-within-after true c p r d x y place n old at h = grind (arith, nat_tests, at)
-within-after false true p r d x y place n old at h = refl
-within-after false false p r d x y place n None at h = refl
-within-after false false p r true x y place n (Some e) at h = grind (arith, nat_tests, at)
-within-after false false p r false x y place n (Some e) at h = grind (arith, nat_tests, h)
+within-after : (o c p r d x y : Bool) (bounded : ℕ) (place : Place3) (n : ℕ) (old : Option Entry) → place.position ≡ n + 1 → beyond n old ≡ false → beyond (n + 1) (after o c p r d x y bounded place old) ≡ false
+within-after true c p r d x y bounded place n old at h = grind (arith, nat_tests, at)
+within-after false true p r d x y bounded place n old at h = refl
+within-after false false p r d x y bounded place n None at h = refl
+within-after false false p r true x y bounded place n (Some e) at h = grind (arith, nat_tests, at)
+within-after false false p r false x y bounded place n (Some e) at h = grind (arith, nat_tests, h)
 
 -- it is in delivery afterwards: it was sent, or it was before and isn't acknowledged
-delivering-after : (o c p r d x y s : Bool) (place : Place3) (opened : ℕ) (old : Option Entry) → (o ≡ true → d ≡ true) → (d ≡ true → c ≡ false) → nat_le opened place.position ≡ true
-    → (((d && not (true && is_some (after o c p r d x y place old))) || (not c && s)) || since_open opened (after o c p r d x y place old)) ≡ (d || (not c && (s || since_open opened old)))
-delivering-after true c p r true x y true place opened old od dc le = ap (λ b. (not c && true) || b) le ∙ any-true (not c)
+delivering-after : (o c p r d x y s : Bool) (bounded : ℕ) (place : Place3) (opened : ℕ) (old : Option Entry) → (o ≡ true → d ≡ true) → (d ≡ true → c ≡ false) → nat_le opened place.position ≡ true
+    → (((d && not (true && is_some (after o c p r d x y bounded place old))) || (not c && s)) || since_open opened (after o c p r d x y bounded place old)) ≡ (d || (not c && (s || since_open opened old)))
+delivering-after true c p r true x y true bounded place opened old od dc le = ap (λ b. (not c && true) || b) le ∙ any-true (not c)
   where
     any-true : (b : Bool) → ((b && true) || true) ≡ true
     any-true true = refl
     any-true false = refl
-delivering-after true c p r true x y false place opened old od dc le = ap (λ b. (not c && false) || b) le ∙ any-true (not c)
+delivering-after true c p r true x y false bounded place opened old od dc le = ap (λ b. (not c && false) || b) le ∙ any-true (not c)
   where
     any-true : (b : Bool) → ((b && false) || true) ≡ true
     any-true true = refl
     any-true false = refl
-delivering-after true c p r false x y s place opened old od dc le = absurd (let bad : false ≡ true = od refl in cc)
-delivering-after false true p r true x y s place opened old od dc le = absurd (let bad : true ≡ false = dc refl in cc)
-delivering-after false true p r false x y s place opened old od dc le = refl
-delivering-after false false p r true x y s place opened None od dc le = refl
-delivering-after false false p r false x y s place opened None od dc le = refl
-delivering-after false false p r true x y s place opened (Some e) od dc le = ap (λ b. s || b) le ∙ any-true s
+delivering-after true c p r false x y s bounded place opened old od dc le = absurd (let bad : false ≡ true = od refl in cc)
+delivering-after false true p r true x y s bounded place opened old od dc le = absurd (let bad : true ≡ false = dc refl in cc)
+delivering-after false true p r false x y s bounded place opened old od dc le = refl
+delivering-after false false p r true x y s bounded place opened None od dc le = refl
+delivering-after false false p r false x y s bounded place opened None od dc le = refl
+delivering-after false false p r true x y s bounded place opened (Some e) od dc le = ap (λ b. s || b) le ∙ any-true s
   where
     any-true : (b : Bool) → (b || true) ≡ true
     any-true true = refl
     any-true false = refl
-delivering-after false false p r false x y s place opened (Some e) od dc le = refl
+delivering-after false false p r false x y s bounded place opened (Some e) od dc le = refl
 
 -- ---- what is kept
 
 -- an event that ends no connection
-pub delivering-next : (f g : Fate) (n : Note) (place : Place3) (opened : ℕ) (entry new : ℕ → Option Entry) (stray listed : ℕ → Bool) (past : List Seen) → place.position ≡ length past + 1 → opened ≤ place.position → ArePublished g opened entry past
-    → (is_open n ≡ false → g ≡ f) → ((i : ℕ) → new i ≡ entry_next f n place i (entry i)) → ((i : ℕ) → listed i ≡ stray_next f n new i (stray i))
+pub delivering-next : (f g : Fate) (n : Note) (bounded : ℕ) (place : Place3) (opened : ℕ) (entry new : ℕ → Option Entry) (stray listed : ℕ → Bool) (past : List Seen) → place.position ≡ length past + 1 → opened ≤ place.position → ArePublished g opened entry past
+    → (is_open n ≡ false → g ≡ f) → ((i : ℕ) → new i ≡ entry_next f n bounded place i (entry i)) → ((i : ℕ) → listed i ≡ stray_next f n new i (stray i))
     → is_close n ≡ false → (i : ℕ) → in_delivery (cond (is_open n) place.position opened) new listed i ≡ waits_next (delivery_of n) (closer_of n) (is_open n) i (in_delivery opened entry stray i)
-delivering-next f g n place opened entry new stray listed past at le is same grown kept unclosed i =
+delivering-next f g n bounded place opened entry new stray listed past at le is same grown kept unclosed i =
     go (is_open n) refl (grown i) (kept i ∙ ap (λ b. cond b false ((d && not (accepts f && is_some (new i))) || (not c && stray i))) (boundary-opens n unclosed))
   where
     d : Bool
@@ -102,12 +102,12 @@ delivering-next f g n place opened entry new stray listed past at le is same gro
     c : Bool
     c = is_id i (closer_of n)
 
-    accepting : (a : Bool) → accepts f ≡ a → is_open n ≡ false → new i ≡ cond a (entry_after i n place (entry i)) (entry i) → listed i ≡ ((d && not (a && is_some (new i))) || (not c && stray i))
+    accepting : (a : Bool) → accepts f ≡ a → is_open n ≡ false → new i ≡ cond a (entry_after bounded i n place (entry i)) (entry i) → listed i ≡ ((d && not (a && is_some (new i))) || (not c && stray i))
         → in_delivery opened new listed i ≡ (d || (not c && in_delivery opened entry stray i))
     accepting true t closed grown kept =
         ap (λ b. b || since_open opened (new i)) kept
         ∙ ap (λ x. ((d && not (true && is_some x)) || (not c && stray i)) || since_open opened x) grown
-        ∙ delivering-after (is_id i (opener_of n)) c (is_id i (received_as accepting_pubrec_in n)) (is_id i (sent_as pubrel_in n)) d (sends_exactly_once n) (sends_retained n) (stray i) place opened (entry i)
+        ∙ delivering-after (is_id i (opener_of n)) c (is_id i (received_as accepting_pubrec_in n)) (is_id i (sent_as pubrel_in n)) d (sends_exactly_once n) (sends_retained n) (stray i) bounded place opened (entry i)
         (opener-delivers i n) (apart n i) (grind (arith, nat_tests, le))
     accepting false t closed grown kept =
         let none : since_open opened (entry i) ≡ false = is.accepted (ap accepts (same closed) ∙ t) i in
@@ -123,7 +123,7 @@ delivering-next f g n place opened entry new stray listed past at le is same gro
         plain false false true = refl
         plain false false false = refl
 
-    go : (b : Bool) → is_open n ≡ b → new i ≡ cond b (cond (begins (Some f)) None (entry i)) (cond (accepts f) (entry_after i n place (entry i)) (entry i))
+    go : (b : Bool) → is_open n ≡ b → new i ≡ cond b (cond (begins (Some f)) None (entry i)) (cond (accepts f) (entry_after bounded i n place (entry i)) (entry i))
         → listed i ≡ cond b false ((d && not (accepts f && is_some (new i))) || (not c && stray i))
         → in_delivery (cond b place.position opened) new listed i ≡ (d || (not c && (not b && in_delivery opened entry stray i)))
     go true h grown kept =
@@ -146,9 +146,9 @@ listed-connected f (notes.Release identifier) entry i old connected on was h = w
 listed-connected f (notes.Sent item) entry i old connected on was h = on refl
 listed-connected f (notes.Recv item) entry i old connected on was h = on refl
 
-pub published-next : (f g : Fate) (e : Seen) (opened : ℕ) (entry new : ℕ → Option Entry) (past : List Seen) → e.place.position ≡ length past + 1 → ArePublished g opened entry past → (is_open e.note ≡ false → g ≡ f)
-    → ((i : ℕ) → new i ≡ entry_next f e.note e.place i (entry i)) → ArePublished f (cond (is_open e.note) e.place.position opened) new (e ∷ past)
-published-next f g e opened entry new past at is same grown = record {
+pub published-next : (f g : Fate) (e : Seen) (bounded opened : ℕ) (entry new : ℕ → Option Entry) (past : List Seen) → e.place.position ≡ length past + 1 → ArePublished g opened entry past → (is_open e.note ≡ false → g ≡ f)
+    → ((i : ℕ) → new i ≡ entry_next f e.note bounded e.place i (entry i)) → ArePublished f (cond (is_open e.note) e.place.position opened) new (e ∷ past)
+published-next f g e bounded opened entry new past at is same grown = record {
   within = λ i. ap (λ k. beyond k (new i)) more ∙ ap (beyond (length past + 1)) (grown i) ∙ all i (is_open e.note) (accepts f);
   accepted = λ refused i. go (is_open e.note) refl refused i (grown i);
 }
@@ -163,17 +163,17 @@ published-next f g e opened entry new past at is same grown = record {
     later k None h = refl
     later k (Some o) h = grind (arith, nat_tests, h)
 
-    all : (i : ℕ) (b a : Bool) → beyond (length past + 1) (cond b (cond (begins (Some f)) None (entry i)) (cond a (entry_after i n e.place (entry i)) (entry i))) ≡ false
+    all : (i : ℕ) (b a : Bool) → beyond (length past + 1) (cond b (cond (begins (Some f)) None (entry i)) (cond a (entry_after bounded i n e.place (entry i)) (entry i))) ≡ false
     all i true a = begun (begins (Some f))
       where
         begun : (b : Bool) → beyond (length past + 1) (cond b None (entry i)) ≡ false
         begun true = refl
         begun false = later (length past) (entry i) (is.within i)
     all i false true =
-        within-after (is_id i (opener_of n)) (is_id i (closer_of n)) (is_id i (received_as accepting_pubrec_in n)) (is_id i (sent_as pubrel_in n)) (is_id i (delivery_of n)) (sends_exactly_once n) (sends_retained n) e.place (length past) (entry i) at (is.within i)
+        within-after (is_id i (opener_of n)) (is_id i (closer_of n)) (is_id i (received_as accepting_pubrec_in n)) (is_id i (sent_as pubrel_in n)) (is_id i (delivery_of n)) (sends_exactly_once n) (sends_retained n) bounded e.place (length past) (entry i) at (is.within i)
     all i false false = later (length past) (entry i) (is.within i)
 
-    go : (b : Bool) → is_open n ≡ b → accepts f ≡ false → (i : ℕ) → new i ≡ cond b (cond (begins (Some f)) None (entry i)) (cond (accepts f) (entry_after i n e.place (entry i)) (entry i))
+    go : (b : Bool) → is_open n ≡ b → accepts f ≡ false → (i : ℕ) → new i ≡ cond b (cond (begins (Some f)) None (entry i)) (cond (accepts f) (entry_after bounded i n e.place (entry i)) (entry i))
         → since_open (cond b e.place.position opened) (new i) ≡ false
     go true h refused i grown = ap (λ p. since_open p (new i)) at ∙ ap (since_open (length past + 1)) grown ∙ begun (begins (Some f))
       where
@@ -181,7 +181,7 @@ published-next f g e opened entry new past at is same grown = record {
         begun true = refl
         begun false = not-since (length past) (entry i) (is.within i)
     go false h refused i grown =
-        ap (since_open opened) (grown ∙ ap (λ a. cond a (entry_after i n e.place (entry i)) (entry i)) refused) ∙ is.accepted (ap accepts (same h) ∙ refused) i
+        ap (since_open opened) (grown ∙ ap (λ a. cond a (entry_after bounded i n e.place (entry i)) (entry i)) refused) ∙ is.accepted (ap accepts (same h) ∙ refused) i
 
 -- ---- how many there are
 

@@ -28,8 +28,8 @@ use Rattle.mq_books.specs.Concerns.{moves_identifiers, concerns_flight}
 use Rattle.mq_books.specs.Opened.{entry_after, entry_next, opened_if, closed_if, confirmed_if, released_if, sent_if, sends_exactly_once, sends_retained}
 use Rattle.mq_books.specs.Pingings.{ends_by}
 use Rattle.mq_books.specs.Quotas.{announced, may_count, flown}
-use Rattle.mq_books.specs.Resending.{bounds_by, excuses, settles}
-use Rattle.mq_books.specs.Using.{delivering, waits_next, void_next, resent_next, greater, resent_by, takes_busy, unopened, past_pubrel, out_of_order, breaks, is_inflight, IsUsing, unanswered_next}
+use Rattle.mq_books.specs.Resending.{by_itself, is_limited, passed_since, bounds_by, excuses, settles}
+use Rattle.mq_books.specs.Using.{is_taken, delivering, waits_next, unanswered_next, void_next, resent_next, greater, resent_by, takes_busy, unopened, past_pubrel, out_of_order, breaks, is_inflight, IsUsing}
 use Rattle.mq_books.specs.Knowing.{all_excused}
 use Rattle.mq_books.proofs.ConcernLaws.{nothing, neither, same_cond, some-same, and2_false, closed-before}
 use Rattle.mq_books.proofs.StrayLaws.{stray-stays}
@@ -97,24 +97,24 @@ quiet tested n h =
 
 -- ---- what is kept stays
 
-same-entry : (i at : ℕ) (x y : Bool) (place : Place3) (old : Option Entry) → opened_if (is_id i None) x y place (closed_if (is_id i None) (confirmed_if (is_id i None) (released_if (is_id i None) at (sent_if (is_id i None) at old)))) ≡ old
-same-entry i at x y place None = refl
-same-entry i at x y place (Some o) = refl
+same-entry : (i bounded at : ℕ) (x y : Bool) (place : Place3) (old : Option Entry) → opened_if (is_id i None) x y place (closed_if (is_id i None) (confirmed_if (is_id i None) (released_if (is_id i None) bounded at (sent_if (is_id i None) bounded at old)))) ≡ old
+same-entry i bounded at x y place None = refl
+same-entry i bounded at x y place (Some o) = refl
 
-entry-stays : (tested : Tested) (f : Fate) (n : Note) (place : Place3) (i : ℕ) (old : Option Entry) → Quiet tested n → entry_next f n place i old ≡ old
-entry-stays tested f n place i old q =
-    ap (λ b. cond b (cond (begins (Some f)) None old) (cond (accepts f) (entry_after i n place old) old)) q.closed
+entry-stays : (tested : Tested) (f : Fate) (n : Note) (bounded : ℕ) (place : Place3) (i : ℕ) (old : Option Entry) → Quiet tested n → entry_next f n bounded place i old ≡ old
+entry-stays tested f n bounded place i old q =
+    ap (λ b. cond b (cond (begins (Some f)) None old) (cond (accepts f) (entry_after bounded i n place old) old)) q.closed
     ∙ ap (λ o. cond (accepts f) o old) same
     ∙ same_cond (accepts f) old
   where
-    same : entry_after i n place old ≡ old
+    same : entry_after bounded i n place old ≡ old
     same =
-        ap (λ o. opened_if (is_id i o) (sends_exactly_once n) (sends_retained n) place (closed_if (is_id i (closer_of n)) (confirmed_if (is_id i (received_as accepting_pubrec_in n)) (released_if (is_id i (sent_as pubrel_in n)) place.position (sent_if (is_id i (delivery_of n)) place.position old))))) q.opener
-        ∙ ap (λ o. opened_if (is_id i None) (sends_exactly_once n) (sends_retained n) place (closed_if (is_id i o) (confirmed_if (is_id i (received_as accepting_pubrec_in n)) (released_if (is_id i (sent_as pubrel_in n)) place.position (sent_if (is_id i (delivery_of n)) place.position old))))) q.closer
-        ∙ ap (λ o. opened_if (is_id i None) (sends_exactly_once n) (sends_retained n) place (closed_if (is_id i None) (confirmed_if (is_id i o) (released_if (is_id i (sent_as pubrel_in n)) place.position (sent_if (is_id i (delivery_of n)) place.position old))))) q.pubrec
-        ∙ ap (λ o. opened_if (is_id i None) (sends_exactly_once n) (sends_retained n) place (closed_if (is_id i None) (confirmed_if (is_id i None) (released_if (is_id i o) place.position (sent_if (is_id i (delivery_of n)) place.position old))))) q.pubrel
-        ∙ ap (λ o. opened_if (is_id i None) (sends_exactly_once n) (sends_retained n) place (closed_if (is_id i None) (confirmed_if (is_id i None) (released_if (is_id i None) place.position (sent_if (is_id i o) place.position old))))) q.delivery
-        ∙ same-entry i place.position (sends_exactly_once n) (sends_retained n) place old
+        ap (λ o. opened_if (is_id i o) (sends_exactly_once n) (sends_retained n) place (closed_if (is_id i (closer_of n)) (confirmed_if (is_id i (received_as accepting_pubrec_in n)) (released_if (is_id i (sent_as pubrel_in n)) bounded place.position (sent_if (is_id i (delivery_of n)) bounded place.position old))))) q.opener
+        ∙ ap (λ o. opened_if (is_id i None) (sends_exactly_once n) (sends_retained n) place (closed_if (is_id i o) (confirmed_if (is_id i (received_as accepting_pubrec_in n)) (released_if (is_id i (sent_as pubrel_in n)) bounded place.position (sent_if (is_id i (delivery_of n)) bounded place.position old))))) q.closer
+        ∙ ap (λ o. opened_if (is_id i None) (sends_exactly_once n) (sends_retained n) place (closed_if (is_id i None) (confirmed_if (is_id i o) (released_if (is_id i (sent_as pubrel_in n)) bounded place.position (sent_if (is_id i (delivery_of n)) bounded place.position old))))) q.pubrec
+        ∙ ap (λ o. opened_if (is_id i None) (sends_exactly_once n) (sends_retained n) place (closed_if (is_id i None) (confirmed_if (is_id i None) (released_if (is_id i o) bounded place.position (sent_if (is_id i (delivery_of n)) bounded place.position old))))) q.pubrel
+        ∙ ap (λ o. opened_if (is_id i None) (sends_exactly_once n) (sends_retained n) place (closed_if (is_id i None) (confirmed_if (is_id i None) (released_if (is_id i None) bounded place.position (sent_if (is_id i o) bounded place.position old))))) q.delivery
+        ∙ same-entry i bounded place.position (sends_exactly_once n) (sends_retained n) place old
 
 pub wait-stays : (starts ends : Option ℕ) (boundary : Bool) (i : ℕ) (old : Bool) → starts ≡ None → ends ≡ None → boundary ≡ false → waits_next starts ends boundary i old ≡ old
 wait-stays starts ends boundary i old a b c = ap (λ o. waits_next o ends boundary i old) a ∙ ap (λ o. waits_next None o boundary i old) b ∙ ap (λ t. waits_next None None t i old) c
@@ -154,7 +154,7 @@ takes-nothing Server n a b c = a
 unbroken : (tested : Tested) (s : Inflight) (f : Fate) (n : Note) → Quiet tested n → record { takes_busy = false; unopened = false; twice = false; past_pubrel = false; out_of_order = false } ≡ breaks s f n
 unbroken tested s f n q =
     sym (
-    ap (λ o. broken (accepts f && is_some_and (λ i. is_some (get nat_eq s.entries i) || (contains nat_eq s.subscribing i || contains nat_eq s.unsubscribing i)) o) (resend_of n)) (takes-nothing s.role n q.opener q.subscribe q.unsubscribe)
+    ap (λ o. broken (accepts f && is_some_and (λ i. is_some_and (is_taken (passed_since f s.bounds s.opened s.bounded)) (get nat_eq s.entries i) || (contains nat_eq s.subscribing i || contains nat_eq s.unsubscribing i)) o) (resend_of n)) (takes-nothing s.role n q.opener q.subscribe q.unsubscribe)
     ∙ ap (λ o. broken (accepts f && false) o) q.resend
     ∙ ap (λ b. broken_by b (b) (b) (b) (s.ordered && b)) (and_false (accepts f))
     ∙ ap (λ b. broken_by false false false false b) (and_false s.ordered))
@@ -176,7 +176,7 @@ inflight-passes tested s f at e past h under before =
     let room : announced s.role n ≡ None = ap (λ r. announced r n) u.same_role ∙ q.room in
     let bounds : bounds_by s.role n ≡ None = ap (λ r. bounds_by r n) u.same_role ∙ q.bounds in (
       inflight-next tested s s f at e past under before refl (sym (some-same f s.fate u.same_fate)) refl u.distinct
-          (λ i. sym (entry-stays tested f n e.place i (get nat_eq s.entries i) q))
+          (λ i. sym (entry-stays tested f n s.bounded e.place i (get nat_eq s.entries i) q))
           (λ i. sym (stray-stays f n (get nat_eq s.entries) i (contains nat_eq s.stray i) q.inside q.delivery q.closer))
           (λ i. sym (unanswered-stays f n i (contains nat_eq s.unanswered i) q))
           (λ i. sym (ap (λ o. (is_id i o && is_void f) || contains nat_eq s.void i) q.delivery))
@@ -189,8 +189,9 @@ inflight-passes tested s f at e past h under before =
           (sym (ap (λ o. option_or (cond (is_open n) None s.peer) o) room ∙ ap (λ b. option_or (cond b None s.peer) None) q.closed ∙ option_or-none s.peer))
           (λ below. sym (flown-stays (may_count s.role s.peer) n s.in_flight q.closed q.delivery q.closer))
           (sym (ap (λ o. option_or (cond (is_open n) None s.bounds) o) bounds ∙ ap (λ b. option_or (cond b None s.bounds) None) q.closed ∙ option_or-none s.bounds))
+          (sym (ap (λ b. cond (b && (resumes s.fate && is_limited s.bounds)) s.opened s.bounded) q.closed))
           u.resent_are,
-      λ m. inflight-gains tested s f at e past m (record { takes_busy = false; unopened = false; twice = false; past_pubrel = false; out_of_order = false }) false (excuses s.peer s.in_flight s.bounds) under before
+      λ m. inflight-gains tested s f at e past m (record { takes_busy = false; unopened = false; twice = false; past_pubrel = false; out_of_order = false }) false (excuses s.peer s.in_flight (by_itself s.fate s.bounds s.opened s.bounded)) under before
           (ap (all_excused f (at == e.place.position)) (unbroken tested s f n q))
           (sym (ap (λ b. (resumes f && (b && ((at == e.place.position) && (accepts f && not s.ended)))) && (index_set_len s.unanswered == 0)) q.awake ∙ ap (λ b. b && (index_set_len s.unanswered == 0)) (and_false (resumes f))))
           refl,

@@ -19,7 +19,7 @@ use Rattle.mq_rules.specs.Words.{is_some_and, is_id}
 use Rattle.mq_rules.specs.Notes.{is_open, is_close, is_boundary, delivery_of, closer_of, resend_of, sent_as, received_as, pubrel_in, subscribe_in, suback_in, unsubscribe_in, unsuback_in}
 use Rattle.mq_rules.specs.Moments.{Moment, newest, note, position, some, since, latest, is_next, IsPlaced, IsDescending}
 use Rattle.mq_rules.specs.Connections.{is_connected, connection, needs_connection, IsOnConnection, latest_fate, accepts, session, is_unasked, surprises, couldnt_know, couldnt_know_resumed, resumes}
-use Rattle.mq_rules.specs.Identifiers.{opens_id, closes_id, delivers, is_open_at, latest_opener, awaits_suback, is_busy_at, taken_by, was_sent_on_void, was_sent_before_session, was_cut_off, opens_exactly_once, sends_pubrel, comes_after, breaks_S01, breaks_S02, breaks_S03, breaks_S04, breaks_S05, sent_under}
+use Rattle.mq_rules.specs.Identifiers.{opens_id, closes_id, delivers, is_open_at, latest_opener, awaits_suback, is_busy_at, taken_by, was_sent_on_void, was_sent_before_session, was_cut_off, opens_exactly_once, sends_pubrel, comes_after, breaks_S01, breaks_S02, breaks_S03, breaks_S04, breaks_S05, sent_under, confirms_id, is_passed_over, may_be_discarded}
 use Rattle.mq_rules.specs.Rules.{binds, found_line, line_of, lines}
 use Rattle.mq_rules.specs.Statements.{in_session, statement, knowing, knowing_resumed}
 use Rattle.mq_rules.specs.FaultKeys.{FaultMap}
@@ -30,9 +30,12 @@ use Rattle.mq_books.specs.declared.inflight.entry.Entry.{Entry}
 use Rattle.mq_rules.specs.Under.{IsUnder, fate_before, turns_with}
 use Rattle.mq_rules.specs.Growing.{Gains}
 use Rattle.mq_books.specs.Opened.{sends_exactly_once, entry_in}
-use Rattle.mq_books.specs.Using.{delivering, waits, waits_next, unanswered_next, place_or_zero, resent_by, greater, resent_next, resent_in, unopened, past_pubrel, out_of_order, breaks, judged_all, is_at_once, IsUsing}
+use Rattle.mq_rules.specs.Passing.{opened_at, passed_before}
+use Rattle.mq_books.specs.Resending.{peer_bounds, passed_since, bounded_at, is_passed}
+use Rattle.mq_books.specs.Using.{is_taken, delivering, waits, waits_next, unanswered_next, place_or_zero, resent_by, greater, resent_next, resent_in, unopened, past_pubrel, out_of_order, breaks, judged_all, is_at_once, IsUsing}
 use Rattle.mq_books.proofs.JudgeLaws.{session-turns_with}
 use Rattle.mq_books.proofs.OpenedLaws.{entry-there, entry-is, IsEntry}
+use Rattle.mq_books.proofs.PassingLaws.{over-is}
 use Rattle.mq_books.proofs.StrayLaws.{boundary-opens}
 use Rattle.mq_books.specs.Earlier.{may_resend}
 use Rattle.mq_books.proofs.EarlierLaws.{may_resend-is}
@@ -161,15 +164,15 @@ resent-later role f p [] placed = zero-after p
 resent-later role f p (e ∷ past) placed = go (is_open e.note) refl (resent-later role f p past placed.1) ∙ sym (some-next (resent_past role f p) e past)
   where
     entry : ℕ → Option Entry
-    entry i = entry_in i (session role (Some f) past)
+    entry i = entry_in role i (session role (Some f) past)
 
     one : (i : ℕ) (x : Option Entry) → entry i ≡ x → nat_lt p (place_or_zero x) ≡ (is_open_at role f i (newest e past) && is_some_and (λ m. nat_lt p (position m)) (latest_opener role f i (newest e past)))
     one i None h =
-        zero-after p ∙ sym (ap (λ b. b && is_some_and (λ m. nat_lt p (position m)) (latest_opener role f i (newest e past))) (sym (entry-there i (session role (Some f) past)) ∙ ap is_some h))
+        zero-after p ∙ sym (ap (λ b. b && is_some_and (λ m. nat_lt p (position m)) (latest_opener role f i (newest e past))) (sym (entry-there role i (session role (Some f) past)) ∙ ap is_some h))
     one i (Some o) h =
-        let r = entry-is i (session role (Some f) past) o (session-descend role (Some f) past) h in
+        let r = entry-is role i (session role (Some f) past) o (session-descend role (Some f) past) h in
         ap (nat_lt p) (opener-at role f i past o placed.1 r)
-        ∙ sym (ap (λ b. b && is_some_and (λ m. nat_lt p (position m)) (latest_opener role f i (newest e past))) (sym (entry-there i (session role (Some f) past)) ∙ ap is_some h)
+        ∙ sym (ap (λ b. b && is_some_and (λ m. nat_lt p (position m)) (latest_opener role f i (newest e past))) (sym (entry-there role i (session role (Some f) past)) ∙ ap is_some h)
         ∙ ap (is_some_and (λ m. nat_lt p (position m))) r.is_latest)
 
     here : (o : Option ℕ) → nat_lt p (resent_by o entry) ≡ is_some_and (λ o. is_open_at role f o (newest e past) && is_some_and (λ m. nat_lt p (position m)) (latest_opener role f o (newest e past))) o
@@ -186,26 +189,26 @@ resent-later role f p (e ∷ past) placed = go (is_open e.note) refl (resent-lat
 
 -- ---- what the statements read
 
-past_pubrel-is : (i : ℕ) (ms : List Moment) → IsDescending ms → is_some_and (λ o. o.exactly_once && o.released) (entry_in i ms)
+past_pubrel-is : (role : Role) (i : ℕ) (ms : List Moment) → IsDescending ms → is_some_and (λ o. o.exactly_once && o.released) (entry_in role i ms)
     ≡ (since (opens_id i) (closes_id i) ms && (is_some_and (opens_exactly_once i) (latest (opens_id i) ms) && since (sends_pubrel i) (opens_id i) ms))
-past_pubrel-is i ms d = go (entry_in i ms) refl
+past_pubrel-is role i ms d = go (entry_in role i ms) refl
   where
     rest : Bool
     rest = is_some_and (opens_exactly_once i) (latest (opens_id i) ms) && since (sends_pubrel i) (opens_id i) ms
 
-    go : (x : Option Entry) → entry_in i ms ≡ x → is_some_and (λ (o : Entry). o.exactly_once && o.released) x ≡ (since (opens_id i) (closes_id i) ms && rest)
-    go None h = sym (ap (λ b. b && rest) (sym (entry-there i ms) ∙ ap is_some h))
+    go : (x : Option Entry) → entry_in role i ms ≡ x → is_some_and (λ (o : Entry). o.exactly_once && o.released) x ≡ (since (opens_id i) (closes_id i) ms && rest)
+    go None h = sym (ap (λ b. b && rest) (sym (entry-there role i ms) ∙ ap is_some h))
     go (Some o) h =
-        let r = entry-is i ms o d h in
+        let r = entry-is role i ms o d h in
         ap (λ b. b && o.released) r.same_quality ∙ ap (λ b. sends_exactly_once (note r.opener) && b) r.is_released
-        ∙ sym (ap (λ b. b && rest) (sym (entry-there i ms) ∙ ap is_some h)
+        ∙ sym (ap (λ b. b && rest) (sym (entry-there role i ms) ∙ ap is_some h)
         ∙ ap (λ l. is_some_and (opens_exactly_once i) l && since (sends_pubrel i) (opens_id i) ms) r.is_latest
         ∙ ap (λ b. (b && sends_exactly_once (note r.opener)) && since (sends_pubrel i) (opens_id i) ms) r.begins_it)
 
 out_of_order-is : (role : Role) (f : Fate) (i : ℕ) (e : Seen) (past : List Seen) → IsPlaced past
-    → is_some_and (λ o. nat_lt o.place.position (resent_in role (Some f) past)) (entry_in i (session role (Some f) past))
+    → is_some_and (λ o. nat_lt o.place.position (resent_in role (Some f) past)) (entry_in role i (session role (Some f) past))
     ≡ (is_open_at role f i (newest e past) && some (λ j. is_some_and (λ o. is_open_at role f o j && comes_after (latest_opener role f o j) (latest_opener role f i (newest e past))) (resend_of (note j))) (connection past))
-out_of_order-is role f i e past placed = go (entry_in i ms) refl
+out_of_order-is role f i e past placed = go (entry_in role i ms) refl
   where
     ms : List Moment
     ms = session role (Some f) past
@@ -213,15 +216,59 @@ out_of_order-is role f i e past placed = go (entry_in i ms) refl
     after : Option Moment → Bool
     after l = some (λ j. is_some_and (λ o. is_open_at role f o j && comes_after (latest_opener role f o j) l) (resend_of (note j))) (connection past)
 
-    go : (x : Option Entry) → entry_in i ms ≡ x → is_some_and (λ (o : Entry). nat_lt o.place.position (resent_in role (Some f) past)) x ≡ (is_open_at role f i (newest e past) && after (latest_opener role f i (newest e past)))
-    go None h = sym (ap (λ b. b && after (latest_opener role f i (newest e past))) (sym (entry-there i ms) ∙ ap is_some h))
+    go : (x : Option Entry) → entry_in role i ms ≡ x → is_some_and (λ (o : Entry). nat_lt o.place.position (resent_in role (Some f) past)) x ≡ (is_open_at role f i (newest e past) && after (latest_opener role f i (newest e past)))
+    go None h = sym (ap (λ b. b && after (latest_opener role f i (newest e past))) (sym (entry-there role i ms) ∙ ap is_some h))
     go (Some o) h =
-        let r = entry-is i ms o (session-descend role (Some f) past) h in
+        let r = entry-is role i ms o (session-descend role (Some f) past) h in
         ap (λ p. nat_lt p (resent_in role (Some f) past)) (opener-at role f i past o placed r)
         ∙ resent-later role f (position r.opener) past placed
-        ∙ sym (ap (λ b. b && after (latest_opener role f i (newest e past))) (sym (entry-there i ms) ∙ ap is_some h) ∙ ap after r.is_latest)
+        ∙ sym (ap (λ b. b && after (latest_opener role f i (newest e past))) (sym (entry-there role i ms) ∙ ap is_some h) ∙ ap after r.is_latest)
 
 -- ---- the pairs
+
+-- what is open is in use, unless it may have been discarded
+taken-is : (tested : Tested) (s : Inflight) (f : Fate) (e : Seen) (past : List Seen) → IsPlaced past → accepts f ≡ true → IsUsing s tested (Some f) past → (i : ℕ)
+    → is_some_and (is_taken (passed_since f s.bounds s.opened s.bounded)) (get nat_eq s.entries i) ≡ (is_open_at tested.role f i (newest e past) && not (may_be_discarded tested.role f i (newest e past)))
+taken-is tested s f e past placed a u i =
+    ap (λ b. is_some_and (is_taken (passed_since f b s.opened s.bounded)) (get nat_eq s.entries i)) u.bounds_are
+    ∙ ap (λ n. is_some_and (is_taken (passed_since f (peer_bounds role past) n s.bounded)) (get nat_eq s.entries i)) u.opened_is
+    ∙ ap (λ n. is_some_and (is_taken (passed_since f (peer_bounds role past) (opened_at past) n)) (get nat_eq s.entries i)) u.bounded_is
+    ∙ go (get nat_eq s.entries i) refl
+  where
+    role : Role
+    role = tested.role
+
+    ms : List Moment
+    ms = session role (Some f) past
+
+    since_then : ℕ
+    since_then = passed_since f (peer_bounds role past) (opened_at past) (bounded_at role past)
+
+    over : Option Moment → Bool
+    over o = is_some_and (is_passed_over role (Some f) i past) o
+
+    late : Bool
+    late = since (confirms_id i) (opens_id i) ms
+
+    bits : (c p : Bool) → (c || not p) ≡ (true && not (p && not c))
+    bits true true = refl
+    bits true false = refl
+    bits false true = refl
+    bits false false = refl
+
+    go : (x : Option Entry) → get nat_eq s.entries i ≡ x → is_some_and (is_taken since_then) x ≡ (since (opens_id i) (closes_id i) ms && not (over (latest (opens_id i) ms) && not late))
+    go None h =
+        let none : entry_in role i ms ≡ None = sym (u.entries_are i) ∙ h in
+        sym (ap (λ b. b && not (over (latest (opens_id i) ms) && not late)) (sym (entry-there role i ms) ∙ ap is_some none))
+    go (Some o) h =
+        let kept : entry_in role i ms ≡ Some o = sym (u.entries_are i) ∙ h in
+        let r = entry-is role i ms o (session-descend role (Some f) past) kept in
+        let was : is_passed (bounded_at role past) o ≡ passed_before role i o.place.position past = ap (λ n. is_passed n o) (sym u.bounded_is) ∙ u.passed_are i o h in
+        bits o.confirmed (is_passed since_then o)
+        ∙ ap (λ c. true && not (is_passed since_then o && not c)) r.since_confirmed
+        ∙ ap (λ p. true && not (p && not late)) (sym (over-is role f a i past placed o r was))
+        ∙ ap (λ l. true && not (over l && not late)) (sym r.is_latest)
+        ∙ ap (λ b. b && not (over (latest (opens_id i) ms) && not late)) (sym (sym (entry-there role i ms) ∙ ap is_some kept))
 
 S01-turns : (tested : Tested) (s : Inflight) (f : Fate) (at : ℕ) (e : Seen) (past : List Seen) → IsUnder tested f at e past → IsOnConnection e past → IsUsing s tested (fate_before tested f e past) past
     → (k : ℕ) → turns_with tested f e past k S01 ≡ (is_next past k && excused (is_unasked f) (at == e.place.position) (breaks s f e.note).takes_busy)
@@ -230,7 +277,7 @@ S01-turns tested s f at e past under on u k =
     session-turns_with tested S01 (knowing_resumed tested.role (breaks_S01 tested.role)) refl f e past k
     ∙ ap (λ b. is_next past k && (b && (accepts f && (breaks_S01 tested.role f (newest e past) && not (couldnt_know_resumed tested.role f (newest e past)))))) (binds-S01 tested.role tested.releases)
     ∙ ap (λ b. is_next past k && b) (and-apart (accepts f) (breaks_S01 tested.role f (newest e past)) (not (couldnt_know_resumed tested.role f (newest e past))))
-    ∙ ap (λ b. is_next past k && ((accepts f && b) && not (couldnt_know_resumed tested.role f (newest e past)))) (sym (go (has_item e.note) refl))
+    ∙ ap (λ b. is_next past k && (b && not (couldnt_know_resumed tested.role f (newest e past)))) (sym (go (accepts f) refl (has_item e.note) refl))
     ∙ ap (λ r. is_next past k && ((accepts f && is_some_and busy (taken_by r e.note)) && not (couldnt_know_resumed tested.role f (newest e past)))) (sym u.same_role)
     ∙ ap (λ b. is_next past k && b) (excused-known tested f at e past (is_unasked f) (accepts f && is_some_and busy (taken_by s.role e.note)) under
     (λ t. taken-needs s.role e.note (there_in busy (taken_by s.role e.note) (both_true (accepts f) (is_some_and busy (taken_by s.role e.note)) t).1)))
@@ -240,17 +287,17 @@ S01-turns tested s f at e past under on u k =
     there_in p (Some i) h = refl
 
     busy : ℕ → Bool
-    busy i = is_some (get nat_eq s.entries i) || (contains nat_eq s.subscribing i || contains nat_eq s.unsubscribing i)
+    busy i = is_some_and (is_taken (passed_since f s.bounds s.opened s.bounded)) (get nat_eq s.entries i) || (contains nat_eq s.subscribing i || contains nat_eq s.unsubscribing i)
 
-    go : (b : Bool) → has_item e.note ≡ b → is_some_and busy (taken_by tested.role e.note) ≡ is_some_and (λ i. is_busy_at tested.role f i (newest e past)) (taken_by tested.role e.note)
-    go false h =
+    go : (a : Bool) → accepts f ≡ a → (b : Bool) → has_item e.note ≡ b → (a && is_some_and busy (taken_by tested.role e.note)) ≡ (a && is_some_and (λ i. is_busy_at tested.role f i (newest e past)) (taken_by tested.role e.note))
+    go false a b h = refl
+    go true a false h =
         let none = taken-none tested.role e.note h in
         ap (is_some_and busy) none ∙ sym (ap (is_some_and (λ i. is_busy_at tested.role f i (newest e past))) none)
-    go true h = same_some busy (λ i. is_busy_at tested.role f i (newest e past)) (taken_by tested.role e.note) (λ i.
-        ap (λ x. is_some x || (contains nat_eq s.subscribing i || contains nat_eq s.unsubscribing i)) ((now s tested f e past (item-closed e.note h) u).entries_are i)
-        ∙ ap (λ b. b || (contains nat_eq s.subscribing i || contains nat_eq s.unsubscribing i)) (entry-there i (session tested.role (Some f) past))
-        ∙ ap (λ b. is_open_at tested.role f i (newest e past) || (b || contains nat_eq s.unsubscribing i)) (u.subscribing_are i ∙ waits-connected (sent_as subscribe_in) (received_as suback_in) i past (on (item-needs e.note h)))
-        ∙ ap (λ b. is_open_at tested.role f i (newest e past) || (awaits_suback i (newest e past) || b)) (u.unsubscribing_are i ∙ waits-connected (sent_as unsubscribe_in) (received_as unsuback_in) i past (on (item-needs e.note h))))
+    go true a true h = same_some busy (λ i. is_busy_at tested.role f i (newest e past)) (taken_by tested.role e.note) (λ i.
+        ap (λ b. b || (contains nat_eq s.subscribing i || contains nat_eq s.unsubscribing i)) (taken-is tested s f e past under.follows.placed.1 a (now s tested f e past (item-closed e.note h) u) i)
+        ∙ ap (λ b. (is_open_at tested.role f i (newest e past) && not (may_be_discarded tested.role f i (newest e past))) || (b || contains nat_eq s.unsubscribing i)) (u.subscribing_are i ∙ waits-connected (sent_as subscribe_in) (received_as suback_in) i past (on (item-needs e.note h)))
+        ∙ ap (λ b. (is_open_at tested.role f i (newest e past) && not (may_be_discarded tested.role f i (newest e past))) || (awaits_suback i (newest e past) || b)) (u.unsubscribing_are i ∙ waits-connected (sent_as unsubscribe_in) (received_as unsuback_in) i past (on (item-needs e.note h))))
 
 -- a statement on a PUBLISH that is sent again
 resend-turns : (tested : Tested) (rule : Rule) (breaks : Fate → Moment → Bool) → statement tested.role rule ≡ in_session breaks → (bound : Bool) → binds rule tested ≡ bound → (f : Fate) (e : Seen) (past : List Seen) (p q : ℕ → Bool)
@@ -298,7 +345,7 @@ S02-turns tested s f at e past under u =
     (λ item accepted i.
     let n = now s tested f e past (item-closed e.note item) u in
     ap (λ x. not (is_some x || (contains nat_eq s.void i || may_resend s.earlier f i))) (n.entries_are i)
-    ∙ ap (λ b. not (b || (contains nat_eq s.void i || may_resend s.earlier f i))) (entry-there i (session tested.role (Some f) past))
+    ∙ ap (λ b. not (b || (contains nat_eq s.void i || may_resend s.earlier f i))) (entry-there tested.role i (session tested.role (Some f) past))
     ∙ ap (λ b. not (is_open_at tested.role f i (newest e past) || (b || may_resend s.earlier f i))) (n.void_are i ∙ sym (void_sent-read tested i f at e past under (item-closed e.note item) accepted))
     ∙ ap (λ b. not (is_open_at tested.role f i (newest e past) || (was_sent_on_void tested.role i (newest e past) || b))) (may_resend-is tested s.earlier i f at e past under (item-closed e.note item) accepted n.earlier_is))
 
@@ -314,7 +361,7 @@ S04-turns tested s f e past u =
     resend-turns tested S04 (breaks_S04 tested.role) refl true (binds-S04 tested.role tested.releases) f e past
     (λ i. is_open_at tested.role f i (newest e past) && (is_some_and (opens_exactly_once i) (latest_opener tested.role f i (newest e past)) && since (sends_pubrel i) (opens_id i) (session tested.role (Some f) past)))
     (past_pubrel (get nat_eq s.entries)) refl
-    (λ item accepted i. ap (is_some_and (λ (o : Entry). o.exactly_once && o.released)) ((now s tested f e past (item-closed e.note item) u).entries_are i) ∙ past_pubrel-is i (session tested.role (Some f) past) (session-descend tested.role (Some f) past))
+    (λ item accepted i. ap (is_some_and (λ (o : Entry). o.exactly_once && o.released)) ((now s tested f e past (item-closed e.note item) u).entries_are i) ∙ past_pubrel-is tested.role i (session tested.role (Some f) past) (session-descend tested.role (Some f) past))
 
 S05-turns : (tested : Tested) (s : Inflight) (f : Fate) (at : ℕ) (e : Seen) (past : List Seen) → IsUnder tested f at e past → IsUsing s tested (fate_before tested f e past) past → (k : ℕ) → turns_with tested f e past k S05 ≡ (is_next past k && (breaks s f e.note).out_of_order)
 unfolding breaks_S05
@@ -425,7 +472,7 @@ pub resent-next : (tested : Tested) (s : Inflight) (f : Fate) (e : Seen) (past :
 resent-next tested s f e past u = go (is_open e.note) refl
   where
     entry : ℕ → Option Entry
-    entry i = entry_in i (session tested.role (Some f) past)
+    entry i = entry_in tested.role i (session tested.role (Some f) past)
 
     go : (b : Bool) → is_open e.note ≡ b → cond b 0 (greater (resent_by (resend_of e.note) (get nat_eq s.entries)) s.resent) ≡ cond b 0 (greater (resent_by (resend_of e.note) entry) (resent_in tested.role (Some f) past))
     go true h = refl

@@ -60,6 +60,7 @@ pub record KeepsOthers (old new : Inflight) : Type 0 where
   pub opened : new.opened ≡ old.opened
   pub peer : new.peer ≡ old.peer
   pub bounds : new.bounds ≡ old.bounds
+  pub bounded : new.bounded ≡ old.bounded
 
 -- an identifier for which a PUBREC below 0x80 comes is open, and wasn't sent again since this OPEN
 abbrev pub untouched : ℕ → (ℕ → Option Entry) → Option ℕ → Bool
@@ -74,7 +75,7 @@ pub record IsMoved (place : Place3) (opener : Option ℕ) (exactly_once : Bool) 
   pub others : KeepsOthers old new
   pub distinct : IsUnique nat_eq old.entries → IsUnique nat_eq new.entries
   pub entries : (i : ℕ) → get nat_eq new.entries i
-      ≡ opened_if (is_id i opener) exactly_once false place (closed_if (is_id i closer) (confirmed_if (is_id i pubrec) (released_if (is_id i pubrel) place.position (get nat_eq old.entries i))))
+      ≡ opened_if (is_id i opener) exactly_once false place (closed_if (is_id i closer) (confirmed_if (is_id i pubrec) (released_if (is_id i pubrel) old.bounded place.position (get nat_eq old.entries i))))
   pub confirmed : (i : ℕ) → contains nat_eq new.confirmed i ≡ (not (is_id i closer) && (contains nat_eq old.confirmed i || (is_id i pubrec && is_some (get nat_eq old.entries i))))
   pub stray : (i : ℕ) → contains nat_eq new.stray i ≡ (not (is_id i closer) && contains nat_eq old.stray i)
   pub unanswered : (i : ℕ) → contains nat_eq new.unanswered i ≡ cond (resumes old.fate) (is_id i (option_or opener pubrel) || (not (is_id i closer) && contains nat_eq old.unanswered i)) (contains nat_eq old.unanswered i)

@@ -1,5 +1,5 @@
 -- What a resumed session owes (MQTT 5.0, section 4.4).
-use Rattle.std.specs.Prelude.{ℕ, ◌≡◌, ◌+◌, nat_lt, nat_le, Bool, true, false, ◌&&◌, ◌||◌, not, cond, List, [], ◌∷◌, length, Option, Some, None, is_some, option_map, unwrap_or}
+use Rattle.std.specs.Prelude.{ℕ, ◌≡◌, nat_lt, nat_le, Bool, true, false, ◌&&◌, ◌||◌, not, cond, List, [], ◌∷◌, Option, Some, None, is_some, option_map, unwrap_or}
 use Rattle.std.specs.Option.{option_or}
 use Rattle.mq_trace.specs.declared.place.Place3.{Place3}
 use Rattle.mq_rules.specs.declared.role.Role.{Role}
@@ -12,18 +12,14 @@ use Rattle.mq_rules.specs.declared.packet_note.ConnectNote.{ConnectNote}
 use Rattle.mq_rules.specs.declared.packet_note.ConnackNote.{ConnackNote}
 use Rattle.mq_rules.specs.Words.{is_some_and, is_id}
 use Rattle.mq_rules.specs.Notes.{is_open, connect_of, connack_of, closer_of, received_as, accepting_pubrec_in}
-use Rattle.mq_rules.specs.Connections.{connection, first_connect, first_connack, accepts, begins, resumes}
+use Rattle.mq_rules.specs.Connections.{connection, latest_fate, first_connect, first_connack, accepts, begins, resumes, resumed}
+use Rattle.mq_rules.specs.Passing.{opened_at}
 use Rattle.mq_rules.specs.FaultKeys.{FaultMap, with_fault}
 use Rattle.mq_books.specs.declared.inflight.entry.Entry.{Entry}
 use Rattle.mq_books.specs.declared.inflight.resends.Resent.{Resent}
 use Rattle.mq_books.specs.declared.inflight.resends.Bounds.{Bounds}
 use Rattle.mq_books.specs.declared.inflight.resends.Excused.{Excused}
 use Rattle.mq_books.specs.Owings.{binds_by}
-
--- the position of the OPEN of the latest connection, or 0
-abbrev pub opened_at : List Seen → ℕ
-opened_at [] = 0
-opened_at (e ∷ past) = cond (is_open e.note) (length past + 1) (opened_at past)
 
 -- what a peer's CONNECT or CONNACK announces of what may be sent: whether there is a Maximum Packet Size or a Maximum QoS, and whether nothing may be retained
 abbrev pub connect_bounds : Option ConnectNote → Option Bounds
@@ -44,24 +40,46 @@ peer_bounds Server past = connect_bounds (first_connect Server (connection past)
 abbrev pub bounds_next : Role → Note → Option Bounds → Option Bounds
 bounds_next role n old = option_or (cond (is_open n) None old) (bounds_by role n)
 
--- What is excused of what wasn't confirmed, whatever the quota: what is retained, if nothing may be.
-abbrev pub by_itself : Option Bounds → Excused
-by_itself bounds = record { all = false; retained = is_some_and (λ b. b.refuses_retained) bounds }
+-- the peer announced a Maximum Packet Size or a Maximum QoS
+abbrev pub is_limited : Option Bounds → Bool
+is_limited bounds = is_some_and (λ b. b.limits) bounds
 
--- What is excused of what wasn't confirmed: all of it, if the send quota is used up or the peer announced a bound; and what is by itself.
-abbrev pub excuses : Option ℕ → ℕ → Option Bounds → Excused
-excuses peer flying bounds = record { all = nat_le (unwrap_or peer 65535) flying || is_some_and (λ b. b.limits) bounds; retained = (by_itself bounds).retained }
+-- The position of the OPEN of the latest connection that passes over what isn't sent there: it is resumed, and the peer announced a bound. That is the latest one, whose
+-- OPEN is at `opened`, or one before it, as `bounded` says.
+abbrev pub passed_since : Fate → Option Bounds → ℕ → ℕ → ℕ
+passed_since f bounds opened bounded = cond (resumes f && is_limited bounds) opened bounded
 
--- the same without what the quota or a bound excuses; with all of it
+-- the position of the OPEN of the latest such connection before the latest one of these events; 0 if there is none
+abbrev pub bounded_at : Role → List Seen → ℕ
+bounded_at role [] = 0
+bounded_at role (e ∷ past) = cond (is_open e.note && (resumed (latest_fate role past) && is_limited (peer_bounds role past))) (opened_at past) (bounded_at role past)
+
+-- the same after an event, where the connection before it has this fate
+abbrev pub bounded_next : Note → Fate → Option Bounds → ℕ → ℕ → ℕ
+bounded_next n f bounds opened old = cond (is_open n && (resumes f && is_limited bounds)) opened old
+
+-- What is excused of what wasn't confirmed, whatever the quota: what is retained, if nothing may be; and what was passed over.
+abbrev pub by_itself : Fate → Option Bounds → ℕ → ℕ → Excused
+by_itself f bounds opened bounded = record { all = false; retained = is_some_and (λ b. b.refuses_retained) bounds; before = passed_since f bounds opened bounded }
+
+-- What is excused of what wasn't confirmed: all of it, if the send quota is used up; and what is by itself.
+abbrev pub excuses : Option ℕ → ℕ → Excused → Excused
+excuses peer flying single = record { all = nat_le (unwrap_or peer 65535) flying; retained = single.retained; before = single.before }
+
+-- the same without what the quota excuses; with all of it
 abbrev pub apart : Excused → Excused
-apart excused = record { all = false; retained = excused.retained }
+apart excused = record { all = false; retained = excused.retained; before = excused.before }
 
 abbrev pub entire : Excused
-entire = record { all = true; retained = true }
+entire = record { all = true; retained = true; before = 0 }
+
+-- what is open was passed over: before what was sent last under it, or since
+abbrev pub is_passed : ℕ → Entry → Bool
+is_passed since o = o.passed || nat_lt o.sent since
 
 -- what wasn't confirmed is excused
 abbrev pub covers : Excused → Entry → Bool
-covers excused o = excused.all || (excused.retained && o.retained)
+covers excused o = excused.all || (is_passed excused.before o || (excused.retained && o.retained))
 
 -- an identifier that is open wasn't sent again since this OPEN, and isn't excused
 abbrev pub is_due : ℕ → Excused → Entry → Bool

@@ -24,7 +24,8 @@ use Rattle.mq_books.specs.declared.inflight.entry.Entry.{Entry}
 use Rattle.mq_books.specs.Quotas.{judged_by, peer_room}
 use Rattle.mq_books.specs.Earlier.{may_resend, IsEarlier}
 use Rattle.mq_books.specs.Opened.{entry_in}
-use Rattle.mq_books.specs.Resending.{opened_at, peer_bounds, by_itself, IsResent}
+use Rattle.mq_books.specs.Resending.{peer_bounds, passed_since, bounded_at, by_itself, is_passed, IsResent}
+use Rattle.mq_rules.specs.Passing.{opened_at, passed_before}
 
 -- on the connection that is open, something was begun under i by the first, and not ended by the second since
 abbrev pub waits : (Note → Option ℕ) → (Note → Option ℕ) → ℕ → List Seen → Bool
@@ -82,12 +83,16 @@ resent_next n entry old = cond (is_open n) 0 (greater (resent_by (resend_of n) e
 -- the greatest position of an opener whose PUBLISH was sent again on the latest connection, while it was open there; 0 if there is none
 abbrev pub resent_in : Role → Option Fate → List Seen → ℕ
 resent_in role taken [] = 0
-resent_in role taken (e ∷ past) = resent_next e.note (λ i. entry_in i (session role taken past)) (resent_in role taken past)
+resent_in role taken (e ∷ past) = resent_next e.note (λ i. entry_in role i (session role taken past)) (resent_in role taken past)
 
 -- ---- what an event breaks
 
-abbrev pub takes_busy : Fate → Role → Note → (ℕ → Option Entry) → (ℕ → Bool) → (ℕ → Bool) → Bool
-takes_busy f role n entry subscribing unsubscribing = accepts f && is_some_and (λ i. is_some (entry i) || (subscribing i || unsubscribing i)) (taken_by role n)
+-- what is open is in use, unless it was passed over by connections that began up to this position, and not confirmed since
+abbrev pub is_taken : ℕ → Entry → Bool
+is_taken since o = o.confirmed || not (is_passed since o)
+
+abbrev pub takes_busy : Fate → Role → Note → ℕ → (ℕ → Option Entry) → (ℕ → Bool) → (ℕ → Bool) → Bool
+takes_busy f role n since entry subscribing unsubscribing = accepts f && is_some_and (λ i. is_some_and (is_taken since) (entry i) || (subscribing i || unsubscribing i)) (taken_by role n)
 
 -- the identifier of a PUBLISH that is sent again is not open, not of a void connection, and not excused; is past its PUBREL; was opened before one that was sent again
 abbrev pub unopened : (ℕ → Option Entry) → (ℕ → Bool) → (ℕ → Bool) → ℕ → Bool
@@ -102,7 +107,7 @@ out_of_order entry resent i = is_some_and (λ o. nat_lt o.place.position resent)
 -- what an event of a connection with this fate breaks
 abbrev pub breaks : Inflight → Fate → Note → Broken
 breaks s f n = record {
-  takes_busy = takes_busy f s.role n (get nat_eq s.entries) (contains nat_eq s.subscribing) (contains nat_eq s.unsubscribing);
+  takes_busy = takes_busy f s.role n (passed_since f s.bounds s.opened s.bounded) (get nat_eq s.entries) (contains nat_eq s.subscribing) (contains nat_eq s.unsubscribing);
   unopened = accepts f && is_some_and (unopened (get nat_eq s.entries) (contains nat_eq s.void) (may_resend s.earlier f)) (resend_of n);
   twice = accepts f && is_some_and (delivering s) (resend_of n);
   past_pubrel = accepts f && is_some_and (past_pubrel (get nat_eq s.entries)) (resend_of n);
@@ -127,7 +132,7 @@ pub record IsUsing (s : Inflight) (tested : Tested) (taken : Option Fate) (past 
   pub same_fate : taken ≡ Some s.fate
   pub is_ordered : s.ordered ≡ binds S05 tested
   pub distinct : IsUnique nat_eq s.entries
-  pub entries_are : (i : ℕ) → get nat_eq s.entries i ≡ entry_in i (session tested.role taken past)
+  pub entries_are : (i : ℕ) → get nat_eq s.entries i ≡ entry_in tested.role i (session tested.role taken past)
   pub delivering_are : is_connected past ≡ true → (i : ℕ) → delivering s i ≡ waits delivery_of closer_of i past
   pub stray_are : (i : ℕ) → contains nat_eq s.stray i ≡ true → is_connected past ≡ true
   pub published_are : ArePublished s.fate s.opened (get nat_eq s.entries) past
@@ -142,4 +147,6 @@ pub record IsUsing (s : Inflight) (tested : Tested) (taken : Option Fate) (past 
   pub same_peer : s.peer ≡ peer_room tested.role past
   pub flying : s.in_flight ≡ in_flight (those (counts tested.role) (connection past))
   pub bounds_are : s.bounds ≡ peer_bounds tested.role past
-  pub resent_are : IsResent s.opened (by_itself s.bounds) (get nat_eq s.entries) (contains nat_eq s.confirmed) s.again
+  pub bounded_is : s.bounded ≡ bounded_at tested.role past
+  pub passed_are : (i : ℕ) (o : Entry) → get nat_eq s.entries i ≡ Some o → is_passed s.bounded o ≡ passed_before tested.role i o.place.position past
+  pub resent_are : IsResent s.opened (by_itself s.fate s.bounds s.opened s.bounded) (get nat_eq s.entries) (contains nat_eq s.confirmed) s.again

@@ -1,6 +1,6 @@
 //! The Packet Identifiers in use, and what is sent again (MQTT 5.0, sections 2.2.1, 4.3 and 4.4).
 ghost use Rattle.std.specs.Prelude.{refl};
-ghost use Rattle.std.specs.Prelude.{◌≡◌, ◌<◌, ◌≤◌, ◌+◌, ◌*◌, ℕ, ◌&&◌, ◌||◌, not, cond, is_some, OnOk, nat_eq, [], Some, None};
+ghost use Rattle.std.specs.Prelude.{false, ◌≡◌, ◌<◌, ◌≤◌, ◌+◌, ◌*◌, ℕ, ◌&&◌, ◌||◌, not, cond, is_some, OnOk, nat_eq, [], Some, None};
 ghost use Rattle.std.specs.Option.{option_or};
 ghost use Rattle.indexmap.specs.IndexMap.{get, IsUnique};
 ghost use Rattle.indexmap.specs.IndexSet.{contains};
@@ -12,7 +12,7 @@ ghost use Rattle.mq_books.specs.Pingings.{ends_by};
 ghost use Rattle.mq_books.specs.Quotas.{announced, may_count as counts_now, flown as flown_by};
 ghost use Rattle.mq_books.specs.Earlier.{GoesOn};
 ghost use Rattle.mq_books.specs.Opened.{entry_next};
-ghost use Rattle.mq_books.specs.Resending.{bounds_next, by_itself, IsResent};
+ghost use Rattle.mq_books.specs.Resending.{bounds_next, bounded_next, by_itself, IsResent};
 ghost use Rattle.mq_rules.specs.Connections.{accepts};
 ghost use Rattle.mq_rules.specs.Identifiers.{sent_under as under};
 ghost use Rattle.mq_rules.specs.Words.{is_id};
@@ -47,7 +47,8 @@ use mq_rules::{
 };
 use mq_trace::{Direction, Place3};
 use resends::{
-    Bounds, Resent, bounds_after, excused_now, resent_still, settle, settles_now, take_confirmed,
+    Bounds, Resent, bounded_after, bounds_after, excused_by_itself, excused_now, passed_since,
+    resent_still, settle, settles_now, take_confirmed,
 };
 use std::alloc::Global;
 
@@ -91,6 +92,9 @@ pub struct Inflight {
     in_flight: u64,
     /// What the peer announced of what may be sent.
     bounds: Option<Bounds>,
+    /// The position of the OPEN of the latest connection before this one that passes over what isn't
+    /// sent there: it was resumed, and the peer announced a Maximum Packet Size or a Maximum QoS.
+    bounded: u32,
 }
 
 // Puts in what is begun, after what is ended is out. An OPEN and a CLOSE end all.
@@ -263,6 +267,7 @@ impl Inflight {
             peer: None,
             in_flight: 0,
             bounds: None,
+            bounded: 0,
         }
     }
 
@@ -283,6 +288,7 @@ impl Inflight {
                 self.role,
                 note,
                 &self.entries,
+                passed_since(fate, self.bounds, self.opened, self.bounded),
                 &self.subscribing,
                 &self.unsubscribing,
             ),
@@ -295,9 +301,10 @@ impl Inflight {
 
     // Takes in what is known of the connection, by what was open before.
     fn take_connection(&mut self, at: Place3, fate: Fate, note: &Note)
-        ensures state { self.new ≡ record self.old { fate = fate; resent = resent_next note.now (get nat_eq self.old.entries) self.old.resent; ended = ends_by note.now || (not (opens note.now) && self.old.ended); opened = cond (opens note.now) at.position self.old.opened; peer = option_or (cond (opens note.now) None self.old.peer) (announced self.old.role note.now); in_flight = self.new.in_flight; bounds = bounds_next self.old.role note.now self.old.bounds } }
+        ensures state { self.new ≡ record self.old { fate = fate; resent = resent_next note.now (get nat_eq self.old.entries) self.old.resent; ended = ends_by note.now || (not (opens note.now) && self.old.ended); opened = cond (opens note.now) at.position self.old.opened; peer = option_or (cond (opens note.now) None self.old.peer) (announced self.old.role note.now); in_flight = self.new.in_flight; bounds = bounds_next self.old.role note.now self.old.bounds; bounded = bounded_next note.now self.old.fate self.old.bounds self.old.opened self.old.bounded } }
         ensures flying { self.old.in_flight < at.position → self.new.in_flight ≡ flown_by (counts_now self.old.role self.old.peer) note.now self.old.in_flight }
     {
+        self.bounded = bounded_after(note, self.fate, self.bounds, self.opened, self.bounded);
         self.fate = fate;
         self.resent = resent_after(self.resent, note, &self.entries);
         self.ended = ended_after(self.ended, note);
@@ -337,7 +344,7 @@ impl Inflight {
         ensures fate { OnOk result (self.new.fate ≡ fate) }
         ensures ordered { OnOk result (self.new.ordered ≡ self.old.ordered) }
         ensures distinct { IsUnique nat_eq self.old.entries → OnOk result (IsUnique nat_eq self.new.entries) }
-        ensures entries { OnOk result ((i : ℕ) → get nat_eq self.new.entries i ≡ entry_next fate note.now at i (get nat_eq self.old.entries i)) }
+        ensures entries { OnOk result ((i : ℕ) → get nat_eq self.new.entries i ≡ entry_next fate note.now self.old.bounded at i (get nat_eq self.old.entries i)) }
         ensures stray { OnOk result ((i : ℕ) → contains nat_eq self.new.stray i ≡ stray_next fate note.now (get nat_eq self.new.entries) i (contains nat_eq self.old.stray i)) }
         ensures unanswered { OnOk result ((i : ℕ) → contains nat_eq self.new.unanswered i ≡ unanswered_next fate note.now i (contains nat_eq self.old.unanswered i)) }
         ensures void { OnOk result ((i : ℕ) → contains nat_eq self.new.void i ≡ void_next fate note.now i (contains nat_eq self.old.void i)) }
@@ -350,17 +357,19 @@ impl Inflight {
         ensures peer { OnOk result (self.new.peer ≡ option_or (cond (opens note.now) None self.old.peer) (announced self.old.role note.now)) }
         ensures flying { self.old.in_flight < at.position → OnOk result (self.new.in_flight ≡ flown_by (counts_now self.old.role self.old.peer) note.now self.old.in_flight) }
         ensures bounds { OnOk result (self.new.bounds ≡ bounds_next self.old.role note.now self.old.bounds) }
-        ensures again { self.old.opened ≤ at.position → IsResent self.old.opened (by_itself self.old.bounds) (get nat_eq self.old.entries) (contains nat_eq self.old.confirmed) self.old.again → OnOk result (IsResent self.new.opened (by_itself self.new.bounds) (get nat_eq self.new.entries) (contains nat_eq self.new.confirmed) self.new.again) }
+        ensures bounded { OnOk result (self.new.bounded ≡ bounded_next note.now self.old.fate self.old.bounds self.old.opened self.old.bounded) }
+        ensures again { self.old.opened ≤ at.position → self.old.bounded ≤ self.old.opened → (opens note.now ≡ false → self.old.fate ≡ fate) → IsResent self.old.opened (by_itself self.old.fate self.old.bounds self.old.opened self.old.bounded) (get nat_eq self.old.entries) (contains nat_eq self.old.confirmed) self.old.again → OnOk result (IsResent self.new.opened (by_itself self.new.fate self.new.bounds self.new.opened self.new.bounded) (get nat_eq self.new.entries) (contains nat_eq self.new.confirmed) self.new.again) }
     {
         let alloc = self.alloc;
         let role = self.role;
         let before = self.fate;
+        let bounded = self.bounded;
         self.earlier
             .take_in(alloc, role, before, fate, known, note)?;
         self.again = resent_still(self.again, &self.entries, self.opened, note);
         self.take_connection(at, fate, note);
         take_confirmed(&mut self.confirmed, alloc, &self.entries, fate, note)?;
-        take_entries(&mut self.entries, alloc, at, fate, note)?;
+        take_entries(&mut self.entries, alloc, bounded, at, fate, note)?;
         self.take_waiting(fate, note)?;
         Ok(())
     }
@@ -409,7 +418,8 @@ impl Fated for Inflight {
         judge_all(&broken, at, decided, faults)?;
         let known = decided == at.position;
         let settles = settles_now(fate, known, self.ended, &self.unanswered, note);
-        let excused = excused_now(self.peer, self.in_flight, self.bounds);
+        let single = excused_by_itself(self.fate, self.bounds, self.opened, self.bounded);
+        let excused = excused_now(self.peer, self.in_flight, single);
         self.again = settle(
             settles,
             self.again,

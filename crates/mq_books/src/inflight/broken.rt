@@ -8,7 +8,7 @@ ghost use Rattle.mq_rules.specs.Connections.{accepts};
 ghost use Rattle.mq_books.specs.Owings.{Keeps};
 ghost use Rattle.mq_books.specs.Earlier.{may_resend};
 ghost use Rattle.mq_books.specs.Knowing as knowing;
-ghost use Rattle.mq_books.specs.Using.{in_delivery, takes_busy, judged_all, unopened, past_pubrel, out_of_order, resent_by, resent_next};
+ghost use Rattle.mq_books.specs.Using.{in_delivery, is_taken as taken, takes_busy, judged_all, unopened, past_pubrel, out_of_order, resent_by, resent_next};
 
 use super::earlier::Earlier;
 use super::entry::Entry;
@@ -46,32 +46,53 @@ pub fn all_excused(fate: Fate, known: bool, broken: Broken) -> Broken
     }
 }
 
+/// Whether what is open is in use, or may have been discarded: it was passed over, by connections that
+/// began up to `since`, and not confirmed.
+pub fn is_taken(entry: &Entry, since: u32) -> bool
+    ensures { result ≡ taken since entry.now }
+{
+    entry.confirmed || !(entry.passed || entry.sent < since)
+}
+
+// Whether an identifier is open, and what is open is in use.
+fn is_held(entries: &IndexMap<u16, Entry>, since: u32, i: u16) -> bool
+    ensures { result ≡ is_some_and (taken since) (get nat_eq entries.now i) }
+{
+    match entries.get(&i) {
+        Some(entry) => is_taken(entry, since),
+        None => false,
+    }
+}
+
 // Whether an identifier is in use.
 fn is_busy(
     entries: &IndexMap<u16, Entry>,
+    since: u32,
     subscribing: &IndexSet<u16>,
     unsubscribing: &IndexSet<u16>,
     i: u16,
 ) -> bool
-    ensures { result ≡ (is_some (get nat_eq entries.now i) || (contains nat_eq subscribing.now i || contains nat_eq unsubscribing.now i)) }
+    ensures { result ≡ (is_some_and (taken since) (get nat_eq entries.now i) || (contains nat_eq subscribing.now i || contains nat_eq unsubscribing.now i)) }
 {
-    entries.contains_key(&i) || (subscribing.contains(&i) || unsubscribing.contains(&i))
+    is_held(entries, since, i) || (subscribing.contains(&i) || unsubscribing.contains(&i))
 }
 
-/// Whether an event takes an identifier that is busy.
+/// Whether an event takes an identifier that is busy, where connections that passed over began up to
+/// `since`.
 pub fn takes(
     fate: Fate,
     role: Role,
     note: &Note,
     entries: &IndexMap<u16, Entry>,
+    since: u32,
     subscribing: &IndexSet<u16>,
     unsubscribing: &IndexSet<u16>,
 ) -> bool
-    ensures { result ≡ takes_busy fate role note.now (get nat_eq entries.now) (contains nat_eq subscribing.now) (contains nat_eq unsubscribing.now) }
+    ensures { result ≡ takes_busy fate role note.now since (get nat_eq entries.now) (contains nat_eq subscribing.now) (contains nat_eq unsubscribing.now) }
 {
     fate.accepts()
         && match note.taken_identifier(role) {
-            Some(i) => is_busy(entries, subscribing, unsubscribing, i),
+            Some(i) => is_busy(entries, since, subscribing, unsubscribing, i),
             None => false,
         }
 }

@@ -1,5 +1,6 @@
 //! What is kept of a Packet Identifier that is open in a session (MQTT 5.0, section 2.2.1).
-ghost use Rattle.std.specs.Prelude.{◌≡◌, ℕ, OnOk, IfOk, is_some, nat_eq};
+ghost use Rattle.std.specs.Prelude.{◌≡◌, ℕ, OnOk, IfOk, nat_eq};
+ghost use Rattle.std.specs.Option.{option_and_then};
 ghost use Rattle.indexmap.specs.IndexMap.{get, IsUnique};
 ghost use Rattle.mq_rules.specs.Words.{is_id, is_some_and};
 ghost use Rattle.mq_rules.specs.Notes.{is_exactly_once, sent_publish};
@@ -24,6 +25,9 @@ pub struct Entry {
     pub confirmed: bool,
     /// A PUBREL was sent since.
     pub released: bool,
+    /// It was passed over before what was sent last under it: on a resumed connection on which the
+    /// peer announced a Maximum Packet Size or a Maximum QoS nothing of it was sent.
+    pub passed: bool,
     /// The position of the latest PUBLISH or PUBREL that was sent under it.
     pub sent: u32,
     /// The position of the latest PUBLISH that was.
@@ -50,28 +54,37 @@ fn is_sent_retained(note: &Note) -> bool
     }
 }
 
-// Takes in that a PUBLISH is sent under an identifier.
-fn send(entries: &mut IndexMap<u16, Entry>, identifier: Option<u16>, position: u32)
-    ensures entries { (i : ℕ) → get nat_eq entries.new i ≡ sent_if (is_id i identifier) position (get nat_eq entries.old i) }
+// Takes in that a PUBLISH is sent under an identifier, where connections before this one that passed
+// over began up to `bounded`.
+fn send(entries: &mut IndexMap<u16, Entry>, identifier: Option<u16>, bounded: u32, position: u32)
+    ensures entries { (i : ℕ) → get nat_eq entries.new i ≡ sent_if (is_id i identifier) bounded position (get nat_eq entries.old i) }
     ensures unique { IsUnique nat_eq entries.old → IsUnique nat_eq entries.new }
 {
     if let Some(i) = identifier {
         if let Some(entry) = entries.get_mut(&i) {
+            entry.passed = entry.sent < bounded || entry.passed;
             entry.sent = position;
             entry.published = position;
         }
     }
 }
 
-/// Takes in that a PUBREL is sent under an identifier.
+/// Takes in that a PUBREL is sent under an identifier, where connections before this one that passed
+/// over began up to `bounded`.
 #[inline(always)]
-pub fn release(entries: &mut IndexMap<u16, Entry>, identifier: Option<u16>, position: u32)
-    ensures entries { (i : ℕ) → get nat_eq entries.new i ≡ released_if (is_id i identifier) position (get nat_eq entries.old i) }
+pub fn release(
+    entries: &mut IndexMap<u16, Entry>,
+    identifier: Option<u16>,
+    bounded: u32,
+    position: u32,
+)
+    ensures entries { (i : ℕ) → get nat_eq entries.new i ≡ released_if (is_id i identifier) bounded position (get nat_eq entries.old i) }
     ensures unique { IsUnique nat_eq entries.old → IsUnique nat_eq entries.new }
 {
     if let Some(i) = identifier {
         if let Some(entry) = entries.get_mut(&i) {
             entry.released = true;
+            entry.passed = entry.sent < bounded || entry.passed;
             entry.sent = position;
         }
     }
@@ -101,7 +114,7 @@ pub fn close(entries: &mut IndexMap<u16, Entry>, identifier: Option<u16>)
     }
 }
 
-/// Takes in that an identifier is opened, and returns whether it was open.
+/// Takes in that an identifier is opened, and returns what was kept of it before.
 #[inline(always)]
 pub fn open_new(
     entries: &mut IndexMap<u16, Entry>,
@@ -109,10 +122,10 @@ pub fn open_new(
     exactly_once: bool,
     retained: bool,
     at: Place3,
-) -> Result<bool, Memory>
+) -> Result<Option<Entry>, Memory>
     ensures entries { OnOk result ((i : ℕ) → get nat_eq entries.new i ≡ opened_if (is_id i identifier) exactly_once retained at (get nat_eq entries.old i)) }
     ensures unique { IsUnique nat_eq entries.old → OnOk result (IsUnique nat_eq entries.new) }
-    ensures busy { IfOk result (λ busy. busy ≡ is_some_and (λ i. is_some (get nat_eq entries.old i)) identifier) }
+    ensures old { IfOk result (λ old. old ≡ option_and_then (get nat_eq entries.old) identifier) }
 {
     if let Some(i) = identifier {
         let entry = Entry {
@@ -121,21 +134,27 @@ pub fn open_new(
             retained,
             confirmed: false,
             released: false,
+            passed: false,
             sent: at.position,
             published: at.position,
         };
-        return Ok(entries.insert(i, entry)?.is_some());
+        return Ok(entries.insert(i, entry)?);
     }
-    Ok(false)
+    Ok(None)
 }
 
 // Takes in an event of the session.
-fn take_in(entries: &mut IndexMap<u16, Entry>, at: Place3, note: &Note) -> Result<(), Memory>
-    ensures entries { OnOk result ((i : ℕ) → get nat_eq entries.new i ≡ entry_after i note.now at (get nat_eq entries.old i)) }
+fn take_in(
+    entries: &mut IndexMap<u16, Entry>,
+    bounded: u32,
+    at: Place3,
+    note: &Note,
+) -> Result<(), Memory>
+    ensures entries { OnOk result ((i : ℕ) → get nat_eq entries.new i ≡ entry_after bounded i note.now at (get nat_eq entries.old i)) }
     ensures unique { IsUnique nat_eq entries.old → OnOk result (IsUnique nat_eq entries.new) }
 {
-    send(entries, note.delivery(), at.position);
-    release(entries, note.sent_pubrel(), at.position);
+    send(entries, note.delivery(), bounded, at.position);
+    release(entries, note.sent_pubrel(), bounded, at.position);
     confirm(entries, note.received_accepting_pubrec());
     close(entries, note.closer());
     open_new(
@@ -148,15 +167,17 @@ fn take_in(entries: &mut IndexMap<u16, Entry>, at: Place3, note: &Note) -> Resul
     Ok(())
 }
 
-/// Takes in an event of a connection that has this fate.
+/// Takes in an event of a connection that has this fate, where connections before it that passed over
+/// began up to `bounded`.
 pub fn take_entries(
     entries: &mut IndexMap<u16, Entry>,
     alloc: Global,
+    bounded: u32,
     at: Place3,
     fate: Fate,
     note: &Note,
 ) -> Result<(), Memory>
-    ensures entries { OnOk result ((i : ℕ) → get nat_eq entries.new i ≡ entry_next fate note.now at i (get nat_eq entries.old i)) }
+    ensures entries { OnOk result ((i : ℕ) → get nat_eq entries.new i ≡ entry_next fate note.now bounded at i (get nat_eq entries.old i)) }
     ensures unique { IsUnique nat_eq entries.old → OnOk result (IsUnique nat_eq entries.new) }
 {
     if note.is_open() {
@@ -169,6 +190,6 @@ pub fn take_entries(
     if !fate.accepts() {
         return Ok(());
     }
-    take_in(entries, at, note)?;
+    take_in(entries, bounded, at, note)?;
     Ok(())
 }

@@ -12,13 +12,15 @@ ghost use Rattle.mq_rules.specs.FaultKeys.{FaultMap};
 ghost use Rattle.mq_rules.specs.Connections.{accepts, resumes};
 ghost use Rattle.mq_rules.specs.Under.{seen, Follows, IsKnown};
 ghost use Rattle.mq_rules.specs.Notes.{note_of_bare, refuses, is_acknowledged, is_exactly_once as exactly_once};
-ghost use Rattle.mq_rules.specs.Words.{is_id, only};
+ghost use Rattle.mq_rules.specs.Words.{is_id, is_some_and, only};
 ghost use Rattle.mq_trace.specs.declared.kind.Direction.TheVariants as directions;
 ghost use Rattle.mq_books.specs.Moving.{Moves, IsMoved, IsStep, IsWithin, untouched};
-ghost use Rattle.mq_books.specs.Using.{IsUsing};
+ghost use Rattle.mq_books.specs.Resending.{passed_since};
+ghost use Rattle.mq_books.specs.Using.{is_taken, IsUsing};
 
+use super::broken::is_taken as held;
 use super::entry::{Entry, close, confirm, open_new, release};
-use super::resends::{Resent, keep_confirmed};
+use super::resends::{Resent, keep_confirmed, passed_since as since_now};
 use super::{Inflight, keep_unanswered};
 use crate::known::judge_by;
 use crate::messages::is_acknowledged as acknowledges;
@@ -119,8 +121,27 @@ fn is_in(set: &IndexSet<u16>, i: u16) -> bool
 }
 
 impl Inflight {
+    // Whether what was kept of an identifier is in use. Mostly nothing was kept.
+    #[inline(always)]
+    fn is_busy(&self, old: Option<Entry>) -> bool
+        ensures { result ≡ is_some_and (is_taken (passed_since self.now.fate self.now.bounds self.now.opened self.now.bounded)) old }
+    {
+        match old {
+            Some(entry) => self.is_still_taken(entry),
+            None => false,
+        }
+    }
+
+    #[inline(never)]
+    fn is_still_taken(&self, entry: Entry) -> bool
+        ensures { result ≡ is_taken (passed_since self.now.fate self.now.bounds self.now.opened self.now.bounded) entry }
+    {
+        let since = since_now(self.fate, self.bounds, self.opened, self.bounded);
+        held(&entry, since)
+    }
+
     // Takes in what an event of a connection that is accepted does to identifiers. The answer is
-    // whether the one that it opens was open.
+    // what was kept of the one that it opens.
     #[inline(always)]
     fn shift(
         &mut self,
@@ -130,9 +151,9 @@ impl Inflight {
         closer: Option<u16>,
         pubrel: Option<u16>,
         pubrec: Option<u16>,
-    ) -> Result<bool, Memory>
+    ) -> Result<Option<Entry>, Memory>
         ensures moved { OnOk result (IsMoved at opener exactly_once closer pubrel pubrec self.old self.new) }
-        ensures busy { (i : ℕ) → opener ≡ Some i → closer ≡ None → IfOk result (λ busy. busy ≡ is_some (get nat_eq self.old.entries i)) }
+        ensures old { (i : ℕ) → opener ≡ Some i → closer ≡ None → pubrel ≡ None → pubrec ≡ None → IfOk result (λ old. old ≡ get nat_eq self.old.entries i) }
     {
         let late = confirms_late(&self.entries, self.opened, pubrec);
         self.again = Resent {
@@ -147,13 +168,13 @@ impl Inflight {
             at.position,
         );
         keep_confirmed(&mut self.confirmed, &self.entries, pubrec, closer)?;
-        release(&mut self.entries, pubrel, at.position);
+        release(&mut self.entries, pubrel, self.bounded, at.position);
         confirm(&mut self.entries, pubrec);
         close(&mut self.entries, closer);
-        let busy = open_new(&mut self.entries, opener, exactly_once, false, at)?;
+        let old = open_new(&mut self.entries, opener, exactly_once, false, at)?;
         remove(&mut self.stray, closer);
         move_unanswered(&mut self.unanswered, self.fate, opener, closer, pubrel)?;
-        Ok(busy)
+        Ok(old)
     }
 
     // Takes in a new PUBLISH under an identifier.
@@ -169,7 +190,8 @@ impl Inflight {
         ensures memory { accepts self.old.fate ≡ true → OnErr result ((n : TheNote) (tested : Tested) (taken : Option TheFate) (past : List Seen) → Moves n (Some i) exactly_once None None None → Follows tested (seen at n) past → IsKnown tested taken (seen at n) past → IsUsing self.old tested taken past → IsWithin at n tested past faults.old faults.new) }
     {
         let awaited = is_awaited(&self.subscribing, &self.unsubscribing, i);
-        let busy = self.shift(at, Some(i), exactly_once, None, None, None)?;
+        let old = self.shift(at, Some(i), exactly_once, None, None, None)?;
+        let busy = self.is_busy(old);
         judge_by(Rule::S01, either(busy, awaited), at, at.position, faults)?;
         Ok(())
     }

@@ -8,7 +8,7 @@ ghost use Rattle.mq_rules.specs.Notes.{is_open as opens};
 ghost use Rattle.mq_books.specs.Owings.{Keeps};
 ghost use Rattle.mq_books.specs.Resending as resending;
 ghost use Rattle.mq_books.specs.declared.inflight.resends.Excused.{Excused as TheExcused};
-ghost use Rattle.mq_books.specs.Resending.{entire, due_next, told_under, blamed_due, blamed_under, told, excuses, settles, bounds_next, confirmed_next, confirms_untouched, IsResent};
+ghost use Rattle.mq_books.specs.Resending.{by_itself, bounded_next, entire, due_next, told_under, blamed_due, blamed_under, told, excuses, settles, bounds_next, confirmed_next, confirms_untouched, IsResent};
 
 use super::entry::Entry;
 use crate::quota::RECEIVE_MAXIMUM;
@@ -32,12 +32,16 @@ pub struct Excused {
     pub all: bool,
     /// What was sent with RETAIN 1.
     pub retained: bool,
+    /// What was passed over: nothing was sent under it since this position, or a connection passed
+    /// over before what was sent last.
+    pub before: u32,
 }
 
 // Whatever wasn't confirmed.
 const ENTIRE: Excused = Excused {
     all: true,
     retained: true,
+    before: 0,
 };
 
 // What the peer announces by this event.
@@ -72,7 +76,7 @@ pub fn bounds_after(role: Role, bounds: Option<Bounds>, note: &Note) -> Option<B
 
 // Whether the peer announced a Maximum Packet Size or a Maximum QoS.
 fn is_limited(bounds: Option<Bounds>) -> bool
-    ensures { result ≡ is_some_and (λ b. b.limits) bounds }
+    ensures { result ≡ resending.is_limited bounds }
 {
     match bounds {
         Some(bounds) => bounds.limits,
@@ -90,13 +94,60 @@ fn refuses_retained(bounds: Option<Bounds>) -> bool
     }
 }
 
-/// What needn't be sent again now, unless it was confirmed.
-pub fn excused_now(peer: Option<u16>, in_flight: u64, bounds: Option<Bounds>) -> Excused
-    ensures { result ≡ excuses peer in_flight bounds }
+/// The position of the OPEN of the latest connection that passes over what isn't sent there: this one,
+/// whose OPEN is at `opened`, or one before it, as `bounded` says.
+pub fn passed_since(fate: Fate, bounds: Option<Bounds>, opened: u32, bounded: u32) -> u32
+    ensures { result ≡ resending.passed_since fate bounds opened bounded }
+{
+    if fate.resumes() && is_limited(bounds) {
+        return opened;
+    }
+    bounded
+}
+
+/// The same of the connections before the latest one, after an event; this is kept before it.
+pub fn bounded_after(
+    note: &Note,
+    fate: Fate,
+    bounds: Option<Bounds>,
+    opened: u32,
+    bounded: u32,
+) -> u32
+    ensures { result ≡ bounded_next note.now fate bounds opened bounded }
+{
+    if note.is_open() && (fate.resumes() && is_limited(bounds)) {
+        return opened;
+    }
+    bounded
+}
+
+/// What needn't be sent again, whatever the quota, unless it was confirmed.
+pub fn excused_by_itself(fate: Fate, bounds: Option<Bounds>, opened: u32, bounded: u32) -> Excused
+    ensures { result ≡ by_itself fate bounds opened bounded }
 {
     Excused {
-        all: u64::from(peer.unwrap_or(RECEIVE_MAXIMUM)) <= in_flight || is_limited(bounds),
+        all: false,
         retained: refuses_retained(bounds),
+        before: passed_since(fate, bounds, opened, bounded),
+    }
+}
+
+/// What needn't be sent again now, unless it was confirmed.
+pub fn excused_now(peer: Option<u16>, in_flight: u64, single: Excused) -> Excused
+    ensures { result ≡ excuses peer in_flight single }
+{
+    Excused {
+        all: u64::from(peer.unwrap_or(RECEIVE_MAXIMUM)) <= in_flight,
+        ..single
+    }
+}
+
+impl Entry {
+    // Whether what is open was passed over, by connections that began up to this position.
+    fn is_passed(&self, since: u32) -> bool
+        ensures { result ≡ resending.is_passed since self.now }
+    {
+        self.passed || self.sent < since
     }
 }
 
@@ -112,7 +163,7 @@ impl Excused {
     fn covers(self, entry: &Entry) -> bool
         ensures { result ≡ resending.covers self entry.now }
     {
-        self.all || (self.retained && entry.retained)
+        self.all || (entry.is_passed(self.before) || (self.retained && entry.retained))
     }
 }
 

@@ -1,4 +1,5 @@
-use Rattle.std.proofs.Common.{rules, refl}
+use Rattle.std.proofs.Common.{rules, ◌≡◌, nat_eq, Some, None, refl, sym, ◌∙◌}
+use Rattle.indexmap.specs.IndexMap.{get}
 use Rattle.mq_books.proofs.inflight.Inflight.new.Goals as goal
 
 pub returns : goal.returns
@@ -22,5 +23,7 @@ returns c = record {
   same_peer = search rules;
   flying = search rules;
   bounds_are = search rules;
+  bounded_is = refl;
+  passed_are = λ i o h. absurd (let none : get nat_eq c.new.result i ≡ None = search rules in let bad : None ≡ Some o = sym none ∙ h in cc);
   resent_are = search rules;
 }

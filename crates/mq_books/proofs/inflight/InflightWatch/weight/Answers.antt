@@ -19,8 +19,8 @@ pub returns : goal.returns
 unfolding open_ids delivering_ids void_ids first_ids subscribing_ids unsubscribing_ids
 returns c = λ tested taken past u.
     let ms = session tested.role taken past in
-    let opened = c.map_size.ensures.bounded (λ i. since (opens_id i) (closes_id i) ms) (λ i here. sym (entry-there i ms) ∙ ap is_some (sym (u.entries_are i)) ∙ here) in
-    let confirmed = c.set_size.ensures.bounded (λ i. since (opens_id i) (closes_id i) ms) (λ i here. sym (entry-there i ms) ∙ ap is_some (sym (u.entries_are i)) ∙ u.resent_are.opened_are i here) in
+    let opened = c.map_size.ensures.bounded (λ i. since (opens_id i) (closes_id i) ms) (λ i here. sym (entry-there tested.role i ms) ∙ ap is_some (sym (u.entries_are i)) ∙ here) in
+    let confirmed = c.set_size.ensures.bounded (λ i. since (opens_id i) (closes_id i) ms) (λ i here. sym (entry-there tested.role i ms) ∙ ap is_some (sym (u.entries_are i)) ∙ u.resent_are.opened_are i here) in
     let delivering = c.set_size-2.ensures.bounded (λ i. since (λ m. is_id i (sent_under (note m))) (closes_id i) (on_open past)) (λ i here. delivered-waits i (on_open past)
     (sym (u.delivering_are (u.stray_are i here) i) ∙ or_left (contains nat_eq c.args.self.now.stray i) (is_some_and (λ (o : Entry). nat_le c.args.self.now.opened o.published) (get nat_eq c.args.self.now.entries i)) here)) in
     let unanswered = c.set_size-3.ensures.bounded (λ i. since (λ m. is_id i (sent_under (note m))) (closes_id i) (on_open past)) (λ i here. (both_true (resumes c.args.self.now.fate) (since (λ m. is_id i (sent_under (note m))) (closes_id i) (on_open past)) (sym (u.unanswered_are i) ∙ here)).1) in
