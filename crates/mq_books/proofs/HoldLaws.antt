@@ -12,7 +12,7 @@ use Rattle.mq_rules.specs.Notes.{is_open, is_rest, decides}
 use Rattle.mq_rules.specs.Moments.{Moment, newest, moment, is_next, some}
 use Rattle.mq_rules.specs.Connections.{begun, number, connection, fate, latest_fate, accepts, accepted, ends_binding, is_binding, gives_fate}
 use Rattle.mq_rules.specs.Rules.{binds}
-use Rattle.mq_rules.specs.Statements.{Statement, on_bytes, on_past, in_session, at_release, at_rest, statement, is_false_under, where_accepted}
+use Rattle.mq_rules.specs.Statements.{Statement, on_bytes, on_past, in_session, at_release, at_rest, statement, is_so_under, where_accepted}
 use Rattle.mq_rules.specs.Steps.{given, shows_under, shows, turns}
 use Rattle.mq_rules.proofs.Exports.{and-over, and_false, begun-closed, begun-open-of-given as begun-open, given-gives, latest_fate-same, moment-next, not_true, number-within, or-turn, or_false, rest-opens-nothing}
 use Rattle.mq_rules.specs.Under.{is_by_session, shows_with, turns_with}
@@ -58,8 +58,8 @@ unbound-after role e past none = go (is_open e.note) refl
 
 shows-nothing : (role : Role) (breaks : Fate → Moment → Bool) (e : Seen) (past : List Seen) (k : ℕ) → latest_fate role (e ∷ past) ≡ None → shows_under role breaks e past k ≡ false
 shows-nothing role breaks e past k none =
-    ap (λ o. (is_next past k && is_false_under breaks (newest e past) o) || is_some_and (λ m. is_false_under breaks m (given role e past (number m))) (moment past k)) none
-    ∙ ap (λ b. b || is_some_and (λ m. is_false_under breaks m (given role e past (number m))) (moment past k)) (and_false (is_next past k))
+    ap (λ o. (is_next past k && is_so_under breaks (newest e past) o) || is_some_and (λ m. is_so_under breaks m (given role e past (number m))) (moment past k)) none
+    ∙ ap (λ b. b || is_some_and (λ m. is_so_under breaks m (given role e past (number m))) (moment past k)) (and_false (is_next past k))
     ∙ go (moment past k)
   where
     never : (c : ℕ) → given role e past c ≡ None
@@ -68,9 +68,9 @@ shows-nothing role breaks e past k none =
         let now : latest_fate role (e ∷ past) ≡ Some f = latest_fate-same role e past closed ∙ ap (λ o. option_or o (gives_fate role (newest e past))) was ∙ gives in
         absurd (cc))
 
-    go : (o : Option Moment) → is_some_and (λ m. is_false_under breaks m (given role e past (number m))) o ≡ false
+    go : (o : Option Moment) → is_some_and (λ m. is_so_under breaks m (given role e past (number m))) o ≡ false
     go None = refl
-    go (Some m) = ap (is_false_under breaks m) (never (number m))
+    go (Some m) = ap (is_so_under breaks m) (never (number m))
 
 pub undecided-turns : (tested : Tested) (e : Seen) (past : List Seen) → latest_fate tested.role (e ∷ past) ≡ None → (k : ℕ) (r : Rule) → turns_session tested e past k r ≡ false
 unfolding turns
@@ -133,30 +133,30 @@ held-number role e (d ∷ hs) base held = begun-closed e (d ∷ (hs ++ base)) he
 
 older-told : (role : Role) (f : Fate) (breaks : Fate → Moment → Bool) (e : Seen) (past : List Seen) (hs base : List Seen) (k : ℕ) → AreHeld role hs base
     → ((hs ≡ []) ⊎ (given role e past (1 + begun base) ≡ Some f)) → ((m : Moment) → moment base k ≡ Some m → given role e past (number m) ≡ None)
-    → is_some_and (λ m. is_false_under breaks m (given role e past (number m))) (moment (hs ++ base) k) ≡ told_by (breaks f) hs base k
+    → is_some_and (λ m. is_so_under breaks m (given role e past (number m))) (moment (hs ++ base) k) ≡ told_by (breaks f) hs base k
 unfolding told_by
 older-told role f breaks e past [] base k held gives none = go (moment base k) refl
   where
-    go : (o : Option Moment) → moment base k ≡ o → is_some_and (λ m. is_false_under breaks m (given role e past (number m))) o ≡ false
+    go : (o : Option Moment) → moment base k ≡ o → is_some_and (λ m. is_so_under breaks m (given role e past (number m))) o ≡ false
     go None is = refl
-    go (Some m) is = ap (is_false_under breaks m) (none m is)
+    go (Some m) is = ap (is_so_under breaks m) (none m is)
 older-told role f breaks e past (d ∷ hs) base k held (inl h) none = absurd (cc)
 older-told role f breaks e past (d ∷ hs) base k held (inr gives) none = go (is_next (hs ++ base) k) refl (older-told role f breaks e past hs base k held.2 (inr gives) none)
   where
     there : given role e past (number (newest d (hs ++ base))) ≡ Some f
     there = ap (given role e past) (held-number role d hs base held) ∙ gives
 
-    go : (b : Bool) → is_next (hs ++ base) k ≡ b → is_some_and (λ m. is_false_under breaks m (given role e past (number m))) (moment (hs ++ base) k) ≡ told_by (breaks f) hs base k
-        → is_some_and (λ m. is_false_under breaks m (given role e past (number m))) (cond b (Some (newest d (hs ++ base))) (moment (hs ++ base) k)) ≡ (told_by (breaks f) hs base k || (b && breaks f (newest d (hs ++ base))))
+    go : (b : Bool) → is_next (hs ++ base) k ≡ b → is_some_and (λ m. is_so_under breaks m (given role e past (number m))) (moment (hs ++ base) k) ≡ told_by (breaks f) hs base k
+        → is_some_and (λ m. is_so_under breaks m (given role e past (number m))) (cond b (Some (newest d (hs ++ base))) (moment (hs ++ base) k)) ≡ (told_by (breaks f) hs base k || (b && breaks f (newest d (hs ++ base))))
     go true h rest =
-        ap (is_false_under breaks (newest d (hs ++ base))) there
-        ∙ ap (λ b. b || breaks f (newest d (hs ++ base))) (sym (ap (is_some_and (λ m. is_false_under breaks m (given role e past (number m)))) (moment-next (hs ++ base) k h)) ∙ rest)
+        ap (is_so_under breaks (newest d (hs ++ base))) there
+        ∙ ap (λ b. b || breaks f (newest d (hs ++ base))) (sym (ap (is_some_and (λ m. is_so_under breaks m (given role e past (number m)))) (moment-next (hs ++ base) k h)) ∙ rest)
     go false h rest = rest ∙ sym (or_false (told_by (breaks f) hs base k))
 
 decided-shows : (role : Role) (f : Fate) (breaks : Fate → Moment → Bool) (e : Seen) (hs base : List Seen) (k : ℕ) → AreHeld role hs base → is_some (latest_fate role base) ≡ true → is_open e.note ≡ false
     → latest_fate role (e ∷ (hs ++ base)) ≡ Some f → shows_under role breaks e (hs ++ base) k ≡ (told_by (breaks f) hs base k || (is_next (hs ++ base) k && breaks f (newest e (hs ++ base))))
 decided-shows role f breaks e hs base k held known closed h =
-    ap (λ o. (is_next (hs ++ base) k && is_false_under breaks (newest e (hs ++ base)) o) || is_some_and (λ m. is_false_under breaks m (given role e (hs ++ base) (number m))) (moment (hs ++ base) k)) h
+    ap (λ o. (is_next (hs ++ base) k && is_so_under breaks (newest e (hs ++ base)) o) || is_some_and (λ m. is_so_under breaks m (given role e (hs ++ base) (number m))) (moment (hs ++ base) k)) h
     ∙ ap (λ b. (is_next (hs ++ base) k && breaks f (newest e (hs ++ base))) || b) (older-told role f breaks e (hs ++ base) hs base k held (gives hs held h) (none hs held))
     ∙ or-turn (is_next (hs ++ base) k && breaks f (newest e (hs ++ base))) (told_by (breaks f) hs base k)
   where

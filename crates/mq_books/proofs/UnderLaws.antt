@@ -12,7 +12,7 @@ use Rattle.mq_rules.specs.Notes.{is_open}
 use Rattle.mq_rules.specs.Moments.{Moment, newest, position, moments, moment, is_next, is_after, some}
 use Rattle.mq_rules.specs.Connections.{begun, number, fate, fate_under, latest_fate, accepts, is_binding, gives_fate}
 use Rattle.mq_rules.specs.Rules.{binds}
-use Rattle.mq_rules.specs.Statements.{Statement, on_bytes, on_past, in_session, at_release, at_rest, statement, is_false, is_false_under, where_accepted, fails, fails_under}
+use Rattle.mq_rules.specs.Statements.{Statement, on_bytes, on_past, in_session, at_release, at_rest, statement, is_so, is_so_under, where_accepted, fails, fails_under}
 use Rattle.mq_rules.specs.Steps.{turns}
 use Rattle.mq_rules.proofs.Exports.{and_false, fails-step, fated-known, fated-on, fated-open, latest_fate-same}
 use Rattle.mq_rules.specs.Under.{is_by_session, is_on_session, shows_with, turns_with, IsUnder}
@@ -43,17 +43,17 @@ newest-under tested f e past k r session unbound = go (statement tested.role r) 
     turn false true c = refl
     turn false false c = refl
 
-    go : (s : Statement) → is_by_session s ≡ true → (b : Bool) → is_next past k ≡ b → (b && (binds r tested && is_false tested.role fates s (e ∷ past) k)) ≡ (binds r tested && shows_with tested.role f s e past k)
+    go : (s : Statement) → is_by_session s ≡ true → (b : Bool) → is_next past k ≡ b → (b && (binds r tested && is_so tested.role fates s (e ∷ past) k)) ≡ (binds r tested && shows_with tested.role f s e past k)
     go (on_bytes rule) t b h = absurd (cc)
     go (on_past breaks) t b h = absurd (cc)
     go (in_session breaks) t true h =
-        ap (λ n. binds r tested && is_some_and (λ m. is_false_under (where_accepted breaks) m (fates (number m))) (cond n (Some (newest e past)) (moment past k))) h
-        ∙ ap (λ o. binds r tested && is_false_under (where_accepted breaks) (newest e past) o) (own (fate tested.role (begun (e ∷ past)) (e ∷ past)))
+        ap (λ n. binds r tested && is_some_and (λ m. is_so_under (where_accepted breaks) m (fates (number m))) (cond n (Some (newest e past)) (moment past k))) h
+        ∙ ap (λ o. binds r tested && is_so_under (where_accepted breaks) (newest e past) o) (own (fate tested.role (begun (e ∷ past)) (e ∷ past)))
         ∙ sym (ap (λ n. binds r tested && (n && (accepts f && breaks f (newest e past)))) h)
     go (in_session breaks) t false h = sym (ap (λ n. binds r tested && (n && (accepts f && breaks f (newest e past)))) h ∙ and_false (binds r tested))
     go (at_release breaks) t true h =
-        ap (λ n. binds r tested && is_some_and (λ m. is_false_under breaks m (fates (number m))) (cond n (Some (newest e past)) (moment past k))) h
-        ∙ ap (λ o. binds r tested && is_false_under breaks (newest e past) o) (own (fate tested.role (begun (e ∷ past)) (e ∷ past)))
+        ap (λ n. binds r tested && is_some_and (λ m. is_so_under breaks m (fates (number m))) (cond n (Some (newest e past)) (moment past k))) h
+        ∙ ap (λ o. binds r tested && is_so_under breaks (newest e past) o) (own (fate tested.role (begun (e ∷ past)) (e ∷ past)))
         ∙ sym (ap (λ n. binds r tested && (n && breaks f (newest e past))) h)
     go (at_release breaks) t false h = sym (ap (λ n. binds r tested && (n && breaks f (newest e past))) h ∙ and_false (binds r tested))
     go (at_rest test) t true h =

@@ -14,7 +14,7 @@ use Rattle.mq_rules.specs.Notes.{is_open, is_rest}
 use Rattle.mq_rules.specs.Moments.{Moment, newest, moment, is_next, some}
 use Rattle.mq_rules.specs.Connections.{begun, number, connection, fate, latest_fate, accepted, ends_binding, is_binding, gives_fate}
 use Rattle.mq_rules.specs.Rules.{binds}
-use Rattle.mq_rules.specs.Statements.{Statement, on_bytes, on_past, in_session, at_release, at_rest, statement, is_false_under, where_accepted}
+use Rattle.mq_rules.specs.Statements.{Statement, on_bytes, on_past, in_session, at_release, at_rest, statement, is_so_under, where_accepted}
 use Rattle.mq_rules.specs.Steps.{given, shows_under, shows, turns}
 use Rattle.mq_rules.specs.Under.{is_by_session, is_on_session, shows_with, turns_with}
 use Rattle.mq_rules.proofs.Exports.{and-over, and_false, begun-open, begun-same, given-gives, latest_fate-open, latest_fate-same, moment-next, not_true, number-within, or-turn, or_false, or_left, rest-opens-nothing}
@@ -95,14 +95,14 @@ given-none role e past c never = go (given role e past c) refl
     go (Some f) is = absurd (never f is)
 
 -- what none of the moments is given
-ungiven : (breaks : Fate → Moment → Bool) (gives : ℕ → Option Fate) (o : Option Moment) → ((m : Moment) → o ≡ Some m → gives (number m) ≡ None) → is_some_and (λ m. is_false_under breaks m (gives (number m))) o ≡ false
+ungiven : (breaks : Fate → Moment → Bool) (gives : ℕ → Option Fate) (o : Option Moment) → ((m : Moment) → o ≡ Some m → gives (number m) ≡ None) → is_some_and (λ m. is_so_under breaks m (gives (number m))) o ≡ false
 ungiven breaks gives None none = refl
-ungiven breaks gives (Some m) none = ap (is_false_under breaks m) (none m refl)
+ungiven breaks gives (Some m) none = ap (is_so_under breaks m) (none m refl)
 
 shows-nothing : (role : Role) (breaks : Fate → Moment → Bool) (e : Seen) (past : List Seen) (k : ℕ) → latest_fate role (e ∷ past) ≡ None → shows_under role breaks e past k ≡ false
 shows-nothing role breaks e past k none =
-    ap (λ o. (is_next past k && is_false_under breaks (newest e past) o) || is_some_and (λ m. is_false_under breaks m (given role e past (number m))) (moment past k)) none
-    ∙ ap (λ b. b || is_some_and (λ m. is_false_under breaks m (given role e past (number m))) (moment past k)) (and_false (is_next past k))
+    ap (λ o. (is_next past k && is_so_under breaks (newest e past) o) || is_some_and (λ m. is_so_under breaks m (given role e past (number m))) (moment past k)) none
+    ∙ ap (λ b. b || is_some_and (λ m. is_so_under breaks m (given role e past (number m))) (moment past k)) (and_false (is_next past k))
     ∙ ungiven breaks (given role e past) (moment past k) (λ m at. given-none role e past (number m) (λ f is.
     let g = given-gives role e past (number m) f is in
     let was : latest_fate role past ≡ None = undecided-before role e past g.1 none in
@@ -126,7 +126,7 @@ undecided-turns tested e past k r none session = go (statement tested.role r) se
 -- what the moments of a log show where only its latest connection, which is undecided, is given a fate: what its events show, from the OPEN on
 waited : (role : Role) (f : Fate) (breaks : Fate → Moment → Bool) (gives : ℕ → Option Fate) (log : List Seen) (k : ℕ) → latest_fate role log ≡ None
     → gives (begun log) ≡ Some f → ((c : ℕ) → c < begun log → gives c ≡ None)
-    → is_some_and (λ m. is_false_under breaks m (gives (number m))) (moment log k) ≡ some_after (λ e past. is_next past k && breaks f (newest e past)) (opened_at log) log
+    → is_some_and (λ m. is_so_under breaks m (gives (number m))) (moment log k) ≡ some_after (λ e past. is_next past k && breaks f (newest e past)) (opened_at log) log
 waited role f breaks gives [] k none now before = absurd (cc)
 waited role f breaks gives (e ∷ past) k none now before = go (is_open e.note) refl (waited role f breaks gives past k)
   where
@@ -134,7 +134,7 @@ waited role f breaks gives (e ∷ past) k none now before = go (is_open e.note) 
     test d older = is_next older k && breaks f (newest d older)
 
     found : Option Moment → Bool
-    found o = is_some_and (λ m. is_false_under breaks m (gives (number m))) o
+    found o = is_some_and (λ m. is_so_under breaks m (gives (number m))) o
 
     -- the event's own moment, and those before it
     both : (n : ℕ) → n ≤ length past → found (moment past k) ≡ some_after test n past → found (moment (e ∷ past) k) ≡ some_after test n (e ∷ past)
@@ -142,7 +142,7 @@ waited role f breaks gives (e ∷ past) k none now before = go (is_open e.note) 
       where
         at : (b : Bool) → is_next past k ≡ b → found (cond b (Some (newest e past)) (moment past k)) ≡ (some_after test n past || (is_next past k && breaks f (newest e past)))
         at true t =
-            ap (is_false_under breaks (newest e past)) now
+            ap (is_so_under breaks (newest e past)) now
             ∙ ap (λ b. b || breaks f (newest e past)) (sym (sym older ∙ ap found (moment-next past k t)))
             ∙ ap (λ b. some_after test n past || (b && breaks f (newest e past))) (sym t)
         at false t = older ∙ sym (or_false (some_after test n past)) ∙ ap (λ b. some_after test n past || (b && breaks f (newest e past))) (sym t)
@@ -164,7 +164,7 @@ waited role f breaks gives (e ∷ past) k none now before = go (is_open e.note) 
 decided-shows : (role : Role) (f : Fate) (breaks : Fate → Moment → Bool) (e : Seen) (past : List Seen) (k : ℕ) → latest_fate role (e ∷ past) ≡ Some f
     → shows_under role breaks e past k ≡ (some_after (λ d older. is_next older k && breaks f (newest d older)) (settled role past) past || (is_next past k && breaks f (newest e past)))
 decided-shows role f breaks e past k now =
-    ap (λ o. (is_next past k && is_false_under breaks (newest e past) o) || found (moment past k)) now
+    ap (λ o. (is_next past k && is_so_under breaks (newest e past) o) || found (moment past k)) now
     ∙ or-turn (is_next past k && breaks f (newest e past)) (found (moment past k))
     ∙ ap (λ b. b || (is_next past k && breaks f (newest e past))) (go (latest_fate role past) refl)
   where
@@ -172,7 +172,7 @@ decided-shows role f breaks e past k now =
     test d older = is_next older k && breaks f (newest d older)
 
     found : Option Moment → Bool
-    found o = is_some_and (λ m. is_false_under breaks m (given role e past (number m))) o
+    found o = is_some_and (λ m. is_so_under breaks m (given role e past (number m))) o
 
     closed : is_open e.note ≡ false
     closed = decided-closed role f e past now

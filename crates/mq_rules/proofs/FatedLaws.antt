@@ -12,7 +12,7 @@ use Rattle.mq_rules.specs.Notes.{is_open, is_rest}
 use Rattle.mq_rules.specs.Moments.{Moment, newest, moments, moment, is_next, is_after, some}
 use Rattle.mq_rules.specs.Connections.{number, begun, connection, fate, latest_fate, gives_fate, fate_under, accepted, ends_binding, is_binding}
 use Rattle.mq_rules.specs.Rules.{binds}
-use Rattle.mq_rules.specs.Statements.{Statement, on_bytes, on_past, in_session, at_release, at_rest, statement, breaks_bytes, is_false_under, where_accepted, is_false, fails, fails_under}
+use Rattle.mq_rules.specs.Statements.{Statement, on_bytes, on_past, in_session, at_release, at_rest, statement, breaks_bytes, is_so_under, where_accepted, is_so, fails, fails_under}
 use Rattle.mq_rules.proofs.BoolLaws.{and_false, or_false, option_or-none, not_true, differ}
 use Rattle.mq_rules.proofs.StepLaws.{moment-next, moment-older, fate-step, false-nowhere}
 use Rattle.mq_rules.proofs.GivenLaws.{gives-closed, rest-gives, rest-opens-nothing, begun-open, begun-closed, number-within}
@@ -20,9 +20,9 @@ use Rattle.mq_rules.proofs.GivenLaws.{gives-closed, rest-gives, rest-opens-nothi
 -- ---- what is false at older positions
 
 older-fate : (breaks : Fate → Moment → Bool) (fates others : ℕ → Option Fate) (o : Option Moment) → ((m : Moment) → o ≡ Some m → fates (number m) ≡ others (number m))
-    → is_some_and (λ m. is_false_under breaks m (fates (number m))) o ≡ is_some_and (λ m. is_false_under breaks m (others (number m))) o
+    → is_some_and (λ m. is_so_under breaks m (fates (number m))) o ≡ is_some_and (λ m. is_so_under breaks m (others (number m))) o
 older-fate breaks fates others None same = refl
-older-fate breaks fates others (Some m) same = ap (is_false_under breaks m) (same m refl)
+older-fate breaks fates others (Some m) same = ap (is_so_under breaks m) (same m refl)
 
 older-rest : (role : Role) (test : Moment → Moment → Bool) (e : Seen) (past : List Seen) (o : Option Moment) → is_binding role (newest e past) ≡ false
     → is_some_and (λ m. some (λ t. is_after t m && (is_binding role t && test t m)) (moments (e ∷ past))) o ≡ is_some_and (λ m. some (λ t. is_after t m && (is_binding role t && test t m)) (moments past)) o
@@ -35,28 +35,28 @@ older-rest role test e past (Some m) unbound =
 
 -- with an event that is no binding REST, and fates that are the same, nothing changes there
 older-same : (role : Role) (fates others : ℕ → Option Fate) (s : Statement) (e : Seen) (past : List Seen) (k : ℕ) → is_next past k ≡ false
-    → ((m : Moment) → moment past k ≡ Some m → fates (number m) ≡ others (number m)) → is_binding role (newest e past) ≡ false → is_false role fates s (e ∷ past) k ≡ is_false role others s past k
+    → ((m : Moment) → moment past k ≡ Some m → fates (number m) ≡ others (number m)) → is_binding role (newest e past) ≡ false → is_so role fates s (e ∷ past) k ≡ is_so role others s past k
 older-same role fates others (on_bytes rule) e past k apart same unbound = ap (is_some_and (breaks_bytes rule)) (moment-older e past k apart)
 older-same role fates others (on_past breaks) e past k apart same unbound = ap (is_some_and breaks) (moment-older e past k apart)
 older-same role fates others (in_session breaks) e past k apart same unbound =
-    ap (is_some_and (λ m. is_false_under (where_accepted breaks) m (fates (number m)))) (moment-older e past k apart) ∙ older-fate (where_accepted breaks) fates others (moment past k) same
+    ap (is_some_and (λ m. is_so_under (where_accepted breaks) m (fates (number m)))) (moment-older e past k apart) ∙ older-fate (where_accepted breaks) fates others (moment past k) same
 older-same role fates others (at_release breaks) e past k apart same unbound =
-    ap (is_some_and (λ m. is_false_under breaks m (fates (number m)))) (moment-older e past k apart) ∙ older-fate breaks fates others (moment past k) same
+    ap (is_some_and (λ m. is_so_under breaks m (fates (number m)))) (moment-older e past k apart) ∙ older-fate breaks fates others (moment past k) same
 older-same role fates others (at_rest test) e past k apart same unbound =
     ap (is_some_and (λ m. some (λ t. is_after t m && (is_binding role t && test t m)) (moments (e ∷ past)))) (moment-older e past k apart) ∙ older-rest role test e past (moment past k) unbound
 
 -- so only the newest position can turn out false
 fated-alike : (role : Role) (bound : Bool) (fates others : ℕ → Option Fate) (s : Statement) (e : Seen) (past : List Seen) (k : ℕ)
     → ((m : Moment) → moment past k ≡ Some m → fates (number m) ≡ others (number m)) → is_binding role (newest e past) ≡ false
-    → (bound && is_false role fates s (e ∷ past) k) ≡ ((bound && is_false role others s past k) || (is_next past k && (bound && is_false role fates s (e ∷ past) k)))
+    → (bound && is_so role fates s (e ∷ past) k) ≡ ((bound && is_so role others s past k) || (is_next past k && (bound && is_so role fates s (e ∷ past) k)))
 fated-alike role bound fates others s e past k same unbound = go (is_next past k) refl
   where
     now : Bool
-    now = bound && is_false role fates s (e ∷ past) k
+    now = bound && is_so role fates s (e ∷ past) k
 
-    go : (b : Bool) → is_next past k ≡ b → now ≡ ((bound && is_false role others s past k) || (b && now))
+    go : (b : Bool) → is_next past k ≡ b → now ≡ ((bound && is_so role others s past k) || (b && now))
     go true t = sym (ap (λ b. b || now) (ap (λ b. bound && b) (false-nowhere role others s past k (moment-next past k t)) ∙ and_false bound))
-    go false t = ap (λ b. bound && b) (older-same role fates others s e past k t same unbound) ∙ sym (or_false (bound && is_false role others s past k))
+    go false t = ap (λ b. bound && b) (older-same role fates others s e past k t same unbound) ∙ sym (or_false (bound && is_so role others s past k))
 
 -- ---- which events are no binding REST
 
@@ -149,7 +149,7 @@ fated-open tested f e past k rule opens =
 -- where the latest connection has that fate, it is what fails
 pub fated-known : (tested : Tested) (f : Fate) (log : List Seen) (k : ℕ) (rule : Rule) → latest_fate tested.role log ≡ Some f → fails_under tested f log k rule ≡ fails tested log k rule
 unfolding fails fails_under
-fated-known tested f log k rule known = ap (λ fates. binds rule tested && is_false tested.role fates (statement tested.role rule) log k) (λ i c. same c i)
+fated-known tested f log k rule known = ap (λ fates. binds rule tested && is_so tested.role fates (statement tested.role rule) log k) (λ i c. same c i)
   where
     same : (c : ℕ) → fate_under tested.role (Some f) log c ≡ fate tested.role c log
     same c = go (c == begun log) refl

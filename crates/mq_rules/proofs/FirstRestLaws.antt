@@ -11,7 +11,7 @@ use Rattle.mq_rules.specs.Notes.{is_open, is_rest}
 use Rattle.mq_rules.specs.Moments.{Moment, newest, position, note, moments, moment, is_same, is_after, some, since, Among, IsDescending, IsEarliestSince}
 use Rattle.mq_rules.specs.Connections.{begun, number, connection, latest_fate, accepted, ends_binding, is_binding}
 use Rattle.mq_rules.specs.Exchanges.{Exchange, answers, first_unanswered, shows_R}
-use Rattle.mq_rules.specs.Statements.{at_rest, is_false}
+use Rattle.mq_rules.specs.Statements.{at_rest, is_so}
 use Rattle.mq_rules.specs.FirstRests.{binds_after, first_rest, IsFirstRest}
 use Rattle.mq_rules.proofs.BoolLaws.{both_true, and_true, same_test, there}
 use Rattle.mq_rules.proofs.FateLaws.{begun-least, begun-same}
@@ -220,7 +220,7 @@ pub first-rest : (role : Role) (k : Moment) (log : List Seen) (t : Moment) → I
 first-rest role k log t r = is-earliest_since (binds_after role k) (λ t. false) (moments log) t (moments-descend log) (first-earliest role k log t r)
 
 pub R-at : (role : Role) (fates : ℕ → Option Fate) (x : Exchange) (log : List Seen) (n : ℕ)
-    → is_false role fates (at_rest (shows_R x)) log n ≡ is_some_and (λ k. is_some_and (λ t. shows_R x t k) (first_rest role k log)) (moment log n)
+    → is_so role fates (at_rest (shows_R x)) log n ≡ is_some_and (λ k. is_some_and (λ t. shows_R x t k) (first_rest role k log)) (moment log n)
 R-at role fates x log n = go (moment log n) refl
   where
     go : (o : Option Moment) → moment log n ≡ o → is_some_and (λ k. some (λ t. is_after t k && (is_binding role t && shows_R x t k)) (moments log)) o

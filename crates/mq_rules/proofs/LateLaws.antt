@@ -12,7 +12,7 @@ use Rattle.mq_rules.specs.Notes.{is_open, is_rest, needs_session, is_sent_pingre
 use Rattle.mq_rules.specs.Moments.{Moment, newest, note, moment, is_next, some, count}
 use Rattle.mq_rules.specs.Connections.{begun, number, connection, fate, latest_fate, gives_fate, accepts, accepted, ends_binding, is_binding, IsInOrder}
 use Rattle.mq_rules.specs.Rules.{binds}
-use Rattle.mq_rules.specs.Statements.{on_bytes, on_past, in_session, at_release, statement, breaks_bytes, is_false_under, where_accepted}
+use Rattle.mq_rules.specs.Statements.{on_bytes, on_past, in_session, at_release, statement, breaks_bytes, is_so_under, where_accepted}
 use Rattle.mq_rules.specs.Steps.{given, shows_under, shows, turns, JudgedAtOnce, IsLate}
 use Rattle.mq_rules.specs.Exchanges.{breaks_E7R}
 use Rattle.mq_rules.proofs.BoolLaws.{both_true, not_true, or_false, and-past}
@@ -43,10 +43,10 @@ some_of (Some a) h = (a, refl)
 
 -- a fate that comes later says nothing of an earlier moment
 late-given : (role : Role) (breaks : Fate → Moment → Bool) (e : Seen) (past : List Seen) (k : ℕ) → IsLate role breaks (e ∷ past)
-    → is_some_and (λ m. is_false_under breaks m (given role e past (number m))) (moment past k) ≡ false
+    → is_some_and (λ m. is_so_under breaks m (given role e past (number m))) (moment past k) ≡ false
 late-given role breaks e past k late = go (moment past k) refl
   where
-    go : (o : Option Moment) → moment past k ≡ o → is_some_and (λ m. is_false_under breaks m (given role e past (number m))) o ≡ false
+    go : (o : Option Moment) → moment past k ≡ o → is_some_and (λ m. is_so_under breaks m (given role e past (number m))) o ≡ false
     go None at = refl
     go (Some m) at = by_fate (given role e past (number m)) refl
       where
@@ -57,37 +57,37 @@ late-given role breaks e past k late = go (moment past k) refl
             ap (λ c. is_some (fate role c past)) (begun-closed m.event m.past (late.no_open k m f there t))
             ∙ ap is_some (fate-from role (begun m.past) known.0 past k m at known.1)
 
-        by_fate : (o : Option Fate) → given role e past (number m) ≡ o → is_false_under breaks m o ≡ false
+        by_fate : (o : Option Fate) → given role e past (number m) ≡ o → is_so_under breaks m o ≡ false
         by_fate None is = refl
         by_fate (Some f) is = not_true (breaks f m) (λ t. let some = decided f t in let none = (given-gives role e past (number m) f is).3 in absurd (cc))
 
 -- and at the newest event the fate before it says all
 late-newest : (role : Role) (breaks : Fate → Moment → Bool) (e : Seen) (past : List Seen) → IsLate role breaks (e ∷ past)
-    → is_false_under breaks (newest e past) (latest_fate role (e ∷ past)) ≡ is_false_under breaks (newest e past) (latest_fate role past)
-late-newest role breaks e past late = ap (is_false_under breaks (newest e past)) (latest_fate-next role e past) ∙ go (is_open e.note) refl (latest_fate role past) refl
+    → is_so_under breaks (newest e past) (latest_fate role (e ∷ past)) ≡ is_so_under breaks (newest e past) (latest_fate role past)
+late-newest role breaks e past late = ap (is_so_under breaks (newest e past)) (latest_fate-next role e past) ∙ go (is_open e.note) refl (latest_fate role past) refl
   where
     there : moment (e ∷ past) (length past + 1) ≡ Some (newest e past)
     there = moment-newest e past
 
-    at_open : (o : Option Fate) → is_open e.note ≡ true → is_false_under breaks (newest e past) o ≡ false
+    at_open : (o : Option Fate) → is_open e.note ≡ true → is_so_under breaks (newest e past) o ≡ false
     at_open None h = refl
     at_open (Some f) h = not_true (breaks f (newest e past)) (λ t. let closed : is_open e.note ≡ false = late.no_open (length past + 1) (newest e past) f there t in absurd (cc))
 
-    undecided : (o : Option Fate) → latest_fate role past ≡ None → is_false_under breaks (newest e past) o ≡ false
+    undecided : (o : Option Fate) → latest_fate role past ≡ None → is_so_under breaks (newest e past) o ≡ false
     undecided None h = refl
     undecided (Some f) h = not_true (breaks f (newest e past)) (λ t. let some : is_some (latest_fate role past) ≡ true = late.decided (length past + 1) (newest e past) f there t in absurd (cc))
 
     go : (b : Bool) → is_open e.note ≡ b → (o : Option Fate) → latest_fate role past ≡ o
-        → is_false_under breaks (newest e past) (cond b None (option_or o (gives_fate role (newest e past)))) ≡ is_false_under breaks (newest e past) o
+        → is_so_under breaks (newest e past) (cond b None (option_or o (gives_fate role (newest e past)))) ≡ is_so_under breaks (newest e past) o
     go true h o is = sym (at_open o h)
     go false h (Some f) is = refl
     go false h None is = undecided (gives_fate role (newest e past)) is
 
 late-shows : (role : Role) (breaks : Fate → Moment → Bool) (e : Seen) (past : List Seen) (k : ℕ) → IsLate role breaks (e ∷ past)
-    → shows_under role breaks e past k ≡ (is_next past k && is_false_under breaks (newest e past) (latest_fate role past))
+    → shows_under role breaks e past k ≡ (is_next past k && is_so_under breaks (newest e past) (latest_fate role past))
 late-shows role breaks e past k late =
-    ap (λ b. (is_next past k && is_false_under breaks (newest e past) (latest_fate role (e ∷ past))) || b) (late-given role breaks e past k late)
-    ∙ or_false (is_next past k && is_false_under breaks (newest e past) (latest_fate role (e ∷ past)))
+    ap (λ b. (is_next past k && is_so_under breaks (newest e past) (latest_fate role (e ∷ past))) || b) (late-given role breaks e past k late)
+    ∙ or_false (is_next past k && is_so_under breaks (newest e past) (latest_fate role (e ∷ past)))
     ∙ ap (λ b. is_next past k && b) (late-newest role breaks e past late)
 
 late-accepted : (role : Role) (breaks : Fate → Moment → Bool) (log : List Seen) → IsLate role breaks log → IsLate role (where_accepted breaks) log

@@ -36,4 +36,7 @@ pub mod IdleLaws
 pub mod HarmlessLaws
 pub mod Exports
 pub mod DropLaws
+pub mod WiderLaws
+pub mod OccasionLaws
+pub mod PlacesLaws
 pub mod HistoryLaws

@@ -11,7 +11,7 @@ use Rattle.mq_rules.specs.Words.{is_some_and}
 use Rattle.mq_rules.specs.Moments.{Moment, newest, position, moments, moment, is_next, is_after, some}
 use Rattle.mq_rules.specs.Connections.{number, fate, gives_fate, is_binding}
 use Rattle.mq_rules.specs.Rules.{binds}
-use Rattle.mq_rules.specs.Statements.{Statement, on_bytes, on_past, in_session, at_release, at_rest, statement, breaks_bytes, is_false_under, where_accepted, is_false, fails}
+use Rattle.mq_rules.specs.Statements.{Statement, on_bytes, on_past, in_session, at_release, at_rest, statement, breaks_bytes, is_so_under, where_accepted, is_so, fails}
 use Rattle.mq_rules.specs.Steps.{given, shows_under, shows, turns}
 use Rattle.mq_rules.proofs.FateLaws.{fate-next}
 use Rattle.mq_rules.proofs.BoolLaws.{and_false, or_false, and-over, or-last, or-turn, not_true, differ}
@@ -71,34 +71,34 @@ one-more test e past k = go (is_next past k) refl
 
 -- what is false under a fate was so already, or the event gives that fate
 under-step : (role : Role) (breaks : Fate → Moment → Bool) (e : Seen) (past : List Seen) (o : Option Moment)
-    → is_some_and (λ m. is_false_under breaks m (fate role (number m) (e ∷ past))) o
-    ≡ (is_some_and (λ m. is_false_under breaks m (fate role (number m) past)) o || is_some_and (λ m. is_false_under breaks m (given role e past (number m))) o)
+    → is_some_and (λ m. is_so_under breaks m (fate role (number m) (e ∷ past))) o
+    ≡ (is_some_and (λ m. is_so_under breaks m (fate role (number m) past)) o || is_some_and (λ m. is_so_under breaks m (given role e past (number m))) o)
 under-step role breaks e past None = refl
 under-step role breaks e past (Some m) = go (fate role (number m) past) refl
   where
     now : Option Fate
     now = fate role (number m) (e ∷ past)
 
-    go : (o : Option Fate) → fate role (number m) past ≡ o → is_false_under breaks m now ≡ (is_false_under breaks m o || is_false_under breaks m (cond (is_some o) None now))
+    go : (o : Option Fate) → fate role (number m) past ≡ o → is_so_under breaks m now ≡ (is_so_under breaks m o || is_so_under breaks m (cond (is_some o) None now))
     go None is = refl
-    go (Some f) is = ap (is_false_under breaks m) (fate-kept role (number m) f e past is) ∙ sym (or_false (breaks f m))
+    go (Some f) is = ap (is_so_under breaks m) (fate-kept role (number m) f e past is) ∙ sym (or_false (breaks f m))
 
 fated-step : (role : Role) (breaks : Fate → Moment → Bool) (e : Seen) (past : List Seen) (k : ℕ)
-    → is_some_and (λ m. is_false_under breaks m (fate role (number m) (e ∷ past))) (moment (e ∷ past) k)
-    ≡ (is_some_and (λ m. is_false_under breaks m (fate role (number m) past)) (moment past k) || shows_under role breaks e past k)
+    → is_some_and (λ m. is_so_under breaks m (fate role (number m) (e ∷ past))) (moment (e ∷ past) k)
+    ≡ (is_some_and (λ m. is_so_under breaks m (fate role (number m) past)) (moment past k) || shows_under role breaks e past k)
 fated-step role breaks e past k =
     one-more now e past k
     ∙ ap (λ b. b || (is_next past k && now (newest e past))) (under-step role breaks e past (moment past k))
     ∙ or-last (is_some_and old (moment past k)) (is_next past k && now (newest e past)) (is_some_and gives (moment past k))
   where
     now : Moment → Bool
-    now m = is_false_under breaks m (fate role (number m) (e ∷ past))
+    now m = is_so_under breaks m (fate role (number m) (e ∷ past))
 
     old : Moment → Bool
-    old m = is_false_under breaks m (fate role (number m) past)
+    old m = is_so_under breaks m (fate role (number m) past)
 
     gives : Moment → Bool
-    gives m = is_false_under breaks m (given role e past (number m))
+    gives m = is_so_under breaks m (given role e past (number m))
 
 -- no moment of a log stands after its end
 none-after : (m : Moment) (test : Moment → Bool) (log : List Seen) → length log < position m + 1 → some (λ t. is_after t m && test t) (moments log) ≡ false
@@ -141,7 +141,7 @@ rest-step role test e past k = go (is_next past k) refl (moment past k) refl
 
 -- a statement of any shape
 pub false-step : (role : Role) (s : Statement) (e : Seen) (past : List Seen) (k : ℕ)
-    → is_false role (λ c. fate role c (e ∷ past)) s (e ∷ past) k ≡ (is_false role (λ c. fate role c past) s past k || shows role s e past k)
+    → is_so role (λ c. fate role c (e ∷ past)) s (e ∷ past) k ≡ (is_so role (λ c. fate role c past) s past k || shows role s e past k)
 false-step role (on_bytes rule) e past k = one-more (breaks_bytes rule) e past k
 false-step role (on_past breaks) e past k = one-more breaks e past k
 false-step role (in_session breaks) e past k = fated-step role (where_accepted breaks) e past k
@@ -155,18 +155,18 @@ pub fails-step : (tested : Tested) (e : Seen) (past : List Seen) (k : ℕ) (rule
 unfolding fails turns
 fails-step tested e past k rule =
     ap (λ b. binds rule tested && b) (false-step tested.role (statement tested.role rule) e past k)
-    ∙ and-over (binds rule tested) (is_false tested.role (λ c. fate tested.role c past) (statement tested.role rule) past k) (shows tested.role (statement tested.role rule) e past k)
+    ∙ and-over (binds rule tested) (is_so tested.role (λ c. fate tested.role c past) (statement tested.role rule) past k) (shows tested.role (statement tested.role rule) e past k)
 
 -- what fails in a beginning of the log fails in the log
 pub fails-kept : (tested : Tested) (past : List Seen) (e : Seen) (k : ℕ) (rule : Rule) → fails tested past k rule ≡ true → fails tested (e ∷ past) k rule ≡ true
 fails-kept tested past e k rule h = fails-step tested e past k rule ∙ ap (λ b. b || turns tested e past k rule) h
 
 -- a position without a moment has nothing that fails
-pub false-nowhere : (role : Role) (fates : ℕ → Option Fate) (s : Statement) (log : List Seen) (k : ℕ) → moment log k ≡ None → is_false role fates s log k ≡ false
+pub false-nowhere : (role : Role) (fates : ℕ → Option Fate) (s : Statement) (log : List Seen) (k : ℕ) → moment log k ≡ None → is_so role fates s log k ≡ false
 false-nowhere role fates (on_bytes rule) log k none = ap (is_some_and (breaks_bytes rule)) none
 false-nowhere role fates (on_past breaks) log k none = ap (is_some_and breaks) none
-false-nowhere role fates (in_session breaks) log k none = ap (is_some_and (λ m. is_false_under (where_accepted breaks) m (fates (number m)))) none
-false-nowhere role fates (at_release breaks) log k none = ap (is_some_and (λ m. is_false_under breaks m (fates (number m)))) none
+false-nowhere role fates (in_session breaks) log k none = ap (is_some_and (λ m. is_so_under (where_accepted breaks) m (fates (number m)))) none
+false-nowhere role fates (at_release breaks) log k none = ap (is_some_and (λ m. is_so_under breaks m (fates (number m)))) none
 false-nowhere role fates (at_rest test) log k none = ap (is_some_and (λ m. some (λ t. is_after t m && (is_binding role t && test t m)) (moments log))) none
 
 pub fails-nowhere : (tested : Tested) (log : List Seen) (k : ℕ) (rule : Rule) → moment log k ≡ None → fails tested log k rule ≡ false

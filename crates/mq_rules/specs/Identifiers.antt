@@ -14,6 +14,8 @@ use Rattle.mq_rules.specs.Pasts.{peer_receive_maximum, connack_before}
 
 -- ---- identifiers in use (MQTT 5.0, section 2.2.1)
 
+-- Where a statement is put to the test `applies` says, and where of that it is false `breaks`, or `shows`.
+
 -- the moment opens the identifier; closes it; sends a PUBLISH of QoS above 0 under it
 abbrev pub opens_id : ℕ → Moment → Bool
 opens_id i m = is_id i (opener_of (note m))
@@ -82,6 +84,18 @@ abbrev pub taken_by : Role → Note → Option ℕ
 taken_by Client n = option_or (opener_of n) (option_or (sent_as subscribe_in n) (sent_as unsubscribe_in n))
 taken_by Server n = opener_of n
 
+-- the moment takes an identifier that passes the test, by an opener, a SUBSCRIBE or an UNSUBSCRIBE
+abbrev pub takes_some : (ℕ → Bool) → Moment → Bool
+takes_some test m = is_some_and test (opener_of (note m)) || (is_some_and test (sent_as subscribe_in (note m)) || is_some_and test (sent_as unsubscribe_in (note m)))
+
+-- some identifier is busy at k: one that was taken before k
+abbrev pub is_any_busy_at : Role → Fate → Moment → Bool
+is_any_busy_at role f k = some (takes_some (λ i. is_busy_at role f i k)) (moments k.past)
+
+-- S01 applies whenever an identifier is taken while one is busy: where none is, every identifier is free.
+unfoldable pub applies_S01 : Role → Fate → Moment → Bool
+applies_S01 role f k = is_some (taken_by role (note k)) && is_any_busy_at role f k
+
 -- S01: it takes an identifier that is busy.
 unfoldable pub breaks_S01 : Role → Fate → Moment → Bool
 breaks_S01 role f k = is_some_and (λ i. is_busy_at role f i k) (taken_by role (note k))
@@ -111,6 +125,14 @@ was_cut_off role f k = some (λ j. cuts_publish j && voided (fate role (number j
 unfoldable pub breaks_S02 : Role → Fate → Moment → Bool
 breaks_S02 role f k = is_some_and (λ i. not (is_open_at role f i k || (was_sent_on_void role i k || (was_sent_before_session role f i k || was_cut_off role f k)))) (resend_of (note k))
 
+-- S02 applies whenever a PUBLISH of QoS above 0 is sent again, unless one was cut off: nobody knows the identifier of that.
+unfoldable pub applies_S02 : Role → Fate → Moment → Bool
+applies_S02 role f k = is_some (resend_of (note k)) && not (was_cut_off role f k)
+
+-- S03 applies whenever a PUBLISH of QoS above 0 is sent again.
+unfoldable pub applies_S03 : Moment → Bool
+applies_S03 k = is_some (resend_of (note k))
+
 -- S03: a resend, and a PUBLISH under its identifier was sent before on the connection, with no closer between.
 unfoldable pub breaks_S03 : Moment → Bool
 breaks_S03 k = is_some_and (λ i. since (delivers i) (closes_id i) (connection k.past)) (resend_of (note k))
@@ -124,9 +146,19 @@ unfoldable pub breaks_S04 : Role → Fate → Moment → Bool
 breaks_S04 role f k = is_some_and (λ i. is_open_at role f i k && (is_some_and (opens_exactly_once i) (latest_opener role f i k)
     && since (sends_pubrel i) (opens_id i) (session_before role f k))) (resend_of (note k))
 
+-- S04 applies whenever what is open by an opener of QoS 2, and whose PUBREL was sent since, is sent again: by its PUBLISH, or by its PUBREL.
+unfoldable pub applies_S04 : Role → Fate → Moment → Bool
+applies_S04 role f k = is_some_and (λ i. is_open_at role f i k && (is_some_and (opens_exactly_once i) (latest_opener role f i k)
+    && since (sends_pubrel i) (opens_id i) (session_before role f k))) (option_or (resend_of (note k)) (sent_as pubrel_in (note k)))
+
 -- both moments are there, and the first comes after the second
 abbrev pub comes_after : Option Moment → Option Moment → Bool
 comes_after a b = is_some_and (λ m. is_some_and (λ n. nat_lt (position n) (position m)) b) a
+
+-- S05 applies whenever what is open is sent again, after an earlier resend on the connection of what was open then.
+unfoldable pub applies_S05 : Role → Fate → Moment → Bool
+applies_S05 role f k = is_some_and (λ i. is_open_at role f i k) (resend_of (note k))
+    && some (λ j. is_some_and (λ o. is_open_at role f o j) (resend_of (note j))) (connection k.past)
 
 -- S05: a resend of what is open, and an earlier resend on the connection, of what was open then, had an opener after this one's.
 unfoldable pub breaks_S05 : Role → Fate → Moment → Bool
@@ -150,6 +182,11 @@ counts Server m = true
 -- in some stretch that ends with the newest of these moments there are more PUBLISHes than closers, by more than `most`
 abbrev pub passes : ℕ → List Moment → Bool
 passes most ms = some_stretch (λ stretch. nat_lt (most + count is_closer stretch) (count is_delivery stretch)) ms
+
+-- S07 applies whenever a PUBLISH of QoS above 0 takes the last of the send quota, or goes beyond it.
+unfoldable pub applies_S07 : Role → Moment → Bool
+applies_S07 role k = is_delivery k && (counts role k
+    && some_stretch (λ stretch. nat_le (peer_receive_maximum role k + count is_closer stretch) (count is_delivery stretch)) (k ∷ those (counts role) (connection k.past)))
 
 -- S07: a PUBLISH of QoS above 0, and in some stretch of the connection that ends with it more PUBLISHes are unacknowledged than the Receive Maximum.
 unfoldable pub breaks_S07 : Role → Moment → Bool
@@ -191,6 +228,19 @@ awaits_closer i t = since (λ m. is_id i (sent_under (note m))) (closes_id i) (c
 -- The tested end waits for an answer at t: something that it sent on t's connection awaits its closer. It may send what it owes one after the other.
 abbrev pub is_waiting : Moment → Bool
 is_waiting t = some (λ j. is_some_and (λ i. awaits_closer i t) (sent_under (note j))) (connection t.past)
+
+-- the moment comes before t on t's connection
+abbrev pub came_on : Moment → Moment → Bool
+came_on t m = some (is_same m) (connection t.past)
+
+-- the opener k of i was open when t's connection began: what came on earlier connections of the session neither closed i nor opened it anew
+abbrev pub was_open : Role → ℕ → Moment → Moment → Bool
+was_open role i t k = since (is_same k) (λ m. (opens_id i m || closes_id i m) && not (came_on t m)) (session role (latest_fate role t.past) t.past)
+
+-- S06 applies, at an opener k, as a binding REST t shows, whenever t is on a later connection, which is resumed, and where the tested end doesn't wait for an answer;
+-- and k was open when that began. So it does where k was completed there before t, and where it is excused.
+unfoldable pub applies_S06 : Role → Moment → Moment → Bool
+applies_S06 role t k = resumed (latest_fate role t.past) && (not (is_waiting t) && is_some_and (λ i. was_open role i t k && not (came_on t k)) (opener_of (note k)))
 
 -- S06, at an opener k, as a binding REST t shows: t is on a later connection, which is resumed, and where the tested end doesn't wait for an answer; k is the latest
 -- opener of its identifier before t, with no closer between; it wasn't sent again, and isn't excused.

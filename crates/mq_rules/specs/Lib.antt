@@ -14,6 +14,7 @@ pub mod Rules
 pub mod Bindings
 pub mod Statements
 pub mod Steps
+pub mod Occasions
 pub mod Under
 pub mod Growing
 pub mod Skipping

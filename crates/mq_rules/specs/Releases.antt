@@ -1,5 +1,6 @@
--- Releases of QoS 2 messages for onward delivery (L1 to L3; MQTT 5.0, section 4.3.3), if the log records them.
-use Rattle.std.specs.Prelude.{ℕ, Bool, ◌&&◌, ◌||◌, not, Option}
+-- Releases of QoS 2 messages for onward delivery (L1 to L3; MQTT 5.0, section 4.3.3), if the log records them. Each statement says when it is put to the test
+-- (`applies`), and when it is false (`breaks`), at a moment k whose connection has the fate f.
+use Rattle.std.specs.Prelude.{ℕ, Bool, ◌&&◌, ◌||◌, not, Option, is_some}
 use Rattle.mq_rules.specs.declared.role.Role.{Role}
 use Rattle.mq_rules.specs.declared.fate.Fate.{Fate}
 use Rattle.mq_rules.specs.Words.{is_some_and, is_id}
@@ -17,11 +18,17 @@ releases_message i m = is_id i (released_id (note m))
 abbrev pub ends : ℕ → Moment → Bool
 ends i m = is_id i (sent_as ended_in (note m))
 
--- L1: a RELEASE, and no QoS 2 PUBLISH under its identifier was received in the session whose exchange hasn't ended since.
+-- L1: whenever there is a RELEASE, a QoS 2 PUBLISH under its identifier was received in the session whose exchange hasn't ended since.
+unfoldable pub applies_L1 : Moment → Bool
+applies_L1 k = is_some (released_id (note k))
+
 unfoldable pub breaks_L1 : Role → Fate → Moment → Bool
 breaks_L1 role f k = is_some_and (λ i. not (since (brings i) (ends i) (session_before role f k))) (released_id (note k))
 
--- L2: a RELEASE, and another one under its identifier came before in the session, and the exchange hasn't ended between.
+-- L2: whenever there is a RELEASE, no other one under its identifier came before in the session with the exchange not ended between.
+unfoldable pub applies_L2 : Moment → Bool
+applies_L2 k = is_some (released_id (note k))
+
 unfoldable pub breaks_L2 : Role → Fate → Moment → Bool
 breaks_L2 role f k = is_some_and (λ i. since (releases_message i) (ends i) (session_before role f k)) (released_id (note k))
 
@@ -34,7 +41,10 @@ abbrev pub may_lapse : Role → Fate → ℕ → Moment → Moment → Bool
 may_lapse role f i k first = is_some_and (λ p. p.has_message_expiry) (received_publish (note first))
     || not (is_unended first (λ m. is_id i (sent_as unmatched_pubrec_in (note m))) (session_before role f k))
 
--- L3: a PUBCOMP of code 0x00 for such a PUBLISH, which needs a RELEASE and had none.
+-- L3: whenever a PUBCOMP of code 0x00 is sent for such a PUBLISH, which needs a RELEASE, it had one.
+unfoldable pub applies_L3 : Role → Fate → Moment → Bool
+applies_L3 role f k = is_some_and (λ i. is_some_and (λ first. not (may_lapse role f i k first)) (first_brought role f i k)) (sent_as success_pubcomp_in (note k))
+
 unfoldable pub breaks_L3 : Role → Fate → Moment → Bool
 breaks_L3 role f k = is_some_and (λ i. is_some_and (λ first. not (since (releases_message i) (ends i) (session_before role f k)) && not (may_lapse role f i k first))
     (first_brought role f i k)) (sent_as success_pubcomp_in (note k))

@@ -151,25 +151,25 @@ is_on_bytes tested rule = is_by_bytes (statement tested.role rule)
 abbrev pub is_on_past : Tested → Rule → Bool
 is_on_past tested rule = is_by_past (statement tested.role rule)
 
--- it is false at the moment under its connection's fate, if that is decided
-abbrev pub is_false_under : (Fate → Moment → Bool) → Moment → Option Fate → Bool
-is_false_under breaks m f = is_some_and (λ d. breaks d m) f
+-- it is so at the moment under its connection's fate, if that is decided
+abbrev pub is_so_under : (Fate → Moment → Bool) → Moment → Option Fate → Bool
+is_so_under test m f = is_some_and (λ d. test d m) f
 
 abbrev pub where_accepted : (Fate → Moment → Bool) → Fate → Moment → Bool
 where_accepted breaks f m = accepts f && breaks f m
 
--- Whether a statement is false at position k of the log, if connections have these fates.
-abbrev pub is_false : Role → (ℕ → Option Fate) → Statement → List Seen → ℕ → Bool
-is_false role fates (on_bytes rule) log k = is_some_and (breaks_bytes rule) (moment log k)
-is_false role fates (on_past breaks) log k = is_some_and breaks (moment log k)
-is_false role fates (in_session breaks) log k = is_some_and (λ m. is_false_under (where_accepted breaks) m (fates (number m))) (moment log k)
-is_false role fates (at_release breaks) log k = is_some_and (λ m. is_false_under breaks m (fates (number m))) (moment log k)
-is_false role fates (at_rest shows) log k = is_some_and (λ m. some (λ t. is_after t m && (is_binding role t && shows t m)) (moments log)) (moment log k)
+-- Whether it is so at position k of the log, if connections have these fates: a statement is false there.
+abbrev pub is_so : Role → (ℕ → Option Fate) → Statement → List Seen → ℕ → Bool
+is_so role fates (on_bytes rule) log k = is_some_and (breaks_bytes rule) (moment log k)
+is_so role fates (on_past breaks) log k = is_some_and breaks (moment log k)
+is_so role fates (in_session breaks) log k = is_some_and (λ m. is_so_under (where_accepted breaks) m (fates (number m))) (moment log k)
+is_so role fates (at_release breaks) log k = is_some_and (λ m. is_so_under breaks m (fates (number m))) (moment log k)
+is_so role fates (at_rest shows) log k = is_some_and (λ m. some (λ t. is_after t m && (is_binding role t && shows t m)) (moments log)) (moment log k)
 
 -- The statement binds the tested end, and is false at position k of the log.
 unfoldable pub fails : Tested → List Seen → ℕ → Rule → Bool
-fails tested log k rule = binds rule tested && is_false tested.role (λ c. fate tested.role c log) (statement tested.role rule) log k
+fails tested log k rule = binds rule tested && is_so tested.role (λ c. fate tested.role c log) (statement tested.role rule) log k
 
 -- The same, if the latest connection is taken to have this fate.
 unfoldable pub fails_under : Tested → Fate → List Seen → ℕ → Rule → Bool
-fails_under tested f log k rule = binds rule tested && is_false tested.role (fate_under tested.role (Some f) log) (statement tested.role rule) log k
+fails_under tested f log k rule = binds rule tested && is_so tested.role (fate_under tested.role (Some f) log) (statement tested.role rule) log k

@@ -10,7 +10,7 @@ use Rattle.mq_rules.specs.Notes.{is_open}
 use Rattle.mq_rules.specs.Moments.{Moment, newest, note, moment, is_next}
 use Rattle.mq_rules.specs.Connections.{number, fate, latest_fate, is_binding}
 use Rattle.mq_rules.specs.Rules.{binds}
-use Rattle.mq_rules.specs.Statements.{Statement, on_bytes, on_past, in_session, at_release, at_rest, statement, breaks_bytes, is_false_under, where_accepted}
+use Rattle.mq_rules.specs.Statements.{Statement, on_bytes, on_past, in_session, at_release, at_rest, statement, breaks_bytes, is_so_under, where_accepted}
 
 -- the fate that this event gives to the connection of this number, which is undecided before it
 abbrev pub given : Role → Seen → List Seen → ℕ → Option Fate
@@ -19,8 +19,8 @@ given role e past c = cond (is_some (fate role c past)) None (fate role c (e ∷
 -- With this event a predicate that depends on the connection's fate turns out true at position k: at the event itself, or at a moment of the connection that it decides.
 abbrev pub shows_under : Role → (Fate → Moment → Bool) → Seen → List Seen → ℕ → Bool
 shows_under role breaks e past k =
-    (is_next past k && is_false_under breaks (newest e past) (fate role (number (newest e past)) (e ∷ past)))
-    || is_some_and (λ m. is_false_under breaks m (given role e past (number m))) (moment past k)
+    (is_next past k && is_so_under breaks (newest e past) (fate role (number (newest e past)) (e ∷ past)))
+    || is_some_and (λ m. is_so_under breaks m (given role e past (number m))) (moment past k)
 
 -- With this event a statement turns out false at position k.
 abbrev pub shows : Role → Statement → Seen → List Seen → ℕ → Bool

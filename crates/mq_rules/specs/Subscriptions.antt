@@ -1,6 +1,6 @@
--- Subscriptions: what a server may send to whom (B01 to B04; MQTT 5.0, sections 3.3.2.1, 3.8 to 3.11 and 4.7). Each statement says when it is false at a moment k
--- whose connection is accepted and has the fate f.
-use Rattle.std.specs.Prelude.{ℕ, ◌%◌, ◌==◌, nat_le, Bool, ◌&&◌, not, cond, List, [], ◌∷◌, ◌++◌, length, take, codes, Option, Some, None, unwrap_or, option_map}
+-- Subscriptions: what a server may send to whom (B01 to B04; MQTT 5.0, sections 3.3.2.1, 3.8 to 3.11 and 4.7). Each statement says when it is put to the test
+-- (`applies`), and when it is false (`breaks`), at a moment k whose connection is accepted and has the fate f.
+use Rattle.std.specs.Prelude.{ℕ, ◌%◌, ◌==◌, nat_le, Bool, ◌&&◌, not, true, cond, List, [], ◌∷◌, ◌++◌, length, take, codes, Option, Some, None, is_some, unwrap_or, option_map}
 use Rattle.std.specs.Option.{option_and_then, option_or}
 use Rattle.std.specs.Str.{bytes_eq}
 use Rattle.std.specs.List.{list_any}
@@ -11,7 +11,7 @@ use Rattle.mq_rules.specs.declared.note.Note.{Note}
 use Rattle.mq_rules.specs.declared.text.NotedFilter.{NotedFilter}
 use Rattle.mq_rules.specs.declared.packet_note.PublishNote.{PublishNote}
 use Rattle.mq_rules.specs.Words.{is_some_and, is_id, only}
-use Rattle.mq_rules.specs.Notes.{sent_publish, received_subscription, sent_grant, received_unsubscription, sent_unsuback, refuses, qos_number}
+use Rattle.mq_rules.specs.Notes.{is_acknowledged, sent_publish, received_subscription, sent_grant, received_unsubscription, sent_unsuback, refuses, qos_number}
 use Rattle.mq_rules.specs.Moments.{Moment, note, is_after, some, those, first_found}
 use Rattle.mq_rules.specs.Connections.{number, of_connection, connection}
 use Rattle.mq_rules.specs.Pasts.{set_alias}
@@ -86,21 +86,33 @@ asks_to_share m = is_some_and (λ s. list_any is_shared s.filters) (received_sub
 abbrev pub is_delivered_so : Role → Fate → Moment → (PublishNote → List ℕ → Bool) → Bool
 is_delivered_so role f k test = is_some_and (λ p. not p.duplicate && (not (some asks_to_share (session_before role f k)) && is_some_and (test p) (topic_of k p))) (sent_publish (note k))
 
--- B01: no standing filter matches its topic.
+-- B01: whenever there is one, some standing filter matches its topic.
+unfoldable pub applies_B01 : Role → Fate → Moment → Bool
+applies_B01 role f k = is_delivered_so role f k (λ p topic. true)
+
 unfoldable pub breaks_B01 : Role → Fate → Moment → Bool
 breaks_B01 role f k = is_delivered_so role f k (λ p topic. not (list_any (λ s. matches s.filter topic) (standing_at role f k)))
 
--- B02: some standing filter matches its topic, and none that does has a ceiling of at least its QoS.
+-- B02: whenever there is one of QoS above 0, some standing filter that matches its topic has a ceiling of at least its QoS, unless none matches it.
+unfoldable pub applies_B02 : Role → Fate → Moment → Bool
+applies_B02 role f k = is_delivered_so role f k (λ p topic. is_acknowledged p.qos)
+
 unfoldable pub breaks_B02 : Role → Fate → Moment → Bool
 breaks_B02 role f k = is_delivered_so role f k (λ p topic. list_any (λ s. matches s.filter topic) (standing_at role f k)
     && not (list_any (λ s. matches s.filter topic && nat_le (qos_number p.qos) s.ceiling) (standing_at role f k)))
 
--- B03: a SUBACK that hasn't as many Reason Codes as its first unanswered SUBSCRIBE has filters.
+-- B03: whenever a SUBACK answers an unanswered SUBSCRIBE, it has as many Reason Codes as the first of these has filters.
+unfoldable pub applies_B03 : Moment → Bool
+applies_B03 k = is_some_and (λ a. is_some (first_unanswered subscribe_suback a.identifier k)) (sent_grant (note k))
+
 unfoldable pub breaks_B03 : Moment → Bool
 breaks_B03 k = is_some_and (λ a. is_some_and (λ j. is_some_and (λ s. not (length s.filters == length a.codes)) (received_subscription (note j)))
     (first_unanswered subscribe_suback a.identifier k)) (sent_grant (note k))
 
--- B04: an UNSUBACK that hasn't as many Reason Codes as its first unanswered UNSUBSCRIBE has filters.
+-- B04: whenever an UNSUBACK answers an unanswered UNSUBSCRIBE, it has as many Reason Codes as the first of these has filters.
+unfoldable pub applies_B04 : Moment → Bool
+applies_B04 k = is_some_and (λ a. is_some (first_unanswered unsubscribe_unsuback a.identifier k)) (sent_unsuback (note k))
+
 unfoldable pub breaks_B04 : Moment → Bool
 breaks_B04 k = is_some_and (λ a. is_some_and (λ j. is_some_and (λ u. not (u.count == a.count)) (received_unsubscription (note j)))
     (first_unanswered unsubscribe_unsuback a.identifier k)) (sent_unsuback (note k))

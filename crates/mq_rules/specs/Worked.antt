@@ -14,6 +14,7 @@ use Rattle.mq_rules.specs.declared.packet_note.PacketFields.{PacketFields}
 use Rattle.mq_rules.specs.declared.packet_note.PacketFields.TheVariants.{Connect, Connack, Publish, Subscribe, Disconnect}
 use Rattle.mq_rules.specs.declared.packet_note.ConnectNote.{ConnectNote}
 use Rattle.mq_rules.specs.Statements.{fails}
+use Rattle.mq_rules.specs.Occasions.{applies}
 
 -- ---- logs
 
@@ -45,6 +46,15 @@ failing_at tested rule log (e ∷ past) = cond (fails tested log (length past + 
 -- all positions of a log at which the statement fails, the latest first
 abbrev pub failing : Tested → Rule → List Note → List ℕ
 failing tested rule ns = failing_at tested rule (log_of ns) (log_of ns)
+
+-- the positions up to the last of these events at which the statement is put to the test in the log, the latest first
+abbrev pub applying_at : Tested → Rule → List Seen → List Seen → List ℕ
+applying_at tested rule log [] = []
+applying_at tested rule log (e ∷ past) = cond (applies tested log (length past + 1) rule) ((length past + 1) ∷ applying_at tested rule log past) (applying_at tested rule log past)
+
+-- all positions of a log at which the statement is put to the test, the latest first
+abbrev pub applying : Tested → Rule → List Note → List ℕ
+applying tested rule ns = applying_at tested rule (log_of ns) (log_of ns)
 
 -- ---- events
 
@@ -181,3 +191,7 @@ asks_a i qos = Subscribe i (record { filter = 97 ∷ []; options = qos } ∷ [])
 
 abbrev pub asks_b : ℕ → ℕ → PacketFields
 asks_b i qos = Subscribe i (record { filter = 98 ∷ []; options = qos } ∷ [])
+
+-- a SUBSCRIBE to the shared subscription `$share/g/a`
+abbrev pub asks_shared : ℕ → PacketFields
+asks_shared i = Subscribe i (record { filter = 36 ∷ 115 ∷ 104 ∷ 97 ∷ 114 ∷ 101 ∷ 47 ∷ 103 ∷ 47 ∷ 97 ∷ []; options = 0 } ∷ [])

@@ -19,6 +19,7 @@ mod laws;
 mod naming;
 mod note;
 mod note_copy;
+mod occasion_laws;
 mod one_pass;
 mod packet_note;
 mod plain;
@@ -35,6 +36,7 @@ mod table_laws;
 mod text;
 mod watch;
 mod worked;
+mod worked_places;
 
 pub use bare::{Bare, BareFields, is_bare};
 pub use conn::Conn;
@@ -50,6 +52,9 @@ pub use laws::{
 };
 pub use naming::each_statement_is_named;
 pub use note::{ItemNote, Note, Seen};
+pub use occasion_laws::{
+    applying_stays, applying_turns, failing_applies, places_by_one, places_grow, places_of_faults,
+};
 pub use one_pass::plain_connections;
 pub use packet_note::{
     ConnackNote, ConnectNote, DisconnectNote, PacketFields, PacketNote, PublishNote,

@@ -10,7 +10,7 @@ ghost use Rattle.mq_rules.specs.Connections.{connection, is_binding};
 ghost use Rattle.mq_rules.specs.Pasts.{peer_receive_maximum};
 ghost use Rattle.mq_rules.specs.Identifiers.{is_delivery, is_closer, counts, passes, breaks_S07, is_used_up};
 ghost use Rattle.mq_rules.specs.Exchanges.{Exchange, shows_R};
-ghost use Rattle.mq_rules.specs.Statements.{at_rest, is_false};
+ghost use Rattle.mq_rules.specs.Statements.{at_rest, is_so};
 ghost use Rattle.mq_rules.specs.Counter.{in_flight, in_flight_before, quota, keeps_quota};
 ghost use Rattle.mq_rules.specs.FirstRests.{binds_after, first_rest, IsFirstRest};
 
@@ -41,5 +41,5 @@ pub fn first_rest_decides()
     ensures shown { (role : Role) (x : Exchange) (log : List Seen) (k : Moment) → Among k (moments log)
         → some (λ t. is_after t k && (is_binding role t && shows_R x t k)) (moments log) ≡ is_some_and (λ t. shows_R x t k) (first_rest role k log) }
     ensures at { (role : Role) (fates : ℕ → Option Fate) (x : Exchange) (log : List Seen) (n : ℕ)
-        → is_false role fates (at_rest (shows_R x)) log n ≡ is_some_and (λ k. is_some_and (λ t. shows_R x t k) (first_rest role k log)) (moment log n) }
+        → is_so role fates (at_rest (shows_R x)) log n ≡ is_some_and (λ k. is_some_and (λ t. shows_R x t k) (first_rest role k log)) (moment log n) }
 {}

@@ -1,0 +1,169 @@
+//! Short logs whose places are computed from the definitions alone: for each statement but those on
+//! a packet's bytes, all positions of a log where it is put to the test, and where its antecedent is
+//! narrow, the nearest log in which it isn't. Last, where nothing is judged.
+ghost use Rattle.std.specs.Prelude.{◌≡◌, ◌∷◌, [], true, false, Some, None};
+ghost use Rattle.mq_packet.specs.declared.rule.PacketRule.TheVariants as packets;
+ghost use Rattle.mq_rules.specs.declared.rule.Rule.TheVariants.{C01, C02, C03, C04, C05, C06, C07, C08, C09, C10, C11, C12, C13, C14, C15, C16, C17, C18, C19, C20, C21, C22, C23, S01, S02, S03, S04, S05, S06, S07, E1A, E1R, E1O, E2A, E2R, E2O, E3A, E3R, E3O, E4A, E4R, E5A, E5R, E6A, E6R, E7R, L1, L2, L3, B01, B02, B03, B04};
+ghost use Rattle.mq_rules.specs.declared.note.Note.TheVariants.{Open, Rest, Release};
+ghost use Rattle.mq_rules.specs.declared.packet_note.PacketFields.TheVariants.{Puback, Pubrec, Pubrel, Pubcomp, Suback, Unsubscribe, Unsuback, Pingreq, Pingresp, Auth};
+ghost use Rattle.mq_rules.specs.Worked.{client, client_unrecorded, server, applying, Close, Cut, sends, gets, sends_sized, sends_bad, sends_lost, lasting, again, unnamed, asking, accepting, resuming, refusing, limiting, retaining, assigning, informing, leaving, at_most_once, once, exactly, retained_once, expiring, aliased, asks_a, asks_shared};
+
+/// What begins a connection (C01 to C06).
+pub fn places_of_beginnings()
+    ensures typed { applying client C01 (Open ∷ sends lasting ∷ gets accepting ∷ sends_bad 48 packets.W04 ∷ sends_lost ∷ []) ≡ 4 ∷ 2 ∷ [] }
+    ensures first { applying client C02 (Open ∷ sends lasting ∷ gets accepting ∷ sends Pingreq ∷ []) ≡ 2 ∷ [] }
+    ensures connect { applying client C03 (Open ∷ sends lasting ∷ gets accepting ∷ sends Pingreq ∷ []) ≡ 2 ∷ [] }
+    ensures connack { applying server C04 (Open ∷ gets lasting ∷ sends accepting ∷ sends Pingresp ∷ []) ≡ 3 ∷ [] }
+    ensures before_connack { applying server C05 (Open ∷ gets lasting ∷ sends Auth ∷ sends accepting ∷ sends Pingresp ∷ []) ≡ 4 ∷ [] }
+    ensures only_connack { applying server C06 (Open ∷ gets lasting ∷ sends accepting ∷ sends Pingresp ∷ []) ≡ 3 ∷ [] }
+{}
+
+/// What a CONNACK answers (C07 to C10, C21 and C22).
+pub fn places_of_answers_to_connect()
+    ensures clean { applying server C07 (Open ∷ gets lasting ∷ sends accepting ∷ Close ∷ Open ∷ gets again ∷ sends resuming ∷ []) ≡ 3 ∷ [] }
+    ensures alive { applying server C08 (Open ∷ gets lasting ∷ sends accepting ∷ Close ∷ Open ∷ gets again ∷ sends resuming ∷ []) ≡ 7 ∷ [] }
+    ensures not_alive { applying server C08 (Open ∷ gets again ∷ sends accepting ∷ []) ≡ 3 ∷ [] }
+    ensures refusal { applying server C09 (Open ∷ gets again ∷ sends refusing ∷ []) ≡ 3 ∷ [] }
+    ensures no_refusal { applying server C09 (Open ∷ gets again ∷ sends accepting ∷ []) ≡ [] }
+    ensures assigned { applying server C10 (Open ∷ gets unnamed ∷ sends assigning ∷ []) ≡ 3 ∷ [] }
+    ensures named { applying server C10 (Open ∷ gets lasting ∷ sends assigning ∷ []) ≡ [] }
+    ensures unexplained { applying server C21 (Open ∷ gets (asking (Some 0) None None None None) ∷ sends accepting ∷ sends Pingresp ∷ []) ≡ 4 ∷ [] }
+    ensures may_be_explained { applying server C21 (Open ∷ gets (asking (Some 1) None None None None) ∷ sends accepting ∷ sends Pingresp ∷ []) ≡ [] }
+    ensures informed { applying server C22 (Open ∷ gets (asking None (Some 1) None None None) ∷ sends informing ∷ []) ≡ 3 ∷ [] }
+    ensures not_informed { applying server C22 (Open ∷ gets lasting ∷ sends accepting ∷ []) ≡ [] }
+{}
+
+/// What an end does after its last packet, up to the CLOSE (C11 to C13, and C23).
+pub fn places_of_endings()
+    ensures disconnected { applying client C11 (Open ∷ sends lasting ∷ gets accepting ∷ sends (leaving None) ∷ Close ∷ []) ≡ 5 ∷ [] }
+    ensures not_disconnected { applying client C11 (Open ∷ sends lasting ∷ gets accepting ∷ sends Pingreq ∷ Close ∷ []) ≡ [] }
+    ensures refused { applying server C12 (Open ∷ gets lasting ∷ sends refusing ∷ Close ∷ []) ≡ 4 ∷ [] }
+    ensures not_refused { applying server C12 (Open ∷ gets lasting ∷ sends accepting ∷ Close ∷ []) ≡ [] }
+    ensures unknown { applying client C13 (Open ∷ sends lasting ∷ gets resuming ∷ sends (leaving None) ∷ Close ∷ []) ≡ 5 ∷ 4 ∷ [] }
+    ensures known { applying client C13 (Open ∷ sends lasting ∷ gets accepting ∷ Close ∷ Open ∷ sends again ∷ gets resuming ∷ sends Pingreq ∷ Close ∷ []) ≡ [] }
+    ensures closed { applying client C23 (Open ∷ sends lasting ∷ gets accepting ∷ Rest ∷ sends (leaving None) ∷ Close ∷ []) ≡ 6 ∷ [] }
+    ensures closed_refused { applying server C23 (Open ∷ gets lasting ∷ sends refusing ∷ Close ∷ []) ≡ 4 ∷ [] }
+{}
+
+/// What the peer lets an end send (C14 to C18).
+pub fn places_of_peer_limits()
+    ensures size { applying client C14 (Open ∷ sends lasting ∷ gets (limiting false None None None (Some 10)) ∷ sends_sized 9 at_most_once ∷ []) ≡ 4 ∷ [] }
+    ensures any_size { applying client C14 (Open ∷ sends lasting ∷ gets accepting ∷ sends_sized 9 at_most_once ∷ []) ≡ [] }
+    ensures alias { applying client C15 (Open ∷ sends lasting ∷ gets accepting ∷ sends (aliased (97 ∷ []) 6) ∷ []) ≡ 4 ∷ [] }
+    ensures no_alias { applying client C15 (Open ∷ sends lasting ∷ gets (limiting false None (Some 5) None None) ∷ sends at_most_once ∷ []) ≡ [] }
+    ensures used_alias { applying client C16 (Open ∷ sends lasting ∷ gets (limiting false None (Some 5) None None) ∷ sends (aliased (97 ∷ []) 5) ∷ sends (aliased [] 5) ∷ []) ≡ 5 ∷ [] }
+    ensures qos { applying client C17 (Open ∷ sends lasting ∷ gets (limiting false None None (Some 1) None) ∷ sends at_most_once ∷ []) ≡ 4 ∷ [] }
+    ensures any_qos { applying client C17 (Open ∷ sends lasting ∷ gets accepting ∷ sends (once false 1) ∷ []) ≡ [] }
+    ensures publish { applying client C18 (Open ∷ sends lasting ∷ gets accepting ∷ sends at_most_once ∷ sends Pingreq ∷ []) ≡ 4 ∷ [] }
+{}
+
+/// What a DISCONNECT says of the session (C19 and C20).
+pub fn places_of_leaving()
+    ensures server_leaves { applying server C19 (Open ∷ gets lasting ∷ sends accepting ∷ sends (leaving None) ∷ []) ≡ 4 ∷ [] }
+    ensures interval { applying client C20 (Open ∷ sends lasting ∷ gets accepting ∷ sends (leaving (Some 60)) ∷ []) ≡ 4 ∷ [] }
+    ensures interval_zero { applying client C20 (Open ∷ sends lasting ∷ gets accepting ∷ sends (leaving (Some 0)) ∷ []) ≡ [] }
+    ensures no_interval { applying client C20 (Open ∷ sends lasting ∷ gets accepting ∷ sends (leaving None) ∷ []) ≡ [] }
+{}
+
+/// An identifier is taken while one is in use (S01).
+pub fn places_of_identifiers()
+    ensures second { applying client S01 (Open ∷ sends lasting ∷ gets accepting ∷ sends (once false 1) ∷ sends (once false 2) ∷ []) ≡ 5 ∷ [] }
+    ensures freed { applying client S01 (Open ∷ sends lasting ∷ gets accepting ∷ sends (once false 1) ∷ gets (Puback 1 0) ∷ sends (once false 1) ∷ []) ≡ [] }
+    ensures subscribing { applying client S01 (Open ∷ sends lasting ∷ gets accepting ∷ sends (asks_a 1 0) ∷ sends (once false 2) ∷ gets (Suback 1 []) ∷ []) ≡ 5 ∷ [] }
+    ensures subscribed { applying client S01 (Open ∷ sends lasting ∷ gets accepting ∷ sends (asks_a 1 0) ∷ gets (Suback 1 []) ∷ sends (once false 2) ∷ []) ≡ [] }
+    ensures server_second { applying server S01 (Open ∷ gets lasting ∷ sends accepting ∷ sends (once false 1) ∷ sends (once false 2) ∷ []) ≡ 5 ∷ [] }
+    ensures early { applying client S01 (Open ∷ sends lasting ∷ gets accepting ∷ sends (once false 1) ∷ Close ∷ Open ∷ sends again ∷ sends (once false 2) ∷ gets resuming ∷ []) ≡ 8 ∷ [] }
+    ensures early_unknowing { applying client S01 (Open ∷ sends lasting ∷ gets accepting ∷ sends (once false 1) ∷ Close ∷ Open ∷ sends lasting ∷ sends (once false 2) ∷ gets resuming ∷ []) ≡ [] }
+{}
+
+/// What is sent again (S02 to S05).
+pub fn places_of_resends()
+    ensures resent { applying client S02 (Open ∷ sends lasting ∷ gets accepting ∷ sends (once false 1) ∷ Close ∷ Open ∷ sends again ∷ gets resuming ∷ sends (once true 1) ∷ []) ≡ 9 ∷ [] }
+    ensures unknowing { applying client S02 (Open ∷ sends lasting ∷ gets accepting ∷ sends (once false 1) ∷ Close ∷ Open ∷ sends again ∷ sends (once true 1) ∷ gets accepting ∷ []) ≡ [] }
+    ensures cut_off { applying client S02 (Open ∷ sends lasting ∷ gets accepting ∷ Cut ∷ Open ∷ sends again ∷ gets resuming ∷ sends (once true 1) ∷ []) ≡ [] }
+    ensures resent_once { applying client S03 (Open ∷ sends lasting ∷ gets accepting ∷ sends (once false 1) ∷ Close ∷ Open ∷ sends again ∷ gets resuming ∷ sends (once true 1) ∷ []) ≡ 9 ∷ [] }
+    ensures released { applying client S04 (Open ∷ sends lasting ∷ gets accepting ∷ sends (exactly false 1) ∷ gets (Pubrec 1 0) ∷ sends (Pubrel 1 0) ∷ Close ∷ Open ∷ sends again ∷ gets resuming ∷ sends (Pubrel 1 0) ∷ []) ≡ 11 ∷ [] }
+    ensures not_released { applying client S04 (Open ∷ sends lasting ∷ gets accepting ∷ sends (exactly false 1) ∷ gets (Pubrec 1 0) ∷ Close ∷ Open ∷ sends again ∷ gets resuming ∷ sends (exactly true 1) ∷ []) ≡ [] }
+    ensures second { applying client S05 (Open ∷ sends lasting ∷ gets accepting ∷ sends (once false 1) ∷ sends (once false 2) ∷ Close ∷ Open ∷ sends again ∷ gets resuming ∷ sends (once true 1) ∷ sends (once true 2) ∷ []) ≡ 11 ∷ [] }
+    ensures second_not_open { applying client S05 (Open ∷ sends lasting ∷ gets accepting ∷ sends (once false 1) ∷ Close ∷ Open ∷ sends again ∷ gets resuming ∷ sends (once true 1) ∷ sends (once true 2) ∷ []) ≡ [] }
+{}
+
+/// What a resumed session owes, as a REST shows (S06).
+pub fn places_of_redelivery()
+    ensures owed { applying client S06 (Open ∷ sends lasting ∷ gets accepting ∷ sends (once false 1) ∷ Close ∷ Open ∷ sends again ∷ gets resuming ∷ Rest ∷ []) ≡ 4 ∷ [] }
+    ensures waiting { applying client S06 (Open ∷ sends lasting ∷ gets accepting ∷ sends (once false 1) ∷ Close ∷ Open ∷ sends again ∷ gets resuming ∷ sends (once true 1) ∷ Rest ∷ []) ≡ [] }
+    ensures completed { applying client S06 (Open ∷ sends lasting ∷ gets accepting ∷ sends (once false 1) ∷ Close ∷ Open ∷ sends again ∷ gets resuming ∷ sends (once true 1) ∷ gets (Puback 1 0) ∷ Rest ∷ []) ≡ 4 ∷ [] }
+    ensures excused { applying client S06 (Open ∷ sends lasting ∷ gets accepting ∷ sends (retained_once 1) ∷ Close ∷ Open ∷ sends again ∷ gets (retaining (Some 0)) ∷ Rest ∷ []) ≡ 4 ∷ [] }
+    ensures completed_before { applying client S06 (Open ∷ sends lasting ∷ gets accepting ∷ sends (once false 1) ∷ gets (Puback 1 0) ∷ Close ∷ Open ∷ sends again ∷ gets resuming ∷ Rest ∷ []) ≡ [] }
+    ensures new { applying client S06 (Open ∷ sends lasting ∷ gets accepting ∷ sends (once false 1) ∷ Close ∷ Open ∷ sends again ∷ gets accepting ∷ Rest ∷ []) ≡ [] }
+{}
+
+/// A PUBLISH that takes the last of the send quota (S07).
+pub fn places_of_quotas()
+    ensures last { applying client S07 (Open ∷ sends lasting ∷ gets (limiting false (Some 2) None None None) ∷ sends (once false 1) ∷ sends (once false 2) ∷ []) ≡ 5 ∷ [] }
+    ensures not_last { applying client S07 (Open ∷ sends lasting ∷ gets (limiting false (Some 2) None None None) ∷ sends (once false 1) ∷ gets (Puback 1 0) ∷ sends (once false 2) ∷ []) ≡ [] }
+    ensures early { applying client S07 (Open ∷ sends lasting ∷ sends (once false 1) ∷ gets (limiting false (Some 1) None None None) ∷ []) ≡ [] }
+    ensures server_last { applying server S07 (Open ∷ gets (asking None None (Some 1) None None) ∷ sends accepting ∷ sends (once false 1) ∷ []) ≡ 4 ∷ [] }
+{}
+
+/// Answers (E1A to E6A).
+pub fn places_of_answers()
+    ensures puback { applying client E1A (Open ∷ sends lasting ∷ gets accepting ∷ gets (once false 1) ∷ sends (Puback 1 0) ∷ []) ≡ 5 ∷ [] }
+    ensures unknowing { applying client E1A (Open ∷ sends lasting ∷ gets accepting ∷ Close ∷ Open ∷ sends again ∷ sends (Puback 1 0) ∷ gets accepting ∷ []) ≡ [] }
+    ensures pubrec { applying client E2A (Open ∷ sends lasting ∷ gets accepting ∷ gets (exactly false 1) ∷ sends (Pubrec 1 0) ∷ []) ≡ 5 ∷ [] }
+    ensures pubrel { applying client E3A (Open ∷ sends lasting ∷ gets accepting ∷ gets (Pubrec 1 0) ∷ sends (Pubrel 1 0) ∷ []) ≡ 5 ∷ [] }
+    ensures pubcomp { applying client E4A (Open ∷ sends lasting ∷ gets accepting ∷ gets (Pubrel 1 0) ∷ sends (Pubcomp 1 0) ∷ []) ≡ 5 ∷ [] }
+    ensures suback { applying server E5A (Open ∷ gets lasting ∷ sends accepting ∷ gets (asks_a 1 0) ∷ sends (Suback 1 []) ∷ []) ≡ 5 ∷ [] }
+    ensures unsuback { applying server E6A (Open ∷ gets lasting ∷ sends accepting ∷ gets (Unsubscribe 1 1) ∷ sends (Unsuback 1 1) ∷ []) ≡ 5 ∷ [] }
+{}
+
+/// What asks for an answer, as a REST shows (E1R to E7R).
+pub fn places_of_causes()
+    ensures publish { applying client E1R (Open ∷ sends lasting ∷ gets accepting ∷ gets (once false 1) ∷ sends (Puback 1 0) ∷ Rest ∷ []) ≡ 4 ∷ [] }
+    ensures first_of_two { applying client E1R (Open ∷ sends lasting ∷ gets accepting ∷ gets (once false 1) ∷ gets (once true 1) ∷ Rest ∷ []) ≡ 4 ∷ [] }
+    ensures not_at_rest { applying client E1R (Open ∷ sends lasting ∷ gets accepting ∷ gets (once false 1) ∷ sends (Puback 1 0) ∷ Close ∷ []) ≡ [] }
+    ensures publish_twice { applying client E2R (Open ∷ sends lasting ∷ gets accepting ∷ gets (exactly false 1) ∷ sends (Pubrec 1 0) ∷ Rest ∷ gets (exactly false 1) ∷ Rest ∷ []) ≡ 7 ∷ 4 ∷ [] }
+    ensures pubrec { applying client E3R (Open ∷ sends lasting ∷ gets accepting ∷ gets (Pubrec 1 0) ∷ sends (Pubrel 1 0) ∷ Rest ∷ []) ≡ 4 ∷ [] }
+    ensures pubrel { applying client E4R (Open ∷ sends lasting ∷ gets accepting ∷ gets (Pubrel 1 0) ∷ sends (Pubcomp 1 0) ∷ Rest ∷ []) ≡ 4 ∷ [] }
+    ensures subscribe { applying server E5R (Open ∷ gets lasting ∷ sends accepting ∷ gets (asks_a 1 0) ∷ sends (Suback 1 []) ∷ Rest ∷ []) ≡ 4 ∷ [] }
+    ensures unsubscribe { applying server E6R (Open ∷ gets lasting ∷ sends accepting ∷ gets (Unsubscribe 1 1) ∷ sends (Unsuback 1 1) ∷ Rest ∷ []) ≡ 4 ∷ [] }
+    ensures pingreq { applying server E7R (Open ∷ gets lasting ∷ sends accepting ∷ Rest ∷ gets Pingreq ∷ sends Pingresp ∷ Rest ∷ []) ≡ 7 ∷ [] }
+{}
+
+/// Answers while another one is owed (E1O to E3O).
+pub fn places_of_order()
+    ensures pubacks { applying client E1O (Open ∷ sends lasting ∷ gets accepting ∷ gets (once false 1) ∷ gets (once false 2) ∷ sends (Puback 1 0) ∷ sends (Puback 2 0) ∷ []) ≡ 6 ∷ [] }
+    ensures pubrecs { applying client E2O (Open ∷ sends lasting ∷ gets accepting ∷ gets (exactly false 1) ∷ gets (exactly false 2) ∷ sends (Pubrec 1 0) ∷ sends (Pubrec 2 0) ∷ []) ≡ 6 ∷ [] }
+    ensures pubrels { applying client E3O (Open ∷ sends lasting ∷ gets accepting ∷ gets (Pubrec 1 0) ∷ gets (Pubrec 2 0) ∷ sends (Pubrel 1 0) ∷ sends (Pubrel 2 0) ∷ []) ≡ 6 ∷ [] }
+    ensures one_after_the_other { applying client E1O (Open ∷ sends lasting ∷ gets accepting ∷ gets (once false 1) ∷ sends (Puback 1 0) ∷ gets (once false 2) ∷ sends (Puback 2 0) ∷ []) ≡ [] }
+{}
+
+/// Releases of QoS 2 messages (L1 to L3).
+pub fn places_of_releases()
+    ensures asked { applying client L1 (Open ∷ sends lasting ∷ gets accepting ∷ gets (exactly false 1) ∷ Release 1 ∷ []) ≡ 5 ∷ [] }
+    ensures not_placed { applying client L1 (Open ∷ sends lasting ∷ Release 1 ∷ gets accepting ∷ []) ≡ [] }
+    ensures once_only { applying client L2 (Open ∷ sends lasting ∷ gets accepting ∷ gets (exactly false 1) ∷ Close ∷ Release 1 ∷ []) ≡ 6 ∷ [] }
+    ensures completed { applying client L3 (Open ∷ sends lasting ∷ gets accepting ∷ gets (exactly false 1) ∷ gets (Pubrel 1 0) ∷ Release 1 ∷ sends (Pubcomp 1 0) ∷ []) ≡ 7 ∷ [] }
+    ensures lapsed { applying client L3 (Open ∷ sends lasting ∷ gets accepting ∷ gets (expiring 1) ∷ gets (Pubrel 1 0) ∷ sends (Pubcomp 1 0) ∷ []) ≡ [] }
+{}
+
+/// What a server sends to whom (B01 to B04).
+pub fn places_of_subscriptions()
+    ensures delivered { applying server B01 (Open ∷ gets lasting ∷ sends accepting ∷ gets (asks_a 1 0) ∷ sends at_most_once ∷ []) ≡ 5 ∷ [] }
+    ensures shared { applying server B01 (Open ∷ gets lasting ∷ sends accepting ∷ gets (asks_shared 1) ∷ sends at_most_once ∷ []) ≡ [] }
+    ensures no_topic { applying server B01 (Open ∷ gets lasting ∷ sends accepting ∷ gets (asks_a 1 0) ∷ sends (aliased [] 5) ∷ []) ≡ [] }
+    ensures qos { applying server B02 (Open ∷ gets lasting ∷ sends accepting ∷ gets (asks_a 1 1) ∷ sends (once false 1) ∷ sends at_most_once ∷ []) ≡ 5 ∷ [] }
+    ensures suback { applying server B03 (Open ∷ gets lasting ∷ sends accepting ∷ gets (asks_a 1 0) ∷ sends (Suback 1 (0 ∷ [])) ∷ sends (Suback 1 (0 ∷ [])) ∷ []) ≡ 5 ∷ [] }
+    ensures unsuback { applying server B04 (Open ∷ gets lasting ∷ sends accepting ∷ gets (Unsubscribe 1 1) ∷ sends (Unsuback 1 1) ∷ sends (Unsuback 1 1) ∷ []) ≡ 5 ∷ [] }
+{}
+
+/// Ends that a statement doesn't bind, releases that aren't recorded, a session that is unknown, and
+/// a connection that is undecided: no places.
+pub fn places_of_nothing()
+    ensures server_begins { applying server C02 (Open ∷ gets lasting ∷ sends accepting ∷ []) ≡ [] }
+    ensures client_answers { applying client E5A (Open ∷ sends lasting ∷ gets accepting ∷ sends (Suback 1 []) ∷ []) ≡ [] }
+    ensures unrecorded { applying client_unrecorded L1 (Open ∷ sends lasting ∷ gets accepting ∷ gets (exactly false 1) ∷ Release 1 ∷ []) ≡ [] }
+    ensures undecided { applying client E1A (Open ∷ sends lasting ∷ sends (Puback 1 0) ∷ []) ≡ [] }
+    ensures refused { applying client E1A (Open ∷ sends lasting ∷ sends (Puback 1 0) ∷ gets refusing ∷ []) ≡ [] }
+    ensures unknown { applying server E1A (Open ∷ gets lasting ∷ sends accepting ∷ Close ∷ Open ∷ gets lasting ∷ Close ∷ Open ∷ gets again ∷ sends resuming ∷ gets (once false 1) ∷ sends (Puback 1 0) ∷ []) ≡ [] }
+{}
