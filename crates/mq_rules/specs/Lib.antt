@@ -22,6 +22,7 @@ pub mod FaultKeys
 pub mod Faults
 pub mod Folds
 pub mod Burden
+pub mod Weights
 pub mod Keeping
 pub mod Worked
 pub mod Counter

@@ -14,6 +14,7 @@ ghost use Rattle.mq_rules.specs.Pasts.{set_alias as sets};
 ghost use Rattle.mq_rules.specs.Statements.{is_on_past};
 ghost use Rattle.mq_rules.specs.Steps.{turns};
 ghost use Rattle.mq_rules.specs.Burden.{aliases_sent};
+ghost use Rattle.mq_rules.specs.Weights.{conn_weighs};
 ghost use Rattle.mq_rules.specs.Keeping as keeping;
 ghost use Rattle.mq_rules.specs.Growing.{Judges, JudgesWithin, GrowsBy, GrowsByWithin};
 ghost use Rattle.mq_rules.specs.Keeping.{Agrees, IsConn, is_among, is_another};
@@ -148,6 +149,8 @@ impl Watch for Conn {
     ghost takes = { λ tested taken e past. IsOnConnection e past };
 
     ghost adds = { λ tested e past k r. is_on_past tested r && turns tested e past k r };
+
+    ghost weighs = { conn_weighs };
 
     ghost bound = { λ tested taken past. aliases_sent past };
 

@@ -30,6 +30,8 @@ impl Watch for Shapes {
 
     ghost adds = { λ tested e past k r. is_on_bytes tested r && turns tested e past k r };
 
+    ghost weighs = { λ s. 0 };
+
     ghost bound = { λ tested taken past. 0 };
 
     #[inline(always)]

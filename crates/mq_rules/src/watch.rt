@@ -9,6 +9,7 @@ ghost use Rattle.mq_rules.specs.Connections.{latest_fate};
 ghost use Rattle.mq_rules.specs.Notes.{note_of_bare};
 ghost use Rattle.mq_rules.specs.Under.{seen, Follows};
 ghost use Rattle.mq_rules.specs.Growing.{Gains, GainsWithin};
+ghost use Rattle.mq_rules.specs.Weights.{in_word};
 
 use crate::bare::Bare;
 use crate::faults::{Faults, Memory};
@@ -29,6 +30,8 @@ pub trait Watch {
     ghost takes: { Tested → Option Fate → Seen → List Seen → Type 0 };
     /// The pairs of a position and a statement that it adds with an event.
     ghost adds: { Tested → Seen → List Seen → ℕ → Rule → Bool };
+    /// How much it keeps: the sum of the lengths of all its collections.
+    ghost weighs: { Self → ℕ };
     /// Its weight after these events is at most this.
     ghost bound: { Tested → Option Fate → List Seen → ℕ };
 
@@ -43,9 +46,10 @@ pub trait Watch {
         ensures grows { OnOk result ((tested : Tested) (taken : Option Fate) (past : List Seen) → Follows tested (seen at note.now) past → takes tested taken (seen at note.now) past → agrees self.old tested taken past → Gains (adds tested (seen at note.now) past) tested (seen at note.now ∷ past) (length past + 1) faults.old faults.new) }
         ensures memory { OnErr result ((tested : Tested) (taken : Option Fate) (past : List Seen) → Follows tested (seen at note.now) past → takes tested taken (seen at note.now) past → agrees self.old tested taken past → GainsWithin (adds tested (seen at note.now) past) tested (seen at note.now ∷ past) (length past + 1) faults.old faults.new) };
 
-    /// The sum of the lengths of all collections that it keeps.
+    /// The sum of the lengths of all collections that it keeps; the greatest number if that is less.
     fn weight(&self) -> usize
-        ensures { (tested : Tested) (taken : Option Fate) (past : List Seen) → agrees self.now tested taken past → result ≤ bound tested taken past };
+        ensures exact { result ≡ in_word (weighs self.now) }
+        ensures bounded { (tested : Tested) (taken : Option Fate) (past : List Seen) → agrees self.now tested taken past → result ≤ bound tested taken past };
 }
 
 /// Takes in a packet without properties by a note that is made of it.
@@ -126,6 +130,8 @@ impl<A: Watch, B: Watch> Watch for Both<A, B> {
     ghost takes = { λ tested taken e past. A.takes tested taken e past × B.takes tested taken e past };
 
     ghost adds = { λ tested e past k r. A.adds tested e past k r || B.adds tested e past k r };
+
+    ghost weighs = { λ s. A.weighs s.a + B.weighs s.b };
 
     ghost bound = { λ tested taken past. A.bound tested taken past + B.bound tested taken past };
 
