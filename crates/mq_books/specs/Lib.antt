@@ -21,3 +21,4 @@ pub mod Requesting
 pub mod Concerns
 pub mod Selecting
 pub mod Burden
+pub mod Weights

@@ -229,10 +229,15 @@ changes_filters n = is_boundary n || (is_some (sent_grant n) || is_some (receive
 abbrev pub allows_topic : List Standing → List Waits → List ℕ → ℕ → Bool
 allows_topic settled waiting topic qos = any_kept (λ s. matches s.filter topic && nat_le qos s.ceiling) settled waiting
 
--- the filters of a session: those that stand whatever comes, and the SUBSCRIBEs that wait
+-- the filters of a session: those that stand whatever comes, and the SUBSCRIBEs that wait; and for how many topics it is kept which may be sent
 pub record SessionFilters : Type 0 where
   pub settled : List Standing
   pub waiting : List Waits
+  pub found : ℕ
+
+-- what they say: all but how many topics were looked up
+abbrev pub said_by : SessionFilters → List Standing × List Waits
+said_by f = (f.settled, f.waiting)
 
 -- each topic of a map has the greatest ceiling of the filters that match it
 abbrev pub Remembers : {Y : Type 0} → List Standing → List Waits → List (String Y × Option ℕ) → Type 0

@@ -7,6 +7,7 @@ ghost use Rattle.mq_rules.specs.Connections.{surprises as surprising};
 ghost use Rattle.mq_rules.specs.Rules.{same_rule, binds as is_bound};
 ghost use Rattle.mq_rules.specs.Under.{IsKnown, turns_known};
 ghost use Rattle.mq_books.specs.Burden.{caused_ids};
+ghost use Rattle.mq_books.specs.Weights.{asked_weighs};
 ghost use Rattle.mq_books.specs.Askings as keeping;
 ghost use Rattle.mq_books.specs.Askings.{IsAsked, answered_by};
 ghost use Rattle.mq_books.specs.Concerns.{concerns_asked};
@@ -127,6 +128,8 @@ impl<X: Exchange> Watch for Asked<X> {
     ghost takes = { IsKnown };
 
     ghost adds = { λ tested e past k r. same_rule r X.asked && turns_known tested e past k r };
+
+    ghost weighs = { asked_weighs };
 
     ghost bound = { λ tested taken past. caused_ids X.exchange tested.role taken past };
 

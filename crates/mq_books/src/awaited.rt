@@ -1,11 +1,12 @@
 //! SUBSCRIBE packets that wait for their SUBACK (MQTT 5.0, sections 3.8 and 3.9).
-ghost use Rattle.std.specs.Prelude.{◌≡◌, ◌≤◌, ◌+◌, ◌==◌, ◌&&◌, ◌||◌, ◌++◌, ◌∷◌, [], nat_eq, nat_le, ℕ, Bool, true, false, List, Some, None, cond, not, length, unwrap_or, OnOk, IfOk};
+ghost use Rattle.std.specs.Prelude.{◌≡◌, ◌+◌, ◌==◌, ◌&&◌, ◌||◌, ◌++◌, ◌∷◌, [], nat_eq, nat_le, ℕ, Bool, true, false, List, Some, None, cond, not, length, unwrap_or, OnOk, IfOk};
 ghost use Rattle.std.specs.List.{list_any, sum_by, AllByRecursion};
 ghost use Rattle.std.specs.Map.{keys_of};
 ghost use Rattle.indexmap.specs.IndexMap.{values};
 ghost use Rattle.mq_topic.specs.Matching.{matches as is_match};
 ghost use Rattle.mq_rules.specs.Subscriptions.{Standing, granted};
 ghost use Rattle.mq_rules.specs.Words.{is_some_and};
+ghost use Rattle.mq_rules.specs.Weights.{in_word};
 ghost use Rattle.mq_books.specs.Standings.{allows, Waits, waits_weight, first_code, other_codes, with_code, with_codes, under, waits_of, taken};
 
 use crate::ceilings::{higher, raised_by};
@@ -211,7 +212,7 @@ impl Request {
 
     // How much it counts: itself, and its filters.
     fn size(&self) -> usize
-        ensures { result ≤ 1 + length self.now }
+        ensures { result ≡ in_word (1 + length self.now) }
     {
         self.filters.len().saturating_add(1)
     }
@@ -245,7 +246,7 @@ fn settle_each(
 }
 
 fn sizes_of(requests: &[Request]) -> usize
-    ensures { result ≤ sum_by (λ filters. 1 + length filters) requests.now }
+    ensures { result ≡ in_word (sum_by (λ filters. 1 + length filters) requests.now) }
 {
     let mut size = 0_usize;
     for request in requests {
@@ -291,7 +292,7 @@ impl Requests {
 
     // How much they count, with the entry of their identifier.
     fn size(&self) -> usize
-        ensures { result ≤ sum_by (λ filters. 1 + length filters) self.now }
+        ensures { result ≡ in_word (sum_by (λ filters. 1 + length filters) self.now) }
     {
         self.first
             .size()
@@ -354,7 +355,7 @@ fn ceiling_of_values(all: &IndexMap<u16, Requests>, topic: &str) -> Option<u8>
 }
 
 fn values_size(all: &IndexMap<u16, Requests>) -> usize
-    ensures { result ≤ sum_by (λ requests. sum_by (λ filters. 1 + length filters) requests) (values all.now) }
+    ensures { result ≡ in_word (sum_by (λ requests. sum_by (λ filters. 1 + length filters) requests) (values all.now)) }
 {
     let mut size = 0_usize;
     for requests in all.values() {
@@ -420,7 +421,7 @@ impl Awaited {
 
     /// How many SUBSCRIBEs wait, and how many filters they have together.
     pub fn size(&self) -> usize
-        ensures { result ≤ sum_by waits_weight self.now }
+        ensures { result ≡ in_word (sum_by waits_weight self.now) }
     {
         values_size(&self.requests)
     }

@@ -16,6 +16,7 @@ ghost use Rattle.std.specs.Prelude.{Option, None};
 ghost use Rattle.mq_rules.specs.Under.{IsKnown, turns_known};
 ghost use Rattle.mq_books.specs.Concerns.{concerns_count};
 ghost use Rattle.mq_books.specs.Burden.{unanswered_ids};
+ghost use Rattle.mq_books.specs.Weights.{counts_weighs};
 ghost use Rattle.mq_books.specs.Countings.{Counting, IsCounting, IsCounted, counted_next, differs, subscribes, unsubscribes, subscribe_request as the_subscribe, suback_reply as the_suback, unsubscribe_request as the_unsubscribe, unsuback_reply as the_unsuback, subscribes_so, unsubscribes_so};
 
 use crate::fated::Fated;
@@ -144,6 +145,8 @@ impl<R: Replies> Watch for Counts<R> {
     ghost takes = { IsKnown };
 
     ghost adds = { λ tested e past k r. same_rule r R.judged && turns_known tested e past k r };
+
+    ghost weighs = { counts_weighs };
 
     ghost bound = { λ tested taken past. unanswered_ids R.counting.exchange past };
 

@@ -41,6 +41,8 @@ impl<X: Exchange> Watch for Debts<X> {
 
     ghost adds = { ⟦<Both<Asked<X>, Owed<X>> as Watch>⟧.adds };
 
+    ghost weighs = { λ s. ⟦<Both<Asked<X>, Owed<X>> as Watch>⟧.weighs s.parts };
+
     ghost bound = { ⟦<Both<Asked<X>, Owed<X>> as Watch>⟧.bound };
 
     fn step(&mut self, at: Place3, note: &Note, faults: &mut Faults) -> Result<(), Memory> {

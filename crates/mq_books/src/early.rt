@@ -1,8 +1,7 @@
 //! Events of a connection are held until its fate is decided: a client may send packets before its
 //! CONNACK (MQTT 5.0, section 3.1.4).
-ghost use Rattle.std.specs.Prelude.{◌≡◌, ◌≤◌, ◌∷◌, ◌++◌, ◌&&◌, ◌||◌, ◌+◌, [], ℕ, List, Option, Some, None, is_some, not, reverse, length, cond, OnOk, OnErr, IfOk};
+ghost use Rattle.std.specs.Prelude.{◌≡◌, ◌∷◌, ◌++◌, ◌&&◌, ◌||◌, ◌+◌, [], ℕ, List, Option, Some, None, is_some, not, reverse, length, cond, OnOk, OnErr, IfOk};
 ghost use Rattle.std.specs.Option.{option_or};
-ghost use Rattle.std.specs.List.{sum_by};
 ghost use Rattle.mq_rules.specs.declared.role.Tested.{Tested as TheTested};
 ghost use Rattle.mq_rules.specs.declared.fate.Fate.TheVariants as fates;
 ghost use Rattle.mq_rules.specs.declared.note.Seen.{Seen as TheSeen};
@@ -12,6 +11,8 @@ ghost use Rattle.mq_rules.specs.Histories.{gives_now, is_left_by};
 ghost use Rattle.mq_rules.specs.Under.{seen, Follows, turns_with};
 ghost use Rattle.mq_rules.specs.Growing.{Gains, GainsWithin};
 ghost use Rattle.mq_books.specs.Holding.{is_nothing, CanHand, CanPass, fate_after, turns_held, turns_session, settled, number_in, event_size as size_of, waiting, Holds};
+ghost use Rattle.mq_rules.specs.Weights.{in_word};
+ghost use Rattle.mq_books.specs.Weights.{held_weigh};
 
 use crate::fated::Fated;
 use mq_rules::{
@@ -110,14 +111,14 @@ fn codes_in(note: &Note) -> usize
 
 // How much an event counts: itself, and the filters or Reason Codes that it carries.
 fn event_size(note: &Note) -> usize
-    ensures { result ≤ size_of note.now }
+    ensures { result ≡ in_word (size_of note.now) }
 {
     1_usize.saturating_add(filters_in(note).saturating_add(codes_in(note)))
 }
 
 // How much is held.
 fn held_size(held: &[Seen]) -> usize
-    ensures { result ≤ sum_by (λ e. size_of e.note) held.now }
+    ensures { result ≡ in_word (held_weigh held.now) }
 {
     let mut size = 0_usize;
     for event in held {
@@ -159,6 +160,8 @@ impl<W: Fated> Watch for Early<W> {
     ghost takes = { λ tested taken e past. Unit {0} };
 
     ghost adds = { λ tested e past k r. W.judges r && turns_session tested e past k r };
+
+    ghost weighs = { λ s. held_weigh s.held.items + W.weighs s.watcher };
 
     ghost bound = { λ tested taken past. waiting tested.role past + W.bound tested (latest_fate tested.role (settled tested.role past)) (settled tested.role past) };
 

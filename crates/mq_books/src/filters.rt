@@ -8,7 +8,9 @@ ghost use Rattle.indexmap.specs.IndexMap.{index_map_len};
 ghost use Rattle.mq_rules.specs.Words.{is_some_and};
 ghost use Rattle.mq_rules.specs.Notes.{received_subscription, sent_grant};
 ghost use Rattle.mq_rules.specs.Subscriptions.{Standing};
-ghost use Rattle.mq_books.specs.Standings.{goes_on as keeps_session, allows, Waits, waits_weight, asked, weighed, sum_next, with_codes, is_answered, grants_some, settled_next, waiting_next, allows_topic, changes_filters, Remembers};
+ghost use Rattle.mq_rules.specs.Weights.{in_word};
+ghost use Rattle.mq_books.specs.Weights.{filters_weigh};
+ghost use Rattle.mq_books.specs.Standings.{goes_on as keeps_session, allows, Waits, waits_weight, asked, weighed, sum_next, with_codes, is_answered, grants_some, settled_next, waiting_next, allows_topic, changes_filters, said_by, Remembers};
 
 use crate::awaited::{Awaited, Request};
 use crate::ceilings::higher;
@@ -197,7 +199,7 @@ impl Model for Filters {
 
     ghost Value = { SessionFilters };
 
-    ghost view = { λ f. record { settled = f.settled; waiting = f.waiting } };
+    ghost view = { λ f. record { settled = f.settled; waiting = f.waiting; found = index_map_len f.found } };
 
     ghost invariant = { λ f. Remembers f.settled f.waiting f.found.entries × (index_map_len f.found ≤ 2 * length f.settled) };
 }
@@ -217,7 +219,7 @@ impl Drop for Filters {
 impl Filters {
     /// No filter stands, and none waits.
     pub fn new(alloc: Global) -> Self
-        ensures { result ≡ record { settled = []; waiting = [] } }
+        ensures { result ≡ record { settled = []; waiting = []; found = 0 } }
     {
         Filters {
             settled: StandingFilters::new(alloc),
@@ -232,7 +234,7 @@ impl Filters {
     ///
     /// `Memory` if there is no memory to keep it.
     pub fn ceiling_for(&mut self, alloc: Global, topic: &str) -> Result<Option<u8>, Memory>
-        ensures unchanged { self.new ≡ self.old }
+        ensures unchanged { said_by self.new ≡ said_by self.old }
         ensures greatest { IfOk result (λ ceiling. (qos : ℕ) → is_some_and (nat_le qos) ceiling ≡ allows_topic self.old.settled self.old.waiting topic.now qos) }
     {
         if self.settled.is_literal() && self.waiting.is_empty() {
@@ -263,7 +265,8 @@ impl Filters {
 
     /// How many filters stand, what was found for topics, and how much waits.
     pub fn size(&self) -> usize
-        ensures { (filters : List (List ℕ)) → ((f : List ℕ) → list_any (λ s. bytes_eq f s.filter) self.now.settled ≡ true → list_any (bytes_eq f) filters ≡ true) → result ≤ 3 * distinct_count bytes_eq filters + sum_by waits_weight self.now.waiting }
+        ensures exact { result ≡ in_word (filters_weigh self.now) }
+        ensures bounded { (filters : List (List ℕ)) → ((f : List ℕ) → list_any (λ s. bytes_eq f s.filter) self.now.settled ≡ true → list_any (bytes_eq f) filters ≡ true) → result ≤ 3 * distinct_count bytes_eq filters + sum_by waits_weight self.now.waiting }
     {
         self.settled
             .len()

@@ -8,6 +8,7 @@ ghost use Rattle.mq_rules.specs.declared.fate.Fate.TheVariants.{Void};
 ghost use Rattle.mq_rules.specs.Notes.{sent_as, received_as, subscribe_in, suback_in, unsubscribe_in, unsuback_in, is_open as opens, is_boundary};
 ghost use Rattle.mq_rules.specs.Under.{IsKnown, turns_known};
 ghost use Rattle.mq_books.specs.Burden.{open_ids, delivering_ids, void_ids, first_ids, subscribing_ids, unsubscribing_ids};
+ghost use Rattle.mq_books.specs.Weights.{inflight_weighs};
 ghost use Rattle.mq_books.specs.Pingings.{ends_by};
 ghost use Rattle.mq_books.specs.Quotas.{announced, may_count as counts_now, flown as flown_by};
 ghost use Rattle.mq_books.specs.Earlier.{GoesOn};
@@ -381,6 +382,8 @@ impl Watch for Inflight {
     ghost takes = { IsKnown };
 
     ghost adds = { λ tested e past k r. is_inflight r && turns_known tested e past k r };
+
+    ghost weighs = { inflight_weighs };
 
     ghost bound = { λ tested taken past. 2 * open_ids tested.role taken past + 2 * delivering_ids past + void_ids tested.role taken past + first_ids tested.role taken past + subscribing_ids past + unsubscribing_ids past };
 

@@ -55,6 +55,8 @@ impl Watch for Messages {
 
     ghost adds = { λ tested e past k r. by_messages r (turns_known tested e past k r) };
 
+    ghost weighs = { λ s. ⟦<Both<Both<Debts<E1>, Debts<E2>>, Both<Debts<E3>, Debts<E4>>> as Watch>⟧.weighs s.watchers };
+
     ghost bound = { ⟦<Both<Both<Debts<E1>, Debts<E2>>, Both<Debts<E3>, Debts<E4>>> as Watch>⟧.bound };
 
     fn step(&mut self, at: Place3, note: &Note, faults: &mut Faults) -> Result<(), Memory> {

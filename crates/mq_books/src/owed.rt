@@ -8,6 +8,7 @@ ghost use Rattle.mq_rules.specs.Connections.{accepts};
 ghost use Rattle.mq_rules.specs.Rules.{same_rule, binds as is_bound};
 ghost use Rattle.mq_rules.specs.Under.{IsKnown, turns_known};
 ghost use Rattle.mq_books.specs.Burden.{caused_ids};
+ghost use Rattle.mq_books.specs.Weights.{owed_weighs};
 ghost use Rattle.mq_books.specs.Owings.{IsOwing, due_by, blamed, Keeps, binds_by};
 ghost use Rattle.mq_books.specs.Orderings as passing;
 ghost use Rattle.mq_books.specs.Orderings.{looked_at};
@@ -195,6 +196,8 @@ impl<X: Exchange> Watch for Owed<X> {
     ghost takes = { IsKnown };
 
     ghost adds = { λ tested e past k r. (same_rule r X.settled || is_some_and (same_rule r) X.ordered) && turns_known tested e past k r };
+
+    ghost weighs = { owed_weighs };
 
     ghost bound = { λ tested taken past. 3 * caused_ids X.exchange tested.role taken past };
 

@@ -101,6 +101,8 @@ impl Watch for Pings {
 
     ghost adds = { λ tested e past k r. same_rule r E7R && turns_known tested e past k r };
 
+    ghost weighs = { λ s. 0 };
+
     ghost bound = { λ tested taken past. 0 };
 
     fn step(&mut self, at: Place3, note: &Note, faults: &mut Faults) -> Result<(), Memory> {

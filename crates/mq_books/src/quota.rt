@@ -129,6 +129,8 @@ impl Watch for Quota {
 
     ghost adds = { λ tested e past k r. same_rule r S07 && turns_known tested e past k r };
 
+    ghost weighs = { λ s. 0 };
+
     ghost bound = { λ tested taken past. 0 };
 
     fn step(&mut self, at: Place3, note: &Note, faults: &mut Faults) -> Result<(), Memory> {

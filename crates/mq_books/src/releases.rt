@@ -9,6 +9,7 @@ ghost use Rattle.mq_rules.specs.Notes.{is_open};
 ghost use Rattle.mq_rules.specs.Rules.{same_rule};
 ghost use Rattle.mq_rules.specs.Under.{IsKnown, turns_known};
 ghost use Rattle.mq_books.specs.Burden.{brought_ids, released_ids};
+ghost use Rattle.mq_books.specs.Weights.{releases_weighs};
 ghost use Rattle.mq_books.specs.Releasing as keeping;
 ghost use Rattle.mq_books.specs.Releasing.{IsReleasing};
 ghost use Rattle.mq_books.specs.Concerns.{concerns_releases};
@@ -202,6 +203,8 @@ impl Watch for Releases {
     ghost takes = { IsKnown };
 
     ghost adds = { λ tested e past k r. ((same_rule r L1 || same_rule r L2) || same_rule r L3) && turns_known tested e past k r };
+
+    ghost weighs = { releases_weighs };
 
     ghost bound = { λ tested taken past. 2 * brought_ids tested.role taken past + released_ids tested.role taken past };
 

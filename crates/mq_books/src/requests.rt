@@ -5,6 +5,7 @@ ghost use Rattle.mq_rules.specs.declared.fate.Fate.TheVariants.{Void};
 ghost use Rattle.mq_rules.specs.Under.{turns_known};
 ghost use Rattle.mq_books.specs.Grouping.{of_requests, by_requests, requests_add};
 ghost use Rattle.mq_rules.specs.Notes.{note_of_bare};
+ghost use Rattle.mq_books.specs.Holding.{number_in};
 ghost use Rattle.mq_books.specs.Requesting.{binds_requests, AgreesIfBound};
 ghost use Rattle.mq_books.specs.Selecting as selecting;
 
@@ -54,6 +55,8 @@ impl Watch for Requests {
     ghost takes = { ⟦<Both<Debts<E5>, Debts<E6>> as Watch>⟧.takes };
 
     ghost adds = { λ tested e past k r. by_requests r (turns_known tested e past k r) };
+
+    ghost weighs = { λ s. number_in ⟦<Both<Debts<E5>, Debts<E6>> as Watch>⟧.weighs s.watchers };
 
     ghost bound = { λ tested taken past. cond (binds_requests tested.role) (⟦<Both<Debts<E5>, Debts<E6>> as Watch>⟧.bound tested taken past) 0 };
 

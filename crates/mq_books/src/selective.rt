@@ -73,6 +73,8 @@ impl<W: Selective> Watch for Selecting<W> {
 
     ghost adds = { λ tested e past k r. W.judges r && turns_known tested e past k r };
 
+    ghost weighs = { λ s. W.weighs s.watcher };
+
     ghost bound = { W.bound };
 
     #[inline(always)]

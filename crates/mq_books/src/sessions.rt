@@ -95,6 +95,8 @@ impl Watch for Sessions {
 
     ghost adds = { λ tested e past k r. by_sessions r (turns_known tested e past k r) };
 
+    ghost weighs = { λ s. ⟦<Both<Both<Selecting<Inflight>, Both<Selecting<Quota>, Selecting<Pings>>>, Both<Both<Selecting<Messages>, Selecting<Requests>>, Both<Selecting<Releases>, Selecting<Subs>>>> as Watch>⟧.weighs s.watchers };
+
     ghost bound = { ⟦<Both<Both<Selecting<Inflight>, Both<Selecting<Quota>, Selecting<Pings>>>, Both<Both<Selecting<Messages>, Selecting<Requests>>, Both<Selecting<Releases>, Selecting<Subs>>>> as Watch>⟧.bound };
 
     fn step(&mut self, at: Place3, note: &Note, faults: &mut Faults) -> Result<(), Memory> {

@@ -1,8 +1,7 @@
 //! How many Packet Identifiers a collection has, and how many it has at most.
 //!
-//! The weight of a watcher is the sum of the lengths of all collections that it keeps. Its bound
-//! holds for less as well, so that none is left out is seen where `weight` stands beside the
-//! struct.
+//! The weight of a watcher is the sum of the lengths of all collections that it keeps, which the
+//! definitions list (`specs/Weights.antt`).
 ghost use Rattle.std.specs.Prelude.{◌≡◌, ◌≤◌, ℕ, Bool, true, is_some, length, nat_eq};
 ghost use Rattle.std.specs.List.{IsDistinct, list_any};
 ghost use Rattle.indexmap.specs.IndexMap.{get, index_map_len};

@@ -19,7 +19,8 @@ ghost use Rattle.mq_rules.specs.Rules.{same_rule, binds as is_bound};
 ghost use Rattle.mq_rules.specs.Under.{seen, Follows, IsKnown, turns_known};
 ghost use Rattle.mq_rules.specs.Growing.{Gains, GainsWithin};
 ghost use Rattle.mq_books.specs.Burden.{standing_count, asked_filters, aliased_ids};
-ghost use Rattle.mq_books.specs.Standings.{sharing_next, topic_next, IsStanding, topic_kept, delivers_so, judged_topic as topic_judged, named_topic as topic_named, IsDelivery, is_unasked as unasked, is_above as above};
+ghost use Rattle.mq_books.specs.Weights.{deliveries_weigh};
+ghost use Rattle.mq_books.specs.Standings.{sharing_next, topic_next, IsStanding, topic_kept, delivers_so, judged_topic as topic_judged, named_topic as topic_named, IsDelivery, is_unasked as unasked, is_above as above, said_by};
 ghost use Rattle.mq_books.specs.Concerns.{concerns_deliveries};
 
 use crate::ceilings::is_within;
@@ -177,7 +178,7 @@ fn judge(
     topic: Option<&str>,
     qos: Qos,
 ) -> Result<Broken, Memory>
-    ensures unchanged { filters.new ≡ filters.old }
+    ensures unchanged { said_by filters.new ≡ said_by filters.old }
     ensures unasked { IfOk result (λ broken. broken.unasked ≡ is_some_and (unasked filters.old.settled filters.old.waiting) (option_map (λ topic. topic.now) topic.entry)) }
     ensures above { IfOk result (λ broken. broken.above ≡ is_some_and (above filters.old.settled filters.old.waiting qos) (option_map (λ topic. topic.now) topic.entry)) }
 {
@@ -206,7 +207,7 @@ fn judge_event(
     binds: bool,
     note: &Note,
 ) -> Result<Broken, Memory>
-    ensures unchanged { filters.new ≡ filters.old }
+    ensures unchanged { said_by filters.new ≡ said_by filters.old }
     ensures unasked { IfOk result (λ broken. broken.unasked ≡ (binds && delivers_so note.now sharing (get nat_eq topics.now) (λ p. unasked filters.old.settled filters.old.waiting))) }
     ensures above { IfOk result (λ broken. broken.above ≡ (binds && delivers_so note.now sharing (get nat_eq topics.now) (λ p. above filters.old.settled filters.old.waiting p.qos))) }
 {
@@ -330,6 +331,8 @@ impl Watch for Deliveries {
     ghost takes = { IsKnown };
 
     ghost adds = { λ tested e past k r. (same_rule r B01 || same_rule r B02) && turns_known tested e past k r };
+
+    ghost weighs = { deliveries_weigh };
 
     ghost bound = { λ tested taken past. 3 * standing_count tested.role taken past + 2 * asked_filters past + aliased_ids past };
 

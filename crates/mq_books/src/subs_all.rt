@@ -54,6 +54,8 @@ impl Watch for Subs {
 
     ghost adds = { ⟦<Both<Deliveries, Both<Counts<Subacks>, Counts<Unsubacks>>> as Watch>⟧.adds };
 
+    ghost weighs = { λ s. ⟦<Both<Deliveries, Both<Counts<Subacks>, Counts<Unsubacks>>> as Watch>⟧.weighs s.watchers };
+
     ghost bound = { ⟦<Both<Deliveries, Both<Counts<Subacks>, Counts<Unsubacks>>> as Watch>⟧.bound };
 
     fn step(&mut self, at: Place3, note: &Note, faults: &mut Faults) -> Result<(), Memory> {

@@ -50,6 +50,8 @@ impl Watch for Watchers {
 
     ghost adds = { turns };
 
+    ghost weighs = { λ s. ⟦<Both<Shapes, Both<Conn, Early<Sessions>>> as Watch>⟧.weighs s.parts };
+
     ghost bound = { λ tested taken past. 4 * burden tested past };
 
     fn step(&mut self, at: Place3, note: &Note, faults: &mut Faults) -> Result<(), Memory> {

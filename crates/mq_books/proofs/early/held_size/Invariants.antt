@@ -1,8 +1,8 @@
-use Rattle.std.proofs.Common.{◌≤◌, take}
-use Rattle.std.specs.List.{sum_by}
-use Rattle.mq_books.specs.Holding.{event_size}
+use Rattle.std.proofs.Common.{◌≡◌, take}
+use Rattle.mq_rules.specs.Weights.{in_word}
+use Rattle.mq_books.specs.Weights.{held_weigh}
 use Rattle.mq_books.proofs.early.held_size.Given as goal
 
--- no more than those so far
+-- those so far
 abbrev pub invariant-loop-event : goal.invariant-loop-event
-invariant-loop-event l = l.size ≤ sum_by (λ e. event_size e.note) (take l.event-index l.held)
+invariant-loop-event l = l.size ≡ in_word (held_weigh (take l.event-index l.held))

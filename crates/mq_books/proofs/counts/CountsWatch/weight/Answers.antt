@@ -7,8 +7,8 @@ use Rattle.mq_books.specs.Burden.{unanswered_ids}
 use Rattle.mq_books.proofs.SizeLaws.{counted-unanswered}
 use Rattle.mq_books.proofs.counts.CountsWatch.weight.Goals as goal
 
-pub returns : goal.returns
+pub returns-clause-bounded : goal.returns-clause-bounded
 unfolding unanswered_ids
-returns g c = λ tested taken past q.
+returns-clause-bounded g c = λ tested taken past q.
     let x = g.R.Replies.counting.exchange in
     c.map_size.ensures.bounded (λ i. since (causes x i) (answers x i) (on_open past)) (λ i here. counted-unanswered g.R.Replies.counting i past (ap is_some (sym (q.1.counts_are i)) ∙ here))

@@ -15,9 +15,9 @@ use Rattle.mq_books.proofs.OpenedLaws.{entry-there}
 use Rattle.mq_books.proofs.StrayLaws.{delivered-waits}
 use Rattle.mq_books.proofs.inflight.InflightWatch.weight.Goals as goal
 
-pub returns : goal.returns
+pub returns-clause-bounded : goal.returns-clause-bounded
 unfolding open_ids delivering_ids void_ids first_ids subscribing_ids unsubscribing_ids
-returns c = λ tested taken past u.
+returns-clause-bounded c = λ tested taken past u.
     let ms = session tested.role taken past in
     let opened = c.map_size.ensures.bounded (λ i. since (opens_id i) (closes_id i) ms) (λ i here. sym (entry-there tested.role i ms) ∙ ap is_some (sym (u.entries_are i)) ∙ here) in
     let confirmed = c.set_size.ensures.bounded (λ i. since (opens_id i) (closes_id i) ms) (λ i here. sym (entry-there tested.role i ms) ∙ ap is_some (sym (u.entries_are i)) ∙ u.resent_are.opened_are i here) in

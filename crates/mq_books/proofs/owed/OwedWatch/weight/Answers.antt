@@ -5,9 +5,9 @@ use Rattle.mq_rules.specs.Exchanges.{causes}
 use Rattle.mq_books.specs.Burden.{caused_ids}
 use Rattle.mq_books.proofs.owed.OwedWatch.weight.Goals as goal
 
-pub returns : goal.returns
+pub returns-clause-bounded : goal.returns-clause-bounded
 unfolding caused_ids
-returns g c = λ tested taken past q.
+returns-clause-bounded g c = λ tested taken past q.
     let due = c.map_size.ensures.bounded (λ i. some (causes g.X.Exchange.exchange i) (session tested.role taken past)) q.1.due_caused in
     let queue = q.1.queue_within in
     omega (arith, c.saturating_add.ensures, c.len.ensures, due, queue)

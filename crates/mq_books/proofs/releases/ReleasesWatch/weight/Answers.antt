@@ -6,9 +6,9 @@ use Rattle.mq_books.specs.Burden.{brought_ids, released_ids}
 use Rattle.mq_books.proofs.SizeLaws.{needed-brought}
 use Rattle.mq_books.proofs.releases.ReleasesWatch.weight.Goals as goal
 
-pub returns : goal.returns
+pub returns-clause-bounded : goal.returns-clause-bounded
 unfolding brought_ids released_ids
-returns c = λ tested taken past u.
+returns-clause-bounded c = λ tested taken past u.
     let ms = session tested.role taken past in
     let brought = c.set_size.ensures.bounded (λ i. since (brings i) (ends i) ms) (λ i here. sym (u.brought_are i) ∙ here) in
     let released = c.set_size-2.ensures.bounded (λ i. since (releases_message i) (ends i) ms) (λ i here. sym (u.released_are i) ∙ here) in

@@ -1,14 +1,15 @@
-use Rattle.std.proofs.Common.{◌&&◌, ◌||◌, ◌∷◌, nat_eq, ap, option_map, subst, sym, ◌∙◌}
+use Rattle.std.proofs.Common.{◌&&◌, ◌||◌, List, ◌∷◌, nat_eq, ap, option_map, subst, sym, ◌∙◌}
 use Rattle.indexmap.specs.IndexMap.{get}
 use Rattle.mq_rules.specs.declared.rule.Rule.TheVariants.{B01, B02}
 use Rattle.mq_rules.specs.Rules.{same_rule}
 use Rattle.mq_rules.specs.FaultKeys.{FaultMap}
+use Rattle.mq_rules.specs.Subscriptions.{Standing}
 use Rattle.mq_rules.proofs.Exports.{on_err}
 use Rattle.mq_rules.specs.Connections.{accepts, latest_fate}
 use Rattle.mq_rules.specs.Under.{seen, turns_with}
 use Rattle.mq_rules.specs.Growing.{Gains, GainsWithin}
 use Rattle.mq_books.specs.Quotas.{judged_by}
-use Rattle.mq_books.specs.Standings.{SessionFilters, IsStanding, delivers_so, named_topic, is_unasked, is_above}
+use Rattle.mq_books.specs.Standings.{Waits, IsStanding, delivers_so, named_topic, is_unasked, is_above}
 use Rattle.mq_books.proofs.BareLaws.{delivery-stays, delivers-named}
 use Rattle.mq_books.proofs.DeliveryLaws.{delivery-gains, delivery-within}
 use Rattle.mq_books.proofs.FilterLaws.{judged-topic}
@@ -22,7 +23,7 @@ returns-clause-agrees c = λ n tested taken past delivers follows known q.
     let d = c.args.delivery in
     let k = knows tested s.fate taken e past follows known q.1.same_fate in (
       q.0,
-      subst (λ (g : SessionFilters). IsStanding s.fate g.settled g.waiting s.sharing (get nat_eq s.topics) tested (latest_fate tested.role (e ∷ past)) (e ∷ past)) (sym c.judge.ensures.unchanged)
+      subst (λ (g : List Standing × List Waits). IsStanding s.fate g.0 g.1 s.sharing (get nat_eq s.topics) tested (latest_fate tested.role (e ∷ past)) (e ∷ past)) (sym c.judge.ensures.unchanged)
           (subst (λ o. IsStanding s.fate s.filters.settled s.filters.waiting s.sharing (get nat_eq s.topics) tested o (e ∷ past)) k.after
           (delivery-stays tested s.fate s.fate s.filters.settled s.filters.waiting s.sharing (get nat_eq s.topics) e.place.position e past d.topic.now d.qos d.duplicate delivers k.under
           (subst (λ o. IsStanding s.fate s.filters.settled s.filters.waiting s.sharing (get nat_eq s.topics) tested o past) k.before q.1))),

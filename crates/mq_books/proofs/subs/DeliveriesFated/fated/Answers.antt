@@ -1,14 +1,15 @@
-use Rattle.std.proofs.Common.{◌&&◌, ◌||◌, ◌∷◌, nat_eq, ap, subst, sym, ◌∙◌}
+use Rattle.std.proofs.Common.{◌&&◌, ◌||◌, List, ◌∷◌, nat_eq, ap, subst, sym, ◌∙◌}
 use Rattle.indexmap.specs.IndexMap.{get}
 use Rattle.mq_rules.specs.declared.rule.Rule.TheVariants.{B01, B02}
 use Rattle.mq_rules.specs.Rules.{same_rule}
 use Rattle.mq_rules.specs.FaultKeys.{FaultMap}
+use Rattle.mq_rules.specs.Subscriptions.{Standing}
 use Rattle.mq_rules.proofs.Exports.{on_err}
 use Rattle.mq_rules.specs.Connections.{accepts}
 use Rattle.mq_rules.specs.Under.{seen, turns_with, fate_before}
 use Rattle.mq_rules.specs.Growing.{Gains, GainsWithin}
 use Rattle.mq_books.specs.Quotas.{judged_by}
-use Rattle.mq_books.specs.Standings.{SessionFilters, IsStanding, delivers_so, is_unasked, is_above}
+use Rattle.mq_books.specs.Standings.{Waits, IsStanding, delivers_so, is_unasked, is_above}
 use Rattle.mq_books.proofs.FilterLaws.{judged-so}
 use Rattle.mq_books.proofs.StandingLaws.{standing-next}
 use Rattle.mq_books.proofs.DeliveryLaws.{delivery-gains, delivery-within}
@@ -21,7 +22,7 @@ returns-clause-agrees c = λ tested past under q.
     let f = c.judge_event.new.filters in (
       q.0,
       standing-next tested s.fate c.args.fate f.settled c.take_in.new.self.settled f.waiting c.take_in.new.self.waiting s.sharing c.shares-self.result (get nat_eq s.topics) (get nat_eq c.take_topic.new.topics) e past under.follows.on_connections.0
-          (subst (λ (g : SessionFilters). IsStanding s.fate g.settled g.waiting s.sharing (get nat_eq s.topics) tested (fate_before tested c.args.fate e past) past) (sym c.judge_event.ensures.unchanged) q.1)
+          (subst (λ (g : List Standing × List Waits). IsStanding s.fate g.0 g.1 s.sharing (get nat_eq s.topics) tested (fate_before tested c.args.fate e past) past) (sym c.judge_event.ensures.unchanged) q.1)
           c.in_ok-take_in.ensures.settled c.in_ok-take_in.ensures.waiting c.in_ok-take_in.ensures.sums c.shares-self.ensures c.in_ok-take_topic.ensures,
     )
 

@@ -8,14 +8,14 @@ use Rattle.mq_books.proofs.AskingSizeLaws.{unanswered-within}
 use Rattle.mq_books.proofs.BurdenLaws.{bindings, bound-counted, requests-within, aliased-within, aliases-once}
 use Rattle.mq_books.proofs.watchers.WatchersWatch.weight.Goals as goal
 
-pub returns : goal.returns
+pub returns-clause-bounded : goal.returns-clause-bounded
 unfolding burden
-returns c = λ tested taken past h.
+returns-clause-bounded c = λ tested taken past h.
     let role = tested.role in
     let base = settled role past in
     let fate = latest_fate role base in
     let binds = bindings role in
-    let parts = c.weight.ensures tested taken past h in
+    let parts = c.weight.ensures.bounded tested taken past h in
     let puback = bound-counted E1R role (caused_ids publish_puback role fate base) binds.puback in
     let pubrec = bound-counted E2R role (caused_ids publish_pubrec role fate base) binds.pubrec in
     let pubrel = bound-counted E3R role (caused_ids pubrec_pubrel role fate base) binds.pubrel in
