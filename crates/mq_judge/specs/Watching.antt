@@ -17,6 +17,10 @@ pub record IsFound (w : Watching) (past : List Seen) : Type 0 where
   pub each : (k : ℕ) (rule : Rule) → fault_at w.faults k rule ≡ fault_in w.tested past k rule
   pub count : w.events ≡ length past
 
+-- how much the watchers keep: the sum of the lengths of all their collections, each as its watcher says
+abbrev pub watchers_weigh : Watching → ℕ
+watchers_weigh w = (watchers.ghosts).weighs w.watchers
+
 -- The watchers have taken in these events, and their faults are found.
 pub record IsWatching (w : Watching) (past : List Seen) : Type 0 where
   pub agree : (watchers.ghosts).agrees w.watchers w.tested (latest_fate w.tested.role past) past

@@ -2,7 +2,8 @@
 ghost use Rattle.mq_books.specs.Burden.{burden};
 ghost use Rattle.std.specs.Prelude.{◌≡◌, ◌≤◌, ◌*◌, ℕ, List, [], nat_lt, length, Some, None, Err, IfErr, IfOk, IfSome, OnOk, if◌then◌else◌};
 ghost use Rattle.mq_judge.specs.Judging.{Knows, Follows, FollowsBy, JudgesPiece, JudgesPieceBy, TakesEvents, AreFaultsOf, Ends, Finishes};
-ghost use Rattle.mq_judge.specs.Watching.{IsWatching};
+ghost use Rattle.mq_judge.specs.Watching.{IsWatching, watchers_weigh};
+ghost use Rattle.mq_rules.specs.Weights.{in_word};
 ghost use Rattle.mq_rules.specs.Notes.{tested_by, seen_in};
 ghost use Rattle.mq_trace.specs.Tracing.{IsTracedTo};
 
@@ -99,7 +100,8 @@ impl Judge {
     /// faults and the bytes of unfinished packets. It is within four times what is open in the log:
     /// Packet Identifiers, filters, Topic Aliases, and the events of an undecided connection.
     pub fn weight(&self) -> usize
-        ensures { (log : List ℕ) → Follows self.now log → result ≤ 4 * burden self.now.judging.watching.tested (seen_in log) }
+        ensures exact { result ≡ in_word (watchers_weigh self.now.judging.watching) }
+        ensures bounded { (log : List ℕ) → Follows self.now log → result ≤ 4 * burden self.now.judging.watching.tested (seen_in log) }
     {
         self.judging.watching.weight()
     }

@@ -8,7 +8,8 @@ ghost use Rattle.mq_trace.specs.Events.{packet as packet_item};
 ghost use Rattle.mq_trace.specs.Flows.{item_event};
 ghost use Rattle.mq_trace.specs.Reception.{event_of};
 ghost use Rattle.mq_rules.specs.Notes.{tested_as, note_of, note_of_bare};
-ghost use Rattle.mq_judge.specs.Watching.{IsWatching, TakesIn, LeavesOut};
+ghost use Rattle.mq_rules.specs.Weights.{in_word};
+ghost use Rattle.mq_judge.specs.Watching.{IsWatching, TakesIn, LeavesOut, watchers_weigh};
 
 use mq_books::Watchers;
 use mq_packet::{Packet, Publish};
@@ -63,7 +64,8 @@ impl Watching {
     /// How much is kept of the log: the sum of the lengths of all collections that the watchers
     /// keep. The faults don't count.
     pub fn weight(&self) -> usize
-        ensures { (past : List TheSeen) → IsWatching self.now past → result ≤ 4 * burden self.now.tested past }
+        ensures exact { result ≡ in_word (watchers_weigh self.now) }
+        ensures bounded { (past : List TheSeen) → IsWatching self.now past → result ≤ 4 * burden self.now.tested past }
     {
         self.watchers.weight()
     }
