@@ -10,9 +10,11 @@ use Rattle.mq_rules.specs.declared.fault.Fault.{Fault}
 use Rattle.mq_rules.specs.declared.faults.FaultKey.{FaultKey}
 use Rattle.mq_rules.specs.FaultKeys.{FaultMap, faults_at}
 use Rattle.mq_rules.specs.Rules.{all_rules}
+use Rattle.mq_rules.specs.Weights.{in_word}
 use Rattle.mq_rules.specs.Notes.{seen_in}
 use Rattle.mq_books.specs.Burden.{burden}
 use Rattle.mq_judge.specs.Judging.{Knows, Follows, AreFaultsOf}
+use Rattle.mq_judge.specs.Watching.{watchers_weigh}
 use Rattle.mq_ffi.specs.declared.asking.Choice.{Choice}
 use Rattle.mq_ffi.specs.declared.asking.Choice.TheVariants as choices
 use Rattle.mq_ffi.specs.declared.fault.FaultRow.{FaultRow}
@@ -88,8 +90,9 @@ pub record CountsFaults (after : ℕ) (old new : Live) (code : ℕ) : Type 0 whe
   pub known : (taken : List ℕ) → Knows old.judge taken → AreFaultsOf taken faults
   pub counted : after ≡ map.len faults
 
--- It weighs what the judge keeps, which is bounded by what is open in the log.
+-- It weighs exactly what the judge keeps, which is bounded by what is open in the log.
 pub record Weighs (after : ℕ) (old new : Live) (code : ℕ) : Type 0 where
   pub same : new ≡ old
   pub answer : code ≡ 0
+  pub exact : after ≡ in_word (watchers_weigh old.judge.judging.watching)
   pub bounded : (log : List ℕ) → Follows old.judge log → after ≤ 4 * burden old.judge.judging.watching.tested (seen_in log)

@@ -2,6 +2,8 @@
 ghost use Rattle.std.specs.Prelude.{◌≡◌, ◌≤◌, ◌*◌, ℕ, List, []};
 ghost use Rattle.mq_books.specs.Burden.{burden};
 ghost use Rattle.mq_judge.specs.Judging.{Knows, Follows, AreFaultsOf};
+ghost use Rattle.mq_judge.specs.Watching.{watchers_weigh};
+ghost use Rattle.mq_rules.specs.Weights.{in_word};
 ghost use Rattle.mq_rules.specs.Notes.{seen_in};
 ghost use Rattle.mq_ffi.specs.Giving.{GivesNext};
 ghost use Rattle.mq_ffi.specs.declared.live.Source.TheVariants as sources;
@@ -82,7 +84,8 @@ impl Live {
     /// How much the judge keeps beside the faults and the bytes of unfinished packets: how many
     /// Packet Identifiers, filters, Topic Aliases and events.
     pub fn weight(&self) -> usize
-        ensures { (log : List ℕ) → Follows self.now.judge log → result ≤ 4 * burden self.now.judge.judging.watching.tested (seen_in log) }
+        ensures exact { result ≡ in_word (watchers_weigh self.now.judge.judging.watching) }
+        ensures bounded { (log : List ℕ) → Follows self.now.judge log → result ≤ 4 * burden self.now.judge.judging.watching.tested (seen_in log) }
     {
         self.judge.weight()
     }
