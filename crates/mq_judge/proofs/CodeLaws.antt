@@ -7,6 +7,7 @@ use Rattle.mq_rules.specs.declared.rule.Rule.TheVariants.{W01, W02, W03, W04, W0
 use Rattle.mq_rules.specs.Rules.{code_of, line_of, found_line, lines}
 use Rattle.mq_rules.specs.Statements.{statement, on_bytes}
 use Rattle.mq_judge.specs.ItemText.{packet_rule_code}
+use Rattle.mq_judge.specs.Sentences.{statement_on}
 
 same : (a b : PacketRule) → on_bytes a ≡ on_bytes b → a ≡ b
 same a b e = cc
@@ -35,3 +36,28 @@ code_is W19 broken e = ap packet_rule_code (same _ broken e)
 code_is W20 broken e = ap packet_rule_code (same _ broken e)
 code_is W21 broken e = ap packet_rule_code (same _ broken e)
 code_is _ broken e = absurd (cc)
+
+-- and is the statement on it
+pub statement_is : (rule : Rule) (broken : PacketRule) → statement Client rule ≡ on_bytes broken → rule ≡ statement_on broken
+statement_is W01 broken e = ap statement_on (same _ broken e)
+statement_is W02 broken e = ap statement_on (same _ broken e)
+statement_is W03 broken e = ap statement_on (same _ broken e)
+statement_is W04 broken e = ap statement_on (same _ broken e)
+statement_is W05 broken e = ap statement_on (same _ broken e)
+statement_is W06 broken e = ap statement_on (same _ broken e)
+statement_is W07 broken e = ap statement_on (same _ broken e)
+statement_is W08 broken e = ap statement_on (same _ broken e)
+statement_is W09 broken e = ap statement_on (same _ broken e)
+statement_is W10 broken e = ap statement_on (same _ broken e)
+statement_is W11 broken e = ap statement_on (same _ broken e)
+statement_is W12 broken e = ap statement_on (same _ broken e)
+statement_is W13 broken e = ap statement_on (same _ broken e)
+statement_is W14 broken e = ap statement_on (same _ broken e)
+statement_is W15 broken e = ap statement_on (same _ broken e)
+statement_is W16 broken e = ap statement_on (same _ broken e)
+statement_is W17 broken e = ap statement_on (same _ broken e)
+statement_is W18 broken e = ap statement_on (same _ broken e)
+statement_is W19 broken e = ap statement_on (same _ broken e)
+statement_is W20 broken e = ap statement_on (same _ broken e)
+statement_is W21 broken e = ap statement_on (same _ broken e)
+statement_is _ broken e = absurd (cc)

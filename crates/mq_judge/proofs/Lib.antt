@@ -17,3 +17,4 @@ pub mod NearLaws
 pub mod CalendarLaws
 pub mod ViewLaws
 pub mod WatchingLaws
+pub mod LongPacketLaws

@@ -16,3 +16,5 @@ pub mod Detailing
 pub mod OneLine
 pub mod Views
 pub mod Watching
+pub mod Sentences
+pub mod LongPacket

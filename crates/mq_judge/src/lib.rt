@@ -8,9 +8,11 @@ mod finding;
 mod judge;
 mod laws;
 mod lines;
+mod long_packet;
 mod progress;
 mod report;
 mod runner;
+mod sentences;
 mod watching;
 
 pub use display::{show, show_faults, show_long};
@@ -19,6 +21,7 @@ pub use judge::{Judge, Options, Verdict};
 pub use laws::{
     converted_logs_have_the_same_report, dates_are_exact, known_faults_stay, worked_times,
 };
+pub use long_packet::write_long_packet;
 pub use mq_rules::{Fault, FaultKey, Faults, Memory, Role, Rule, Tested};
 pub use mq_trace::{ConvertFault, Refusal, convert};
 pub use progress::Progress;

@@ -20,7 +20,7 @@ mod property;
 mod quoting;
 
 use super::outgoing::Outgoing;
-use broken::put_broken;
+pub use broken::put_broken;
 use detail::{Detail, Shown, put_all, put_detail};
 use mq_packet::{Answer, Codes, Connack, Connect, Filter, Filters, Packet, Publish, Request, Will};
 use mq_props::Props;
@@ -73,8 +73,8 @@ fn put_broken_item<W: Write>(out: &mut Outgoing<'_, W>, item: &Item<'_>)
     }
 }
 
-// Appends the details of a packet.
-fn put_packet_details<W: Write>(out: &mut Outgoing<'_, W>, packet: &Packet<'_>)
+/// Appends the details of a packet.
+pub fn put_packet_details<W: Write>(out: &mut Outgoing<'_, W>, packet: &Packet<'_>)
     ensures { Puts W.contents out.old (with_spaces (packet_words (view packet.now))) out.new }
 {
     match packet {

@@ -69,8 +69,8 @@ pub fn put_broken(lines: &mut Lines, rule: PacketRule, at: u32) -> fmt::Result
     lines.put_number(at)
 }
 
-// The code of a rule on a packet's bytes.
-fn rule_code(rule: PacketRule) -> &'static str
+/// The code of a rule on a packet's bytes.
+pub fn rule_code(rule: PacketRule) -> &'static str
     ensures { result.now ≡ packet_rule_code rule }
 {
     Rule::of(rule).code()
