@@ -92,6 +92,7 @@ class Packet:
     client_identifier: bytes = b""
     session_present: bool = False
     properties: list[tuple[int, object]] = field(default_factory=list)
+    will: list[tuple[int, object]] = field(default_factory=list)  # the properties of a CONNECT's Will
 
     def get(self, identifier: int):
         """The first property of this kind."""
@@ -272,7 +273,7 @@ def read_connect(p: Packet, reader: Reader) -> None:
     p.properties = read_properties(reader, CONNECT)
     p.client_identifier = reader.text()
     if has_will:
-        read_properties(reader, WILL)
+        p.will = read_properties(reader, WILL)
         reader.text()
         reader.binary()
     if flags & 0x80:

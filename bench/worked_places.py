@@ -1,0 +1,230 @@
+"""Worked logs, with all places of one statement in each, for places.py.
+
+Those of mq_rules are read from its source: there their places are computed from the definitions, in proofs. They have all
+statements but W01 to W21, whose rows are here. Their events are written in the words of crates/mq_rules/specs/Worked.antt,
+each of which is a function here; a packet has 10 bytes there, if nothing else is said.
+"""
+import re
+from collections.abc import Callable, Iterator
+from dataclasses import dataclass, replace
+from pathlib import Path
+
+import check_rows
+from reading import (
+    AUTH, Bad, CLOSE, CONNACK, CONNECT, DISCONNECT, Event, Lost, OPEN, PINGREQ, PINGRESP, PUBACK, PUBCOMP, PUBLISH, PUBREC,
+    PUBREL, Packet, RECV, RELEASE, REST, Recording, SENT, SUBACK, SUBSCRIBE, UNSUBACK, UNSUBSCRIBE,
+)
+from sessions import Log
+
+PROVED = Path(__file__).resolve().parent.parent / "crates/mq_rules/src/worked_places.rt"
+CLAUSE = re.compile(r"ensures (\w+) \{ applying (\w+) (\w+) \((.*)\) ≡ (.*) \}")
+TOKEN = re.compile(r"[()]|[^()\s]+")
+CONS, NIL = "∷", "[]"
+
+# A statement, a log in the words of check_rows.py, and all places of the statement, with events nearby that are none.
+BY_BYTES = """\
+W01 | client OPEN >CONNECT <CONNACK >PUBLISH0 >PINGREQ REST CLOSE | 2 5
+W01 | server OPEN <CONNECT >CONNACK >D100 >3100 | 3 4
+W02 | client OPEN >CONNECT <CONNACK >PUBLISH0 >PINGREQ <PINGRESP | 2 4 5
+W02 | client OPEN >CONNECT <CONNACK >0000 >C00100 >LOST | 2 4
+W03 | client OPEN >CONNECT <CONNACK >PINGREQ >C00100 >LOST | 2 4 6
+W03 | client OPEN >CONNECT <CONNACK >3006000161800078 | 2 4
+W04 | client OPEN >CONNECT <CONNACK >SUBSCRIBE:1 >UNSUBSCRIBE:2 >PUBLISH0 >PINGREQ >PUBACK:1 >DISCONNECT | 2 4 5 6
+W04 | client OPEN >CONNECT <CONNACK >30050001FF0078 >30050001000078 | 2 4
+W04 | client OPEN >CONNECT <CONNACK >ALIAS-1 >300A00000723000108000178 | 2 5
+W04 | server OPEN <CONNECT >CONNACK >CONNACK-NAMING >4008000190041F000178 >4009000100052600000000 >DISCONNECT-60 | 4 5 6
+W05 | server OPEN <CONNECT >CONNACK >PUBLISH0 >SUBACK:1 >90080001041F00017802 | 4 6
+W06 | client OPEN >CONNECT <CONNACK >PINGREQ >C00100 >D100 | 2 4 5
+W07 | client OPEN >CONNECT <CONNACK >PUBLISH0 >PUBLISH1:1 >360700016100010078 >PUBREL:1 | 4 5 6
+W08 | client OPEN >CONNECT <CONNACK >PUBLISH0 >PUBLISH1:1 >38050001610078 >RESEND1:1 | 4 6
+W09 | client OPEN >CONNECT <CONNACK >PUBLISH0 >PUBLISH1:1 >PUBREL:1 >SUBSCRIBE:1 >320700016100000078 >PINGREQ | 5 6 7 8
+W10 | client OPEN >CONNECT <CONNACK >PUBLISH0 >ALIAS-1 >300700016102170078 >DISCONNECT-0 | 5 6 7
+W10 | client OPEN >CONNECT-NAMED CLOSE OPEN >CONNECT-KEPT | 5
+W10 | client OPEN >101700044D5154540506003C00000163020101000161000178 | 2
+W11 | server OPEN <CONNECT >CONNACK >3007000161020B0178 >ALIAS-1 >300C000161072600016100016178 >3009000161040100010078 | 5 7
+W11 | client OPEN >101700044D5154540506003C00000163020101000161000178 <CONNACK >82090001020B0100016102 | 2 4
+W12 | client OPEN >101700044D5154540506003C00000163020101000161000178 <CONNACK >300700016102010078 >ALIAS-1 | 5
+W12 | server OPEN <CONNECT >CONNACK >3007000161020B0078 >3007000161020B0178 | 4 5
+W13 | server OPEN <CONNECT >CONNACK >PUBACK:1 >PUBREC-10:1 >SUBACK:1 >UNSUBACK:1 >DISCONNECT >E0018B >E0018A | 3 5 6 7 9 10
+W13 | client OPEN >CONNECT <CONNACK >PUBLISH0 >PUBCOMP:1 >PUBCOMP-92:1 >AUTH >F00118 >9003000100 | 6 8
+W14 | client OPEN >CONNECT <CONNACK >PUBLISH0 >ALIAS-1 >300A00000723000108000178 >30050001230078 >SUBSCRIBE:1 | 4 6 7
+W15 | client OPEN >CONNECT <CONNACK >SUBSCRIBE:1 >UNSUBSCRIBE:2 >82080001000002612302 >PUBLISH0 | 4 5 6
+W16 | client OPEN >CONNECT <CONNACK >SUBSCRIBE:1 >UNSUBSCRIBE:2 >8203000100 >82080001000002612302 | 4 5 6
+W17 | client OPEN >CONNECT <CONNACK >SUBSCRIBE:1 >UNSUBSCRIBE:2 >820700010000016103 | 4 6
+W17 | server OPEN <CONNECT >CONNACK <SUBSCRIBE:1 >SUBSCRIBE:1 | 5
+W18 | client OPEN >CONNECT <CONNACK >PINGREQ CLOSE OPEN >BAD-CONNECT | 2 7
+W19 | client OPEN >CONNECT <CONNACK CLOSE OPEN >BAD-CONNECT | 2
+W20 | server OPEN <CONNECT >CONNACK >PINGRESP >BAD-CONNACK | 3 5
+W20 | client OPEN >CONNECT <CONNACK <CONNACK >CONNACK | 5
+W21 | client OPEN >CONNECT <CONNACK >ALIAS-SET-1 >ALIAS-1 >300400000078 | 5 6"""
+
+
+@dataclass(frozen=True)
+class Worked:
+    name: str
+    rule: str
+    log: Log
+    places: list[int]
+
+
+# ---- the words of events and packets: of each a function of its arguments
+
+IDENTIFIERS = {
+    "message_expiry": 0x02,
+    "expiry": 0x11,
+    "problem": 0x17,
+    "response": 0x19,
+    "receive": 0x21,
+    "aliases": 0x22,
+    "alias": 0x23,
+    "qos": 0x24,
+    "retain": 0x25,
+    "size": 0x27,
+}
+
+
+def packet(kind: int, **fields: object) -> Packet:
+    return Packet(kind, 10, **fields)
+
+
+def given(**properties: int | None) -> list[tuple[int, object]]:
+    """Those of these properties that are there."""
+    return [(IDENTIFIERS[name], value) for name, value in properties.items() if value is not None]
+
+
+def connect(clean: bool, expiry: int | None = 60, named: bool = True, **others: int | None) -> Packet:
+    name = b"c" if named else b""
+    return packet(CONNECT, clean_start=clean, client_identifier=name, properties=given(expiry=expiry, **others))
+
+
+def connack(present: bool, code: int = 0, *texts: int, **others: int | None) -> Packet:
+    return packet(CONNACK, session_present=present, code=code, properties=[*given(**others), *((kind, b"x") for kind in texts)])
+
+
+def publish(qos: int, i: int | None, dup: bool = False, topic: bytes = b"a", retain: bool = False, **properties: int) -> Packet:
+    return packet(PUBLISH, qos=qos, identifier=i, dup=dup, topic=topic, retain=retain, properties=given(**properties))
+
+
+def acknowledges(kind: int) -> Callable[[int, int], Packet]:
+    return lambda i, code: packet(kind, identifier=i, code=code)
+
+
+def asks(filter: bytes) -> Callable[..., Packet]:
+    return lambda i, qos=0: packet(SUBSCRIBE, identifier=i, filters=[(filter, qos)])
+
+
+def sends(item: Packet | Bad | Lost) -> Event:
+    return Event(SENT, 0, item)
+
+
+WORDS: dict[str, Callable] = {
+    "true": lambda: True,
+    "false": lambda: False,
+    "None": lambda: None,
+    "Some": lambda value: value,
+    "Open": lambda: Event(OPEN, 0),
+    "Close": lambda: Event(CLOSE, 0),
+    "Cut": lambda: Event(CLOSE, 0, begun=0x32),
+    "Rest": lambda: Event(REST, 0),
+    "Release": lambda i: Event(RELEASE, 0, released=i),
+    "sends": sends,
+    "gets": lambda item: Event(RECV, 0, item),
+    "sends_sized": lambda size, item: sends(replace(item, size=size)),
+    "sends_bad": lambda first, rule: sends(Bad(rule, 2, bytes([first]))),
+    "sends_lost": lambda: sends(Lost(5)),
+    "lasting": lambda: connect(True),
+    "again": lambda: connect(False),
+    "unnamed": lambda: connect(True, None, named=False),
+    "asking": lambda problem, response, receive, aliases, size: connect(
+        True, problem=problem, response=response, receive=receive, aliases=aliases, size=size
+    ),
+    "accepting": lambda: connack(False),
+    "resuming": lambda: connack(True),
+    "refusing": lambda: connack(False, 0x87),
+    "limiting": lambda present, receive, aliases, qos, size: connack(
+        present, receive=receive, aliases=aliases, qos=qos, size=size
+    ),
+    "retaining": lambda available: connack(True, retain=available),
+    "assigning": lambda: connack(False, 0, 0x12),
+    "informing": lambda: connack(False, 0, 0x1A),
+    "leaving": lambda expiry: packet(DISCONNECT, properties=given(expiry=expiry)),
+    "at_most_once": lambda: publish(0, None),
+    "once": lambda dup, i: publish(1, i, dup),
+    "exactly": lambda dup, i: publish(2, i, dup),
+    "retained_once": lambda i: publish(1, i, retain=True),
+    "expiring": lambda i: publish(2, i, message_expiry=60),
+    "aliased": lambda topic, alias: publish(0, None, topic=bytes(topic), alias=alias),
+    "asks_a": asks(b"a"),
+    "asks_shared": asks(b"$share/g/a"),
+    "Puback": acknowledges(PUBACK),
+    "Pubrec": acknowledges(PUBREC),
+    "Pubrel": acknowledges(PUBREL),
+    "Pubcomp": acknowledges(PUBCOMP),
+    "Suback": lambda i, codes: packet(SUBACK, identifier=i, codes=codes),
+    "Unsubscribe": lambda i, count: packet(UNSUBSCRIBE, identifier=i, filters=[(b"a", 0)] * count),
+    "Unsuback": lambda i, count: packet(UNSUBACK, identifier=i, codes=[0] * count),
+    "Pingreq": lambda: packet(PINGREQ),
+    "Pingresp": lambda: packet(PINGRESP),
+    "Auth": lambda: packet(AUTH),
+}
+ENDS = {"client": ("client", True), "server": ("server", True), "client_unrecorded": ("client", False)}
+
+# ---- reading what is written in these words
+
+
+def value(tokens: list[str]) -> object:
+    """The value of the tokens up to a closing parenthesis, or to the end: of a list, or of a word with its arguments."""
+    items: list[object] = []
+    is_list = False
+    while True:
+        applied = [argument(tokens)]
+        while tokens and tokens[0] not in (CONS, ")"):
+            applied.append(argument(tokens))
+        head, *rest = applied
+        items.append(head(*rest) if callable(head) else head)
+        if not tokens or tokens.pop(0) == ")":
+            break
+        is_list = True
+    return items[:-1] if is_list else items[0]
+
+
+def argument(tokens: list[str]) -> object:
+    """One argument. A word that takes arguments of its own is called later."""
+    token = tokens.pop(0)
+    if token == "(":
+        return value(tokens)
+    if token.isdecimal():
+        return int(token)
+    if token.startswith("packets."):
+        return token.partition(".")[2]
+    if token == NIL:
+        return []
+    word = WORDS[token]
+    return word() if word.__code__.co_argcount == 0 else word
+
+
+def read(text: str) -> list:
+    found = value(TOKEN.findall(text))
+    assert isinstance(found, list), text
+    return found
+
+
+def proved() -> Iterator[Worked]:
+    """The worked logs of mq_rules."""
+    text = PROVED.read_text()
+    clauses = CLAUSE.findall(text)
+    assert len(clauses) == text.count(" ensures "), "a worked log that can't be read"
+    for name, end, rule, events, places in clauses:
+        role, releases = ENDS[end]
+        yield Worked(f"{name}, {rule}", rule, Log(read(events), role, releases), sorted(read(places)))
+
+
+def by_bytes() -> Iterator[Worked]:
+    """The rows of W."""
+    names = check_rows.packets()
+    for line in BY_BYTES.split("\n"):
+        rule, words, places = (part.strip() for part in line.split("|"))
+        recording = Recording(check_rows.log_of(words, names))
+        assert recording.refusal is None, line
+        log = Log(recording.events, recording.role, recording.releases)
+        yield Worked(line, rule, log, [int(place) for place in places.split()])
