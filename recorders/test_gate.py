@@ -25,9 +25,16 @@ SUITE = f"bench/suite.py --check --program {BUILT}"
 CONVERTED = f"bench/check_convert.py --mqjudge {BUILT}"
 REFUSED = "bench/refusing.py"
 FUZZED = ["bench/fuzz.py --self-test", "bench/fuzz.py --seed 1 --count 20000"]
+LAST = [f"bench/{name}.py --program {BUILT}" for name in ("enduring", "reads", "terminal")]
+LAST += [f"bench/run.py --instructions --at-most bench/instructions.txt --mqjudge {BUILT}"]
+NO_LAST = "nor are bench/enduring.py, bench/reads.py, bench/terminal.py, and bench/run.py with bench/instructions.txt"
 BEFORE = [*CHECKED, *SHOWN, SUITE, CONVERTED]
-TRIED = [*BEFORE, REFUSED, *FUZZED]
-SCRIPTS = ("rules_table", "check_docs", "wrong_bodies", "program", "check_rows", "check_forms", "suite", "check_convert", "fuzz")
+AFTER = [*FUZZED, *LAST]
+TRIED = [*BEFORE, REFUSED, *AFTER]
+SCRIPTS = (
+    "rules_table", "check_docs", "wrong_bodies", "program", "check_rows", "check_forms", "suite", "check_convert", "fuzz",
+    "enduring", "reads", "terminal", "run",
+)
 NO_LIBRARY = "examples/live/test isn't run: it needs the library, which this builds: (cd crates/mq_ffi && rt lib)"
 LIBRARY_FOLDERS = ("crates/mq_ffi/out", "crates/mq_trace/src", "crates/mq_cli/src", "crates/mq_trace/out/src")
 
@@ -157,20 +164,20 @@ class Gate(InFolder):
     def test_without_a_compiler(self) -> None:
         said = "14 passed, 0 failed"
         line = f"{REFUSED} isn't run: not installed: cc"
-        wanted = (0, [said, RUN, *BEFORE, line, *FUZZED, said])
+        wanted = (0, [said, RUN, *BEFORE, line, *AFTER, said])
         self.assertEqual(self.gate(said, 0, compiler="cc", refusing=1), wanted)
 
     def test_no_program_is_built(self) -> None:
         said = "12 passed, 2 failed"
         line = f"the program isn't tried by bench/: there is no {BUILT}"
-        self.assertEqual(self.gate(said, 1, is_built=False), (1, [said, RUN, *CHECKED, line, said]))
-        wanted = (1, [said, RUN, *CHECKED, line, "12 passed, 3 failed"])
+        self.assertEqual(self.gate(said, 1, is_built=False), (1, [said, RUN, *CHECKED, line, NO_LAST, said]))
+        wanted = (1, [said, RUN, *CHECKED, line, NO_LAST, "12 passed, 3 failed"])
         self.assertEqual(self.gate(said, 1, is_built=False, check_docs=1, suite=1), wanted)
 
     def test_an_old_python(self) -> None:
         said, missing = "14 passed, 0 failed", "Python 3.11 or later, tshark"
         unchecked = "what is checked by bench/ isn't: not installed: Python 3.11 or later"
-        lines = [f"recorders/test isn't run: not installed: {missing}", unchecked]
+        lines = [f"recorders/test isn't run: not installed: {missing}", unchecked, NO_LAST]
         self.assertEqual(self.gate(said, 0, missing=missing), (0, [said, *lines, said]))
 
     def test_programs_that_are_not_there(self) -> None:
