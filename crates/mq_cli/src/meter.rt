@@ -1,5 +1,6 @@
 //! How far a long log has been judged, for somebody who waits at a terminal.
 ghost use Rattle.std.specs.Prelude.{◌≡◌, ◌+◌, false};
+ghost use Rattle.mq_rules.specs.Weights.{in_word};
 
 use mq_judge::Progress;
 use std::io::{self, Write};
@@ -26,6 +27,7 @@ impl<E: Write> Meter<E> {
     pub fn new(error: E, is_shown: bool) -> Self
         ensures error { result.error ≡ error }
         ensures shown { result.is_shown ≡ is_shown }
+        ensures nothing { result.bytes ≡ 0 }
     {
         Meter {
             error,
@@ -37,6 +39,7 @@ impl<E: Write> Meter<E> {
 
     // Counts bytes, and writes the next line if it is due.
     fn count(&mut self, bytes: u64, faults: usize)
+        ensures counts { self.new.bytes ≡ in_word (self.old.bytes + bytes) }
         ensures quiet { self.old.is_shown ≡ false → self.new.error ≡ self.old.error }
     {
         self.bytes = self.bytes.saturating_add(bytes);
@@ -48,7 +51,9 @@ impl<E: Write> Meter<E> {
     }
 
     // Writes the line in place of the one before.
-    fn put_progress(&mut self, faults: usize) -> io::Result<()> {
+    fn put_progress(&mut self, faults: usize) -> io::Result<()>
+        ensures counts { self.new.bytes ≡ self.old.bytes }
+    {
         let megabytes = self.bytes / MEGABYTE;
         write!(
             self.error,
@@ -59,6 +64,7 @@ impl<E: Write> Meter<E> {
 
     // Ends the last line, if there is one.
     fn end_line(&mut self)
+        ensures counts { self.new.bytes ≡ self.old.bytes }
         ensures quiet { self.old.is_shown ≡ false → self.new.error ≡ self.old.error }
     {
         if self.is_shown && STEP < self.due {
@@ -68,6 +74,13 @@ impl<E: Write> Meter<E> {
 }
 
 impl<E: Write> Progress for Meter<E> {
+    ghost use Rattle.std.specs.Prelude.{◌≡◌};
+    ghost use Rattle.mq_rules.specs.Weights.{in_word};
+    ghost use Rattle.mq_judge.specs.Telling.{bytes_said};
+
+    // It has counted the bytes that it was told of, as far as a number of 64 bits does.
+    ghost told = { λ meter said. meter.bytes ≡ in_word (bytes_said said) };
+
     fn advance(&mut self, bytes: usize, faults: usize) {
         self.count(bytes as u64, faults);
     }

@@ -18,3 +18,4 @@ pub mod CalendarLaws
 pub mod ViewLaws
 pub mod WatchingLaws
 pub mod LongPacketLaws
+pub mod TellingLaws

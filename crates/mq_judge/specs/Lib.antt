@@ -18,3 +18,4 @@ pub mod Views
 pub mod Watching
 pub mod Sentences
 pub mod LongPacket
+pub mod Telling

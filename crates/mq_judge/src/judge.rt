@@ -7,10 +7,9 @@ ghost use Rattle.mq_rules.specs.Weights.{in_word};
 ghost use Rattle.mq_rules.specs.Notes.{tested_by, seen_in};
 ghost use Rattle.mq_trace.specs.Tracing.{IsTracedTo};
 
-use super::progress::Progress;
 use super::watching::{End, Judging, Watching};
 use mq_rules::{Faults, Role, Tested};
-use mq_trace::{Feed, Refusal, Tracer};
+use mq_trace::{Refusal, Tracer};
 use std::alloc::Global;
 use std::marker::Brand;
 
@@ -222,24 +221,4 @@ fn take_events<K: End>(
     ensures for_ever { IfSome tracer.old.refusal (λ refusal. (result ≡ Err refusal) × (tracer.new ≡ tracer.old) × (judging.new ≡ judging.old)) }
 {
     tracer.feed(piece, judging)
-}
-
-impl<P: Progress> Feed<P, Refusal> for Judge {
-    ghost use Rattle.mq_judge.specs.Judging.{Follows, RefusesIn};
-
-    ghost limit = { λ judge. judge.limit };
-
-    ghost follows = { λ judge _. Follows judge };
-
-    ghost stops = { λ limit judge _. RefusesIn limit judge };
-
-    fn feed(&mut self, progress: &mut P, piece: &[u8]) -> Result<(), Refusal> {
-        match Judge::feed(self, piece) {
-            Ok(()) => {
-                progress.advance(piece.len(), self.known().len());
-                Ok(())
-            }
-            Err(refusal) => Err(refusal),
-        }
-    }
 }

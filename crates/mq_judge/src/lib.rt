@@ -13,6 +13,7 @@ mod progress;
 mod report;
 mod runner;
 mod sentences;
+mod telling;
 mod watching;
 
 pub use display::{show, show_faults, show_long};

@@ -1,5 +1,5 @@
 //! Judges a log from a reader, and writes the report on it.
-ghost use Rattle.std.specs.Prelude.{◌≡◌, ◌*◌, ◌==◌, IfSome, IfErr, OnOk, Err, if◌then◌else◌};
+ghost use Rattle.std.specs.Prelude.{◌≡◌, ◌*◌, ◌==◌, List, IfSome, IfErr, OnOk, Err, if◌then◌else◌};
 ghost use Rattle.std.specs.FinMap as map;
 ghost use Rattle.std.specs.Io.KnownBytes.{Appends};
 ghost use Rattle.mq_judge.specs.declared.report.RunFault.TheVariants as run_faults;
@@ -7,6 +7,7 @@ ghost use Rattle.mq_trace.specs.declared.refusal.Refusal.{Refusal as AnyRefusal}
 ghost use Rattle.mq_judge.specs.Report.{report_on, FailsToReport};
 ghost use Rattle.mq_trace.specs.Feeding.{TakesAtMost};
 ghost use Rattle.mq_judge.specs.Runner.{JudgesOver, RunsOver};
+ghost use Rattle.mq_judge.specs.Telling.{IsToldOf, IsToldOfRun, IsJudgedFor, Said};
 
 use super::feeding::feed_log;
 use super::judge::{Judge, Options, Verdict};
@@ -15,10 +16,12 @@ use super::report::json::write_json;
 use super::report::summary::write_summary;
 use super::report::text::write_text;
 use super::report::{Form, Outcome, RunFault};
+use super::telling::{Before, Telling};
 use mq_rules::Role;
 use mq_trace::Refusal;
 use std::alloc::Global;
 use std::io::{Read, Write};
+use std::marker::Brand;
 
 /// Judges the log that a reader gives, and writes the report on it in this form. It is
 /// `run_bounded` with 4,294,967,295 turns.
@@ -50,7 +53,7 @@ pub fn run<R: Read, W: Write>(
 
 /// Judges the log that a reader gives, and writes the report, as `run` does. After each turn it
 /// tells `progress` how many bytes the turn gave, and how many faults are known, until the log is
-/// refused.
+/// refused; and then, in each case, that it has come to the end.
 ///
 /// # Errors
 ///
@@ -64,6 +67,7 @@ pub fn run_watched<R: Read, W: Write, P: Progress>(
 ) -> Result<Outcome, RunFault>
     ensures runs { IfSome (R.remaining reader.old) (λ log. RunsOver form log (R.remaining reader.new) result (W.contents writer.old) (W.contents writer.new)) }
     ensures unwritten { (refusal : AnyRefusal) → result ≡ Err (run_faults.Refused refusal) → writer.new ≡ writer.old }
+    ensures told { IsToldOfRun result (R.remaining reader.old) (P.told progress.old) (P.told progress.new) }
 {
     run_all(alloc, reader, writer, form, u32::MAX, progress)
 }
@@ -103,6 +107,7 @@ fn run_all<R: Read, W: Write, P: Progress>(
 ) -> Result<Outcome, RunFault>
     ensures runs { IfSome (R.remaining reader.old) (λ log. RunsOver form log (R.remaining reader.new) result (W.contents writer.old) (W.contents writer.new)) }
     ensures unwritten { (refusal : AnyRefusal) → result ≡ Err (run_faults.Refused refusal) → writer.new ≡ writer.old }
+    ensures told { IsToldOfRun result (R.remaining reader.old) (P.told progress.old) (P.told progress.new) }
     ensures few { TakesAtMost (8192 * turns) (R.remaining reader.old) (R.remaining reader.new) }
 {
     let judged = judge_bounded(alloc, reader, turns, progress);
@@ -142,11 +147,29 @@ fn judge_bounded<R: Read, P: Progress>(
     progress: &mut P,
 ) -> Result<(Verdict, Role), Refusal>
     ensures judges { IfSome (R.remaining reader.old) (λ log. JudgesOver (λ v. v.events) (λ v. v.faults) log (R.remaining reader.new) result) }
+    ensures told { IsToldOf (IsJudgedFor result) (R.remaining reader.old) (P.told progress.old) (P.told progress.new) }
     ensures few { TakesAtMost (8192 * turns) (R.remaining reader.old) (R.remaining reader.new) }
 {
-    let mut judge = Judge::new(alloc, Options::default());
+    judge_telling::<R, P, Brand>(alloc, reader, turns, progress)
+}
+
+// Judges as `judge_bounded` does, and tells it to whoever had been told what was picked.
+fn judge_telling<R: Read, P: Progress, K: Before>(
+    alloc: Global,
+    reader: &mut R,
+    turns: u32,
+    progress: &mut P,
+) -> Result<(Verdict, Role), Refusal>
+    requires told { (before : List Said) → K.told before → P.told progress.old before }
+    ensures judges { IfSome (R.remaining reader.old) (λ log. JudgesOver (λ v. v.events) (λ v. v.faults) log (R.remaining reader.new) result) }
+    ensures told { IsToldOf (IsJudgedFor result) (R.remaining reader.old) K.told (P.told progress.new) }
+    ensures few { TakesAtMost (8192 * turns) (R.remaining reader.old) (R.remaining reader.new) }
+{
+    let judge = Judge::new(alloc, Options::default());
+    let mut telling = Telling::<K>::new(judge);
     let mut buffer = [0; 8192];
-    feed_log(&mut judge, progress, reader, &mut buffer, turns)?;
+    feed_log(&mut telling, progress, reader, &mut buffer, turns)?;
+    let judge = telling.into_judge();
     judge.finish_with_role()
 }
 
