@@ -10,8 +10,8 @@ The proved definitions leave W01 to W21 to a later change, since a note doesn't 
 packets themselves. Bytes that break a rule put only that rule to the test, and a direction that is lost only W03.
 
 For each log it prints a line for each statement that can be judged for its end, and how many of these have a place. A
-statement on packets that only the other end sends is left out if it has none. With --self-test it checks worked logs, those
-of the suite, and laws on many more.
+statement on packets that only the other end sends is left out if it has none. With --self-test it checks worked logs and
+those of the suite, and laws on these and many others.
 
 usage: bench/places.py LOG..
        bench/places.py --self-test [--made 200]
@@ -24,6 +24,7 @@ from collections.abc import Callable, Iterator
 from pathlib import Path
 
 sys.dont_write_bytecode = True  # the repository stays as it is
+import check_rows
 import hostile_logs
 import honest_logs
 import random_logs
@@ -424,7 +425,7 @@ def is_owed_to_a_later_connection(log: Log, k: int) -> bool:
 
 def is_rest_of_a_debt(log: Log, k: int, i: int, t: int) -> bool:
     c = log.places[t]
-    if log.sessions[t] != log.sessions[k] or c <= log.places[k] or log.fates[c] != RESUMED:
+    if log.sessions[t] != log.sessions[k] or log.fates[c] != RESUMED:
         return False
     return open_by(log, log.connection_positions[c][0], i) == k and not waits_for_an_answer(log, t)
 
@@ -547,13 +548,15 @@ def binds(log: Log, rule: str) -> bool:
     return log.role in CITATIONS[rule] and (rule[0] != "L" or log.releases)
 
 
-def applies(log: Log, k: int, rule: str) -> bool:
-    return binds(log, rule) and is_judged(log, k, rule) and OCCASIONS[rule](log, k)
-
-
 def places(log: Log, rule: str) -> list[int]:
-    """The positions at which a statement is put to the test."""
-    return [k for k in range(1, log.last + 1) if applies(log, k, rule)] if binds(log, rule) else []
+    """The positions at which a statement is put to the test: there it is judged, and there is an occasion."""
+    if not binds(log, rule):
+        return []
+    return [k for k in range(1, log.last + 1) if is_judged(log, k, rule) and OCCASIONS[rule](log, k)]
+
+
+def all_places(log: Log) -> dict[str, list[int]]:
+    return {rule: places(log, rule) for rule in CITATIONS}
 
 
 def log_of(recording: Recording) -> Log:
@@ -561,18 +564,20 @@ def log_of(recording: Recording) -> Log:
     return Log(recording.events, recording.role, recording.releases)
 
 
-def coverage(log: Log) -> Iterator[str]:
-    """A line for each statement, and how many of them have a place."""
-    counts = {rule: len(places(log, rule)) for rule in CITATIONS if binds(log, rule)}
+def coverage(log: Log, found: dict[str, list[int]]) -> Iterator[str]:
+    """A line for each statement, given all places, and how many of them have a place."""
+    counts = {rule: len(found[rule]) for rule in CITATIONS if binds(log, rule)}
     listed = {rule: count for rule, count in counts.items() if count > 0 or rule not in FOREIGN[log.role]}
     yield from (f"tested {rule} {CITATIONS[rule][log.role]} places {count}" for rule, count in listed.items())
     yield f"covered {sum(count > 0 for count in listed.values())} of {len(listed)} statements"
+
 
 # ---- the self-test
 
 # The suite's kept logs that don't put their own statement to the test.
 UNTESTED = {"S01", "S02", "S03", "S05", "S06", "W21"}
-BEGINNINGS = 3  # of each made log, with which its places are compared
+BEGINNINGS = 3  # of each log, with which its places are compared
+SHORT = 5_000  # bytes of a worked log on which the laws are checked
 
 
 def wrong_worked(worked: list[worked_places.Worked]) -> Iterator[str]:
@@ -582,17 +587,18 @@ def wrong_worked(worked: list[worked_places.Worked]) -> Iterator[str]:
             yield f"{one.name}: wanted {one.places}, found {found}"
 
 
-def wrong_suite(rows: list[suite.Row]) -> Iterator[str]:
-    """A broken log has to test its statement, and so has a kept one, but those that are known."""
-    logs = [log_of(Recording(row.log)) for row in rows]
-    for code in CITATIONS:
-        if not any(places(log, code) for log in logs):
-            yield f"no log of the suite tests {code}"
-    tested = {(row.code, row.which) for row, log in zip(rows, logs) if places(log, row.code)}
-    for row in rows:
-        is_known = row.which == suite.KEPT and row.code in UNTESTED
-        if ((row.code, row.which) in tested) == is_known:
-            yield f"{row.code} {row.which}: it {'tests' if is_known else 'does not test'} its statement"
+def wrong_suite(logs: list[tuple[suite.Row, Log]]) -> Iterator[str]:
+    """Each statement has to be tested by some log, and by its own two, but for the kept ones that are known."""
+    yield from (f"no log of the suite tests {code}" for code in CITATIONS if not any(places(log, code) for _, log in logs))
+    broken = [(row.code, log) for row, log in logs if row.which == suite.BROKEN]
+    yield from (f"{code} broken: it doesn't test its statement" for code, log in broken if not places(log, code))
+    found = untested_kept(logs)
+    yield from (f"{code} kept: it doesn't test its statement" for code in sorted(found - UNTESTED))
+    yield from (f"{code} kept: now it tests its statement" for code in sorted(UNTESTED - found))
+
+
+def untested_kept(logs: list[tuple[suite.Row, Log]]) -> set[str]:
+    return {row.code for row, log in logs if row.which == suite.KEPT and not places(log, row.code)}
 
 
 def made(count: int) -> Iterator[tuple[str, bytes]]:
@@ -614,7 +620,7 @@ class Laws:
 
     def wrong(self, bytes: bytes) -> Iterator[str]:
         log = log_of(Recording(bytes))
-        found = {rule: places(log, rule) for rule in CITATIONS}
+        found = all_places(log)
         self.logs += 1
         self.places += sum(map(len, found.values()))
         self.tested |= {(log.role, rule) for rule, at in found.items() if at}
@@ -632,13 +638,14 @@ class Laws:
                     yield f"places of {rule} in the first {length} events that are none in the log: {sorted(lost)}"
 
     def wrong_counts(self, log: Log, found: dict[str, list[int]]) -> Iterator[str]:
-        lines = list(coverage(log))
+        lines = list(coverage(log, found))
         listed = {line.split()[1]: int(line.split()[4]) for line in lines[:-1]}
         for rule, at in found.items():
             if listed.get(rule, 0) != len(at) or len(set(at)) > log.last:
                 yield f"{rule} has {len(at)} places in {log.last} events, and {listed.get(rule)} are printed"
-            if at and log.role not in CITATIONS[rule] or (at and rule[0] == "L" and not log.releases):
-                yield f"{rule} has places, and doesn't bind the end"
+            is_unbound = log.role not in CITATIONS[rule] or (rule[0] == "L" and not log.releases)
+            if is_unbound and (at or rule in listed):
+                yield f"{rule} has {len(at)} places, or is printed, and doesn't bind the end"
         covered = sum(count > 0 for count in listed.values())
         if lines[-1] != f"covered {covered} of {len(listed)} statements":
             yield f"wrong sums: {lines[-1]}"
@@ -646,15 +653,16 @@ class Laws:
 
 def self_test(count: int) -> int:
     begun = time.monotonic()
-    worked, rows, laws = [*worked_places.proved(), *worked_places.by_bytes()], list(suite.rows()), Laws()
-    wrong = [*wrong_worked(worked), *wrong_suite(rows)]
-    wrong += [f"{row.code} {row.which}: {line}" for row in rows for line in laws.wrong(row.log)]
-    wrong += [f"{name}: {line}" for name, log in made(count) for line in laws.wrong(log)]
+    worked, laws = [*worked_places.proved(), *worked_places.rows()], Laws()
+    logs = [(row, log_of(Recording(row.log))) for row in suite.rows()]
+    wrong = [*wrong_worked(worked), *wrong_suite(logs)]
+    short = [(row.name, row.log) for row in check_rows.rows() if len(row.log) < SHORT]
+    wrong += [f"{name}: {line}" for name, log in [*short, *made(count)] for line in laws.wrong(log)]
     untested = [f"{role} {rule}" for rule, roles in CITATIONS.items() for role in roles if (role, rule) not in laws.tested]
     wrong += [f"no log tests {one}" for one in untested]
     for line in wrong:
         print(f"{line:.1000}")
-    print(f"kept logs of the suite that don't test their statement: {' '.join(sorted(UNTESTED))}")
+    print(f"kept logs of the suite that don't test their statement: {' '.join(sorted(untested_kept(logs)))}")
     seen = f"{len(worked)} worked logs, {laws.logs} others with {laws.places} places and {laws.faults} faults"
     print(f"places: {seen}, {len(wrong)} wrong, in {time.monotonic() - begun:.0f} s")
     return 1 if wrong else 0
@@ -674,7 +682,8 @@ def main() -> int:
         recording = Recording(path.read_bytes())
         if len(given.logs) > 1:
             print(f"{path}:")
-        print(*([recording.refusal.text()] if recording.refusal else coverage(log_of(recording))), sep="\n")
+        log = log_of(recording)
+        print(*([recording.refusal.text()] if recording.refusal else coverage(log, all_places(log))), sep="\n")
     return 0
 
 

@@ -1,8 +1,10 @@
 """Worked logs, with all places of one statement in each, for places.py.
 
 Those of mq_rules are read from its source: there their places are computed from the definitions, in proofs. They have all
-statements but W01 to W21, whose rows are here. Their events are written in the words of crates/mq_rules/specs/Worked.antt,
-each of which is a function here; a packet has 10 bytes there, if nothing else is said.
+statements but W01 to W21. The rows here have these, and more of the others; they were written from the words.
+
+The events of mq_rules are written in the words of crates/mq_rules/specs/Worked.antt, each of which is a function here. A packet
+has 10 bytes there, if nothing else is said.
 """
 import re
 from collections.abc import Callable, Iterator
@@ -21,8 +23,8 @@ CLAUSE = re.compile(r"ensures (\w+) \{ applying (\w+) (\w+) \((.*)\) ≡ (.*) \}
 TOKEN = re.compile(r"[()]|[^()\s]+")
 CONS, NIL = "∷", "[]"
 
-# A statement, a log in the words of check_rows.py, and all places of the statement, with events nearby that are none.
-BY_BYTES = """\
+# A statement, a log in the words of check_rows.py, and all places of the statement, or `-`; other events nearby are none.
+ROWS = """\
 W01 | client OPEN >CONNECT <CONNACK >PUBLISH0 >PINGREQ REST CLOSE | 2 5
 W01 | server OPEN <CONNECT >CONNACK >D100 >3100 | 3 4
 W02 | client OPEN >CONNECT <CONNACK >PUBLISH0 >PINGREQ <PINGRESP | 2 4 5
@@ -44,6 +46,7 @@ W10 | client OPEN >101700044D5154540506003C00000163020101000161000178 | 2
 W11 | server OPEN <CONNECT >CONNACK >3007000161020B0178 >ALIAS-1 >300C000161072600016100016178 >3009000161040100010078 | 5 7
 W11 | client OPEN >101700044D5154540506003C00000163020101000161000178 <CONNACK >82090001020B0100016102 | 2 4
 W12 | client OPEN >101700044D5154540506003C00000163020101000161000178 <CONNACK >300700016102010078 >ALIAS-1 | 5
+W12 | client OPEN >CONNECT-TERSE <CONNACK >DISCONNECT-0 | 2
 W12 | server OPEN <CONNECT >CONNACK >3007000161020B0078 >3007000161020B0178 | 4 5
 W13 | server OPEN <CONNECT >CONNACK >PUBACK:1 >PUBREC-10:1 >SUBACK:1 >UNSUBACK:1 >DISCONNECT >E0018B >E0018A | 3 5 6 7 9 10
 W13 | client OPEN >CONNECT <CONNACK >PUBLISH0 >PUBCOMP:1 >PUBCOMP-92:1 >AUTH >F00118 >9003000100 | 6 8
@@ -56,7 +59,45 @@ W18 | client OPEN >CONNECT <CONNACK >PINGREQ CLOSE OPEN >BAD-CONNECT | 2 7
 W19 | client OPEN >CONNECT <CONNACK CLOSE OPEN >BAD-CONNECT | 2
 W20 | server OPEN <CONNECT >CONNACK >PINGRESP >BAD-CONNACK | 3 5
 W20 | client OPEN >CONNECT <CONNACK <CONNACK >CONNACK | 5
-W21 | client OPEN >CONNECT <CONNACK >ALIAS-SET-1 >ALIAS-1 >300400000078 | 5 6"""
+W21 | client OPEN >CONNECT <CONNACK >ALIAS-SET-1 >ALIAS-1 >300400000078 | 5 6
+C01 | client OPEN >CONNECT <CONNACK >0000 >PINGREQ >C00100 >LOST | 2 5 6
+C08 | server OPEN <CONNECT-KEPT >CONNACK CLOSE OPEN <RECONNECT >CONNACK CLOSE | -
+C11 | client OPEN >CONNECT <CONNACK >DISCONNECT >C00100 >LOST <PINGRESP REST CLOSE OPEN >CONNECT CLOSE | 5 9
+C12 | server OPEN <CONNECT >CONNACK-REFUSED <PINGREQ >PINGRESP REST CLOSE | 5 7
+C13 | client OPEN >CONNECT-KEPT >PINGREQ <CONNACK-RESUMED >PINGREQ >C00100 REST CLOSE | 5 8
+C14 | client OPEN >CONNECT >PINGREQ <CONNACK-SIZE-10 >PINGREQ >C00100 | 5
+C15 | client OPEN >CONNECT >ALIAS-SET-1 <CONNACK-ALIASES-5 >ALIAS-SET-1 >PUBLISH0 | 5
+C17 | client OPEN >CONNECT >PUBLISH0 <CONNACK-QOS-1 >PUBLISH0 >PUBREL:1 | 5
+C21 | server OPEN <CONNECT >CONNACK >PINGRESP CLOSE OPEN <CONNECT-TERSE >CONNACK >PUBLISH0 >PUBACK:1 >DISCONNECT | 10
+C23 | client OPEN >CONNECT <CONNACK REST >DISCONNECT REST >PINGREQ CLOSE | 6 8
+S01 | client OPEN >CONNECT-KEPT <CONNACK >PUBLISH1:1 CLOSE OPEN >RECONNECT <RESUMED-SIZED >PUBLISH1:2 >PUBLISH1:3 | 10
+S01 | client OPEN >CONNECT <CONNACK >PUBLISH1:1 CLOSE OPEN >CONNECT <CONNACK >PUBLISH1:2 >SUBSCRIBE:1 >RESEND1:2 >PUBREL:1 | 10
+S02 | client OPEN >RECONNECT <CONNACK >PUBLISH1:1 CLOSE OPEN >RECONNECT >32 CLOSE OPEN >RECONNECT <CONNACK-RESUMED >RESEND1:1 | -
+S02 | client OPEN >CONNECT-KEPT <CONNACK >32 CLOSE OPEN >CONNECT-KEPT <CONNACK >RESEND1:1 >PUBLISH1:1 | 8
+S02 | client OPEN >CONNECT-KEPT <CONNACK >30 CLOSE OPEN >RECONNECT <CONNACK-RESUMED >RESEND1:1 | 8
+S04 | client OPEN >RECONNECT <CONNACK >PUBLISH1:1 >PUBREL:1 CLOSE OPEN >RECONNECT <CONNACK-RESUMED >RESEND1:1 >PUBREL:1 | -
+S04 | client OPEN >RECONNECT <CONNACK >PUBLISH2:1 >PUBREL:1 CLOSE OPEN >RECONNECT <CONNACK-RESUMED >RESEND2:1 >PUBREL:1 | 10 11
+S05 | client OPEN >CONNECT-KEPT <CONNACK >PUBLISH1:1 CLOSE OPEN >RECONNECT <CONNACK-RESUMED >RESEND1:2 >RESEND1:1 >RESEND1:1 | 11
+S06 | client OPEN >RECONNECT <CONNACK >PUBLISH1:1 >PUBLISH1:1 CLOSE OPEN >RECONNECT <CONNACK-RESUMED >RESEND1:1 <PUBACK:1 REST | 5
+S06 | client OPEN >RECONNECT <CONNACK >PUBLISH1:1 CLOSE OPEN >RECONNECT REST <CONNACK-RESUMED >PUBLISH1:1 <PUBACK:1 REST CLOSE | 4
+S06 | client OPEN >RECONNECT <CONNACK >PUBLISH1:1 CLOSE OPEN >RECONNECT <CONNACK-RESUMED <DISCONNECT REST CLOSE | -
+S07 | client OPEN >CONNECT >PUBLISH1:1 <CONNACK-RECEIVES-1 >PUBLISH0 >PUBLISH1:2 <PUBACK:2 >PUBLISH1:3 >PUBLISH1:4 | 6 8 9
+E1A | client OPEN >CONNECT <CONNACK >PUBACK:1 >PUBREC:1 <PUBACK:2 | 4
+E1R | client OPEN >CONNECT <CONNACK REST <PUBLISH1:1 >PUBACK:1 CLOSE | -
+E1R | client OPEN >CONNECT <CONNACK <PUBLISH1:1 >PUBACK:1 <DISCONNECT REST CLOSE | -
+E1R | client OPEN >CONNECT <PUBLISH1:1 <CONNACK <PUBLISH1:1 <PUBLISH1:2 >PUBACK:1 <PUBLISH1:1 REST <PUBLISH1:3 | 3 6 8
+E1O | client OPEN >CONNECT <CONNACK <PUBLISH1:1 >PUBACK:2 <PUBLISH1:2 >PUBACK:2 >PUBACK:1 | 7
+E3R | client OPEN >CONNECT <CONNACK <PUBREC-80:1 <PUBREC:2 REST | 5
+E7R | server OPEN <CONNECT >CONNACK <PINGREQ REST REST >PINGRESP <DISCONNECT REST CLOSE | 5 6
+L1 | client OPEN >CONNECT RELEASE:1 CLOSE RELEASE:1 OPEN >CONNECT <CONNACK RELEASE:2 CLOSE RELEASE:1 | 9 11
+L1 | client OPEN >RECONNECT RELEASE:1 CLOSE RELEASE:1 | 3 5
+L3 | client OPEN >CONNECT <CONNACK <PUBLISH2:1 >PUBREC-10:1 <PUBREL:1 >PUBCOMP:1 | -
+L3 | client OPEN >CONNECT <CONNACK <PUBLISH2:1 <PUBREL:1 >PUBCOMP-92:1 >PUBCOMP:1 <PUBLISH2:1 >PUBCOMP:1 | 9
+L3 | silent-client OPEN >CONNECT <CONNACK <PUBLISH2:1 >PUBREC:1 <PUBREL:1 >PUBCOMP:1 | -
+B01 | server OPEN <CONNECT >CONNACK >PUBLISH0 >RESEND1:1 >PUBLISH1:1 >ALIAS-1 >ALIAS-SET-1 >ALIAS-1 | 4 6 8 9
+B02 | server OPEN <CONNECT >CONNACK >PUBLISH0 >RESEND1:1 >PUBLISH1:1 >PUBLISH2:2 | 6 7
+B03 | server OPEN <CONNECT >CONNACK <SUBSCRIBE:1 >UNSUBACK:1 >900400020002 >SUBACK:1 >SUBACK:1 | 7
+B04 | server OPEN <CONNECT >CONNACK <UNSUBSCRIBE:1 >SUBACK:1 >UNSUBACK:1 >UNSUBACK:1 | 6"""
 
 
 @dataclass(frozen=True)
@@ -219,12 +260,12 @@ def proved() -> Iterator[Worked]:
         yield Worked(f"{name}, {rule}", rule, Log(read(events), role, releases), sorted(read(places)))
 
 
-def by_bytes() -> Iterator[Worked]:
-    """The rows of W."""
+def rows() -> Iterator[Worked]:
+    """The rows that are here."""
     names = check_rows.packets()
-    for line in BY_BYTES.split("\n"):
+    for line in ROWS.split("\n"):
         rule, words, places = (part.strip() for part in line.split("|"))
         recording = Recording(check_rows.log_of(words, names))
         assert recording.refusal is None, line
         log = Log(recording.events, recording.role, recording.releases)
-        yield Worked(line, rule, log, [int(place) for place in places.split()])
+        yield Worked(line, rule, log, [int(place) for place in places.split() if place != "-"])
