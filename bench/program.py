@@ -53,6 +53,12 @@ LONG_PINGS = 600_000
 LONG_HEAD = b"\x02" + (2 * LONG_PINGS).to_bytes(4, "big")
 LONG = TIMED[: -2 * len(PUBLISH) - 16] + LONG_HEAD + bytes(8) + b"\xc0\x00" * LONG_PINGS
 
+# A packet of 16,777,216 bytes as text, and how many bytes of text are taken.
+LARGEST = b"\x30\xfb\xff\xff\x07\x00\x01a\x00" + b"x" * (16_777_216 - 9)
+LARGEST_TEXT = LARGEST.hex(":").encode()
+MOST_TEXT = 134_217_728
+TOO_LONG = f"mqjudge: standard input has more than {MOST_TEXT} bytes, the most that packet takes\n"
+
 PASS = "pass 4 events\n"
 FAIL = "fault 5 S01 MQTT-2.2.1-3 decided 5 record 5 offset -\nfail 1 faults 5 events\n"
 LONG_FAIL = FAIL.replace(" 5 events", " 115 events")
@@ -75,7 +81,6 @@ TIMED_LINES = """\
 """
 TIMED_NEAR = "..\n" + "".join(TIMED_LINES.splitlines(keepends=True)[3:]) + NEAR_LINES.splitlines(keepends=True)[3]
 WRITE_FAILED = "mqjudge: write failed\n"
-NOT_HEX = "mqjudge: not hex\n"
 NO_FILE = "mqjudge: --faults reads the log twice, so it needs a FILE, not standard input\n"
 SAME_FILE = "mqjudge: OUT has to be another file than IN\n"
 NO_FAULTS = "mqjudge: --around needs --faults\n"
@@ -180,6 +185,7 @@ error: unexpected argument 'b' found
 Usage: mqjudge check [OPTIONS] [FILE]
 
 For more information, try '--help'.
+mqjudge: check takes one log; recorders/judge takes many
 """
 UNKNOWN_WORD = """\
 error: unrecognized subcommand 'judge'
@@ -217,6 +223,16 @@ For more information, try '--help'.
 def unread(place: str, reason: str) -> str:
     """The lines on what can't be read."""
     return f"mqjudge: read failed\nmqjudge: {place}: {reason}\n"
+
+
+def odd(place: int, character: str) -> str:
+    """The line on a character that is no digit."""
+    return f"mqjudge: character {place}, {character}, is no hexadecimal digit\n"
+
+
+def no_digit(place: int, last: str) -> str:
+    """The line on a digit that is missing."""
+    return f"mqjudge: a digit is missing after character {place}, `{last}`\n"
 
 
 def missing(path: str) -> str:
@@ -377,12 +393,26 @@ RUNS = [
     Run(["packet", "40020001"], 0, "PUBACK size 4 id 1\n", stdin=NESTED),
     Run(["packet", "41020001"], 1, "BAD W01 offset 0\n"),
     Run(["packet", ""], 1, "need more bytes\n"),
-    Run(["packet", "4002000"], 3, errors=NOT_HEX),
-    Run(["packet", "4002000g"], 3, errors=NOT_HEX),
-    Run(["packet", "-"], 3, errors=NOT_HEX, stdin=b"40020001"),
+    Run(["packet", "4002000"], 3, errors=no_digit(7, "0")),
+    Run(["packet", "4002000g"], 3, errors=odd(8, "`g`")),
     Run(["packet", "40 02 00 01"], 0, "PUBACK size 4 id 1\n"),
     Run(["packet", "40", "02", "00", "01"], 0, "PUBACK size 4 id 1\n"),
-    Run(["packet", "4", "0020001"], 3, errors=NOT_HEX),
+    Run(["packet", "40:02:00:01"], 0, "PUBACK size 4 id 1\n"),
+    Run(["packet", "0x40,", "0x02,", "0x00,", "0x01"], 0, "PUBACK size 4 id 1\n"),
+    Run(["packet", "40 02\n00 01\n"], 0, "PUBACK size 4 id 1\n"),
+    Run(["packet", "4", "0020001"], 3, errors=odd(2, "` `")),
+    Run(["packet", "40\u00a002"], 3, errors=odd(3, "byte 0xC2")),
+    # Or on standard input.
+    Run(["packet", "-"], 0, "PUBACK size 4 id 1\n", stdin=b"40020001"),
+    Run(["packet", "-"], 0, "PUBACK size 4 id 1\n", stdin=b"0x40, 0x02,\r\n0x00, 0x01\r\n"),
+    Run(["packet", "-"], 1, "BAD W01 offset 0\n", stdin=b"41:02:00:01\n"),
+    Run(["packet", "-"], 1, "need more bytes\n", stdin=b""),
+    Run(["packet", "-"], 3, errors=odd(4, "`x`"), stdin=b"40 x2\n"),
+    Run(["packet", "-"], 3, errors=odd(3, "byte 0xFF"), stdin=b"40\xff"),
+    Run(["packet", "-"], 4, errors=directory("standard input"), stdin=Path(".")),
+    Run(["packet", "-"], 0, "PUBLISH size 16777216 qos 0 dup 0\n", stdin=LARGEST_TEXT),
+    Run(["packet", "-"], 3, errors=TOO_LONG, stdin=b" " * (MOST_TEXT + 1)),
+    Run(["packet", "-"], 1, "need more bytes\n", stdin=b" " * MOST_TEXT),
     # Words that name nothing.
     Run(["explain", "X99"], 3, errors=NO_X99),
     Run(["rules", "--role", "broker"], 3, errors=NO_BROKER),

@@ -1,7 +1,9 @@
 pub mod CommandLineLemmas
+pub mod DigitLaws
 pub mod ExplainingLemmas
 pub mod ProgramLemmas
 pub mod ReviewingLemmas
+pub mod PacketLaws
 pub mod MessageLaws
 pub mod StreamLaws
 pub mod BeginningLaws

@@ -21,11 +21,11 @@ use Rattle.mq_cli.specs.declared.command_line.Task.{Task}
 use Rattle.mq_cli.specs.declared.command_line.Task.TheVariants.{Check, Show, Packet, Rules, Explain}
 use Rattle.mq_cli.specs.declared.failure.Obstacle.{Obstacle}
 use Rattle.mq_cli.specs.declared.failure.Obstacle.TheVariants as obstacles
-use Rattle.mq_cli.specs.declared.misuse.Misuse.{Misuse}
+use Rattle.mq_cli.proofs.PacketLaws.{packet_lacks}
 use Rattle.mq_cli.specs.Citing.{explained_for}
 use Rattle.mq_cli.specs.Listing.{listed_for}
-use Rattle.mq_cli.specs.Messages.{AppendsAfter, BeginsRefusal, IsOfLog, LacksJsonMemory, IsRefusedBy, RefusesCheck, RefusesShow, StopsCheck, StopsShow, failure_of, FailsMisnamed, IsMisnamed, StopsAttempt, StopsTask, StopsText, misnamed_line}
-use Rattle.mq_cli.specs.Streams.{AppendsPart, IsCutOff, IsTold, Stream, failure_line, misuse_line, no_role_line, no_statement_line}
+use Rattle.mq_cli.specs.Messages.{AppendsAfter, BeginsRefusal, IsOfLog, LacksJsonMemory, IsRefusedBy, RefusesCheck, RefusesShow, StopsCheck, StopsShow, failure_of, FailsMisnamed, IsMisnamed, StopsAttempt, StopsTask, StopsText}
+use Rattle.mq_cli.specs.Streams.{AppendsPart, IsCutOff, IsTold, Stream, failure_line, no_role_line, no_statement_line}
 use Rattle.mq_cli.specs.declared.failure.Failure.{Failure}
 use Rattle.mq_cli.specs.declared.failure.Failure.TheVariants as failures
 
@@ -70,31 +70,31 @@ pub rules_stop : (word : String Global) (input left old new : Option (List ℕ))
     → IfErr status (StopsAttempt (Rules (Some word)) input left old new)
 rules_stop word input left old new (Ok s) h = tt
 rules_stop word input left old new (Err (obstacles.Failed failure)) h = h
-rules_stop word input left old new (Err (obstacles.Misused misuse)) h = h
+rules_stop word input left old new (Err (obstacles.Misused misuse)) h = ((h.0, h.1), h.2)
 
 pub explanation_stops : (code : String Global) (input left old new : Option (List ℕ)) (status : Result ℕ Obstacle)
     → IfErr status (StopsText (explained_for (string_bytes code)) (no_statement_line (string_bytes code)) old new)
     → IfErr status (StopsAttempt (Explain code) input left old new)
 explanation_stops code input left old new (Ok s) h = tt
 explanation_stops code input left old new (Err (obstacles.Failed failure)) h = h
-explanation_stops code input left old new (Err (obstacles.Misused misuse)) h = h
+explanation_stops code input left old new (Err (obstacles.Misused misuse)) h = ((h.0, h.1), h.2)
 
 -- ---- what is asked for in vain
 
 -- memory may run out for it
-memory_stops : (task : Task) (input left old new : Option (List ℕ)) → IsMisnamed task → Keeps old new → StopsTask failures.Memory task input left old new
-memory_stops (Check file json summary) input left old new misnamed kept = absurd misnamed
-memory_stops (Show file long) input left old new misnamed kept = absurd misnamed
-memory_stops (Packet hex) input left old new misnamed kept = kept
-memory_stops (Rules role) input left old new misnamed kept = kept
-memory_stops (Explain code) input left old new misnamed kept = kept
+memory_stops : (task : Task) (input left old new : Option (List ℕ)) (line : List ℕ) → IsMisnamed task input line → Keeps old new
+    → StopsTask failures.Memory task input left old new
+memory_stops (Check file json summary) input left old new line misnamed kept = absurd misnamed
+memory_stops (Show file long) input left old new line misnamed kept = absurd misnamed
+memory_stops (Packet hex) input left old new line misnamed kept = packet_lacks (string_bytes hex) input old new kept
+memory_stops (Rules role) input left old new line misnamed kept = kept
+memory_stops (Explain code) input left old new line misnamed kept = kept
 
-pub misuse_fails : (task : Task) (misuse : Misuse) (input left old new : Option (List ℕ)) (error : Stream) → IsMisnamed task → misuse_line misuse ≡ misnamed_line task
-    → Keeps old new → IsCutOff error (misuse_line misuse) ⊎ IsTold error (failure_line failures.Memory)
-    → (StopsTask failures.Memory task input left old new × IsTold error (failure_line failures.Memory)) ⊎ FailsMisnamed task old new error
-misuse_fails task misuse input left old new error misnamed same kept (inl cut) =
-    inr (record { misnamed = misnamed; unwritten = kept; printed = subst (λ (line : List ℕ). IsCutOff error line) same cut })
-misuse_fails task misuse input left old new error misnamed same kept (inr told) = inl (memory_stops task input left old new misnamed kept, told)
+pub misuse_fails : (task : Task) (line : List ℕ) (input left old new : Option (List ℕ)) (error : Stream) → IsMisnamed task input line
+    → Keeps old new → IsCutOff error line ⊎ IsTold error (failure_line failures.Memory)
+    → (StopsTask failures.Memory task input left old new × IsTold error (failure_line failures.Memory)) ⊎ FailsMisnamed task input old new error
+misuse_fails task line input left old new error misnamed kept (inl cut) = inr (record { line = line; misnamed = misnamed; unwritten = kept; printed = cut })
+misuse_fails task line input left old new error misnamed kept (inr told) = inl (memory_stops task input left old new line misnamed kept, told)
 
 -- ---- refusals
 

@@ -1,6 +1,8 @@
 -- What holds of the words that a host gave, and of the log of a task.
 use Rattle.std.proofs.Common.{◌≡◌, ◌∙◌, ◌⊎◌, inl, inr, Bool, true, ℕ, List, map, Option, Some, None, Result, Ok, Err, IfSome, IsOkAnd, ap, codes, refl, subst, sym}
-use Rattle.std.specs.Io.KnownBytes.{Keeps}
+use Rattle.std.specs.Prelude.{String, string_bytes}
+use Rattle.std.specs.declared.alloc.Global.{Global}
+use Rattle.std.specs.Io.KnownBytes.{Keeps, prepend_known}
 use Rattle.clap.specs.Words.{Text}
 use Rattle.mq_cli.specs.declared.command_line.Task.{Task}
 use Rattle.mq_cli.specs.declared.command_line.Task.TheVariants.{Check, Show, Packet, Rules, Explain}
@@ -8,17 +10,20 @@ use Rattle.mq_cli.specs.declared.command_line.Work.{Work}
 use Rattle.mq_cli.specs.declared.command_line.Work.TheVariants.{Once, Twice, Convert}
 use Rattle.mq_cli.specs.declared.failure.Failure.{Failure}
 use Rattle.mq_cli.specs.declared.failure.Failure.TheVariants as failures
+use Rattle.mq_cli.specs.declared.failure.Obstacle.TheVariants as obstacles
 use Rattle.mq_cli.specs.declared.trouble.Trouble.TheVariants as troubles
 use Rattle.mq_judge.specs.Display.{is_timed}
-use Rattle.mq_cli.specs.CommandLine.{path_of, reads_log}
+use Rattle.mq_cli.specs.CommandLine.{path_of, reads_input}
 use Rattle.mq_cli.specs.Converting.{Files, files_of}
 use Rattle.mq_cli.specs.Given.{Given, bytes_at}
-use Rattle.mq_cli.specs.Messages.{FailsMisnamed, HasFailed, HasPassed, IsRefusedOn, IsReportedOn, StopsCheck, StopsShow, StopsTask, form_of, text_for}
-use Rattle.mq_cli.specs.Program.{FailsLog, FailsRead, FailsTaskOn, IsHinted, Refuses, RefusesSource, RefusesWork, input_of}
+use Rattle.mq_cli.specs.Messages.{AppendsLineOf, AppendsLinePart, FailsMisnamed, HasFailed, HasPassed, IsMisnamed, IsMisread, IsMisspelled, IsRefusedOn, IsReportedOn, SpellsNoPacket, SpellsPacket, StopsGiven, StopsCheck, StopsShow, StopsTask, form_of, text_for}
+use Rattle.mq_cli.specs.Digits.{OfDigits}
+use Rattle.mq_cli.specs.Program.{FailsLog, FailsRead, FailsTaskOn, IsHinted, MisusesTask, Refuses, RefusesSource, RefusesWork, input_of}
 use Rattle.mq_cli.specs.Reviewing.{Plan, RefusesPlan, plan_of}
 use Rattle.mq_cli.specs.Streams.{IsTold, Stream, failure_line}
 use Rattle.mq_cli.specs.Troubles.{failure_in, place_of}
 use Rattle.mq_cli.proofs.BeginningLaws.{hinted_of_kept}
+use Rattle.mq_cli.proofs.PacketLaws.{of_read}
 
 -- what holds of the words that were read holds of those that are known
 pub known_words : {A : Type 0} (text : A → Text) (known : Option (List Text)) (read slice : List A) (P : List Text → Type 0)
@@ -29,7 +34,7 @@ known_words text (Some words) read slice P given same h = subst P (ap (map text)
 -- ---- the log of a task
 
 -- a task that names a path reads the log there
-pub path_reads : (task : Task) (path : Text) → path_of task ≡ Some path → reads_log task ≡ true
+pub path_reads : (task : Task) (path : Text) → path_of task ≡ Some path → reads_input task ≡ true
 path_reads (Check file json summary) path named = refl
 path_reads (Show file long) path named = refl
 path_reads (Packet hex) path named = cc
@@ -43,12 +48,45 @@ known_kept None read P k h = tt
 known_kept (Some bytes) None P k h = absurd k
 known_kept (Some bytes) (Some same) P k h = subst P k h
 
+-- what holds of the digits that were read holds of those that were given
+digits_kept : (operand : List ℕ) (log read : Option (List ℕ)) (P : List ℕ → Type 0) → Keeps log read → OfDigits operand read P → OfDigits operand log P
+digits_kept operand log read P k h = of_read operand (IfSome read P) (IfSome log P) (P operand) (known_kept log read P k) h
+
+packet_stops_kept : (failure : Failure) (hex : String Global) (log read old new : Option (List ℕ)) → Keeps log read
+    → StopsGiven (string_bytes hex) read old new (obstacles.Failed failure) → StopsGiven (string_bytes hex) log old new (obstacles.Failed failure)
+packet_stops_kept failures.Read hex log read old new k h = h
+packet_stops_kept failures.Write hex log read old new k h = digits_kept (string_bytes hex) log read (λ text. AppendsLinePart text old new) k h
+packet_stops_kept failures.Memory hex log read old new k h = h
+
+-- the line on what is asked for in vain
+misnamed_kept : (task : Task) (log read : Option (List ℕ)) (line : List ℕ) → Keeps log read → IsMisnamed task read line → IsMisnamed task log line
+misnamed_kept (Check file json summary) log read line k h = h
+misnamed_kept (Show file long) log read line k h = h
+misnamed_kept (Packet hex) log read line k h =
+    of_read (string_bytes hex) (IfSome read (λ text. IsMisread text line)) (IfSome log (λ text. IsMisread text line)) (IsMisspelled (string_bytes hex) line)
+    (known_kept log read (λ text. IsMisread text line) k) h
+misnamed_kept (Rules role) log read line k h = h
+misnamed_kept (Explain code) log read line k h = h
+
+-- whatever reader gives that input
+pub misnamed_in : (task : Task) (known input : Option (List ℕ)) (line : List ℕ) → IsMisnamed task known line → known ≡ input → IsMisnamed task input line
+misnamed_in task known input line h same = subst (λ (i : Option (List ℕ)). IsMisnamed task i line) same h
+
+misnamed_fails_kept : (task : Task) (log read old new : Option (List ℕ)) (error : Stream) → Keeps log read → FailsMisnamed task read old new error
+    → FailsMisnamed task log old new error
+misnamed_fails_kept task log read old new error k h = record {
+  line = h.line;
+  misnamed = misnamed_kept task log read h.line k h.misnamed;
+  unwritten = h.unwritten;
+  printed = h.printed;
+}
+
 stops_kept : (failure : Failure) (task : Task) (log read left old new : Option (List ℕ)) → Keeps log read → StopsTask failure task read left old new
     → StopsTask failure task log left old new
 stops_kept failure (Check file json summary) log read left old new k h =
     known_kept log read (λ bytes. StopsCheck (form_of json summary) failure bytes left old new) k h
 stops_kept failure (Show file long) log read left old new k h = known_kept log read (λ bytes. StopsShow (text_for (is_timed bytes) long) failure bytes left old new) k h
-stops_kept failure (Packet hex) log read left old new k h = h
+stops_kept failure (Packet hex) log read left old new k h = packet_stops_kept failure hex log read old new k h
 stops_kept failure (Rules role) log read left old new k h = h
 stops_kept failure (Explain code) log read left old new k h = h
 
@@ -60,7 +98,7 @@ fails_kept task place log read old new is_closed error k (inl fails) = inl (reco
   stops = stops_kept (failure_in fails.trouble) task log read fails.left old new k fails.stops;
   told = fails.told;
 })
-fails_kept task place log read old new is_closed error k (inr misnamed) = inr misnamed
+fails_kept task place log read old new is_closed error k (inr misnamed) = inr (misnamed_fails_kept task log read old new error k misnamed)
 
 log_fails_kept : (task : Task) (place : Text) (log read old new : Option (List ℕ)) (is_closed : Bool) (error : Stream) → Keeps log read
     → FailsLog task place read is_closed old new error → FailsLog task place log is_closed old new error
@@ -74,21 +112,21 @@ IsKept P = (log read : Option (List ℕ)) → Keeps log read → P read → P lo
 pub passed_kept : (task : Task) → IsKept (HasPassed task)
 passed_kept (Check file json summary) log read k h = known_kept log read _ k h
 passed_kept (Show file long) log read k h = known_kept log read _ k h
-passed_kept (Packet hex) log read k h = h
+passed_kept (Packet hex) log read k h = digits_kept (string_bytes hex) log read SpellsPacket k h
 passed_kept (Rules role) log read k h = h
 passed_kept (Explain code) log read k h = h
 
 pub failed_kept : (task : Task) → IsKept (HasFailed task)
 failed_kept (Check file json summary) log read k h = known_kept log read _ k h
 failed_kept (Show file long) log read k h = h
-failed_kept (Packet hex) log read k h = h
+failed_kept (Packet hex) log read k h = digits_kept (string_bytes hex) log read SpellsNoPacket k h
 failed_kept (Rules role) log read k h = h
 failed_kept (Explain code) log read k h = h
 
 pub reported_kept : (task : Task) (old new : Option (List ℕ)) → IsKept (λ log. IsReportedOn task log old new)
 reported_kept (Check file json summary) old new log read k h = known_kept log read _ k h
 reported_kept (Show file long) old new log read k h = known_kept log read _ k h
-reported_kept (Packet hex) old new log read k h = h
+reported_kept (Packet hex) old new log read k h = digits_kept (string_bytes hex) log read (λ text. AppendsLineOf text old new) k h
 reported_kept (Rules role) old new log read k h = h
 reported_kept (Explain code) old new log read k h = h
 
@@ -98,6 +136,14 @@ refused_kept (Show file long) old new log read k h = known_kept log read _ k h
 refused_kept (Packet hex) old new log read k h = h
 refused_kept (Rules role) old new log read k h = h
 refused_kept (Explain code) old new log read k h = h
+
+pub misused_kept : (task : Task) (error_old error_new : Option (List ℕ)) → IsKept (λ log. MisusesTask task log error_old error_new)
+misused_kept task error_old error_new log read k h = record { line = h.line; misnamed = misnamed_kept task log read h.line k h.misnamed; told = h.told }
+
+-- what is read after no bytes is what there is
+pub unread : (known : Option (List ℕ)) → prepend_known [] known ≡ known
+unread None = refl
+unread (Some bytes) = refl
 
 -- ---- the log that a task names
 
@@ -128,18 +174,27 @@ file_fails given task path read old new is_closed error named k fails =
     ))
 
 -- it failed on standard input
-pub input_fails : (given : Given) (task : Task) (read old new : Option (List ℕ)) (is_closed : Bool) (error : Stream) → None ≡ path_of task → reads_log task ≡ true
+pub input_fails : (given : Given) (task : Task) (read old new : Option (List ℕ)) (is_closed : Bool) (error : Stream) → None ≡ path_of task → reads_input task ≡ true
     → Keeps given.standard read → FailsLog task (codes "standard input") read is_closed old new error → FailsRead given task is_closed old new error
 input_fails given task read old new is_closed error named reads k fails =
     let place = codes "standard input" in
     let kept : FailsLog task place given.standard is_closed old new error = log_fails_kept task place given.standard read old new is_closed error k fails in
     inr (inl (reads, subst (λ (p : Option Text). FailsLog task (place_of p) (bytes_at given p) is_closed old new error) named kept))
 
+-- it reads nothing, and failed
+pub unread_fails : (given : Given) (task : Task) (read old new : Option (List ℕ)) (is_closed : Bool) (error : Stream) → None ≡ path_of task
+    → Keeps given.standard read → FailsTaskOn task (codes "standard input") (prepend_known [] read) is_closed old new error → FailsRead given task is_closed old new error
+unread_fails given task read old new is_closed error named k fails =
+    let place = codes "standard input" in
+    let of_read : FailsTaskOn task place read is_closed old new error = subst (λ (log : Option (List ℕ)). FailsTaskOn task place log is_closed old new error) (unread read) fails in
+    let kept : FailsTaskOn task place given.standard is_closed old new error = fails_kept task place given.standard read old new is_closed error k of_read in
+    inr (inr (subst (λ (p : Option Text). FailsTaskOn task (place_of p) (bytes_at given p) is_closed old new error) named kept))
+
 -- ---- what failed
 
 -- what a task asks for can't be done, and that can't be said
 pub misuse_stops : (task : Task) (place : Text) (log left old new : Option (List ℕ)) (is_closed : Bool) (error : Stream)
-    → (StopsTask failures.Memory task log left old new × IsTold error (failure_line failures.Memory)) ⊎ FailsMisnamed task old new error
+    → (StopsTask failures.Memory task log left old new × IsTold error (failure_line failures.Memory)) ⊎ FailsMisnamed task log old new error
     → FailsTaskOn task place log is_closed old new error
 misuse_stops task place log left old new is_closed error (inl (stops, told)) = inl (record { left = left; trouble = troubles.Memory; stops = stops; told = told })
 misuse_stops task place log left old new is_closed error (inr misnamed) = inr misnamed

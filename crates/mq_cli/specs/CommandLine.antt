@@ -1,5 +1,5 @@
 -- The command line of `mqjudge`, and what its words ask for.
-use Rattle.std.specs.Prelude.{◌≡◌, ◌⊎◌, Bool, true, false, if◌then◌else◌, List, [], Option, Some, None, codes, option_map, string_bytes, unwrap_or, IsSome, ⊤}
+use Rattle.std.specs.Prelude.{◌≡◌, ◌++◌, ◌⊎◌, String, Bool, true, false, if◌then◌else◌, List, [], Option, Some, None, codes, option_map, string_bytes, unwrap_or, IsSome, ⊤}
 use Rattle.std.specs.Str.{bytes_eq}
 use Rattle.std.specs.List.{Any}
 use Rattle.clap.specs.Words.{App, Kinds, Row, Rule, Text, all_of, fault_of, first_of, new_app, new_rule, subcommand_of, with_rule, with_subcommand}
@@ -9,7 +9,9 @@ use Rattle.clap.specs.Simple.{on_top}
 use Rattle.clap.specs.declared.builder.action.ArgAction.TheVariants.{SetTrue}
 use Rattle.clap.specs.declared.error.kind.ErrorKind.{ErrorKind}
 use Rattle.clap.specs.declared.error.kind.ErrorKind.TheVariants.{DisplayHelp, DisplayVersion}
-use Rattle.mq_cli.specs.Digits.{spaced}
+use Rattle.std.specs.declared.alloc.Global.{Global}
+use Rattle.mq_cli.specs.Digits.{is_dash, spaced}
+use Rattle.mq_cli.specs.Operands.{EndsWith, many_logs_line, names_many_logs}
 use Rattle.mq_cli.specs.declared.command_line.Work.{Work}
 use Rattle.mq_cli.specs.declared.command_line.Work.TheVariants.{Once, Twice, Convert}
 use Rattle.mq_cli.specs.declared.command_line.Task.{Task}
@@ -163,6 +165,19 @@ ReadsAsAsked (Convert conversion) = ⊤
 abbrev pub IsHelpOrVersion : ErrorKind → Type 0
 IsHelpOrVersion kind = (kind ≡ DisplayHelp) ⊎ (kind ≡ DisplayVersion)
 
+-- if words that aren't a command line name many logs, what is said of them ends with where those are judged
+abbrev pub TellsOfMany : List Text → EarlyExit → Type 0
+TellsOfMany words (Usage text) = names_many_logs words ≡ true → EndsWith (string_bytes text) many_logs_line
+TellsOfMany words (Help text) = ⊤
+TellsOfMany words Memory = ⊤
+
+-- a misuse that has this text, and then where many logs are judged if they are named; memory may run out
+abbrev pub IsUsage : String Global → (many : Bool) → EarlyExit → Type 0
+IsUsage text false (Usage told) = string_bytes told ≡ string_bytes text
+IsUsage text true (Usage told) = string_bytes told ≡ string_bytes text ++ many_logs_line
+IsUsage text many (Help told) = ⊥
+IsUsage text many Memory = ⊤
+
 -- one of these kinds gives the stop: help and the version are shown, anything else is misuse, and
 -- memory may run out with any words
 abbrev pub StopsFor : Kinds → EarlyExit → Type 0
@@ -175,7 +190,7 @@ abbrev pub path_named : Option Text → Option Text
 path_named None = None
 path_named (Some operand) = if bytes_eq operand (codes "-") then None else Some operand
 
--- the path of the log that a task reads: none if it reads standard input, or no log
+-- the path of the log that a task reads: none if it reads standard input, or nothing
 abbrev pub path_of : Task → Option Text
 path_of (Check file json summary) = path_named (option_map string_bytes file)
 path_of (Show file long) = path_named (option_map string_bytes file)
@@ -183,10 +198,10 @@ path_of (Packet hex) = None
 path_of (Rules role) = None
 path_of (Explain code) = None
 
--- a task reads a log: others need no input
-abbrev pub reads_log : Task → Bool
-reads_log (Check file json summary) = true
-reads_log (Show file long) = true
-reads_log (Packet hex) = false
-reads_log (Rules role) = false
-reads_log (Explain code) = false
+-- a task reads its input: a log, or the digits of a packet if the operand is `-`. Others need no input.
+abbrev pub reads_input : Task → Bool
+reads_input (Check file json summary) = true
+reads_input (Show file long) = true
+reads_input (Packet hex) = is_dash (string_bytes hex)
+reads_input (Rules role) = false
+reads_input (Explain code) = false

@@ -6,6 +6,7 @@ pub mod Effects
 pub mod Explaining
 pub mod Given
 pub mod Listing
+pub mod Operands
 pub mod Messages
 pub mod Reviewing
 pub mod Program

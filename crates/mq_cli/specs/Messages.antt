@@ -1,5 +1,5 @@
 -- What the program writes, and where.
-use Rattle.std.specs.Prelude.{Bool, true, false, ◌≡◌, ◌⊎◌, ⊤, List, ℕ, Option, None, [], ◌++◌, string_bytes, unwrap_or, option_map, IfSome, IsSome, IsSomeAnd, IsErr, Ok}
+use Rattle.std.specs.Prelude.{Bool, true, false, ◌≡◌, ◌⊎◌, ⊤, List, ℕ, Option, None, [], ◌++◌, string_bytes, unwrap_or, option_map, ◌<◌, length, IfSome, IsSome, IsSomeAnd, IsErr, Ok}
 use Rattle.std.specs.FinMap as map
 use Rattle.std.specs.Io.KnownBytes.{Appends, Keeps}
 use Rattle.mq_judge.specs.declared.Form.{Form}
@@ -14,7 +14,7 @@ use Rattle.mq_judge.specs.Stopping.{IsRefusedAt, IsRefusedNext}
 use Rattle.mq_trace.specs.Events.{Placed, events}
 use Rattle.mq_trace.specs.Refusals.{refused}
 use Rattle.mq_cli.specs.Citing.{explained_for}
-use Rattle.mq_cli.specs.Digits.{bytes_of}
+use Rattle.mq_cli.specs.Digits.{OfDigits, by_operand, bytes_of, most_text, oddity_in, oddity_line}
 use Rattle.mq_cli.specs.Listing.{listed_for}
 use Rattle.mq_cli.specs.declared.command_line.Task.{Task}
 use Rattle.mq_cli.specs.declared.command_line.Task.TheVariants.{Check, Show, Packet, Rules, Explain}
@@ -26,7 +26,7 @@ use Rattle.mq_cli.specs.declared.failure.Failure.{Failure}
 use Rattle.mq_cli.specs.declared.failure.Failure.TheVariants as failures
 use Rattle.mq_cli.specs.declared.failure.Obstacle.{Obstacle}
 use Rattle.mq_cli.specs.declared.failure.Obstacle.TheVariants as obstacles
-use Rattle.mq_cli.specs.Streams.{AppendsPart, IsCutOff, Stream, misuse_line, no_role_line, no_statement_line, not_hex_line}
+use Rattle.mq_cli.specs.Streams.{AppendsPart, IsCutOff, Stream, misuse_line, no_role_line, no_statement_line, too_long_line}
 
 -- help or the version was asked for, and its text was written
 abbrev pub IsShownOn : EarlyExit → Option (List ℕ) → Option (List ℕ) → Type 0
@@ -146,6 +146,22 @@ SpellsNoPacket hex = (bytes : List ℕ) × (bytes_of hex ≡ Ok bytes) × (¬ Is
 abbrev pub AppendsLineOf : List ℕ → Option (List ℕ) → Option (List ℕ) → Type 0
 AppendsLineOf hex old new = (bytes : List ℕ) × (bytes_of hex ≡ Ok bytes) × Appends old new (packet_report bytes)
 
+-- they spell bytes, and part of that line was written
+abbrev pub AppendsLinePart : List ℕ → Option (List ℕ) → Option (List ℕ) → Type 0
+AppendsLinePart hex old new = (bytes : List ℕ) × (bytes_of hex ≡ Ok bytes) × AppendsPart old new (packet_report bytes)
+
+-- they spell no bytes, and this line says what is odd in them
+abbrev pub IsMisspelled : List ℕ → (line : List ℕ) → Type 0
+IsMisspelled hex line = IsErr (bytes_of hex) × IsSomeAnd (oddity_in hex) (λ odd. line ≡ oddity_line odd)
+
+-- a text that was read is misspelled, or is longer than the most that is taken, and this line says so
+abbrev pub IsMisread : List ℕ → (line : List ℕ) → Type 0
+IsMisread text line = IsMisspelled text line ⊎ ((most_text < length text) × (line ≡ too_long_line))
+
+-- so it is with the digits of an operand, which are on standard input if it is `-`
+abbrev pub IsMisgiven : (operand : List ℕ) → (input : Option (List ℕ)) → (line : List ℕ) → Type 0
+IsMisgiven operand input line = by_operand operand (IfSome input (λ text. IsMisread text line)) (IsMisspelled operand line)
+
 -- ---- the statements
 
 -- there is such a text, and it was written and nothing else
@@ -162,7 +178,7 @@ PrintsPart text old new = IsSomeAnd text (λ printed. AppendsPart old new printe
 abbrev pub HasPassed : Task → Option (List ℕ) → Type 0
 HasPassed (Check file json summary) input = IfSome input (λ log. IsJudged log × IsFaultless log)
 HasPassed (Show file long) input = IfSome input IsJudged
-HasPassed (Packet hex) input = SpellsPacket (string_bytes hex)
+HasPassed (Packet hex) input = OfDigits (string_bytes hex) input SpellsPacket
 HasPassed (Rules role) input = IsSome (listed_for (option_map string_bytes role))
 HasPassed (Explain code) input = IsSome (explained_for (string_bytes code))
 
@@ -170,7 +186,7 @@ HasPassed (Explain code) input = IsSome (explained_for (string_bytes code))
 abbrev pub HasFailed : Task → Option (List ℕ) → Type 0
 HasFailed (Check file json summary) input = IfSome input (λ log. IsJudged log × (¬ IsFaultless log))
 HasFailed (Show file long) input = ⊥
-HasFailed (Packet hex) input = SpellsNoPacket (string_bytes hex)
+HasFailed (Packet hex) input = OfDigits (string_bytes hex) input SpellsNoPacket
 HasFailed (Rules role) input = ⊥
 HasFailed (Explain code) input = ⊥
 
@@ -178,7 +194,7 @@ HasFailed (Explain code) input = ⊥
 abbrev pub IsReportedOn : Task → Option (List ℕ) → Option (List ℕ) → Option (List ℕ) → Type 0
 IsReportedOn (Check file json summary) input old new = IfSome input (λ log. Appends old new (report (form_of json summary) log))
 IsReportedOn (Show file long) input old new = IfSome input (λ log. Appends old new (text_for (is_timed log) long (events log)))
-IsReportedOn (Packet hex) input old new = AppendsLineOf (string_bytes hex) old new
+IsReportedOn (Packet hex) input old new = OfDigits (string_bytes hex) input (λ text. AppendsLineOf text old new)
 IsReportedOn (Rules role) input old new = Prints (listed_for (option_map string_bytes role)) old new
 IsReportedOn (Explain code) input old new = Prints (explained_for (string_bytes code)) old new
 
@@ -190,32 +206,31 @@ IsRefusedOn (Packet hex) input old new = ⊥
 IsRefusedOn (Rules role) input old new = ⊥
 IsRefusedOn (Explain code) input old new = ⊥
 
--- 3: the digits of a packet are invalid, or a word isn't an end, or is neither the code of a statement nor a citation
-abbrev pub IsMisnamed : Task → Type 0
-IsMisnamed (Check file json summary) = ⊥
-IsMisnamed (Show file long) = ⊥
-IsMisnamed (Packet hex) = IsErr (bytes_of (string_bytes hex))
-IsMisnamed (Rules role) = listed_for (option_map string_bytes role) ≡ None
-IsMisnamed (Explain code) = explained_for (string_bytes code) ≡ None
+-- 3: the digits of a packet spell no bytes or are too many, or a word isn't an end, or is neither the code of a statement nor a citation; and this line says so
+abbrev pub IsMisnamed : Task → (input : Option (List ℕ)) → (line : List ℕ) → Type 0
+IsMisnamed (Check file json summary) input line = ⊥
+IsMisnamed (Show file long) input line = ⊥
+IsMisnamed (Packet hex) input line = IsMisgiven (string_bytes hex) input line
+IsMisnamed (Rules role) input line = (listed_for (option_map string_bytes role) ≡ None) × (line ≡ no_role_line (unwrap_or (option_map string_bytes role) []))
+IsMisnamed (Explain code) input line = (explained_for (string_bytes code) ≡ None) × (line ≡ no_statement_line (string_bytes code))
 
--- the message then
-abbrev pub misnamed_line : Task → List ℕ
-misnamed_line (Check file json summary) = []
-misnamed_line (Show file long) = []
-misnamed_line (Packet hex) = not_hex_line
-misnamed_line (Rules role) = no_role_line (unwrap_or (option_map string_bytes role) [])
-misnamed_line (Explain code) = no_statement_line (string_bytes code)
+-- what keeps the line on these digits from being written: it couldn't be written or flushed, or memory ran out first, or they spell no bytes
+abbrev pub StopsSpelled : List ℕ → (old new : Option (List ℕ)) → Obstacle → Type 0
+StopsSpelled hex old new (obstacles.Failed failures.Read) = ⊥
+StopsSpelled hex old new (obstacles.Failed failures.Write) = AppendsLinePart hex old new
+StopsSpelled hex old new (obstacles.Failed failures.Memory) = Keeps old new
+StopsSpelled hex old new (obstacles.Misused misuse) = IsMisspelled hex (misuse_line misuse) × Keeps old new
 
--- 4, for a packet: the line on its bytes couldn't be written or flushed, or memory ran out first
-abbrev pub StopsPacket : Failure → List ℕ → Option (List ℕ) → Option (List ℕ) → Type 0
-StopsPacket failures.Read hex old new = ⊥
-StopsPacket failures.Write hex old new = (bytes : List ℕ) × (bytes_of hex ≡ Ok bytes) × AppendsPart old new (packet_report bytes)
-StopsPacket failures.Memory hex old new = Keeps old new
+-- and on those that are on standard input, which may also not be read, or be too many
+abbrev pub StopsRead : (input old new : Option (List ℕ)) → Obstacle → Type 0
+StopsRead input old new (obstacles.Failed failures.Read) = Keeps old new
+StopsRead input old new (obstacles.Failed failures.Write) = IfSome input (λ text. AppendsLinePart text old new)
+StopsRead input old new (obstacles.Failed failures.Memory) = Keeps old new
+StopsRead input old new (obstacles.Misused misuse) = IfSome input (λ text. IsMisread text (misuse_line misuse)) × Keeps old new
 
--- what keeps a packet's line from being written: something failed, or the digits don't spell bytes
-abbrev pub StopsDigits : List ℕ → (old new : Option (List ℕ)) → Obstacle → Type 0
-StopsDigits hex old new (obstacles.Failed failure) = StopsPacket failure hex old new
-StopsDigits hex old new (obstacles.Misused misuse) = IsErr (bytes_of hex) × (misuse_line misuse ≡ not_hex_line) × Keeps old new
+-- by the operand, which is `-` for these
+abbrev pub StopsGiven : (operand : List ℕ) → (input old new : Option (List ℕ)) → Obstacle → Type 0
+StopsGiven operand input old new obstacle = by_operand operand (StopsRead input old new obstacle) (StopsSpelled operand old new obstacle)
 
 -- 4, for the statements: the text couldn't be written or flushed, or memory ran out first
 abbrev pub StopsPrinting : Failure → Option (List ℕ) → Option (List ℕ) → Option (List ℕ) → Type 0
@@ -232,17 +247,18 @@ StopsText text line old new (obstacles.Misused misuse) = (text ≡ None) × (mis
 abbrev pub StopsTask : Failure → Task → (input left old new : Option (List ℕ)) → Type 0
 StopsTask failure (Check file json summary) input left old new = IfSome input (λ log. StopsCheck (form_of json summary) failure log left old new)
 StopsTask failure (Show file long) input left old new = IfSome input (λ log. StopsShow (text_for (is_timed log) long) failure log left old new)
-StopsTask failure (Packet hex) input left old new = StopsPacket failure (string_bytes hex) old new
+StopsTask failure (Packet hex) input left old new = StopsGiven (string_bytes hex) input old new (obstacles.Failed failure)
 StopsTask failure (Rules role) input left old new = StopsPrinting failure (listed_for (option_map string_bytes role)) old new
 StopsTask failure (Explain code) input left old new = StopsPrinting failure (explained_for (string_bytes code)) old new
 
--- what keeps a task from being done: something failed, or its digits are invalid, or its word names nothing, and nothing was written
+-- what keeps a task from being done: something failed, or its digits spell no bytes, or its word names nothing, and nothing was written
 abbrev pub StopsAttempt : Task → (input left old new : Option (List ℕ)) → Obstacle → Type 0
 StopsAttempt task input left old new (obstacles.Failed failure) = StopsTask failure task input left old new
-StopsAttempt task input left old new (obstacles.Misused misuse) = IsMisnamed task × (misuse_line misuse ≡ misnamed_line task) × Keeps old new
+StopsAttempt task input left old new (obstacles.Misused misuse) = IsMisnamed task input (misuse_line misuse) × Keeps old new
 
--- 4: the digits of a packet are invalid, or a word names nothing; and the line that says so couldn't be written to the error stream
-pub record FailsMisnamed (task : Task) (old new : Option (List ℕ)) (error : Stream) : Type 0 where
-  pub misnamed : IsMisnamed task
+-- 4: the digits of a packet spell no bytes, or a word names nothing; and the line that says so couldn't be written to the error stream
+pub record FailsMisnamed (task : Task) (input old new : Option (List ℕ)) (error : Stream) : Type 0 where
+  pub line : List ℕ
+  pub misnamed : IsMisnamed task input line
   pub unwritten : Keeps old new
-  pub printed : IsCutOff error (misnamed_line task)
+  pub printed : IsCutOff error line

@@ -14,12 +14,12 @@ use Rattle.mq_cli.specs.declared.host.Unmade.{Unmade}
 use Rattle.mq_cli.specs.declared.host.Unmade.TheVariants.{Exists, IsLog, Failed}
 use Rattle.mq_cli.specs.declared.trouble.Trouble.{Trouble}
 use Rattle.mq_cli.specs.declared.trouble.Trouble.TheVariants as troubles
-use Rattle.mq_cli.specs.CommandLine.{ReadsAsAsked, StopsFor, word_faults, path_of, reads_log, request_by, request_of}
+use Rattle.mq_cli.specs.CommandLine.{ReadsAsAsked, StopsFor, word_faults, path_of, reads_input, request_by, request_of}
 use Rattle.mq_cli.specs.Converting.{DoesToFiles, FailsConverting, Files, IsConvertible, RefusesConverting, files_of}
 use Rattle.mq_cli.specs.Effects.{Doing}
 use Rattle.mq_cli.specs.Given.{Given, bytes_at}
 use Rattle.mq_cli.specs.Reviewing.{IfBoth, IsReviewed, Plan, RefusesPlan, StopsPlan, plan_of}
-use Rattle.mq_cli.specs.Messages.{FailsMisnamed, StopsTask, HasFailed, HasPassed, IsMisnamed, IsRefusedOn, IsReportedOn, IsShownOn, IsPrintedOn, misnamed_line}
+use Rattle.mq_cli.specs.Messages.{FailsMisnamed, StopsTask, HasFailed, HasPassed, IsMisnamed, IsRefusedOn, IsReportedOn, IsShownOn, IsPrintedOn}
 use Rattle.mq_cli.specs.Streams.{AppendsPart, IsCutOff, IsTold, Stream, exists_line, failure_line, same_file_line}
 use Rattle.mq_cli.specs.Troubles.{Tells, failure_in, hint_line, place_of, words_place}
 
@@ -33,6 +33,12 @@ pub record IsHinted (log : Option Text) (error : Stream) : Type 0 where
   pub start : Text
   pub shows : IfSome log (λ bytes. hint_line bytes ≡ hint_line start)
   pub told : IsTold error (hint_line start)
+
+-- 3: what the task asks for can't be done, and the line that says so was written to the error stream
+pub record MisusesTask (task : Task) (input error_old error_new : Option (List ℕ)) : Type 0 where
+  pub line : List ℕ
+  pub misnamed : IsMisnamed task input line
+  pub told : Appends error_old error_new line
 
 -- In what follows, `is_closed` says that nobody reads the output any more.
 
@@ -52,7 +58,7 @@ pub record FailsOn (task : Task) (place : Text) (log : Option Text) (is_closed :
 
 -- 4: the task failed on this log, or what it asks for can't be done, and the line that says so couldn't be written to the error stream
 abbrev pub FailsTaskOn : Task → (place : Text) → (log : Option Text) → (is_closed : Bool) → (old new : Option (List ℕ)) → Stream → Type 0
-FailsTaskOn task place log is_closed old new error = FailsOn task place log is_closed old new error ⊎ FailsMisnamed task old new error
+FailsTaskOn task place log is_closed old new error = FailsOn task place log is_closed old new error ⊎ FailsMisnamed task log old new error
 
 -- 4: the same, or the first bytes of the log couldn't be read
 abbrev pub FailsLog : Task → (place : Text) → (log : Option Text) → (is_closed : Bool) → (old new : Option (List ℕ)) → Stream → Type 0
@@ -67,10 +73,10 @@ pub record IsUnopened (given : Given) (name : Option Text) (is_closed : Bool) (o
   pub unwritten : Keeps old new
   pub told : Tells is_closed path trouble error
 
--- 4: the task's file couldn't be opened, or the task reads a log and failed at that, or it reads none and failed
+-- 4: the task's file couldn't be opened, or the task reads its input and failed at that, or it reads none and failed
 abbrev pub FailsRead : Given → Task → (is_closed : Bool) → (old new : Option (List ℕ)) → Stream → Type 0
 FailsRead given task is_closed old new error = IsUnopened given (path_of task) is_closed old new error
-    ⊎ (((reads_log task ≡ true) × FailsLog task (place_of (path_of task)) (input_of given task) is_closed old new error)
+    ⊎ (((reads_input task ≡ true) × FailsLog task (place_of (path_of task)) (input_of given task) is_closed old new error)
     ⊎ FailsTaskOn task (place_of (path_of task)) (input_of given task) is_closed old new error)
 
 -- ---- a log that is shown with the faults at its events
@@ -205,10 +211,10 @@ RefusesWork given (Once task) old new error = IsRefusedOn task (input_of given t
 RefusesWork given (Twice review) old new error = RefusesReview given review old new error
 RefusesWork given (Convert conversion) old new error = RefusesConversion given conversion old new error
 
--- 3: the digits of a packet are invalid, a word isn't an end, a statement or a number, there is no file to read twice, or a log is to be converted into itself, or
+-- 3: the digits of a packet spell no bytes, a word isn't an end, a statement or a number, there is no file to read twice, or a log is to be converted into itself, or
 -- into a file that is there, and the line that says so was written to the error stream
 abbrev pub MisusesWork : Given → Work → Option (List ℕ) → Option (List ℕ) → Type 0
-MisusesWork given (Once task) error_old error_new = IsMisnamed task × Appends error_old error_new (misnamed_line task)
+MisusesWork given (Once task) error_old error_new = MisusesTask task (input_of given task) error_old error_new
 MisusesWork given (Twice review) error_old error_new = MisusesReview review error_old error_new
 MisusesWork given (Convert conversion) error_old error_new = MisusesConversion given conversion error_old error_new
 

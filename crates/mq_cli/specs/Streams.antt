@@ -1,11 +1,12 @@
 -- What was written to a stream, and the lines that say what failed or what is asked for in vain.
 use Rattle.std.specs.Prelude.{◌≡◌, ◌⊎◌, ℕ, Bool, true, List, [], ◌∷◌, ◌++◌, codes, Option}
 use Rattle.std.specs.Io.KnownBytes.{Appends}
+use Rattle.mq_cli.specs.Digits.{oddity_line}
 use Rattle.mq_cli.specs.Listing.{all_codes}
 use Rattle.mq_cli.specs.declared.failure.Failure.{Failure}
 use Rattle.mq_cli.specs.declared.failure.Failure.TheVariants as failures
 use Rattle.mq_cli.specs.declared.misuse.Misuse.{Misuse}
-use Rattle.mq_cli.specs.declared.misuse.Misuse.TheVariants.{NotHex, NoRole, NoStatement, NoFaults, NoFile, NoNumber, SameFile, OutExists}
+use Rattle.mq_cli.specs.declared.misuse.Misuse.TheVariants.{NotHex, TooLong, NoRole, NoStatement, NoFaults, NoFile, NoNumber, SameFile, OutExists}
 
 -- The known bytes grew by a beginning of the text, or by all of it, and by nothing else.
 pub record AppendsPart (old new : Option (List ℕ)) (text : List ℕ) : Type 0 where
@@ -44,9 +45,9 @@ failure_line failures.Memory = codes "mqjudge: out of memory" ++ 10 ∷ []
 
 -- ---- what the words ask for in vain
 
--- the message for digits that spell no bytes
-abbrev pub not_hex_line : List ℕ
-not_hex_line = codes "mqjudge: not hex" ++ 10 ∷ []
+-- the message for more text on standard input than is taken
+abbrev pub too_long_line : List ℕ
+too_long_line = codes "mqjudge: standard input has more than 134217728 bytes, the most that packet takes" ++ 10 ∷ []
 
 -- for a word that isn't an end, and then which ends there are
 abbrev pub no_role_line : List ℕ → List ℕ
@@ -77,7 +78,8 @@ exists_line path = codes "mqjudge: OUT exists: " ++ (path ++ (10 ∷ codes "mqju
 
 -- the message for a misuse
 abbrev pub misuse_line : Misuse → List ℕ
-misuse_line NotHex = not_hex_line
+misuse_line (NotHex odd) = oddity_line odd
+misuse_line TooLong = too_long_line
 misuse_line (NoRole word) = no_role_line word.now
 misuse_line (NoStatement word) = no_statement_line word.now
 misuse_line NoFaults = no_faults_line

@@ -1,13 +1,15 @@
 //! Parsing the words of a command line into a task.
-ghost use Rattle.std.specs.Prelude.{◌≡◌, [], Some, codes, false, IfOk, IfErr, map, option_map, string_bytes, unwrap_or};
-ghost use Rattle.clap.specs.Words.{HasKind, Kinds, app_of, new_rule, rule_of, subcommand_of, subcommand_rows_of, with_subcommand};
+ghost use Rattle.std.specs.Prelude.{◌≡◌, List, [], Some, codes, false, IfOk, IfErr, map, option_map, string_bytes, unwrap_or};
+ghost use Rattle.clap.specs.Words.{HasKind, Kinds, Text, app_of, new_rule, rule_of, subcommand_of, subcommand_rows_of, with_subcommand};
 ghost use Rattle.clap.specs.declared.builder.command.Command.TheViews.{out-Command};
 ghost use Rattle.mq_cli.specs.CommandLine.{ReadsAsAsked, StopsFor, around_option, check_command, check_request, convert_command, convert_request, explain_command};
 ghost use Rattle.mq_cli.specs.CommandLine.{explain_request, word_faults, flag, is_true, mqjudge, packet_command, packet_request};
-ghost use Rattle.mq_cli.specs.CommandLine.{path_named, path_of, reads_log, request_by, request_of, required_operand, rules_command};
-ghost use Rattle.mq_cli.specs.CommandLine.{rules_request, show_command, show_request};
+ghost use Rattle.mq_cli.specs.CommandLine.{path_named, path_of, reads_input, request_by, request_of, required_operand, rules_command};
+ghost use Rattle.mq_cli.specs.CommandLine.{IsUsage, TellsOfMany, rules_request, show_command, show_request};
+ghost use Rattle.mq_cli.specs.Operands.{names_many_logs};
 
-use crate::digits::spaced;
+use crate::digits::{is_dash, spaced};
+use crate::operands::names_many_logs;
 use clap::error::ErrorKind;
 use clap::{Arg, ArgAction, ArgMatches, Command, Error};
 use std::alloc::{AllocError, Global};
@@ -30,8 +32,10 @@ const SHOW_HELP: &str = "Statuses: 0 if the log was shown, 2 for a refused log, 
     The log's format: docs/LOG_FORMAT.md";
 
 const PACKET_HELP: &str = "Statuses: 0 for one packet, 1 for other bytes, 3 for misuse,\n\
-    4 if writing failed or memory ran out.\n\
-    Example: mqjudge packet 40 02 00 01\n\
+    4 if reading or writing failed or memory ran out.\n\
+    Examples: mqjudge packet 40 02 00 01\n\
+    \x20         mqjudge packet 40:02:00:01\n\
+    \x20         mqjudge packet - < hex.txt\n\
     The log's format: docs/LOG_FORMAT.md";
 
 const RULES_HELP: &str = "Statuses: 0 if they were listed, 3 for misuse,\n\
@@ -105,9 +109,10 @@ pub enum Task {
         /// Say what else each packet says.
         long: bool,
     },
-    /// Say which packet the bytes are that `hex` spells.
+    /// Say which packet the bytes are that `hex` spells, or what is on standard input if it is `-`.
     Packet {
-        /// Two hexadecimal digits for each byte. Spaces may be between bytes.
+        /// Two hexadecimal digits for each byte. Between bytes there may be spaces, tabs, line
+        /// ends, commas and colons, and `0x` before each.
         hex: String,
     },
     /// List the statements: those that bind the end that `role` names, or all if there is none.
@@ -123,18 +128,19 @@ pub enum Task {
 }
 
 impl Task {
-    /// Whether the task reads a log.
-    pub fn reads_log(&self) -> bool
-        ensures { result ≡ reads_log self.now }
+    /// Whether the task reads its input: a log, or the digits of a packet.
+    pub fn reads_input(&self) -> bool
+        ensures { result ≡ reads_input self.now }
     {
         match self {
             Task::Check { .. } | Task::Show { .. } => true,
-            Task::Packet { .. } | Task::Rules { .. } | Task::Explain { .. } => false,
+            Task::Packet { hex } => is_dash(hex.as_str()),
+            Task::Rules { .. } | Task::Explain { .. } => false,
         }
     }
 
     /// The path of the log that the task reads: `None` if it reads standard input, which `-` means
-    /// too, and for tasks that read no log.
+    /// too, and for other tasks.
     pub fn path(&self) -> Option<&str>
         ensures { option_map (λ path. path.now) result ≡ path_of self.now }
     {
@@ -179,6 +185,7 @@ pub fn parse<S: AsStr>(alloc: Global, words: &[S]) -> Result<Work, EarlyExit>
         request_of (map S.text words.now) ≡ Some (request_by work)) }
     ensures readings { IfOk result ReadsAsAsked }
     ensures stop { IfErr result (StopsFor (word_faults (map S.text words.now))) }
+    ensures many { IfErr result (TellsOfMany (map S.text words.now)) }
 {
     match matches_of(alloc, words) {
         Ok(matches) => match matches.subcommand_matches("check") {
@@ -216,7 +223,33 @@ pub fn parse<S: AsStr>(alloc: Global, words: &[S]) -> Result<Work, EarlyExit>
                 },
             },
         },
-        Err(error) => Err(stop_for(alloc, &error)),
+        Err(error) => Err(with_hint(stop_for(alloc, &error), names_many_logs(words))),
+    }
+}
+
+// The stop, and if the words name many logs, where those are judged.
+fn with_hint(stop: EarlyExit, many: bool) -> EarlyExit
+    ensures same { (kinds : Kinds) → StopsFor kinds stop → StopsFor kinds result }
+    ensures many { (words : List Text) → many ≡ names_many_logs words → TellsOfMany words result }
+{
+    match stop {
+        EarlyExit::Usage(text) => usage(text, many),
+        EarlyExit::Help(text) => EarlyExit::Help(text),
+        EarlyExit::Memory => EarlyExit::Memory,
+    }
+}
+
+// A misuse with this text, and if the words name many logs, where those are judged.
+fn usage(text: String, many: bool) -> EarlyExit
+    ensures { IsUsage text many result }
+{
+    let mut text = text;
+    if !many {
+        return EarlyExit::Usage(text);
+    }
+    match text.push_str("mqjudge: check takes one log; recorders/judge takes many\n") {
+        Ok(()) => EarlyExit::Usage(text),
+        Err(_) => EarlyExit::Memory,
     }
 }
 
@@ -354,7 +387,7 @@ fn packet_command<'a>(alloc: Global) -> Result<Command<'a>, AllocError>
     ensures local { IfOk result (λ command. (out-Command command).has_globals ≡ false) }
 {
     let hex = Arg::new(alloc, "HEX")
-        .help("The packet's bytes, two hexadecimal digits each, with or without spaces")
+        .help("The packet's bytes in hexadecimal digits; `-` reads them from standard input")
         .required(true)
         .num_args(1..);
     Command::new(alloc, "packet")

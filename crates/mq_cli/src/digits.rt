@@ -1,29 +1,57 @@
 //! The digits that spell a packet's bytes.
 ghost use Rattle.std.specs.Prelude.{◌≡◌, IfOk, map, string_bytes};
-ghost use Rattle.mq_cli.specs.Digits.{packed, spaced};
+ghost use Rattle.mq_cli.specs.Digits.{is_between, is_dash, is_prefix, packed, spaced};
 
 use std::alloc::{AllocError, Global};
 use std::convert::AsStr;
 
-/// The digits without the spaces before, between and after bytes, each of which is two digits. A
-/// space between the two digits of a byte stays, and so isn't hexadecimal.
-pub fn packed(alloc: Global, digits: &str) -> Result<Vec<u8>, AllocError>
-    ensures { IfOk result (λ packed_digits. packed_digits.items ≡ packed digits.now) }
+/// The digits of a text without what stands before, between and after bytes, each of which is two
+/// digits: spaces, tabs, line ends, commas, colons, and `0x` or `0X`. Between the two digits of a
+/// byte nothing may stand: what does stays, and so isn't hexadecimal.
+pub fn packed(alloc: Global, text: &[u8]) -> Result<Vec<u8>, AllocError>
+    ensures { IfOk result (λ digits. digits.items ≡ packed text.now) }
 {
     let mut packed = Vec::new(alloc);
-    let mut rest = digits.as_bytes();
+    let mut rest = text;
     while let [first, after @ ..] = rest {
         rest = after;
-        if *first == b' ' {
+        if is_between(*first) {
+            continue;
+        }
+        let [second, later @ ..] = after else {
+            packed.push(*first)?;
+            return Ok(packed);
+        };
+        rest = later;
+        if is_prefix(*first, *second) {
             continue;
         }
         packed.push(*first)?;
-        if let [second, later @ ..] = after {
-            packed.push(*second)?;
-            rest = later;
-        }
+        packed.push(*second)?;
     }
     Ok(packed)
+}
+
+/// Whether a character may stand before, between and after bytes: a space, a tab, a line end, a
+/// comma or a colon.
+pub fn is_between(code: u8) -> bool
+    ensures { result ≡ is_between code }
+{
+    matches!(code, b'\t' | b'\n' | b'\r' | b' ' | b',' | b':')
+}
+
+/// Whether two characters are `0x` or `0X`.
+pub fn is_prefix(first: u8, second: u8) -> bool
+    ensures { result ≡ is_prefix first second }
+{
+    first == b'0' && (second == b'x' || second == b'X')
+}
+
+/// Whether an operand stands for standard input.
+pub fn is_dash(operand: &str) -> bool
+    ensures { result ≡ is_dash operand.now }
+{
+    operand == "-"
 }
 
 /// The words as one text, with a space between two.

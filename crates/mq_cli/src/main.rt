@@ -15,8 +15,11 @@ mod meter;
 mod misuse;
 mod new_file;
 mod noting;
+mod oddity;
+mod operands;
 mod output;
 mod program;
+mod reading;
 mod reviewing;
 mod tasks;
 #[cfg(test)]

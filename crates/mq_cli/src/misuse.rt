@@ -1,18 +1,22 @@
 //! What the words ask for in vain, and the messages that say so.
 ghost use Rattle.std.specs.Prelude.{◌≡◌, ◌⊎◌, ◌++◌, IfOk, codes, string_bytes};
 ghost use Rattle.std.specs.Io.KnownBytes.{Appends};
+ghost use Rattle.mq_cli.specs.Digits.{oddity_line};
 ghost use Rattle.mq_cli.specs.Streams.{IsCutOff, IsTold, failure_line, misuse_line, no_statement_line, stream};
 
 use crate::error_stream::ErrorStream;
 use crate::failure::{FAILED, Failure, MISUSED};
 use crate::listing::add_all_codes;
+use crate::oddity::Oddity;
 use std::alloc::{AllocError, Global};
 
 /// Why what the words ask for can't be done.
 #[derive(Clone, Copy)]
 pub enum Misuse<'a> {
-    /// The digits of a packet aren't hexadecimal.
-    NotHex,
+    /// The digits of a packet spell no bytes, since this is odd in them.
+    NotHex(Oddity),
+    /// There is more text on standard input than is taken.
+    TooLong,
     /// The word isn't an end.
     NoRole(&'a str),
     /// The word is neither a statement's code nor a citation.
@@ -39,7 +43,11 @@ impl Misuse<'_> {
         ensures statuses { (result ≡ MISUSED) ⊎ (result ≡ FAILED) }
     {
         match self {
-            Misuse::NotHex => write_misuse("mqjudge: not hex\n", error),
+            Misuse::NotHex(odd) => refuse_digits(alloc, odd, error),
+            Misuse::TooLong => write_misuse(
+                "mqjudge: standard input has more than 134217728 bytes, the most that packet takes\n",
+                error,
+            ),
             Misuse::NoRole(word) => refuse_word(
                 alloc,
                 "mqjudge: no role ",
@@ -78,6 +86,19 @@ fn write_misuse<E: ErrorStream>(text: &str, error: &mut E) -> u8
     match error.write_message(text) {
         Ok(()) => MISUSED,
         Err(_) => FAILED,
+    }
+}
+
+// Writes what is odd in digits, and returns the status.
+fn refuse_digits<E: ErrorStream>(alloc: Global, odd: Oddity, error: &mut E) -> u8
+    ensures printed { result ≡ MISUSED → Appends (E.contents error.old) (E.contents error.new) (oddity_line odd) }
+    ensures failed { result ≡ FAILED → IsCutOff (stream E.contents E.has_failed error.old error.new) (oddity_line odd)
+        ⊎ IsTold (stream E.contents E.has_failed error.old error.new) (failure_line Failure.Memory) }
+    ensures statuses { (result ≡ MISUSED) ⊎ (result ≡ FAILED) }
+{
+    match odd.line(alloc) {
+        Ok(line) => write_misuse(line.as_str(), error),
+        Err(_) => Failure::Memory.report(error),
     }
 }
 

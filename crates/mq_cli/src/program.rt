@@ -1,9 +1,9 @@
 //! The program: from the words of its command line to its status.
 ghost use Rattle.std.specs.Prelude.{◌≡◌, ◌≤◌, ◌⊎◌, [], IfSome, None, map};
-ghost use Rattle.std.specs.Io.KnownBytes.{Appends, Keeps, prepend_known};
+ghost use Rattle.std.specs.Io.KnownBytes.{Keeps, prepend_known};
 ghost use Rattle.mq_cli.specs.Program.{DoesForWords, DoesForWork, FailsLog, FailsWords, FailsRead, FailsTaskOn, FailsWork, FindsFaults, FindsFaultsIn, IsMisuse, WordsUnread};
-ghost use Rattle.mq_cli.specs.Program.{IsHinted, MisusesWork, Passes, PassesWork, Refuses, RefusesWork, input_of};
-ghost use Rattle.mq_cli.specs.Messages.{HasFailed, HasPassed, IsMisnamed, IsRefusedOn, IsReportedOn, misnamed_line};
+ghost use Rattle.mq_cli.specs.Program.{IsHinted, MisusesTask, MisusesWork, Passes, PassesWork, Refuses, RefusesWork, input_of};
+ghost use Rattle.mq_cli.specs.Messages.{HasFailed, HasPassed, IsRefusedOn, IsReportedOn};
 ghost use Rattle.mq_cli.specs.Streams.{IsTold, stream};
 ghost use Rattle.mq_cli.specs.Troubles.{hint_line};
 
@@ -126,7 +126,7 @@ fn work_on<H: Host, W: Output, E: ErrorStream, P: Progress>(
     }
 }
 
-// Does the task on the log that it names, and returns the status to exit with.
+// Does the task on the log that it names, or on its other input, and returns the status to exit with.
 fn read_and_do<H: Host, W: Output, E: ErrorStream, P: Progress>(
     alloc: Global,
     host: &H,
@@ -146,8 +146,8 @@ fn read_and_do<H: Host, W: Output, E: ErrorStream, P: Progress>(
         (W.contents output.old) (W.contents output.new) }
     ensures hinted { result ≡ 2 → IsHinted (input_of (H.gives host.now) task.now)
         (stream E.contents E.has_failed error.old error.new) }
-    ensures misused { result ≡ 3 → IsMisnamed task.now
-        × Appends (E.contents error.old) (E.contents error.new) (misnamed_line task.now) }
+    ensures misused { result ≡ 3 → MisusesTask task.now (input_of (H.gives host.now) task.now)
+        (E.contents error.old) (E.contents error.new) }
     ensures failed { result ≡ 4 → FailsRead (H.gives host.now) task.now (W.is_closed output.new)
         (W.contents output.old) (W.contents output.new) (stream E.contents E.has_failed error.old error.new) }
 {
@@ -157,7 +157,7 @@ fn read_and_do<H: Host, W: Output, E: ErrorStream, P: Progress>(
             Err(trouble) => trouble.report(path, output, error),
         },
         None => {
-            if task.reads_log() {
+            if task.reads_input() {
                 do_on(
                     alloc,
                     task,
@@ -202,8 +202,8 @@ fn do_on<R: Read + Drop, W: Output, E: ErrorStream, P: Progress>(
     ensures reported { result ≤ 1 → IsReportedOn task.now (R.remaining input) (W.contents output.old) (W.contents output.new) }
     ensures refused { result ≡ 2 → IsRefusedOn task.now (R.remaining input) (W.contents output.old) (W.contents output.new) }
     ensures hinted { result ≡ 2 → IsHinted (R.remaining input) (stream E.contents E.has_failed error.old error.new) }
-    ensures misused { result ≡ 3 → IsMisnamed task.now
-        × Appends (E.contents error.old) (E.contents error.new) (misnamed_line task.now) }
+    ensures misused { result ≡ 3 → MisusesTask task.now (R.remaining input)
+        (E.contents error.old) (E.contents error.new) }
     ensures failed { result ≡ 4 → FailsLog task.now place.now (R.remaining input) (W.is_closed output.new)
         (W.contents output.old) (W.contents output.new) (stream E.contents E.has_failed error.old error.new) }
 {
@@ -245,8 +245,8 @@ fn do_from<R: Read + Drop, W: Output, E: ErrorStream, P: Progress>(
     ensures refused { result ≡ 2 → IsRefusedOn task.now (prepend_known start.now (R.remaining input))
         (W.contents output.old) (W.contents output.new) }
     ensures hinted { result ≡ 2 → IsTold (stream E.contents E.has_failed error.old error.new) (hint_line start.now) }
-    ensures misused { result ≡ 3 → IsMisnamed task.now
-        × Appends (E.contents error.old) (E.contents error.new) (misnamed_line task.now) }
+    ensures misused { result ≡ 3 → MisusesTask task.now (prepend_known start.now (R.remaining input))
+        (E.contents error.old) (E.contents error.new) }
     ensures failed { result ≡ 4 → FailsTaskOn task.now place.now (prepend_known start.now (R.remaining input)) (W.is_closed output.new)
         (W.contents output.old) (W.contents output.new) (stream E.contents E.has_failed error.old error.new) }
 {

@@ -3,9 +3,10 @@ ghost use Rattle.std.specs.Prelude.{◌≡◌, ◌≤◌, ◌⊎◌, ℕ, List, 
 ghost use Rattle.std.specs.Io.KnownBytes.{Appends, Keeps};
 ghost use Rattle.mq_cli.specs.Citing.{explained_for, if_some};
 ghost use Rattle.mq_cli.specs.Listing.{listed_for, statement_lines};
+ghost use Rattle.mq_cli.specs.Digits.{OfDigits};
 ghost use Rattle.mq_cli.specs.Messages.{AppendsLineOf, BeginsRefusal, HasFailed, HasPassed, IsOfLog, IsPrintedOn, IsRefusedOn, IsReportedOn};
 ghost use Rattle.mq_cli.specs.Messages.{IsShownOn, LacksJsonMemory, Prints, RefusesCheck, RefusesShow, SpellsNoPacket, SpellsPacket};
-ghost use Rattle.mq_cli.specs.Messages.{StopsAttempt, StopsCheck, StopsDigits, StopsShow, StopsText, failure_of, form_of, text_in_view};
+ghost use Rattle.mq_cli.specs.Messages.{StopsAttempt, StopsCheck, StopsGiven, StopsRead, StopsShow, StopsSpelled, StopsText, failure_of, form_of, text_in_view};
 ghost use Rattle.mq_cli.specs.Program.{FailsStop};
 ghost use Rattle.mq_cli.specs.Streams.{AppendsPart, no_role_line, no_statement_line, stream};
 ghost use Rattle.mq_judge.specs.OnePacket.{IsOnePacket, packet_report};
@@ -16,13 +17,15 @@ ghost use Rattle.mq_trace.specs.Events.{events};
 
 use crate::citations::explanations_cited;
 use crate::command_line::{EarlyExit, Task};
-use crate::digits::packed;
+use crate::digits::{is_dash, packed};
 use crate::error_stream::ErrorStream;
 use crate::explanations::explanation;
 use crate::failure::{FAILED, FAULTY, Failure, MISUSED, Obstacle, PASSED, REFUSED};
 use crate::listing::{listing, role_named};
 use crate::misuse::Misuse;
+use crate::oddity::first_oddity;
 use crate::output::Output;
+use crate::reading::{MOST_TEXT, NoText, read_text};
 use crate::trouble::Trouble;
 use crate::writing::{flush, write_out};
 use hex::{FromHexError, decode};
@@ -68,7 +71,7 @@ pub enum EventView<'a> {
 /// # Errors
 ///
 /// `Failed` if reading or writing failed or memory ran out: what was written until then is part of
-/// what would have been. `Misused` if `hex` isn't hexadecimal, if the word isn't an end, or if it
+/// what would have been. `Misused` if the digits of a packet spell no bytes, or there are too many of them, if the word isn't an end, or if it
 /// is neither a statement's code nor a citation: nothing was written.
 pub fn attempt<'a, R: Read, W: Write, P: Progress>(
     alloc: Global,
@@ -107,7 +110,7 @@ pub fn attempt<'a, R: Read, W: Write, P: Progress>(
             Ok(status) => Ok(status),
             Err(failure) => Err(Obstacle::Failed(failure)),
         },
-        Task::Packet { hex } => packet(alloc, hex.as_str(), output),
+        Task::Packet { hex } => packet_given(alloc, hex.as_str(), input, output),
         Task::Rules { role: None } => print_all(alloc, output),
         Task::Rules { role: Some(word) } => print_rules(alloc, word.as_str(), output),
         Task::Explain { code } => explain(alloc, code.as_str(), output),
@@ -234,22 +237,62 @@ pub fn refuse<W: Write>(
     }
 }
 
-// Writes which packet the bytes are that these digits spell.
-fn packet<'a, W: Write>(alloc: Global, hex: &str, output: &mut W) -> Result<u8, Obstacle<'a>>
-    ensures passed { IfOk result (λ status. status ≡ PASSED → SpellsPacket hex.now) }
-    ensures faulty { IfOk result (λ status. status ≡ FAULTY → SpellsNoPacket hex.now) }
-    ensures reported { OnOk result (AppendsLineOf hex.now (W.contents output.old) (W.contents output.new)) }
-    ensures stops { IfErr result (StopsDigits hex.now (W.contents output.old) (W.contents output.new)) }
+// Writes which packet the bytes are that this operand spells, or the text on standard input.
+fn packet_given<'a, R: Read, W: Write>(
+    alloc: Global,
+    operand: &str,
+    input: &mut R,
+    output: &mut W,
+) -> Result<u8, Obstacle<'a>>
+    ensures passed { IfOk result (λ status. status ≡ PASSED → OfDigits operand.now (R.remaining input.old) SpellsPacket) }
+    ensures faulty { IfOk result (λ status. status ≡ FAULTY → OfDigits operand.now (R.remaining input.old) SpellsNoPacket) }
+    ensures reported { OnOk result (OfDigits operand.now (R.remaining input.old) (λ text. AppendsLineOf text (W.contents output.old) (W.contents output.new))) }
+    ensures stops { IfErr result (StopsGiven operand.now (R.remaining input.old) (W.contents output.old) (W.contents output.new)) }
     ensures statuses { IfOk result (λ status. status ≤ FAULTY) }
 {
-    match packed(alloc, hex) {
+    if is_dash(operand) {
+        packet_read(alloc, input, output)
+    } else {
+        packet(alloc, operand.as_bytes(), output)
+    }
+}
+
+// Writes which packet the bytes are that the text on standard input spells.
+fn packet_read<'a, R: Read, W: Write>(
+    alloc: Global,
+    input: &mut R,
+    output: &mut W,
+) -> Result<u8, Obstacle<'a>>
+    ensures passed { IfOk result (λ status. status ≡ PASSED → IfSome (R.remaining input.old) SpellsPacket) }
+    ensures faulty { IfOk result (λ status. status ≡ FAULTY → IfSome (R.remaining input.old) SpellsNoPacket) }
+    ensures reported { OnOk result (IfSome (R.remaining input.old) (λ text. AppendsLineOf text (W.contents output.old) (W.contents output.new))) }
+    ensures stops { IfErr result (StopsRead (R.remaining input.old) (W.contents output.old) (W.contents output.new)) }
+    ensures statuses { IfOk result (λ status. status ≤ FAULTY) }
+{
+    match read_text(alloc, input, MOST_TEXT) {
+        Ok(text) => packet(alloc, text.as_slice(), output),
+        Err(NoText::Unread) => Err(Obstacle::Failed(Failure::Read)),
+        Err(NoText::Memory) => Err(Obstacle::Failed(Failure::Memory)),
+        Err(NoText::TooLong) => Err(Obstacle::Misused(Misuse::TooLong)),
+    }
+}
+
+// Writes which packet the bytes are that a text spells.
+fn packet<'a, W: Write>(alloc: Global, text: &[u8], output: &mut W) -> Result<u8, Obstacle<'a>>
+    ensures passed { IfOk result (λ status. status ≡ PASSED → SpellsPacket text.now) }
+    ensures faulty { IfOk result (λ status. status ≡ FAULTY → SpellsNoPacket text.now) }
+    ensures reported { OnOk result (AppendsLineOf text.now (W.contents output.old) (W.contents output.new)) }
+    ensures stops { IfErr result (StopsSpelled text.now (W.contents output.old) (W.contents output.new)) }
+    ensures statuses { IfOk result (λ status. status ≤ FAULTY) }
+{
+    match packed(alloc, text) {
         Ok(digits) => match decode(alloc, digits.as_slice()) {
             Ok(bytes) => match print_packet(bytes.as_slice(), output) {
                 Ok(status) => Ok(status),
                 Err(failure) => Err(Obstacle::Failed(failure)),
             },
             Err(FromHexError::OutOfMemory) => Err(Obstacle::Failed(Failure::Memory)),
-            Err(_) => Err(Obstacle::Misused(Misuse::NotHex)),
+            Err(_) => Err(Obstacle::Misused(Misuse::NotHex(first_oddity(text)))),
         },
         Err(_) => Err(Obstacle::Failed(Failure::Memory)),
     }

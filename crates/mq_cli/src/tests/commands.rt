@@ -376,6 +376,25 @@ fn refuses_other_words(rt: HostRuntime) {
     }
 }
 
+#[test]
+fn says_where_many_logs_are_judged(rt: HostRuntime) {
+    let line = "\nmqjudge: check takes one log; recorders/judge takes many\n";
+    let rows: [(&[&str], bool); 8] = [
+        (&["mqjudge", "check", "a", "b"], true),
+        (&["mqjudge", "check", "--json", "a", "-"], true),
+        (&["mqjudge", "check", "a", "--summary", "b", "c"], true),
+        (&["mqjudge", "check", "a", "b", "--quiet"], true),
+        (&["mqjudge", "check", "a", "--quiet"], false),
+        (&["mqjudge", "check", "--quiet", "--quick"], false),
+        (&["mqjudge", "show", "a", "b"], false),
+        (&["mqjudge", "explain", "S01", "S02"], false),
+    ];
+    for (words, many) in rows {
+        assert!(rt; is_misuse(rt.alloc(), words, "Usage: mqjudge"), "{words:?}");
+        assert!(rt; is_misuse(rt.alloc(), words, line) == many, "{words:?}");
+    }
+}
+
 // Whether a stop ends with this status, this output and this message.
 fn is_stopped(alloc: Global, why: &EarlyExit, status: u8, shown: &str, printed: &str) -> bool {
     let mut output = Outlet::new(Vec::new(alloc));

@@ -1,9 +1,12 @@
 //! `packet`.
 use super::harness::{
-    Narrow, Printed, is_failed_write, is_misuse, is_written, printed_by, status_by, task_of,
+    Narrow, Printed, Trickle, is_failed_write, is_misuse, is_written, printed_by, status_by,
+    task_of,
 };
 use crate::command_line::{EarlyExit, Task};
 use crate::failure::{FAILED, FAULTY, MISUSED, PASSED};
+use crate::misuse::Misuse;
+use crate::reading::{NoText, read_text};
 use std::alloc::Global;
 use std::io;
 use std::io::Cursor;
@@ -274,32 +277,195 @@ fn says_which_packet_bytes_are(rt: HostRuntime) -> Result<(), Fail> {
     Ok(())
 }
 
+// Texts that spell no bytes, and what is said of each.
+const ODD: [(&str, &str); 16] = [
+    ("4", "mqjudge: a digit is missing after character 1, `4`\n"),
+    (
+        "400",
+        "mqjudge: a digit is missing after character 3, `0`\n",
+    ),
+    (
+        "40 020",
+        "mqjudge: a digit is missing after character 6, `0`\n",
+    ),
+    (
+        "0x40 0x0\n",
+        "mqjudge: character 9, byte 0x0A, is no hexadecimal digit\n",
+    ),
+    (
+        "0x40,0x0",
+        "mqjudge: a digit is missing after character 8, `0`\n",
+    ),
+    ("4g", "mqjudge: character 2, `g`, is no hexadecimal digit\n"),
+    (
+        "40 02 g0",
+        "mqjudge: character 7, `g`, is no hexadecimal digit\n",
+    ),
+    (
+        "40:02:0:01",
+        "mqjudge: character 8, `:`, is no hexadecimal digit\n",
+    ),
+    (
+        "4 00",
+        "mqjudge: character 2, ` `, is no hexadecimal digit\n",
+    ),
+    (
+        "4,0",
+        "mqjudge: character 2, `,`, is no hexadecimal digit\n",
+    ),
+    (
+        "4\t0",
+        "mqjudge: character 2, byte 0x09, is no hexadecimal digit\n",
+    ),
+    (
+        "40 é0",
+        "mqjudge: character 4, byte 0xC3, is no hexadecimal digit\n",
+    ),
+    (
+        "x40",
+        "mqjudge: character 1, `x`, is no hexadecimal digit\n",
+    ),
+    (
+        "400x0",
+        "mqjudge: a digit is missing after character 5, `0`\n",
+    ),
+    (
+        "40-02-00-01",
+        "mqjudge: character 3, `-`, is no hexadecimal digit\n",
+    ),
+    (
+        "40\u{7f}",
+        "mqjudge: character 3, byte 0x7F, is no hexadecimal digit\n",
+    ),
+];
+
 #[test]
-fn refuses_digits_that_are_none(rt: HostRuntime) -> Result<(), Fail> {
-    for hex in [
-        "4", "400", "4g", "4 00", "4 0", "40 020", "40\t02", "0x40", "é",
-    ] {
+fn says_what_is_odd_in_digits(rt: HostRuntime) -> Result<(), Fail> {
+    for (hex, message) in ODD {
         let printed = printed_of_packet(rt.alloc(), hex)?;
-        assert!(rt; printed.complains(MISUSED, "mqjudge: not hex\n"), "{hex}");
+        assert!(rt; printed.complains(MISUSED, message), "{hex}");
     }
     Ok(())
 }
 
-// The words of a PUBACK, whose digits are spaced in all ways.
-const SPACED: [&[&str]; 5] = [
+// The words of a PUBACK, whose digits are written in all ways.
+const WRITTEN: [&[&str]; 17] = [
     &["mqjudge", "packet", "40 02 00 01"],
     &["mqjudge", "packet", "40", "02", "00", "01"],
     &["mqjudge", "packet", "4002", "0001"],
     &["mqjudge", "packet", "  4002 00  01 "],
     &["mqjudge", "packet", "40 02", "", "00 01"],
+    &["mqjudge", "packet", "0x40 0x02 0x00 0x01"],
+    &["mqjudge", "packet", "0x40", "0x02", "0X00", "0x01"],
+    &["mqjudge", "packet", "0x40020001"],
+    &["mqjudge", "packet", "0X40020001"],
+    &["mqjudge", "packet", "0x400x020x000x01"],
+    &["mqjudge", "packet", "40:02:00:01"],
+    &["mqjudge", "packet", "40,02,00,01"],
+    &["mqjudge", "packet", "0x40, 0x02, 0x00, 0x01"],
+    &["mqjudge", "packet", "0x40,", "0x02,", "0x00,", "0x01,"],
+    &["mqjudge", "packet", "40\t02\t00\t01"],
+    &["mqjudge", "packet", "40 02\n00 01\n"],
+    &["mqjudge", "packet", "\r\n40:02:\r\n00:01\r\n"],
 ];
 
 #[test]
-fn takes_spaces_between_bytes(rt: HostRuntime) -> Result<(), Fail> {
-    for words in SPACED {
-        let printed = printed_by(rt.alloc(), words, &mut io::empty())?;
+fn takes_digits_as_they_are_written(rt: HostRuntime) -> Result<(), Fail> {
+    for words in WRITTEN {
+        let printed = printed_by(rt.alloc(), words, &mut Trickle::of(b"", Some(0)))?;
         assert!(rt; printed.says(PASSED, "PUBACK size 4 id 1\n"), "{words:?}");
     }
+    Ok(())
+}
+
+#[test]
+fn takes_capital_and_small_digits(rt: HostRuntime) -> Result<(), Fail> {
+    for hex in [
+        "f0021800",
+        "F0021800",
+        "0xF0,0x02,0x18,0x00",
+        "0xf0:02:18:00",
+    ] {
+        let printed = printed_of_packet(rt.alloc(), hex)?;
+        assert!(rt; printed.says(PASSED, "AUTH size 4\n"), "{hex}");
+    }
+    Ok(())
+}
+
+const DASH: [&str; 3] = ["mqjudge", "packet", "-"];
+
+// What is on standard input, the status, and what is printed: on standard output if the status is 0
+// or 1, else as a message.
+const GIVEN: [(&[u8], u8, &str); 8] = [
+    (b"40020001", PASSED, "PUBACK size 4 id 1\n"),
+    (b"40 02 00 01\n", PASSED, "PUBACK size 4 id 1\n"),
+    (
+        b"0x40, 0x02,\r\n0x00, 0x01\r\n",
+        PASSED,
+        "PUBACK size 4 id 1\n",
+    ),
+    (b"41:02:00:01\n", FAULTY, "BAD W01 offset 0\n"),
+    (b"", FAULTY, "need more bytes\n"),
+    (b"\n", FAULTY, "need more bytes\n"),
+    (
+        b"40 02\n0g",
+        MISUSED,
+        "mqjudge: character 8, `g`, is no hexadecimal digit\n",
+    ),
+    (
+        b"\x40\x02\x00\x01",
+        MISUSED,
+        "mqjudge: character 1, `@`, is no hexadecimal digit\n",
+    ),
+];
+
+#[test]
+fn reads_digits_from_standard_input(rt: HostRuntime) -> Result<(), Fail> {
+    for (text, status, line) in GIVEN {
+        let whole = printed_by(rt.alloc(), &DASH, &mut &text[..])?;
+        let pieces = printed_by(rt.alloc(), &DASH, &mut Trickle::of(text, None))?;
+        assert!(rt;
+            is_said(&whole, status, line) && is_said(&pieces, status, line),
+            "{line}"
+        );
+    }
+    Ok(())
+}
+
+// Whether it ended with this status, and said this where that belongs.
+fn is_said(printed: &Printed, status: u8, text: &str) -> bool {
+    if status < MISUSED {
+        printed.says(status, text)
+    } else {
+        printed.complains(status, text)
+    }
+}
+
+#[test]
+fn reports_standard_input_that_fails(rt: HostRuntime) -> Result<(), Fail> {
+    for after in [0, 4, 8] {
+        let mut input = Trickle::of(b"40020001", Some(after));
+        let printed = printed_by(rt.alloc(), &DASH, &mut input)?;
+        assert!(rt;
+            printed.complains(FAILED, "mqjudge: read failed\n"),
+            "{after}"
+        );
+    }
+    Ok(())
+}
+
+#[test]
+fn takes_only_so_much_text(rt: HostRuntime) -> Result<(), Fail> {
+    let text = b"40020001";
+    let whole = read_text(rt.alloc(), &mut &text[..], 8);
+    assert!(rt; matches!(&whole, Ok(read) if read.as_slice() == &text[..]));
+    let more = read_text(rt.alloc(), &mut &text[..], 7);
+    assert!(rt; matches!(&more, Err(NoText::TooLong)));
+    let mut error = Vec::new(rt.alloc());
+    assert_eq!(rt; Misuse::TooLong.report(rt.alloc(), &mut error), MISUSED);
+    let line =
+        b"mqjudge: standard input has more than 134217728 bytes, the most that packet takes\n";
+    assert!(rt; error.as_slice() == &line[..]);
     Ok(())
 }
 

@@ -21,7 +21,8 @@ const REFUSED_LINES: &str = "1 record 1 OPEN\nrefused 7 Nested at 13\n";
 
 const MISUSE: &str = "error: unexpected argument 'b' found\n\n\
     Usage: mqjudge check [OPTIONS] [FILE]\n\n\
-    For more information, try '--help'.\n";
+    For more information, try '--help'.\n\
+    mqjudge: check takes one log; recorders/judge takes many\n";
 
 const B_MISSING: &str = "mqjudge: read failed\nmqjudge: b.log: there is no such file\n";
 
@@ -44,7 +45,7 @@ struct Row {
     error: &'static str,
 }
 
-static ROWS: [Row; 25] = [
+static ROWS: [Row; 27] = [
     Row {
         words: &["mqjudge", "check", "a.log"],
         file: GOOD,
@@ -171,7 +172,7 @@ static ROWS: [Row; 25] = [
         input: GOOD,
         status: 3,
         output: "",
-        error: "mqjudge: not hex\n",
+        error: "mqjudge: a digit is missing after character 1, `C`\n",
     },
     Row {
         words: &["mqjudge", "--version"],
@@ -239,12 +240,28 @@ static ROWS: [Row; 25] = [
         error: "mqjudge: no role broker\nmqjudge: there are client and server\n",
     },
     Row {
-        words: &["mqjudge", "packet", "4"],
+        words: &["mqjudge", "packet", "4:0"],
         file: GOOD,
         input: GOOD,
         status: 3,
         output: "",
-        error: "mqjudge: not hex\n",
+        error: "mqjudge: character 2, `:`, is no hexadecimal digit\n",
+    },
+    Row {
+        words: &["mqjudge", "packet", "-"],
+        file: GOOD,
+        input: b"40 02\n00 0A\n",
+        status: 0,
+        output: "PUBACK size 4 id 10\n",
+        error: "",
+    },
+    Row {
+        words: &["mqjudge", "packet", "-"],
+        file: GOOD,
+        input: b"4",
+        status: 3,
+        output: "",
+        error: "mqjudge: a digit is missing after character 1, `4`\n",
     },
 ];
 

@@ -191,11 +191,13 @@ fn lists_the_codes_for_a_word_that_is_none(rt: HostRuntime) -> Result<(), Fail> 
 
 // Words whose reading fails at its beginning, in the first bytes, or later; after how many bytes;
 // what is read; and what is written before.
-static UNREAD: [(&[&str], usize, &str, &str); 7] = [
+static UNREAD: [(&[&str], usize, &str, &str); 9] = [
     (&["mqjudge", "check", "a.log"], 0, "a.log", ""),
     (&["mqjudge", "check", "a.log"], 3, "a.log", ""),
     (&["mqjudge", "check", "a.log"], 30, "a.log", ""),
     (&["mqjudge", "check"], 30, "standard input", ""),
+    (&["mqjudge", "packet", "-"], 3, "standard input", ""),
+    (&["mqjudge", "packet", "-"], 20, "standard input", ""),
     (
         &["mqjudge", "show", "-"],
         20,

@@ -69,3 +69,6 @@ returns-in-Some-subcommand_matches-5-clause-work g c =
     let force = c.is_true-in-Some-subcommand_matches-5.ensures ∙ ap is_true c.get_str-in-Some-subcommand_matches-5-3.ensures in
     let asked = request_is_convert words c.in-Ok.matches met.convert.now c.in-Ok.ensures.met (met.ensures.found.0 refl) met.ensures.rows in
     IfOk-weaker c.convert_task.result _ _ (λ work h. asked ∙ same_convert (sym log) (sym made) (sym force) ∙ ap Some (sym h)) c.convert_task.ensures.work
+
+pub returns-clause-stop : goal.returns-clause-stop
+returns-clause-stop g c = c.with_hint.ensures.same _ (c.stop_for.ensures _ c.in-Err.ensures.fault)

@@ -2,7 +2,7 @@ use Rattle.std.proofs.Common.{inr}
 use Rattle.std.specs.Io.KnownBytes.{prepend_known}
 use Rattle.mq_cli.specs.Streams.{stream}
 use Rattle.mq_cli.proofs.BeginningLaws.{hinted_by_start, rejoined}
-use Rattle.mq_cli.proofs.ProgramLemmas.{failed_kept, fails_kept, passed_kept, refused_kept, reported_kept}
+use Rattle.mq_cli.proofs.ProgramLemmas.{failed_kept, fails_kept, misused_kept, passed_kept, refused_kept, reported_kept}
 use Rattle.mq_cli.proofs.program.do_on.Goals as goal
 
 pub returns-in-Ok-clause-hinted : goal.returns-in-Ok-clause-hinted
@@ -31,6 +31,12 @@ returns-in-Ok-clause-refused g c = λ e.
     refused_kept c.args.task.now (g.W.Write.contents c.args.output.now) (g.W.Write.contents c.do_from.new.output)
     (g.R.Read.remaining c.args.input) (prepend_known c.as_slice.result.now (g.R.Read.remaining c.read_start.new.reader))
     (rejoined _ _ _ _ c.as_slice.ensures.value c.in-Ok.ensures.taken) (c.do_from.ensures.refused e)
+
+pub returns-in-Ok-clause-misused : goal.returns-in-Ok-clause-misused
+returns-in-Ok-clause-misused g c = λ e.
+    misused_kept c.args.task.now (g.E.ErrorStream.contents c.args.error.now) (g.E.ErrorStream.contents c.do_from.new.error)
+    (g.R.Read.remaining c.args.input) (prepend_known c.as_slice.result.now (g.R.Read.remaining c.read_start.new.reader))
+    (rejoined _ _ _ _ c.as_slice.ensures.value c.in-Ok.ensures.taken) (c.do_from.ensures.misused e)
 
 pub returns-in-Ok-clause-failed : goal.returns-in-Ok-clause-failed
 returns-in-Ok-clause-failed g c = λ e.

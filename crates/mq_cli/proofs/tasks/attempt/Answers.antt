@@ -1,12 +1,13 @@
 use Rattle.std.proofs.Common.{rules, sym, subst, ◌≡◌, List, ℕ, IfErr, Some}
 use Rattle.std.specs.Prelude.{string_bytes}
 use Rattle.mq_cli.specs.declared.command_line.Task.{Task}
-use Rattle.mq_cli.specs.declared.command_line.Task.TheVariants.{Show, Rules, Explain}
+use Rattle.mq_cli.specs.declared.command_line.Task.TheVariants.{Show, Packet, Rules, Explain}
 use Rattle.mq_cli.specs.Citing.{explained_for}
 use Rattle.mq_cli.specs.Listing.{listed_for}
-use Rattle.mq_cli.specs.Messages.{IsRefusedOn, StopsAttempt, StopsText}
+use Rattle.mq_cli.specs.Messages.{IsRefusedOn, StopsAttempt, StopsGiven, StopsText}
 use Rattle.mq_cli.specs.Streams.{no_role_line, no_statement_line}
 use Rattle.mq_cli.proofs.MessageLaws.{explanation_stops, rules_stop}
+use Rattle.mq_cli.proofs.PacketLaws.{packet_stops}
 use Rattle.mq_cli.proofs.tasks.attempt.Goals as goal
 
 pub returns-in-Ok-show_log-clause-refused : goal.returns-in-Ok-show_log-clause-refused
@@ -14,6 +15,18 @@ returns-in-Ok-show_log-clause-refused g c =
     let asked : c.args.task.now ≡ Show c.in-Show.file c.in-Show.long = search rules in
     let P : Task → Type 0 = λ task. IsRefusedOn task (g.R.Read.remaining c.args.input.now) (g.W.Write.contents c.args.output.now) (g.W.Write.contents c.show_log.new.output) in
     λ e. subst P (sym asked) (c.in-Ok-show_log.ensures.refused e)
+
+pub returns-in-Packet-clause-stops : goal.returns-in-Packet-clause-stops
+returns-in-Packet-clause-stops g c =
+    let asked : c.args.task.now ≡ Packet c.in-Packet.hex = search rules in
+    let hex : c.as_str.result.now ≡ string_bytes c.in-Packet.hex = search rules in
+    let input = g.R.Read.remaining c.args.input.now in
+    let left = g.R.Read.remaining c.packet_given.new.input in
+    let old = g.W.Write.contents c.args.output.now in
+    let new = g.W.Write.contents c.packet_given.new.output in
+    let P : Task → Type 0 = λ task. IfErr c.packet_given.result (StopsAttempt task input left old new) in
+    let Q : List ℕ → Type 0 = λ w. IfErr c.packet_given.result (StopsGiven w input old new) in
+    subst P (sym asked) (packet_stops c.in-Packet.hex input left old new c.packet_given.result (subst Q hex c.packet_given.ensures.stops))
 
 pub returns-in-Rules-Some-clause-stops : goal.returns-in-Rules-Some-clause-stops
 returns-in-Rules-Some-clause-stops g c =
