@@ -265,11 +265,15 @@ request_is_show words m shown same named rows =
     ∙ same_show (sym (first_value-rows (found_of shown) (codes "FILE"))) (ap is_true (sym (first_value-rows (found_of shown) (codes "long"))))
     (ap is_true (sym (first_value-rows (found_of shown) (codes "faults")))) (sym (first_value-rows (found_of shown) (codes "N")))
 
+pub same_packet : {words words' : Option (List Text)} {long long' : Bool} → words ≡ words' → long ≡ long' → Some (packet_request words long) ≡ Some (packet_request words' long')
+same_packet {words} {words'} {long} {long'} w l = ap (λ (x : Option (List Text)). Some (packet_request x long)) w ∙ ap (λ (x : Bool). Some (packet_request words' x)) l
+
 pub request_is_packet : (words : List Text) (m packet : ArgMatches) → subcommand_rows_of m ≡ subcommand_of mqjudge words → subcommand_name_of m ≡ Some (codes "packet")
-    → option_map (λ p. p.1) (subcommand_rows_of m) ≡ Some (rows_of (found_of packet)) → request_of words ≡ Some (packet_request (option_map raw_values (matched_of (found_of packet) (codes "HEX"))))
+    → option_map (λ p. p.1) (subcommand_rows_of m) ≡ Some (rows_of (found_of packet)) → request_of words ≡ Some (packet_request (option_map raw_values (matched_of (found_of packet) (codes "HEX")))
+    (is_true (first_value (found_of packet) (codes "long"))))
 request_is_packet words m packet same named rows =
     ap (option_map request_in) (met_by words m packet (codes "packet") same named rows)
-    ∙ ap (λ (f : Option (List Text)). Some (packet_request f)) (sym (raw_values-rows (found_of packet) (codes "HEX")))
+    ∙ same_packet (sym (raw_values-rows (found_of packet) (codes "HEX"))) (ap is_true (sym (first_value-rows (found_of packet) (codes "long"))))
 
 pub request_is_rules : (words : List Text) (m listed : ArgMatches) → subcommand_rows_of m ≡ subcommand_of mqjudge words → subcommand_name_of m ≡ Some (codes "rules")
     → option_map (λ p. p.1) (subcommand_rows_of m) ≡ Some (rows_of (found_of listed)) → request_of words ≡ Some (rules_request (first_value (found_of listed) (codes "role")))

@@ -86,7 +86,7 @@ memory_stops : (task : Task) (input left old new : Option (List ℕ)) (line : Li
     → StopsTask failures.Memory task input left old new
 memory_stops (Check file json summary) input left old new line misnamed kept = absurd misnamed
 memory_stops (Show file long) input left old new line misnamed kept = absurd misnamed
-memory_stops (Packet hex) input left old new line misnamed kept = packet_lacks (string_bytes hex) input old new kept
+memory_stops (Packet hex long) input left old new line misnamed kept = packet_lacks long (string_bytes hex) input old new kept
 memory_stops (Rules role) input left old new line misnamed kept = kept
 memory_stops (Explain code) input left old new line misnamed kept = kept
 

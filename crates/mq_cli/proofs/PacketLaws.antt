@@ -4,7 +4,7 @@ use Rattle.std.specs.Prelude.{String, string_bytes, IsErr}
 use Rattle.std.specs.Io.KnownBytes.{Keeps}
 use Rattle.std.specs.declared.alloc.Global.{Global}
 use Rattle.mq_cli.specs.Digits.{by_operand, by_test, bytes_of, is_dash, oddity_in, oddity_line}
-use Rattle.mq_cli.specs.Messages.{AppendsLinePart, IsMisread, IsMisspelled, StopsAttempt, StopsGiven, StopsRead, StopsSpelled}
+use Rattle.mq_cli.specs.Messages.{AppendsReportPart, IsMisread, IsMisspelled, StopsAttempt, StopsGiven, StopsRead, StopsSpelled}
 use Rattle.mq_cli.specs.Streams.{misuse_line}
 use Rattle.mq_cli.specs.declared.command_line.Task.TheVariants.{Packet}
 use Rattle.mq_cli.specs.declared.failure.Failure.TheVariants as failures
@@ -35,16 +35,16 @@ pub of_read : (operand : List ℕ) (A B C : Type 0) → (A → B) → by_operand
 of_read operand A B C f h = by_test_same (is_dash operand) A B C f h
 
 -- what keeps the line on what standard input spells from being written keeps that of such an operand
-pub dash_stops : (operand : List ℕ) (input old new : Option (List ℕ)) (status : Result ℕ Obstacle) → is_dash operand ≡ true
-    → IfErr status (StopsRead input old new) → IfErr status (StopsGiven operand input old new)
-dash_stops operand input old new (Ok s) e h = tt
-dash_stops operand input old new (Err obstacle) e h = rw e h
+pub dash_stops : (long : Bool) (operand : List ℕ) (input old new : Option (List ℕ)) (status : Result ℕ Obstacle) → is_dash operand ≡ true
+    → IfErr status (StopsRead long input old new) → IfErr status (StopsGiven long operand input old new)
+dash_stops long operand input old new (Ok s) e h = tt
+dash_stops long operand input old new (Err obstacle) e h = rw e h
 
 -- and so it is with another operand
-pub operand_stops : (operand text : List ℕ) (input old new : Option (List ℕ)) (status : Result ℕ Obstacle) → is_dash operand ≡ false → text ≡ operand
-    → IfErr status (StopsSpelled text old new) → IfErr status (StopsGiven operand input old new)
-operand_stops operand text input old new (Ok s) e is h = tt
-operand_stops operand text input old new (Err obstacle) e is h = rw e (subst (λ (t : List ℕ). StopsSpelled t old new obstacle) is h)
+pub operand_stops : (long : Bool) (operand text : List ℕ) (input old new : Option (List ℕ)) (status : Result ℕ Obstacle) → is_dash operand ≡ false → text ≡ operand
+    → IfErr status (StopsSpelled long text old new) → IfErr status (StopsGiven long operand input old new)
+operand_stops long operand text input old new (Ok s) e is h = tt
+operand_stops long operand text input old new (Err obstacle) e is h = rw e (subst (λ (t : List ℕ). StopsSpelled long t old new obstacle) is h)
 
 -- ---- a text that was read
 
@@ -53,13 +53,13 @@ pub of_whole : (known : Option (List ℕ)) (text : List ℕ) (P : List ℕ → T
 of_whole None text P same h = tt
 of_whole (Some all) text P same h = subst P (sym same) h
 
-pub whole_stops : (known : Option (List ℕ)) (text : List ℕ) (old new : Option (List ℕ)) (status : Result ℕ Obstacle) → IfSome known (λ all. all ≡ text)
-    → IfErr status (StopsSpelled text old new) → IfErr status (StopsRead known old new)
-whole_stops known text old new (Ok s) same h = tt
-whole_stops known text old new (Err (obstacles.Failed failures.Read)) same h = absurd h
-whole_stops known text old new (Err (obstacles.Failed failures.Write)) same h = of_whole known text (λ t. AppendsLinePart t old new) same h
-whole_stops known text old new (Err (obstacles.Failed failures.Memory)) same h = h
-whole_stops known text old new (Err (obstacles.Misused misuse)) same h =
+pub whole_stops : (long : Bool) (known : Option (List ℕ)) (text : List ℕ) (old new : Option (List ℕ)) (status : Result ℕ Obstacle) → IfSome known (λ all. all ≡ text)
+    → IfErr status (StopsSpelled long text old new) → IfErr status (StopsRead long known old new)
+whole_stops long known text old new (Ok s) same h = tt
+whole_stops long known text old new (Err (obstacles.Failed failures.Read)) same h = absurd h
+whole_stops long known text old new (Err (obstacles.Failed failures.Write)) same h = of_whole known text (λ t. AppendsReportPart long t old new) same h
+whole_stops long known text old new (Err (obstacles.Failed failures.Memory)) same h = h
+whole_stops long known text old new (Err (obstacles.Misused misuse)) same h =
     (of_whole known text (λ t. IsMisread t (misuse_line misuse)) same (inl h.0), h.1)
 
 -- it spells no bytes, and this is odd in it
@@ -68,14 +68,14 @@ misspelled text odd err found = (err, subst (λ (o : Option Oddity). IsSomeAnd o
 
 -- ---- the task
 
-pub packet_stops : (hex : String Global) (input left old new : Option (List ℕ)) (status : Result ℕ Obstacle)
-    → IfErr status (StopsGiven (string_bytes hex) input old new) → IfErr status (StopsAttempt (Packet hex) input left old new)
-packet_stops hex input left old new (Ok s) h = tt
-packet_stops hex input left old new (Err (obstacles.Failed failure)) h = h
-packet_stops hex input left old new (Err (obstacles.Misused misuse)) h =
+pub packet_stops : (hex : String Global) (long : Bool) (input left old new : Option (List ℕ)) (status : Result ℕ Obstacle)
+    → IfErr status (StopsGiven long (string_bytes hex) input old new) → IfErr status (StopsAttempt (Packet hex long) input left old new)
+packet_stops hex long input left old new (Ok s) h = tt
+packet_stops hex long input left old new (Err (obstacles.Failed failure)) h = h
+packet_stops hex long input left old new (Err (obstacles.Misused misuse)) h =
     by_test_apart (is_dash (string_bytes hex)) (IfSome input (λ text. IsMisread text (misuse_line misuse))) (IsMisspelled (string_bytes hex) (misuse_line misuse))
     (Keeps old new) h
 
 -- memory may run out for the line that says what is odd
-pub packet_lacks : (operand : List ℕ) (input old new : Option (List ℕ)) → Keeps old new → StopsGiven operand input old new (obstacles.Failed failures.Memory)
-packet_lacks operand input old new kept = of_both operand (Keeps old new) kept
+pub packet_lacks : (long : Bool) (operand : List ℕ) (input old new : Option (List ℕ)) → Keeps old new → StopsGiven long operand input old new (obstacles.Failed failures.Memory)
+packet_lacks long operand input old new kept = of_both operand (Keeps old new) kept

@@ -1,5 +1,5 @@
 -- What holds of the words that a host gave, and of the log of a task.
-use Rattle.std.proofs.Common.{◌≡◌, ◌∙◌, ◌⊎◌, inl, inr, Bool, true, ℕ, List, map, Option, Some, None, Result, Ok, Err, IfSome, IsOkAnd, ap, codes, refl, subst, sym}
+use Rattle.std.proofs.Common.{◌≡◌, ◌∙◌, ◌⊎◌, inl, inr, Bool, true, ℕ, List, [], map, Option, Some, None, Result, Ok, Err, IfSome, IsOkAnd, ap, codes, refl, subst, sym}
 use Rattle.std.specs.Prelude.{String, string_bytes}
 use Rattle.std.specs.declared.alloc.Global.{Global}
 use Rattle.std.specs.Io.KnownBytes.{Keeps, prepend_known}
@@ -16,7 +16,7 @@ use Rattle.mq_judge.specs.Display.{is_timed}
 use Rattle.mq_cli.specs.CommandLine.{path_of, reads_input}
 use Rattle.mq_cli.specs.Converting.{Files, files_of}
 use Rattle.mq_cli.specs.Given.{Given, bytes_at}
-use Rattle.mq_cli.specs.Messages.{AppendsLineOf, AppendsLinePart, FailsMisnamed, HasFailed, HasPassed, IsMisnamed, IsMisread, IsMisspelled, IsRefusedOn, IsReportedOn, SpellsNoPacket, SpellsPacket, StopsGiven, StopsCheck, StopsShow, StopsTask, form_of, text_for}
+use Rattle.mq_cli.specs.Messages.{AppendsReportOf, AppendsReportPart, FailsMisnamed, HasFailed, HasPassed, IsMisnamed, IsMisread, IsMisspelled, IsRefusedOn, IsReportedOn, SpellsNoPacket, SpellsPacket, StopsGiven, StopsCheck, StopsShow, StopsTask, form_of, text_for}
 use Rattle.mq_cli.specs.Digits.{OfDigits}
 use Rattle.mq_cli.specs.Program.{FailsLog, FailsRead, FailsTaskOn, IsHinted, MisusesTask, Refuses, RefusesSource, RefusesWork, input_of}
 use Rattle.mq_cli.specs.Reviewing.{Plan, RefusesPlan, plan_of}
@@ -37,7 +37,7 @@ known_words text (Some words) read slice P given same h = subst P (ap (map text)
 pub path_reads : (task : Task) (path : Text) → path_of task ≡ Some path → reads_input task ≡ true
 path_reads (Check file json summary) path named = refl
 path_reads (Show file long) path named = refl
-path_reads (Packet hex) path named = cc
+path_reads (Packet hex long) path named = cc
 path_reads (Rules role) path named = cc
 path_reads (Explain code) path named = cc
 
@@ -52,17 +52,17 @@ known_kept (Some bytes) (Some same) P k h = subst P k h
 digits_kept : (operand : List ℕ) (log read : Option (List ℕ)) (P : List ℕ → Type 0) → Keeps log read → OfDigits operand read P → OfDigits operand log P
 digits_kept operand log read P k h = of_read operand (IfSome read P) (IfSome log P) (P operand) (known_kept log read P k) h
 
-packet_stops_kept : (failure : Failure) (hex : String Global) (log read old new : Option (List ℕ)) → Keeps log read
-    → StopsGiven (string_bytes hex) read old new (obstacles.Failed failure) → StopsGiven (string_bytes hex) log old new (obstacles.Failed failure)
-packet_stops_kept failures.Read hex log read old new k h = h
-packet_stops_kept failures.Write hex log read old new k h = digits_kept (string_bytes hex) log read (λ text. AppendsLinePart text old new) k h
-packet_stops_kept failures.Memory hex log read old new k h = h
+packet_stops_kept : (failure : Failure) (hex : String Global) (long : Bool) (log read old new : Option (List ℕ)) → Keeps log read
+    → StopsGiven long (string_bytes hex) read old new (obstacles.Failed failure) → StopsGiven long (string_bytes hex) log old new (obstacles.Failed failure)
+packet_stops_kept failures.Read hex long log read old new k h = h
+packet_stops_kept failures.Write hex long log read old new k h = digits_kept (string_bytes hex) log read (λ text. AppendsReportPart long text old new) k h
+packet_stops_kept failures.Memory hex long log read old new k h = h
 
 -- the line on what is asked for in vain
 misnamed_kept : (task : Task) (log read : Option (List ℕ)) (line : List ℕ) → Keeps log read → IsMisnamed task read line → IsMisnamed task log line
 misnamed_kept (Check file json summary) log read line k h = h
 misnamed_kept (Show file long) log read line k h = h
-misnamed_kept (Packet hex) log read line k h =
+misnamed_kept (Packet hex long) log read line k h =
     of_read (string_bytes hex) (IfSome read (λ text. IsMisread text line)) (IfSome log (λ text. IsMisread text line)) (IsMisspelled (string_bytes hex) line)
     (known_kept log read (λ text. IsMisread text line) k) h
 misnamed_kept (Rules role) log read line k h = h
@@ -86,7 +86,7 @@ stops_kept : (failure : Failure) (task : Task) (log read left old new : Option (
 stops_kept failure (Check file json summary) log read left old new k h =
     known_kept log read (λ bytes. StopsCheck (form_of json summary) failure bytes left old new) k h
 stops_kept failure (Show file long) log read left old new k h = known_kept log read (λ bytes. StopsShow (text_for (is_timed bytes) long) failure bytes left old new) k h
-stops_kept failure (Packet hex) log read left old new k h = packet_stops_kept failure hex log read old new k h
+stops_kept failure (Packet hex long) log read left old new k h = packet_stops_kept failure hex long log read old new k h
 stops_kept failure (Rules role) log read left old new k h = h
 stops_kept failure (Explain code) log read left old new k h = h
 
@@ -112,28 +112,28 @@ IsKept P = (log read : Option (List ℕ)) → Keeps log read → P read → P lo
 pub passed_kept : (task : Task) → IsKept (HasPassed task)
 passed_kept (Check file json summary) log read k h = known_kept log read _ k h
 passed_kept (Show file long) log read k h = known_kept log read _ k h
-passed_kept (Packet hex) log read k h = digits_kept (string_bytes hex) log read SpellsPacket k h
+passed_kept (Packet hex long) log read k h = digits_kept (string_bytes hex) log read SpellsPacket k h
 passed_kept (Rules role) log read k h = h
 passed_kept (Explain code) log read k h = h
 
 pub failed_kept : (task : Task) → IsKept (HasFailed task)
 failed_kept (Check file json summary) log read k h = known_kept log read _ k h
 failed_kept (Show file long) log read k h = h
-failed_kept (Packet hex) log read k h = digits_kept (string_bytes hex) log read SpellsNoPacket k h
+failed_kept (Packet hex long) log read k h = digits_kept (string_bytes hex) log read SpellsNoPacket k h
 failed_kept (Rules role) log read k h = h
 failed_kept (Explain code) log read k h = h
 
 pub reported_kept : (task : Task) (old new : Option (List ℕ)) → IsKept (λ log. IsReportedOn task log old new)
 reported_kept (Check file json summary) old new log read k h = known_kept log read _ k h
 reported_kept (Show file long) old new log read k h = known_kept log read _ k h
-reported_kept (Packet hex) old new log read k h = digits_kept (string_bytes hex) log read (λ text. AppendsLineOf text old new) k h
+reported_kept (Packet hex long) old new log read k h = digits_kept (string_bytes hex) log read (λ text. AppendsReportOf long text old new) k h
 reported_kept (Rules role) old new log read k h = h
 reported_kept (Explain code) old new log read k h = h
 
 pub refused_kept : (task : Task) (old new : Option (List ℕ)) → IsKept (λ log. IsRefusedOn task log old new)
 refused_kept (Check file json summary) old new log read k h = known_kept log read _ k h
 refused_kept (Show file long) old new log read k h = known_kept log read _ k h
-refused_kept (Packet hex) old new log read k h = h
+refused_kept (Packet hex long) old new log read k h = h
 refused_kept (Rules role) old new log read k h = h
 refused_kept (Explain code) old new log read k h = h
 

@@ -40,9 +40,9 @@ show_command = with_rule (with_rule (with_rule (with_rule (new_app (codes "show"
 abbrev pub several : ValueRange
 several = record { start_inclusive = 1; end_inclusive = usize_max }
 
--- `packet HEX..`
+-- `packet [--long] HEX..`
 abbrev pub packet_command : App
-packet_command = with_rule (new_app (codes "packet")) (record (new_rule (codes "HEX")) { range = Some several; required = true })
+packet_command = with_rule (with_rule (new_app (codes "packet")) (record (new_rule (codes "HEX")) { range = Some several; required = true })) (flag (codes "long"))
 
 -- `rules [--role ROLE]`
 abbrev pub rules_command : App
@@ -102,13 +102,13 @@ check_request file json summary = record (plain_request (codes "check") file) { 
 abbrev pub show_request : Option Text → (long faults : Bool) → (around : Option Text) → Request
 show_request file long faults around = record (plain_request (codes "show") file) { long = long; faults = faults; around = around }
 
--- `packet` on these digits
-abbrev pub digits_request : Text → Request
-digits_request hex = plain_request (codes "packet") (Some hex)
+-- `packet` on these digits, with this flag
+abbrev pub digits_request : Text → (long : Bool) → Request
+digits_request hex long = record (plain_request (codes "packet") (Some hex)) { long = long }
 
--- `packet` on the digits in these words, with a space between two; at least one is required
-abbrev pub packet_request : Option (List Text) → Request
-packet_request words = digits_request (spaced (unwrap_or words []))
+-- `packet` on the digits in these words, with a space between two, and with this flag; at least one word is required
+abbrev pub packet_request : Option (List Text) → (long : Bool) → Request
+packet_request words long = digits_request (spaced (unwrap_or words [])) long
 
 -- `rules` for the end that this word names
 abbrev pub rules_request : Option Text → Request
@@ -132,7 +132,7 @@ abbrev pub request_in : Text × List Row → Request
 request_in met = if bytes_eq met.0 (codes "check") then check_request (first_of (codes "FILE") met.1) (is_true (first_of (codes "json") met.1)) (is_true (first_of (codes "summary") met.1))
     else (if bytes_eq met.0 (codes "show") then show_request (first_of (codes "FILE") met.1) (is_true (first_of (codes "long") met.1))
     (is_true (first_of (codes "faults") met.1)) (first_of (codes "N") met.1)
-    else (if bytes_eq met.0 (codes "packet") then packet_request (all_of (codes "HEX") met.1)
+    else (if bytes_eq met.0 (codes "packet") then packet_request (all_of (codes "HEX") met.1) (is_true (first_of (codes "long") met.1))
     else (if bytes_eq met.0 (codes "rules") then rules_request (first_of (codes "role") met.1)
     else (if bytes_eq met.0 (codes "explain") then explain_request (first_of (codes "CODE") met.1)
     else convert_request (first_of (codes "IN") met.1) (first_of (codes "OUT") met.1) (is_true (first_of (codes "force") met.1))))))
@@ -149,7 +149,7 @@ word_faults words = fault_of mqjudge words
 abbrev pub request_by : Work → Request
 request_by (Once (Check file json summary)) = check_request (option_map string_bytes file) json summary
 request_by (Once (Show file long)) = show_request (option_map string_bytes file) long false None
-request_by (Once (Packet hex)) = digits_request (string_bytes hex)
+request_by (Once (Packet hex long)) = digits_request (string_bytes hex) long
 request_by (Once (Rules role)) = rules_request (option_map string_bytes role)
 request_by (Once (Explain code)) = explain_request (Some (string_bytes code))
 request_by (Twice review) = show_request (option_map string_bytes review.file) review.long review.faults (option_map string_bytes review.around)
@@ -194,7 +194,7 @@ path_named (Some operand) = if bytes_eq operand (codes "-") then None else Some 
 abbrev pub path_of : Task → Option Text
 path_of (Check file json summary) = path_named (option_map string_bytes file)
 path_of (Show file long) = path_named (option_map string_bytes file)
-path_of (Packet hex) = None
+path_of (Packet hex long) = None
 path_of (Rules role) = None
 path_of (Explain code) = None
 
@@ -202,6 +202,6 @@ path_of (Explain code) = None
 abbrev pub reads_input : Task → Bool
 reads_input (Check file json summary) = true
 reads_input (Show file long) = true
-reads_input (Packet hex) = is_dash (string_bytes hex)
+reads_input (Packet hex long) = is_dash (string_bytes hex)
 reads_input (Rules role) = false
 reads_input (Explain code) = false

@@ -6,6 +6,7 @@ use Rattle.mq_judge.specs.declared.Form.{Form}
 use Rattle.mq_judge.specs.declared.Form.TheVariants.{Text, Json, Summary}
 use Rattle.mq_judge.specs.declared.Refusal.{Refusal}
 use Rattle.mq_judge.specs.declared.Refusal.TheVariants as refusals
+use Rattle.mq_judge.specs.LongPacket.{long_packet_report}
 use Rattle.mq_judge.specs.OnePacket.{IsOnePacket, packet_report}
 use Rattle.mq_judge.specs.Report.{refused_line, refused_report, report}
 use Rattle.mq_judge.specs.Runner.{IsFaultless, IsJudged, default_limit}
@@ -142,13 +143,18 @@ SpellsPacket hex = (bytes : List ℕ) × (bytes_of hex ≡ Ok bytes) × IsOnePac
 abbrev pub SpellsNoPacket : List ℕ → Type 0
 SpellsNoPacket hex = (bytes : List ℕ) × (bytes_of hex ≡ Ok bytes) × (¬ IsOnePacket bytes)
 
--- they spell bytes, and the line on these was written and nothing else
-abbrev pub AppendsLineOf : List ℕ → Option (List ℕ) → Option (List ℕ) → Type 0
-AppendsLineOf hex old new = (bytes : List ℕ) × (bytes_of hex ≡ Ok bytes) × Appends old new (packet_report bytes)
+-- the line on bytes, or if that is asked for, the line and what else there is to say
+abbrev pub report_of_packet : (long : Bool) → List ℕ → List ℕ
+report_of_packet false bytes = packet_report bytes
+report_of_packet true bytes = long_packet_report bytes
 
--- they spell bytes, and part of that line was written
-abbrev pub AppendsLinePart : List ℕ → Option (List ℕ) → Option (List ℕ) → Type 0
-AppendsLinePart hex old new = (bytes : List ℕ) × (bytes_of hex ≡ Ok bytes) × AppendsPart old new (packet_report bytes)
+-- they spell bytes, and the report on these was written and nothing else
+abbrev pub AppendsReportOf : (long : Bool) → List ℕ → Option (List ℕ) → Option (List ℕ) → Type 0
+AppendsReportOf long hex old new = (bytes : List ℕ) × (bytes_of hex ≡ Ok bytes) × Appends old new (report_of_packet long bytes)
+
+-- they spell bytes, and part of that report was written
+abbrev pub AppendsReportPart : (long : Bool) → List ℕ → Option (List ℕ) → Option (List ℕ) → Type 0
+AppendsReportPart long hex old new = (bytes : List ℕ) × (bytes_of hex ≡ Ok bytes) × AppendsPart old new (report_of_packet long bytes)
 
 -- they spell no bytes, and this line says what is odd in them
 abbrev pub IsMisspelled : List ℕ → (line : List ℕ) → Type 0
@@ -178,7 +184,7 @@ PrintsPart text old new = IsSomeAnd text (λ printed. AppendsPart old new printe
 abbrev pub HasPassed : Task → Option (List ℕ) → Type 0
 HasPassed (Check file json summary) input = IfSome input (λ log. IsJudged log × IsFaultless log)
 HasPassed (Show file long) input = IfSome input IsJudged
-HasPassed (Packet hex) input = OfDigits (string_bytes hex) input SpellsPacket
+HasPassed (Packet hex long) input = OfDigits (string_bytes hex) input SpellsPacket
 HasPassed (Rules role) input = IsSome (listed_for (option_map string_bytes role))
 HasPassed (Explain code) input = IsSome (explained_for (string_bytes code))
 
@@ -186,7 +192,7 @@ HasPassed (Explain code) input = IsSome (explained_for (string_bytes code))
 abbrev pub HasFailed : Task → Option (List ℕ) → Type 0
 HasFailed (Check file json summary) input = IfSome input (λ log. IsJudged log × (¬ IsFaultless log))
 HasFailed (Show file long) input = ⊥
-HasFailed (Packet hex) input = OfDigits (string_bytes hex) input SpellsNoPacket
+HasFailed (Packet hex long) input = OfDigits (string_bytes hex) input SpellsNoPacket
 HasFailed (Rules role) input = ⊥
 HasFailed (Explain code) input = ⊥
 
@@ -194,7 +200,7 @@ HasFailed (Explain code) input = ⊥
 abbrev pub IsReportedOn : Task → Option (List ℕ) → Option (List ℕ) → Option (List ℕ) → Type 0
 IsReportedOn (Check file json summary) input old new = IfSome input (λ log. Appends old new (report (form_of json summary) log))
 IsReportedOn (Show file long) input old new = IfSome input (λ log. Appends old new (text_for (is_timed log) long (events log)))
-IsReportedOn (Packet hex) input old new = OfDigits (string_bytes hex) input (λ text. AppendsLineOf text old new)
+IsReportedOn (Packet hex long) input old new = OfDigits (string_bytes hex) input (λ text. AppendsReportOf long text old new)
 IsReportedOn (Rules role) input old new = Prints (listed_for (option_map string_bytes role)) old new
 IsReportedOn (Explain code) input old new = Prints (explained_for (string_bytes code)) old new
 
@@ -202,7 +208,7 @@ IsReportedOn (Explain code) input old new = Prints (explained_for (string_bytes 
 abbrev pub IsRefusedOn : Task → (input old new : Option (List ℕ)) → Type 0
 IsRefusedOn (Check file json summary) input old new = IfSome input (λ log. RefusesCheck (form_of json summary) log old new)
 IsRefusedOn (Show file long) input old new = IfSome input (λ log. RefusesShow (text_for (is_timed log) long) log old new)
-IsRefusedOn (Packet hex) input old new = ⊥
+IsRefusedOn (Packet hex long) input old new = ⊥
 IsRefusedOn (Rules role) input old new = ⊥
 IsRefusedOn (Explain code) input old new = ⊥
 
@@ -210,27 +216,27 @@ IsRefusedOn (Explain code) input old new = ⊥
 abbrev pub IsMisnamed : Task → (input : Option (List ℕ)) → (line : List ℕ) → Type 0
 IsMisnamed (Check file json summary) input line = ⊥
 IsMisnamed (Show file long) input line = ⊥
-IsMisnamed (Packet hex) input line = IsMisgiven (string_bytes hex) input line
+IsMisnamed (Packet hex long) input line = IsMisgiven (string_bytes hex) input line
 IsMisnamed (Rules role) input line = (listed_for (option_map string_bytes role) ≡ None) × (line ≡ no_role_line (unwrap_or (option_map string_bytes role) []))
 IsMisnamed (Explain code) input line = (explained_for (string_bytes code) ≡ None) × (line ≡ no_statement_line (string_bytes code))
 
--- what keeps the line on these digits from being written: it couldn't be written or flushed, or memory ran out first, or they spell no bytes
-abbrev pub StopsSpelled : List ℕ → (old new : Option (List ℕ)) → Obstacle → Type 0
-StopsSpelled hex old new (obstacles.Failed failures.Read) = ⊥
-StopsSpelled hex old new (obstacles.Failed failures.Write) = AppendsLinePart hex old new
-StopsSpelled hex old new (obstacles.Failed failures.Memory) = Keeps old new
-StopsSpelled hex old new (obstacles.Misused misuse) = IsMisspelled hex (misuse_line misuse) × Keeps old new
+-- what keeps the report on these digits from being written: it couldn't be written or flushed, or memory ran out first, or they spell no bytes
+abbrev pub StopsSpelled : (long : Bool) → List ℕ → (old new : Option (List ℕ)) → Obstacle → Type 0
+StopsSpelled long hex old new (obstacles.Failed failures.Read) = ⊥
+StopsSpelled long hex old new (obstacles.Failed failures.Write) = AppendsReportPart long hex old new
+StopsSpelled long hex old new (obstacles.Failed failures.Memory) = Keeps old new
+StopsSpelled long hex old new (obstacles.Misused misuse) = IsMisspelled hex (misuse_line misuse) × Keeps old new
 
 -- and on those that are on standard input, which may also not be read, or be too many
-abbrev pub StopsRead : (input old new : Option (List ℕ)) → Obstacle → Type 0
-StopsRead input old new (obstacles.Failed failures.Read) = Keeps old new
-StopsRead input old new (obstacles.Failed failures.Write) = IfSome input (λ text. AppendsLinePart text old new)
-StopsRead input old new (obstacles.Failed failures.Memory) = Keeps old new
-StopsRead input old new (obstacles.Misused misuse) = IfSome input (λ text. IsMisread text (misuse_line misuse)) × Keeps old new
+abbrev pub StopsRead : (long : Bool) → (input old new : Option (List ℕ)) → Obstacle → Type 0
+StopsRead long input old new (obstacles.Failed failures.Read) = Keeps old new
+StopsRead long input old new (obstacles.Failed failures.Write) = IfSome input (λ text. AppendsReportPart long text old new)
+StopsRead long input old new (obstacles.Failed failures.Memory) = Keeps old new
+StopsRead long input old new (obstacles.Misused misuse) = IfSome input (λ text. IsMisread text (misuse_line misuse)) × Keeps old new
 
 -- by the operand, which is `-` for these
-abbrev pub StopsGiven : (operand : List ℕ) → (input old new : Option (List ℕ)) → Obstacle → Type 0
-StopsGiven operand input old new obstacle = by_operand operand (StopsRead input old new obstacle) (StopsSpelled operand old new obstacle)
+abbrev pub StopsGiven : (long : Bool) → (operand : List ℕ) → (input old new : Option (List ℕ)) → Obstacle → Type 0
+StopsGiven long operand input old new obstacle = by_operand operand (StopsRead long input old new obstacle) (StopsSpelled long operand old new obstacle)
 
 -- 4, for the statements: the text couldn't be written or flushed, or memory ran out first
 abbrev pub StopsPrinting : Failure → Option (List ℕ) → Option (List ℕ) → Option (List ℕ) → Type 0
@@ -247,7 +253,7 @@ StopsText text line old new (obstacles.Misused misuse) = (text ≡ None) × (mis
 abbrev pub StopsTask : Failure → Task → (input left old new : Option (List ℕ)) → Type 0
 StopsTask failure (Check file json summary) input left old new = IfSome input (λ log. StopsCheck (form_of json summary) failure log left old new)
 StopsTask failure (Show file long) input left old new = IfSome input (λ log. StopsShow (text_for (is_timed log) long) failure log left old new)
-StopsTask failure (Packet hex) input left old new = StopsGiven (string_bytes hex) input old new (obstacles.Failed failure)
+StopsTask failure (Packet hex long) input left old new = StopsGiven long (string_bytes hex) input old new (obstacles.Failed failure)
 StopsTask failure (Rules role) input left old new = StopsPrinting failure (listed_for (option_map string_bytes role)) old new
 StopsTask failure (Explain code) input left old new = StopsPrinting failure (explained_for (string_bytes code)) old new
 

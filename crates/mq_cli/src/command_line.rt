@@ -114,6 +114,8 @@ pub enum Task {
         /// Two hexadecimal digits for each byte. Between bytes there may be spaces, tabs, line
         /// ends, commas and colons, and `0x` before each.
         hex: String,
+        /// Say what else the packet says, or what is wrong in its bytes.
+        long: bool,
     },
     /// List the statements: those that bind the end that `role` names, or all if there is none.
     Rules {
@@ -134,7 +136,7 @@ impl Task {
     {
         match self {
             Task::Check { .. } | Task::Show { .. } => true,
-            Task::Packet { hex } => is_dash(hex.as_str()),
+            Task::Packet { hex, .. } => is_dash(hex.as_str()),
             Task::Rules { .. } | Task::Explain { .. } => false,
         }
     }
@@ -176,7 +178,7 @@ pub enum EarlyExit {
 
 /// Reads the words of a command line, `mqjudge check [--json] [--summary] [FILE]`,
 /// `mqjudge show [--long] [--faults] [--around N] [FILE]`,
-/// `mqjudge packet HEX..`, `mqjudge rules [--role ROLE]`, `mqjudge explain CODE` or
+/// `mqjudge packet [--long] HEX..`, `mqjudge rules [--role ROLE]`, `mqjudge explain CODE` or
 /// `mqjudge convert [--force] IN OUT`, of which the first is the program's name. A request for help
 /// or the version is returned as a `EarlyExit`, and so are words that aren't such a command line.
 pub fn parse<S: AsStr>(alloc: Global, words: &[S]) -> Result<Work, EarlyExit>
@@ -204,7 +206,11 @@ pub fn parse<S: AsStr>(alloc: Global, words: &[S]) -> Result<Work, EarlyExit>
                     show.get_str("N"),
                 ),
                 None => match matches.subcommand_matches("packet") {
-                    Some(packet) => packet_task(alloc, packet.get_strs("HEX")),
+                    Some(packet) => packet_task(
+                        alloc,
+                        packet.get_strs("HEX"),
+                        is_true(packet.get_str("long")),
+                    ),
                     None => match matches.subcommand_matches("rules") {
                         Some(rules) => rules_task(alloc, rules.get_str("role")),
                         None => match matches.subcommand_matches("explain") {
@@ -393,7 +399,12 @@ fn packet_command<'a>(alloc: Global) -> Result<Command<'a>, AllocError>
     Command::new(alloc, "packet")
         .about("Says which packet some bytes are")
         .after_help(PACKET_HELP)
-        .arg(hex)
+        .arg(hex)?
+        .arg(flag(
+            alloc,
+            "long",
+            "Show its fields and properties, or what is wrong in its bytes",
+        ))
 }
 
 // The definition of `rules`.
@@ -510,15 +521,15 @@ fn show_task(
     }))
 }
 
-// The task of `packet` on these operands; if there are none, on no digits.
-fn packet_task(alloc: Global, words: Option<&[&str]>) -> Result<Work, EarlyExit>
+// The task of `packet` on these operands and with this flag; if there are none, on no digits.
+fn packet_task(alloc: Global, words: Option<&[&str]>, long: bool) -> Result<Work, EarlyExit>
     ensures work { IfOk result (λ work.
-        request_by work ≡ packet_request (option_map (λ words. map (λ word. word.now) words.now) words.entry)) }
+        request_by work ≡ packet_request (option_map (λ words. map (λ word. word.now) words.now) words.entry) long) }
     ensures readings { IfOk result ReadsAsAsked }
     ensures stop { IfErr result (λ stop. stop ≡ EarlyExit.Memory) }
 {
     match spaced(alloc, words.unwrap_or(&[])) {
-        Ok(hex) => Ok(Work::Once(Task::Packet { hex })),
+        Ok(hex) => Ok(Work::Once(Task::Packet { hex, long })),
         Err(_) => Err(EarlyExit::Memory),
     }
 }

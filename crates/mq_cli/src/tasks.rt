@@ -1,19 +1,20 @@
 //! Doing what a command line asks for.
-ghost use Rattle.std.specs.Prelude.{◌≡◌, ◌≤◌, ◌⊎◌, ℕ, List, [], None, Some, IfErr, IfOk, IfSome, OnOk};
+ghost use Rattle.std.specs.Prelude.{◌≡◌, ◌≤◌, ◌↔◌, ◌⊎◌, ℕ, true, List, [], None, Some, IfErr, IfOk, IfSome, OnOk};
 ghost use Rattle.std.specs.Io.KnownBytes.{Appends, Keeps};
 ghost use Rattle.mq_cli.specs.Citing.{explained_for, if_some};
 ghost use Rattle.mq_cli.specs.Listing.{listed_for, statement_lines};
 ghost use Rattle.mq_cli.specs.Digits.{OfDigits};
-ghost use Rattle.mq_cli.specs.Messages.{AppendsLineOf, BeginsRefusal, HasFailed, HasPassed, IsOfLog, IsPrintedOn, IsRefusedOn, IsReportedOn};
+ghost use Rattle.mq_cli.specs.Messages.{AppendsReportOf, BeginsRefusal, HasFailed, HasPassed, IsOfLog, IsPrintedOn, IsRefusedOn, IsReportedOn};
 ghost use Rattle.mq_cli.specs.Messages.{IsShownOn, LacksJsonMemory, Prints, RefusesCheck, RefusesShow, SpellsNoPacket, SpellsPacket};
-ghost use Rattle.mq_cli.specs.Messages.{StopsAttempt, StopsCheck, StopsGiven, StopsRead, StopsShow, StopsSpelled, StopsText, failure_of, form_of, text_in_view};
+ghost use Rattle.mq_cli.specs.Messages.{StopsAttempt, StopsCheck, StopsGiven, StopsRead, StopsShow, StopsSpelled, StopsText, failure_of, form_of, report_of_packet, text_in_view};
 ghost use Rattle.mq_cli.specs.Program.{FailsStop};
 ghost use Rattle.mq_cli.specs.Streams.{AppendsPart, no_role_line, no_statement_line, stream};
-ghost use Rattle.mq_judge.specs.OnePacket.{IsOnePacket, packet_report};
+ghost use Rattle.mq_judge.specs.OnePacket.{IsOnePacket};
 ghost use Rattle.mq_judge.specs.Report.{refused_report, report};
 ghost use Rattle.mq_judge.specs.Runner.{IsFaultless, IsJudged};
 ghost use Rattle.mq_judge.specs.Display.{Shows, is_timed};
 ghost use Rattle.mq_trace.specs.Events.{events};
+ghost use Rattle.mq_trace.specs.Writing.{AppendsBeginning};
 
 use crate::citations::explanations_cited;
 use crate::command_line::{EarlyExit, Task};
@@ -31,7 +32,7 @@ use crate::writing::{flush, write_out};
 use hex::{FromHexError, decode};
 use mq_judge::{
     Faults, Form, Outcome, Progress, Refusal, RunFault, run_watched, show, show_faults, show_long,
-    write_packet, write_refused,
+    write_long_packet, write_packet, write_refused,
 };
 use mq_rules::{Role, Rule};
 use std::alloc::Global;
@@ -110,7 +111,7 @@ pub fn attempt<'a, R: Read, W: Write, P: Progress>(
             Ok(status) => Ok(status),
             Err(failure) => Err(Obstacle::Failed(failure)),
         },
-        Task::Packet { hex } => packet_given(alloc, hex.as_str(), input, output),
+        Task::Packet { hex, long } => packet_given(alloc, hex.as_str(), *long, input, output),
         Task::Rules { role: None } => print_all(alloc, output),
         Task::Rules { role: Some(word) } => print_rules(alloc, word.as_str(), output),
         Task::Explain { code } => explain(alloc, code.as_str(), output),
@@ -241,36 +242,38 @@ pub fn refuse<W: Write>(
 fn packet_given<'a, R: Read, W: Write>(
     alloc: Global,
     operand: &str,
+    long: bool,
     input: &mut R,
     output: &mut W,
 ) -> Result<u8, Obstacle<'a>>
     ensures passed { IfOk result (λ status. status ≡ PASSED → OfDigits operand.now (R.remaining input.old) SpellsPacket) }
     ensures faulty { IfOk result (λ status. status ≡ FAULTY → OfDigits operand.now (R.remaining input.old) SpellsNoPacket) }
-    ensures reported { OnOk result (OfDigits operand.now (R.remaining input.old) (λ text. AppendsLineOf text (W.contents output.old) (W.contents output.new))) }
-    ensures stops { IfErr result (StopsGiven operand.now (R.remaining input.old) (W.contents output.old) (W.contents output.new)) }
+    ensures reported { OnOk result (OfDigits operand.now (R.remaining input.old) (λ text. AppendsReportOf long text (W.contents output.old) (W.contents output.new))) }
+    ensures stops { IfErr result (StopsGiven long operand.now (R.remaining input.old) (W.contents output.old) (W.contents output.new)) }
     ensures statuses { IfOk result (λ status. status ≤ FAULTY) }
 {
     if is_dash(operand) {
-        packet_read(alloc, input, output)
+        packet_read(alloc, long, input, output)
     } else {
-        packet(alloc, operand.as_bytes(), output)
+        packet(alloc, operand.as_bytes(), long, output)
     }
 }
 
 // Writes which packet the bytes are that the text on standard input spells.
 fn packet_read<'a, R: Read, W: Write>(
     alloc: Global,
+    long: bool,
     input: &mut R,
     output: &mut W,
 ) -> Result<u8, Obstacle<'a>>
     ensures passed { IfOk result (λ status. status ≡ PASSED → IfSome (R.remaining input.old) SpellsPacket) }
     ensures faulty { IfOk result (λ status. status ≡ FAULTY → IfSome (R.remaining input.old) SpellsNoPacket) }
-    ensures reported { OnOk result (IfSome (R.remaining input.old) (λ text. AppendsLineOf text (W.contents output.old) (W.contents output.new))) }
-    ensures stops { IfErr result (StopsRead (R.remaining input.old) (W.contents output.old) (W.contents output.new)) }
+    ensures reported { OnOk result (IfSome (R.remaining input.old) (λ text. AppendsReportOf long text (W.contents output.old) (W.contents output.new))) }
+    ensures stops { IfErr result (StopsRead long (R.remaining input.old) (W.contents output.old) (W.contents output.new)) }
     ensures statuses { IfOk result (λ status. status ≤ FAULTY) }
 {
     match read_text(alloc, input, MOST_TEXT) {
-        Ok(text) => packet(alloc, text.as_slice(), output),
+        Ok(text) => packet(alloc, text.as_slice(), long, output),
         Err(NoText::Unread) => Err(Obstacle::Failed(Failure::Read)),
         Err(NoText::Memory) => Err(Obstacle::Failed(Failure::Memory)),
         Err(NoText::TooLong) => Err(Obstacle::Misused(Misuse::TooLong)),
@@ -278,16 +281,21 @@ fn packet_read<'a, R: Read, W: Write>(
 }
 
 // Writes which packet the bytes are that a text spells.
-fn packet<'a, W: Write>(alloc: Global, text: &[u8], output: &mut W) -> Result<u8, Obstacle<'a>>
+fn packet<'a, W: Write>(
+    alloc: Global,
+    text: &[u8],
+    long: bool,
+    output: &mut W,
+) -> Result<u8, Obstacle<'a>>
     ensures passed { IfOk result (λ status. status ≡ PASSED → SpellsPacket text.now) }
     ensures faulty { IfOk result (λ status. status ≡ FAULTY → SpellsNoPacket text.now) }
-    ensures reported { OnOk result (AppendsLineOf text.now (W.contents output.old) (W.contents output.new)) }
-    ensures stops { IfErr result (StopsSpelled text.now (W.contents output.old) (W.contents output.new)) }
+    ensures reported { OnOk result (AppendsReportOf long text.now (W.contents output.old) (W.contents output.new)) }
+    ensures stops { IfErr result (StopsSpelled long text.now (W.contents output.old) (W.contents output.new)) }
     ensures statuses { IfOk result (λ status. status ≤ FAULTY) }
 {
     match packed(alloc, text) {
         Ok(digits) => match decode(alloc, digits.as_slice()) {
-            Ok(bytes) => match print_packet(bytes.as_slice(), output) {
+            Ok(bytes) => match print_packet(bytes.as_slice(), long, output) {
                 Ok(status) => Ok(status),
                 Err(failure) => Err(Obstacle::Failed(failure)),
             },
@@ -298,21 +306,34 @@ fn packet<'a, W: Write>(alloc: Global, text: &[u8], output: &mut W) -> Result<u8
     }
 }
 
-// Writes the line that says which packet these bytes are.
-fn print_packet<W: Write>(bytes: &[u8], output: &mut W) -> Result<u8, Failure>
+// Writes the report on these bytes.
+fn print_packet<W: Write>(bytes: &[u8], long: bool, output: &mut W) -> Result<u8, Failure>
     ensures passed { IfOk result (λ status. status ≡ PASSED → IsOnePacket bytes.now) }
     ensures faulty { IfOk result (λ status. status ≡ FAULTY → ¬ IsOnePacket bytes.now) }
     ensures statuses { IfOk result (λ status. status ≤ FAULTY) }
     ensures written { OnOk result
-        (Appends (W.contents output.old) (W.contents output.new) (packet_report bytes.now)) }
+        (Appends (W.contents output.old) (W.contents output.new) (report_of_packet long bytes.now)) }
     ensures failed { IfErr result (λ failure. failure ≡ Failure.Write) }
     ensures begun { IfErr result (λ _.
-        AppendsPart (W.contents output.old) (W.contents output.new) (packet_report bytes.now)) }
+        AppendsPart (W.contents output.old) (W.contents output.new) (report_of_packet long bytes.now)) }
 {
-    match write_packet(bytes, output) {
+    match write_report(bytes, long, output) {
         Ok(true) => see_out(PASSED, output),
         Ok(false) => see_out(FAULTY, output),
         Err(_) => Err(Failure::Write),
+    }
+}
+
+// Writes the line that says which packet these bytes are, or that and what else there is to say.
+fn write_report<W: Write>(bytes: &[u8], long: bool, output: &mut W) -> Result<bool, RunFault>
+    ensures ok { OnOk result (Appends (W.contents output.old) (W.contents output.new) (report_of_packet long bytes.now)) }
+    ensures one_packet { IfOk result (λ answer. (answer ≡ true) ↔ IsOnePacket bytes.now) }
+    ensures write { IfErr result (λ _. AppendsBeginning (W.contents output.old) (W.contents output.new) (report_of_packet long bytes.now)) }
+{
+    if long {
+        write_long_packet(bytes, output)
+    } else {
+        write_packet(bytes, output)
     }
 }
 

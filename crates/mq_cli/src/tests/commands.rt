@@ -294,7 +294,7 @@ fn shows_help_and_the_version(rt: HostRuntime) {
         ),
         (
             &["mqjudge", "packet", "--help"],
-            "Usage: mqjudge packet <HEX>...",
+            "Usage: mqjudge packet [OPTIONS] <HEX>...",
         ),
         (
             &["mqjudge", "rules", "--help"],

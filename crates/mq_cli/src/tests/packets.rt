@@ -479,6 +479,70 @@ fn reports_a_packet_line_that_fails(rt: HostRuntime) -> Result<(), Fail> {
     Ok(())
 }
 
+// Digits, the status, and what is printed of them with `--long`.
+const LONG: [(&str, u8, &str); 11] = [
+    (
+        "320700016100010078",
+        PASSED,
+        "PUBLISH size 9 qos 1 dup 0 id 1\n  retain 0 topic \"a\" payload 1\n",
+    ),
+    ("40020001", PASSED, "PUBACK size 4 id 1\n  code 0x00\n"),
+    (
+        "820700010000016101",
+        PASSED,
+        "SUBSCRIBE size 9 id 1\n  filter \"a\" qos 1 no-local 0 retain-as-published 0 retain-handling 0\n",
+    ),
+    ("c000", PASSED, "PINGREQ size 2\n"),
+    ("d000", PASSED, "PINGRESP size 2\n"),
+    (
+        "320700016100000078",
+        FAULTY,
+        "BAD W09 offset 5\n\
+        \x20 type PUBLISH bytes 32 07 00 01 61 [00] 00 00 78\n\
+        \x20 W09 A Packet Identifier isn't 0.\n",
+    ),
+    (
+        "41020001",
+        FAULTY,
+        "BAD W01 offset 0\n\
+        \x20 type PUBACK bytes [41] 02 00 01\n\
+        \x20 W01 The flags of a packet other than PUBLISH are those of its type.\n",
+    ),
+    ("D00000", FAULTY, "left over 1 bytes\n"),
+    ("", FAULTY, "need more bytes\n"),
+    ("30FFFFFFFF", FAULTY, "LOST\n"),
+    ("100C00044D5154540402003C0000", FAULTY, "other version 4\n"),
+];
+
+#[test]
+fn says_more_of_a_packet(rt: HostRuntime) -> Result<(), Fail> {
+    for (hex, status, lines) in LONG {
+        let words = ["mqjudge", "packet", "--long", hex];
+        let printed = printed_by(rt.alloc(), &words, &mut io::empty())?;
+        assert!(rt; printed.says(status, lines), "{hex}");
+        let read = ["mqjudge", "packet", "-", "--long"];
+        let given = printed_by(rt.alloc(), &read, &mut hex.as_bytes())?;
+        assert!(rt; given.says(status, lines), "{hex}");
+    }
+    Ok(())
+}
+
+#[test]
+fn reports_long_lines_that_fail(rt: HostRuntime) -> Result<(), Fail> {
+    let words = ["mqjudge", "packet", "--long", "40020001"];
+    for (room, stays) in [
+        (0, false),
+        (18, false),
+        (19, false),
+        (30, false),
+        (31, true),
+    ] {
+        let failed = is_failed_write(rt.alloc(), &words, b"", Narrow { room, stays })?;
+        assert!(rt; failed, "{room} bytes");
+    }
+    Ok(())
+}
+
 // With each allocation failing in turn, the result is the packet's, or that memory ran out, and
 // nothing else.
 #[test]
@@ -499,7 +563,7 @@ fn reports_a_packet_without_memory(rt: HostRuntime) {
 // Whether these words ask for the packet that these digits spell.
 fn is_packet_of(alloc: Global, words: &[&str], digits: &str) -> Result<bool, EarlyExit> {
     match task_of(alloc, words)? {
-        Task::Packet { hex } => Ok(hex.as_str() == digits),
+        Task::Packet { hex, long: false } => Ok(hex.as_str() == digits),
         _ => Ok(false),
     }
 }

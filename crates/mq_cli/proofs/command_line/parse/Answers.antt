@@ -1,8 +1,8 @@
 use Rattle.std.proofs.Common.{ap, map, refl, sym, true≢false, Some, List, Option, ◌∙◌, inl, inr}
 use Rattle.std.proofs.lemmas.Result.{IfOk-weaker}
 use Rattle.clap.specs.Words.{Text}
-use Rattle.mq_cli.specs.CommandLine.{explain_request, is_true, packet_request, rules_request}
-use Rattle.mq_cli.proofs.CommandLineLemmas.{subcommand_is_named, request_is_check, request_is_convert, request_is_explain, request_is_packet, request_is_rules, request_is_show, same_check, same_convert, same_show}
+use Rattle.mq_cli.specs.CommandLine.{explain_request, is_true, rules_request}
+use Rattle.mq_cli.proofs.CommandLineLemmas.{subcommand_is_named, request_is_check, request_is_convert, request_is_explain, request_is_packet, request_is_rules, request_is_show, same_check, same_convert, same_packet, same_show}
 use Rattle.mq_cli.proofs.command_line.parse.Goals as goal
 
 pub unreachable-requires : goal.unreachable-requires
@@ -41,8 +41,9 @@ returns-in-Some-subcommand_matches-2-clause-work g c =
     let words = map g.S.AsStr.text c.args.words.now in
     let met = c.in-Some-subcommand_matches-2 in
     let given = c.get_strs.ensures in
+    let long = c.is_true-in-Some-subcommand_matches-2-2.ensures ∙ ap is_true c.get_str-in-Some-subcommand_matches-2-2.ensures in
     let asked = request_is_packet words c.in-Ok.matches met.packet.now c.in-Ok.ensures.met (met.ensures.found.0 refl) met.ensures.rows in
-    IfOk-weaker c.packet_task.result _ _ (λ work h. asked ∙ ap (λ (f : Option (List Text)). Some (packet_request f)) (sym given) ∙ ap Some (sym h)) c.packet_task.ensures.work
+    IfOk-weaker c.packet_task.result _ _ (λ work h. asked ∙ same_packet (sym given) (sym long) ∙ ap Some (sym h)) c.packet_task.ensures.work
 
 pub returns-in-Some-subcommand_matches-3-clause-work : goal.returns-in-Some-subcommand_matches-3-clause-work
 returns-in-Some-subcommand_matches-3-clause-work g c =

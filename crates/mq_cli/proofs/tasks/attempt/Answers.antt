@@ -1,10 +1,12 @@
-use Rattle.std.proofs.Common.{rules, sym, subst, ◌≡◌, List, ℕ, IfErr, Some}
+use Rattle.std.proofs.Common.{rules, sym, subst, ◌≡◌, List, ℕ, IfErr, IfOk, Some}
 use Rattle.std.specs.Prelude.{string_bytes}
 use Rattle.mq_cli.specs.declared.command_line.Task.{Task}
 use Rattle.mq_cli.specs.declared.command_line.Task.TheVariants.{Show, Packet, Rules, Explain}
+use Rattle.mq_cli.specs.declared.failure.TheConstants.{FAULTY}
 use Rattle.mq_cli.specs.Citing.{explained_for}
+use Rattle.mq_cli.specs.Digits.{OfDigits}
 use Rattle.mq_cli.specs.Listing.{listed_for}
-use Rattle.mq_cli.specs.Messages.{IsRefusedOn, StopsAttempt, StopsGiven, StopsText}
+use Rattle.mq_cli.specs.Messages.{HasFailed, IsRefusedOn, SpellsNoPacket, StopsAttempt, StopsGiven, StopsText}
 use Rattle.mq_cli.specs.Streams.{no_role_line, no_statement_line}
 use Rattle.mq_cli.proofs.MessageLaws.{explanation_stops, rules_stop}
 use Rattle.mq_cli.proofs.PacketLaws.{packet_stops}
@@ -16,17 +18,26 @@ returns-in-Ok-show_log-clause-refused g c =
     let P : Task → Type 0 = λ task. IsRefusedOn task (g.R.Read.remaining c.args.input.now) (g.W.Write.contents c.args.output.now) (g.W.Write.contents c.show_log.new.output) in
     λ e. subst P (sym asked) (c.in-Ok-show_log.ensures.refused e)
 
+pub returns-in-Packet-clause-faulty : goal.returns-in-Packet-clause-faulty
+returns-in-Packet-clause-faulty g c =
+    let asked : c.args.task.now ≡ Packet c.in-Packet.hex c.in-Packet.long = search rules in
+    let hex : c.as_str.result.now ≡ string_bytes c.in-Packet.hex = search rules in
+    let input = g.R.Read.remaining c.args.input.now in
+    let P : Task → Type 0 = λ task. IfOk c.packet_given.result (λ status. status ≡ FAULTY → HasFailed task input) in
+    let Q : List ℕ → Type 0 = λ w. IfOk c.packet_given.result (λ status. status ≡ FAULTY → OfDigits w input SpellsNoPacket) in
+    subst P (sym asked) (subst Q hex c.packet_given.ensures.faulty)
+
 pub returns-in-Packet-clause-stops : goal.returns-in-Packet-clause-stops
 returns-in-Packet-clause-stops g c =
-    let asked : c.args.task.now ≡ Packet c.in-Packet.hex = search rules in
+    let asked : c.args.task.now ≡ Packet c.in-Packet.hex c.in-Packet.long = search rules in
     let hex : c.as_str.result.now ≡ string_bytes c.in-Packet.hex = search rules in
     let input = g.R.Read.remaining c.args.input.now in
     let left = g.R.Read.remaining c.packet_given.new.input in
     let old = g.W.Write.contents c.args.output.now in
     let new = g.W.Write.contents c.packet_given.new.output in
     let P : Task → Type 0 = λ task. IfErr c.packet_given.result (StopsAttempt task input left old new) in
-    let Q : List ℕ → Type 0 = λ w. IfErr c.packet_given.result (StopsGiven w input old new) in
-    subst P (sym asked) (packet_stops c.in-Packet.hex input left old new c.packet_given.result (subst Q hex c.packet_given.ensures.stops))
+    let Q : List ℕ → Type 0 = λ w. IfErr c.packet_given.result (StopsGiven c.in-Packet.long w input old new) in
+    subst P (sym asked) (packet_stops c.in-Packet.hex c.in-Packet.long input left old new c.packet_given.result (subst Q hex c.packet_given.ensures.stops))
 
 pub returns-in-Rules-Some-clause-stops : goal.returns-in-Rules-Some-clause-stops
 returns-in-Rules-Some-clause-stops g c =

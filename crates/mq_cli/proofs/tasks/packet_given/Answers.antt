@@ -1,6 +1,6 @@
 use Rattle.std.proofs.Common.{rules, subst, true, false, List, ℕ, IfOk, OnOk, ◌≡◌}
 use Rattle.mq_cli.specs.Digits.{is_dash}
-use Rattle.mq_cli.specs.Messages.{AppendsLineOf, SpellsNoPacket, SpellsPacket}
+use Rattle.mq_cli.specs.Messages.{AppendsReportOf, SpellsNoPacket, SpellsPacket}
 use Rattle.mq_cli.proofs.PacketLaws.{dash_stops, operand_stops}
 use Rattle.mq_cli.proofs.tasks.packet_given.Goals as goal
 
@@ -22,7 +22,7 @@ returns-then-is_dash-clause-reported g c =
 pub returns-then-is_dash-clause-stops : goal.returns-then-is_dash-clause-stops
 returns-then-is_dash-clause-stops g c =
     let dash : is_dash c.args.operand.now ≡ true = search rules in
-    dash_stops c.args.operand.now (g.R.Read.remaining c.args.input.now) (g.W.Write.contents c.args.output.now) (g.W.Write.contents c.packet_read.new.output)
+    dash_stops c.args.long c.args.operand.now (g.R.Read.remaining c.args.input.now) (g.W.Write.contents c.args.output.now) (g.W.Write.contents c.packet_read.new.output)
     c.packet_read.result dash c.packet_read.ensures.stops
 
 pub returns-else-is_dash-clause-passed : goal.returns-else-is_dash-clause-passed
@@ -40,10 +40,10 @@ returns-else-is_dash-clause-reported g c =
     let given : is_dash c.args.operand.now ≡ false = search rules in
     let old = g.W.Write.contents c.args.output.now in
     let new = g.W.Write.contents c.packet.new.output in
-    rw given (subst (λ (text : List ℕ). OnOk c.packet.result (AppendsLineOf text old new)) c.as_bytes.ensures.value c.packet.ensures.reported)
+    rw given (subst (λ (text : List ℕ). OnOk c.packet.result (AppendsReportOf c.args.long text old new)) c.as_bytes.ensures.value c.packet.ensures.reported)
 
 pub returns-else-is_dash-clause-stops : goal.returns-else-is_dash-clause-stops
 returns-else-is_dash-clause-stops g c =
     let given : is_dash c.args.operand.now ≡ false = search rules in
-    operand_stops c.args.operand.now c.as_bytes.result.now (g.R.Read.remaining c.args.input.now) (g.W.Write.contents c.args.output.now)
+    operand_stops c.args.long c.args.operand.now c.as_bytes.result.now (g.R.Read.remaining c.args.input.now) (g.W.Write.contents c.args.output.now)
     (g.W.Write.contents c.packet.new.output) c.packet.result given c.as_bytes.ensures.value c.packet.ensures.stops
