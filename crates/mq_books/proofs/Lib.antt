@@ -43,6 +43,7 @@ pub mod SizeLaws
 pub mod QueueSizeLaws
 pub mod LiteralLaws
 pub mod NearLaws
+pub mod PatternLaws
 pub mod FilterLaws
 pub mod AwaitedLaws
 pub mod StandLaws

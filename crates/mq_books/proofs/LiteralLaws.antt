@@ -12,11 +12,11 @@ use Rattle.mq_topic.specs.Matching.{is_hash, is_plus, levels_match, begins_wild,
 
 -- ---- parts of a Bool
 
-is_first : (a b : Bool) → (a && b) ≡ true → a ≡ true
+pub is_first : (a b : Bool) → (a && b) ≡ true → a ≡ true
 is_first true b h = refl
 is_first false b h = absurd (cc)
 
-is_second : (a b : Bool) → (a && b) ≡ true → b ≡ true
+pub is_second : (a b : Bool) → (a && b) ≡ true → b ≡ true
 is_second true b h = h
 is_second false b h = absurd (cc)
 
@@ -24,14 +24,14 @@ unset : (b : Bool) → not b ≡ true → b ≡ false
 unset false h = refl
 unset true h = absurd (cc)
 
-never_true : (b : Bool) → (b ≡ true → ⊥) → b ≡ false
+pub never_true : (b : Bool) → (b ≡ true → ⊥) → b ≡ false
 never_true false never = refl
 never_true true never = absurd (never refl)
 
 pub equal : (xs ys : List ℕ) → bytes_eq xs ys ≡ true → xs ≡ ys
 equal xs ys h = (bytes_eq-Decides xs ys).0 h
 
-itself : (xs : List ℕ) → bytes_eq xs xs ≡ true
+pub itself : (xs : List ℕ) → bytes_eq xs xs ≡ true
 itself xs = (bytes_eq-Decides xs xs).1 refl
 
 -- ---- the levels of a text without wildcards
@@ -75,7 +75,7 @@ no-plus (b ∷ bytes) h = ap (λ t. t && bytes_eq bytes []) (plus-none b (plain 
 
 -- ---- none is at fault
 
-level-good : (level : List ℕ) (last : Bool) → is_name level ≡ true → level_fault level last ≡ None
+pub level-good : (level : List ℕ) (last : Bool) → is_name level ≡ true → level_fault level last ≡ None
 level-good level last h =
     ap (λ t. if t && not (length level == 1) then Some HashNotAlone else if t && not last then Some HashNotLast else if is_crowded 43 level then Some PlusNotAlone else None) (no-byte (λ b. b == 35) hash-none level h)
     ∙ ap (λ t. if t && not (length level == 1) then Some PlusNotAlone else None) (no-byte (λ b. b == 43) plus-none level h)

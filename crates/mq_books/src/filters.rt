@@ -141,10 +141,16 @@ fn take_filters(
 // ---- ceilings
 
 // The greatest ceiling of the filters that match a topic.
-fn search(settled: &StandingFilters, waiting: &Awaited, topic: &str) -> Option<u8>
-    ensures { (qos : ℕ) → is_some_and (nat_le qos) result ≡ allows_topic settled.now waiting.now topic.now qos }
+fn search(
+    alloc: Global,
+    settled: &StandingFilters,
+    waiting: &Awaited,
+    topic: &str,
+) -> Result<Option<u8>, Memory>
+    ensures { IfOk result (λ ceiling. (qos : ℕ) → is_some_and (nat_le qos) ceiling ≡ allows_topic settled.now waiting.now topic.now qos) }
 {
-    higher(settled.ceiling_for(topic), waiting.ceiling_for(topic))
+    let standing = settled.ceiling_for(alloc, topic)?;
+    Ok(higher(standing, waiting.ceiling_for(topic)))
 }
 
 // Keeps what was found for a topic, unless there are twice as many as there are filters.
@@ -238,12 +244,12 @@ impl Filters {
         ensures greatest { IfOk result (λ ceiling. (qos : ℕ) → is_some_and (nat_le qos) ceiling ≡ allows_topic self.old.settled self.old.waiting topic.now qos) }
     {
         if self.settled.is_literal() && self.waiting.is_empty() {
-            return Ok(search(&self.settled, &self.waiting, topic));
+            return search(alloc, &self.settled, &self.waiting, topic);
         }
         if let Some(ceiling) = self.found.get(topic) {
             return Ok(*ceiling);
         }
-        let ceiling = search(&self.settled, &self.waiting, topic);
+        let ceiling = search(alloc, &self.settled, &self.waiting, topic)?;
         keep(alloc, &mut self.found, self.settled.len(), topic, ceiling)?;
         Ok(ceiling)
     }

@@ -21,6 +21,7 @@ mod known;
 mod messages;
 mod ordering;
 mod owed;
+mod patterns;
 mod pings;
 mod quota;
 mod releases;

@@ -11,7 +11,8 @@ ghost use Rattle.mq_topic.specs.Matching.{matches as is_match, is_empty as empty
 ghost use Rattle.mq_rules.specs.Words.{is_some_and};
 ghost use Rattle.mq_books.specs.Standings.{allows, standings, stands_any, AllFilters};
 
-use crate::ceilings::{ceiling_among, higher};
+use crate::ceilings::higher;
+use crate::patterns::{Patterns, wild_ceiling};
 use indexmap::IndexMap;
 use mq_rules::Memory;
 use mq_topic::check_name;
@@ -72,22 +73,24 @@ fn literal_ceiling(literal: &IndexMap<String, u8>, topic: &str) -> Option<u8>
 /// Filters that stand, each with the greatest QoS of what may be sent for it.
 ///
 /// A filter without a wildcard matches the topic that equals it and no other, so it is looked up.
-/// Only those with wildcards are gone through.
+/// So are those with wildcards, by their patterns, if these are few.
 pub struct StandingFilters {
     literal: IndexMap<String, u8>,
     wild: IndexMap<String, u8>,
+    patterns: Patterns,
 }
 
 impl Model for StandingFilters {
     ghost use Rattle.std.specs.Prelude.{List, ◌++◌};
     ghost use Rattle.mq_rules.specs.Subscriptions.{Standing};
     ghost use Rattle.mq_books.specs.Standings.{standings, IsSplit};
+    ghost use Rattle.mq_books.specs.Patterning.{AreKnown};
 
     ghost Value = { List Standing };
 
     ghost view = { λ f. standings f.literal.entries ++ standings f.wild.entries };
 
-    ghost invariant = { λ f. IsSplit f.literal.entries f.wild.entries };
+    ghost invariant = { λ f. IsSplit f.literal.entries f.wild.entries × AreKnown f.patterns f.wild.entries };
 }
 
 // As a derived one, but a call of its own.
@@ -97,6 +100,7 @@ impl Drop for StandingFilters {
         let StandingFilters {
             literal: _literal,
             wild: _wild,
+            patterns: _patterns,
         } = self;
     }
 }
@@ -109,6 +113,7 @@ impl StandingFilters {
         StandingFilters {
             literal: IndexMap::new(alloc),
             wild: IndexMap::new(alloc),
+            patterns: Patterns::new(),
         }
     }
 
@@ -119,17 +124,21 @@ impl StandingFilters {
         if check_name(filter) {
             return raise(alloc, &mut self.literal, filter, ceiling);
         }
+        self.patterns.add(filter);
         raise(alloc, &mut self.wild, filter, ceiling)
     }
 
     /// The greatest ceiling of the filters that match a topic.
-    pub fn ceiling_for(&self, topic: &str) -> Option<u8>
-        ensures { (qos : ℕ) → is_some_and (nat_le qos) result ≡ list_any (λ s. is_match s.filter topic.now && nat_le qos s.ceiling) self.now }
+    ///
+    /// # Errors
+    ///
+    /// `Memory` if there is no memory to look for them.
+    pub fn ceiling_for(&self, alloc: Global, topic: &str) -> Result<Option<u8>, Memory>
+        ensures { IfOk result (λ ceiling. (qos : ℕ) → is_some_and (nat_le qos) ceiling ≡ list_any (λ s. is_match s.filter topic.now && nat_le qos s.ceiling) self.now) }
     {
-        higher(
-            literal_ceiling(&self.literal, topic),
-            ceiling_among(&self.wild, topic),
-        )
+        let literal = literal_ceiling(&self.literal, topic);
+        let wild = wild_ceiling(alloc, &self.patterns, &self.wild, topic)?;
+        Ok(higher(literal, wild))
     }
 
     /// Whether no filter has a wildcard.

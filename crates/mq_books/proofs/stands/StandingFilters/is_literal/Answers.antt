@@ -7,4 +7,4 @@ use Rattle.mq_books.proofs.stands.StandingFilters.is_literal.Goals as goal
 pub returns : goal.returns
 returns c = λ h.
     let none : length c.self.inside.wild.entries ≡ 0 = search (rules, h) in
-    ap (list_all (λ s. is_name s.filter)) (sym c.self.view_is) ∙ all-literal c.self.inside.literal.entries c.self.inside.wild.entries none c.self.invariant.0
+    ap (list_all (λ s. is_name s.filter)) (sym c.self.view_is) ∙ all-literal c.self.inside.literal.entries c.self.inside.wild.entries none c.self.invariant.0.0

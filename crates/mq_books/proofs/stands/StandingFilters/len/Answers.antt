@@ -12,5 +12,5 @@ returns-clause-size c =
 
 pub returns-clause-different : goal.returns-clause-different
 returns-clause-different c = λ filters within.
-    let le = different c.self.inside.literal.entries c.self.inside.wild.entries filters c.self.invariant c.len-2.ensures.unique (λ f here. within f (ap (list_any (λ s. bytes_eq f s.filter)) (sym c.self.view_is) ∙ here)) in
+    let le = different c.self.inside.literal.entries c.self.inside.wild.entries filters c.self.invariant.0 c.len-2.ensures.unique (λ f here. within f (ap (list_any (λ s. bytes_eq f s.filter)) (sym c.self.view_is) ∙ here)) in
     omega (arith, le, c.len.ensures.len, c.len-2.ensures.len, c.saturating_add.ensures)
