@@ -19,3 +19,4 @@ pub mod Growing
 pub mod Sizes
 pub mod Encoding
 pub mod Brief
+pub mod Tries

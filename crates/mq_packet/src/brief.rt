@@ -50,6 +50,8 @@ pub fn decode_brief_publish<'a>(first: u8, body: &'a [u8]) -> Option<Publish<'a>
     read_brief_body(first, body)
 }
 
+// Does the work of `decode_brief_publish`, whose clause `size` follows from this contract. Besides
+// the Topic Name three bytes precede the payload: the name's length, and the empty property list.
 #[inline(always)]
 #[tactic(auto, unfolding(crate::specs::Decoding::decoded, crate::specs::Decoding::body_start))]
 fn read_brief_body<'a>(first: u8, body: &'a [u8]) -> Option<Publish<'a>>
@@ -93,6 +95,8 @@ pub fn decode_identified_publish<'a>(first: u8, body: &'a [u8]) -> Option<Publis
     read_identified_body(first, body)
 }
 
+// Does the work of `decode_identified_publish`, whose clause `size` follows from this contract.
+// Besides the Topic Name five bytes precede the payload, as the Packet Identifier is among them.
 #[inline(always)]
 #[tactic(auto, unfolding(crate::specs::Decoding::decoded, crate::specs::Decoding::body_start))]
 fn read_identified_body<'a>(first: u8, body: &'a [u8]) -> Option<Publish<'a>>
@@ -134,6 +138,7 @@ pub fn decode_brief_acknowledgement<'a>(first: u8, body: &[u8]) -> Option<Packet
     read_brief_acknowledgement(first, body)
 }
 
+// Does the work of `decode_brief_acknowledgement`, whose clause `size` follows from this contract.
 #[inline(always)]
 #[tactic(auto, using(crate::proofs::BriefLaws::brief_acknowledgement), unfolding(crate::specs::Decoding::decoded, crate::specs::Decoding::body_start))]
 fn read_brief_acknowledgement<'a>(first: u8, body: &[u8]) -> Option<Packet<'a>>
@@ -182,6 +187,7 @@ pub fn decode_ping<'a>(first: u8, body: &[u8]) -> Option<Packet<'a>>
     read_ping(first, body)
 }
 
+// Does the work of `decode_ping`, whose clause `size` follows from this contract.
 #[inline(always)]
 #[tactic(auto, unfolding(crate::specs::Decoding::decoded, crate::specs::Decoding::body_start))]
 fn read_ping<'a>(first: u8, body: &[u8]) -> Option<Packet<'a>>

@@ -32,6 +32,7 @@ pub fn cut(bytes: &[u8]) -> Cut
     cut_front(bytes)
 }
 
+// Does the work of `cut`, whose other clauses follow from this contract.
 #[tactic(auto, using(crate::proofs::StreamLaws::not_empty), unfolding(crate::specs::Frames::cut_of))]
 fn cut_front(bytes: &[u8]) -> Cut
     ensures { result ≡ cut_of bytes.now }

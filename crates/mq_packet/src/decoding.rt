@@ -59,6 +59,8 @@ pub fn decode<'a>(first: u8, body: &'a [u8]) -> Result<Packet<'a>, DecodeFault>
     read_body(first, body)
 }
 
+// Does the work of `decode`, whose other clauses follow from this contract. Faults say offsets in
+// the packet, so those of the cursor begin after the fixed header.
 #[inline(always)]
 #[tactic(auto, unfolding(crate::specs::Decoding::decoded, crate::specs::Decoding::body_start))]
 fn read_body<'a>(first: u8, body: &'a [u8]) -> Result<Packet<'a>, DecodeFault>
@@ -86,6 +88,7 @@ pub fn decode_publish<'a>(first: u8, body: &'a [u8]) -> Result<Publish<'a>, Deco
     read_publish_body(first, body)
 }
 
+// Does the work of `decode_publish`, whose clause `size` follows from this contract.
 #[inline(always)]
 #[tactic(auto, unfolding(crate::specs::Decoding::decoded, crate::specs::Decoding::body_start))]
 fn read_publish_body<'a>(first: u8, body: &'a [u8]) -> Result<Publish<'a>, DecodeFault>

@@ -13,22 +13,26 @@ use crate::filters::Filters;
 use crate::packet::{Acknowledgement, Answer, Connect, Packet, Publish, Request, Will};
 use mq_props::Props;
 
+// A property list is valid in its own place, and isn't longer than its length can say.
 fn list_facts(list: &Props<'_>)
     ensures { IsListed list.now }
 {
     let _bytes = list.as_bytes();
 }
 
+// A text is well-formed UTF-8 (MQTT 5.0, section 1.5.4).
 fn text_facts(text: &str)
     ensures { IsUtf8 text.now }
 {
     let _bytes = text.as_bytes();
 }
 
+// A number fits in a Two Byte Integer (MQTT 5.0, section 1.5.2).
 fn number_facts(number: u16)
     ensures { IsTwoBytes number }
 {}
 
+// A Packet Identifier, if there is one, fits in two bytes; its type also allows 0.
 fn identifier_facts(identifier: Option<u16>)
     ensures { IfSome identifier IsTwoBytes }
 {
@@ -37,6 +41,7 @@ fn identifier_facts(identifier: Option<u16>)
     }
 }
 
+// If there is a Will, its properties are a valid list, and its topic is UTF-8.
 fn will_facts(will: &Option<Will<'_>>)
     ensures { IfSome (option_map will_view will.now) IsWill }
 {
@@ -46,6 +51,7 @@ fn will_facts(will: &Option<Will<'_>>)
     }
 }
 
+// If there is a User Name, it is UTF-8.
 fn user_name_facts(user_name: Option<&str>)
     ensures { IfSome (option_map (λ t. t.now) user_name.entry) IsUtf8 }
 {
@@ -54,6 +60,7 @@ fn user_name_facts(user_name: Option<&str>)
     }
 }
 
+// What the types of a CONNECT's fields say of them; its binary data may be any bytes.
 fn connect_facts(packet: &Connect<'_>)
     ensures { IsTyped (view (Packet.Connect packet.now)) }
 {
@@ -64,6 +71,7 @@ fn connect_facts(packet: &Connect<'_>)
     user_name_facts(packet.user_name);
 }
 
+// The same for a PUBLISH, whose payload may be any bytes.
 fn publish_facts(packet: &Publish<'_>)
     ensures { IsTyped (view (Packet.Publish packet.now)) }
 {
@@ -72,6 +80,7 @@ fn publish_facts(packet: &Publish<'_>)
     list_facts(&packet.properties);
 }
 
+// The same for a PUBACK, PUBREC, PUBREL or PUBCOMP.
 fn acknowledgement_facts(packet: &Acknowledgement<'_>)
     ensures { IsIdentified packet.now.identifier packet.now.properties }
 {
@@ -79,6 +88,8 @@ fn acknowledgement_facts(packet: &Acknowledgement<'_>)
     list_facts(&packet.properties);
 }
 
+// Each filter is UTF-8, and its Subscription Options, if it has any, are one byte. That follows
+// from the contract of `have_options`.
 #[tactic(auto, using(crate::proofs::RequestLaws::all_typed))]
 fn filter_facts(filters: &Filters<'_>)
     ensures { AllByRecursion IsAskedFilter filters.now }
@@ -86,6 +97,7 @@ fn filter_facts(filters: &Filters<'_>)
     let _options = filters.have_options();
 }
 
+// What the types of a SUBSCRIBE's or UNSUBSCRIBE's fields say of them.
 fn request_facts(packet: &Request<'_>)
     ensures { IsRequest packet.now.identifier packet.now.properties packet.now.filters }
 {
@@ -94,6 +106,7 @@ fn request_facts(packet: &Request<'_>)
     filter_facts(&packet.filters);
 }
 
+// The same for a SUBACK or UNSUBACK, whose Reason Codes may be any bytes.
 fn answer_facts(packet: &Answer<'_>)
     ensures { IsIdentified packet.now.identifier packet.now.properties }
 {

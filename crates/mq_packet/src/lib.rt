@@ -25,6 +25,7 @@ mod reading;
 mod reason_codes;
 mod rule;
 mod spelling_laws;
+mod trying;
 mod validity;
 mod writing;
 

@@ -21,36 +21,42 @@ use mq_props::{Place, Props};
 use mq_topic::check_name;
 use mq_wire::{MAX_LEN, contains_nul};
 
+// Whether a text has at most 65,535 bytes, and no U+0000 (MQTT 5.0, section 1.5.4).
 fn is_text(text: &str) -> bool
     ensures { result ≡ is_text text.now }
 {
     text.len() <= MAX_LEN && !contains_nul(text)
 }
 
+// Whether binary data has at most 65,535 bytes (MQTT 5.0, section 1.5.6).
 fn is_binary(bytes: &[u8]) -> bool
     ensures { result ≡ is_binary bytes.now }
 {
     bytes.len() <= MAX_LEN
 }
 
+// The number of a place, by which the definitions compare places.
 fn number(place: Place) -> u8
     ensures { result ≡ place_number place }
 {
     place as u8
 }
 
+// Whether a property list is of this place, and so has only properties that may be there.
 fn belongs_to(list: &Props<'_>, place: Place) -> bool
     ensures { result ≡ same_place list.now.place place }
 {
     number(list.place()) == number(place)
 }
 
+// Whether each Reason Code is in the packet's table; there may be none (MQTT 5.0, section 2.4).
 fn are_codes(table: &[u8], codes: &[u8]) -> bool
     ensures { result ≡ list_all (is_code table.now) codes.now }
 {
     codes.iter().all(|code| is_code(table, *code))
 }
 
+// Whether a CONNECT can have this Will, in whose topic wildcards aren't looked for.
 #[tactic(auto, unfolding(crate::specs::Valid::valid_will))]
 fn is_will(will: &Will<'_>) -> bool
     ensures { result ≡ valid_will (will_view will.now) }
@@ -58,6 +64,7 @@ fn is_will(will: &Will<'_>) -> bool
     belongs_to(&will.properties, Place::Will) && is_text(will.topic) && is_binary(will.payload)
 }
 
+// Whether a CONNECT can have this Will, if it has one.
 fn is_will_if_there(will: &Option<Will<'_>>) -> bool
     ensures { result ≡ if_there valid_will (option_map will_view will.now) }
 {
@@ -67,6 +74,7 @@ fn is_will_if_there(will: &Option<Will<'_>>) -> bool
     }
 }
 
+// Whether a text that may be missing, as a User Name may, is valid if it is there.
 fn is_text_if_there(text: Option<&str>) -> bool
     ensures { result ≡ if_there is_text (option_map (λ t. t.now) text.entry) }
 {
@@ -76,6 +84,7 @@ fn is_text_if_there(text: Option<&str>) -> bool
     }
 }
 
+// Whether binary data that may be missing, as a Password may, is valid if it is there.
 fn is_binary_if_there(bytes: Option<&[u8]>) -> bool
     ensures { result ≡ if_there is_binary (option_map (λ b. b.now) bytes.entry) }
 {
@@ -85,6 +94,7 @@ fn is_binary_if_there(bytes: Option<&[u8]>) -> bool
     }
 }
 
+// Whether some bytes spell this CONNECT (MQTT 5.0, section 3.1).
 #[tactic(auto, unfolding(crate::specs::Valid::valid_connect))]
 fn is_connect(packet: &Connect<'_>) -> bool
     ensures { result ≡ valid (view (Packet.Connect packet.now)) }
@@ -96,6 +106,7 @@ fn is_connect(packet: &Connect<'_>) -> bool
         && is_binary_if_there(packet.password)
 }
 
+// Whether some bytes spell this CONNACK (MQTT 5.0, section 3.2).
 #[tactic(auto, unfolding(crate::specs::Valid::valid_connack))]
 fn is_connack(packet: &Connack<'_>) -> bool
     ensures { result ≡ valid (view (Packet.Connack packet.now)) }
@@ -115,6 +126,7 @@ fn fits_qos(duplicate: bool, qos: Qos, identifier: Option<u16>) -> bool
     }
 }
 
+// Whether some bytes spell this PUBLISH (MQTT 5.0, section 3.3).
 #[tactic(auto, unfolding(crate::specs::Valid::valid_publish))]
 fn is_publish(packet: &Publish<'_>) -> bool
     ensures { result ≡ valid (view (Packet.Publish packet.now)) }
@@ -126,6 +138,7 @@ fn is_publish(packet: &Publish<'_>) -> bool
         && names_topic(packet.topic, &packet.properties)
 }
 
+// Whether some bytes spell this DISCONNECT or AUTH (MQTT 5.0, sections 3.14 and 3.15).
 #[tactic(auto, unfolding(crate::specs::Valid::valid_reason_packet))]
 fn is_reason_packet(kind: ReasonPacketKind, packet: &ReasonPacket<'_>) -> bool
     ensures { result ≡ valid_reason_packet kind packet.now.code packet.now.properties }
@@ -133,6 +146,7 @@ fn is_reason_packet(kind: ReasonPacketKind, packet: &ReasonPacket<'_>) -> bool
     belongs_to(&packet.properties, kind.place()) && is_code(kind.codes(), packet.code)
 }
 
+// Whether some bytes spell this PUBACK, PUBREC, PUBREL or PUBCOMP (MQTT 5.0, sections 3.4 to 3.7).
 #[tactic(auto, unfolding(crate::specs::Valid::valid_acknowledgement))]
 fn is_acknowledgement(kind: AcknowledgementKind, packet: &Acknowledgement<'_>) -> bool
     ensures { result ≡ valid_acknowledgement kind packet.now.identifier packet.now.code packet.now.properties }
@@ -150,6 +164,7 @@ fn are_filters(asks: bool, filters: &Filters<'_>) -> bool
     filters.have_options() == asks
 }
 
+// Whether some bytes spell this SUBSCRIBE or UNSUBSCRIBE (MQTT 5.0, sections 3.8 and 3.10).
 #[tactic(auto, unfolding(crate::specs::Valid::valid_request))]
 fn is_request(kind: RequestKind, packet: &Request<'_>) -> bool
     ensures { result ≡ valid_request kind packet.now.identifier packet.now.properties packet.now.filters }
@@ -159,6 +174,7 @@ fn is_request(kind: RequestKind, packet: &Request<'_>) -> bool
         && are_filters(kind.has_options(), &packet.filters)
 }
 
+// Whether some bytes spell this SUBACK or UNSUBACK (MQTT 5.0, sections 3.9 and 3.11).
 #[tactic(auto, unfolding(crate::specs::Valid::valid_answer))]
 fn is_answer(kind: RequestKind, packet: &Answer<'_>) -> bool
     ensures { result ≡ valid_answer kind packet.now.identifier packet.now.properties packet.now.codes }
@@ -168,6 +184,8 @@ fn is_answer(kind: RequestKind, packet: &Answer<'_>) -> bool
         && are_codes(kind.answer_codes(), packet.codes.as_bytes())
 }
 
+// Whether the fields pass the tests of the packet's type. `is_valid` proves that exactly then some
+// bytes spell the packet.
 fn passes(packet: &Packet<'_>) -> bool
     ensures { result ≡ valid (view packet.now) }
 {

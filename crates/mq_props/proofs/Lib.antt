@@ -1,5 +1,7 @@
 pub mod Finding
 pub mod SeenLemmas
+pub mod FactLaws
+pub mod UsualLaws
 pub mod Fields
 pub mod Steps
 pub mod Loop
@@ -14,3 +16,4 @@ pub mod Within
 pub mod BadFieldLemmas
 pub mod Broken
 pub mod Exports
+mod HavingLaws

@@ -14,8 +14,8 @@ use Rattle.mq_props.specs.Table.{Line, row_of, is_listed}
 use Rattle.mq_props.specs.Values.{Value, Property, IsValue, value_type, value_spelling, property_spelling, body}
 use Rattle.mq_props.specs.Allowed.{is_repeated, in_range, is_wild, IsAllowed, AllowedAfter, AreAllowed}
 use Rattle.mq_props.specs.Reading.{items_of, items_on}
-use Rattle.mq_props.specs.declared.seen.Seen.{Seen}
-use Rattle.mq_props.specs.Views.{Sees}
+use Rattle.mq_props.specs.declared.facts.Facts.{Facts}
+use Rattle.mq_props.specs.Views.{Knows}
 use Rattle.mq_props.specs.Listed.{Listed, IsList}
 use Rattle.mq_props.specs.Making.{HoldsList}
 use Rattle.mq_props.specs.Pushing.{nul_in, is_long, is_large, is_bad, overflows, push_fault_by_line}
@@ -193,17 +193,21 @@ leaves place bytes new prop p same is e ok valid =
     let done = pushed place bytes p line.line is known typed valid e in
     record { is_list = subst (λ (all : List ℕ). IsList place all) (sym ok) done.is_list; items = ap items_of ok ∙ done.items }
 
--- where nothing was seen, no property is kept
-pub keeps_nothing : (place : Place) (seen : Seen) → Sees seen [] → HoldsList place seen []
-keeps_nothing place seen sees = record { is_list = record { properties = []; allowed = tt; spelled = refl; bound = omega arith }; sees = sees }
+-- what is known of no properties is known of a list of none
+pub keeps_nothing : (place : Place) (facts : Facts) → Knows facts [] → HoldsList place facts []
+keeps_nothing place facts knows = record { is_list = record { properties = []; allowed = tt; spelled = refl; bound = omega arith }; knows = knows }
 
--- what was seen are the properties that are read from the bytes
-pub sees_items : (place : Place) (seen : Seen) (bytes : List ℕ) → HoldsList place seen bytes → Sees seen (items_of bytes)
-sees_items place seen bytes keeps = subst (λ (ps : List Property). Sees seen ps) (sym (list_items place bytes keeps.is_list)) keeps.sees
+-- what is known is that of the properties that are read from the bytes
+pub knows_items : (place : Place) (facts : Facts) (bytes : List ℕ) → HoldsList place facts bytes → Knows facts (items_of bytes)
+knows_items place facts bytes keeps = subst (λ (ps : List Property). Knows facts ps) (sym (list_items place bytes keeps.is_list)) keeps.knows
 
--- it is kept, where the property was seen
-pub keeps_more : (place : Place) (seen : Seen) (bytes new : List ℕ) (p : Property) → Leaves place bytes new p → Sees seen (items_of bytes ++ p ∷ []) → HoldsList place seen new
-keeps_more place seen bytes new p left sees = record { is_list = left.is_list; sees = subst (λ (ps : List Property). Sees seen ps) (sym left.items ∙ list_items place new left.is_list) sees }
+-- it is kept, where the property is known
+pub keeps_more : (place : Place) (facts : Facts) (bytes new : List ℕ) (p : Property) → Leaves place bytes new p → Knows facts (items_of bytes ++ p ∷ []) → HoldsList place facts new
+keeps_more place facts bytes new p left knows = record { is_list = left.is_list; knows = subst (λ (ps : List Property). Knows facts ps) (sym left.items ∙ list_items place new left.is_list) knows }
+
+-- a list that is read is kept, where its properties are known
+pub keeps_read : (place : Place) (facts : Facts) (bytes : List ℕ) (ps : List Property) → IsList place bytes → items_of bytes ≡ ps → Knows facts ps → HoldsList place facts bytes
+keeps_read place facts bytes ps is same knows = record { is_list = is; knows = subst (λ (qs : List Property). Knows facts qs) (sym same ∙ list_items place bytes is) knows }
 
 pub listed_after : (place : Place) (bytes new : List ℕ) (list : Listed) (p q : Property) → (let was : Listed = record { place = place; items = items_of bytes } in was) ≡ list → p ≡ q → items_of new ≡ items_of bytes ++ p ∷ []
     → (let now : Listed = record { place = place; items = items_of new } in now) ≡ record { place = list.place; items = list.items ++ q ∷ [] }

@@ -10,6 +10,8 @@ pub mod First
 pub mod Listed
 pub mod Pushing
 pub mod Views
+pub mod Usual
 pub mod Making
 pub mod Props
 pub mod Empty
+pub mod Having

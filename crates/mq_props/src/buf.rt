@@ -9,6 +9,7 @@ ghost use Rattle.mq_props.specs.Pushing.{nul_in, is_long, is_large, is_bad, over
 ghost use Rattle.mq_props.specs.Views.{Sees, item_view, value_view};
 ghost use Rattle.mq_props.specs.Props.{prop_view};
 
+use crate::facts::Facts;
 use crate::fault::PushFault;
 use crate::prop::{Prop, item_of};
 use crate::props::Props;
@@ -29,7 +30,7 @@ use std::marker::Model;
 #[derive(Debug, Drop)]
 pub struct PropsBuf {
     place: Place,
-    seen: Seen,
+    facts: Facts,
     bytes: Vec<u8>,
 }
 
@@ -42,7 +43,7 @@ impl Model for PropsBuf {
 
     ghost view = { λ b. record { list = record { place = b.place; items = items_of b.bytes.items }; spare = vec_capacity b.bytes - vec_len b.bytes } };
 
-    ghost invariant = { λ b. HoldsList b.place b.seen b.bytes.items };
+    ghost invariant = { λ b. HoldsList b.place b.facts b.bytes.items };
 }
 
 fn is_over(bytes: &[u8]) -> bool
@@ -151,8 +152,8 @@ fn is_too_long(bytes: &[u8], id: u8, value: &Value) -> bool
 
 // Why a property with the value can't be appended to the list of these bytes, if so. `seen` has the
 // list's identifiers.
-fn fault_with(place: Place, seen: &Seen, bytes: &[u8], row: Row, value: &Value) -> Option<PushFault>
-    requires sees { Sees seen.now (items_of bytes.now) }
+fn fault_with(place: Place, seen: Seen, bytes: &[u8], row: Row, value: &Value) -> Option<PushFault>
+    requires sees { Sees seen (items_of bytes.now) }
     requires spelled { bytes.now ≡ body (items_of bytes.now) }
     requires bound { length bytes.now ≤ max_varint }
     requires known { row.0 < 43 }
@@ -174,8 +175,8 @@ fn fault_with(place: Place, seen: &Seen, bytes: &[u8], row: Row, value: &Value) 
     None
 }
 
-fn fault_in(place: Place, seen: &Seen, bytes: &[u8], item: &Item) -> Option<PushFault>
-    requires sees { Sees seen.now (items_of bytes.now) }
+fn fault_in(place: Place, seen: Seen, bytes: &[u8], item: &Item) -> Option<PushFault>
+    requires sees { Sees seen (items_of bytes.now) }
     requires spelled { bytes.now ≡ body (items_of bytes.now) }
     requires bound { length bytes.now ≤ max_varint }
     ensures { result ≡ push_fault (record { place = place; items = items_of bytes.now }) (item_view item.now) }
@@ -305,7 +306,7 @@ impl PropsBuf {
     {
         PropsBuf {
             place,
-            seen: Seen::new(),
+            facts: Facts::new(),
             bytes: Vec::new(alloc),
         }
     }
@@ -336,11 +337,11 @@ impl PropsBuf {
         ensures memory { result ≡ Err PushFault.Memory → self.old.spare < length (property_spelling (prop_view prop.now)) }
     {
         let item = item_of(*prop);
-        if let Some(fault) = fault_in(self.place, &self.seen, &self.bytes, &item) {
+        if let Some(fault) = fault_in(self.place, self.facts.seen, &self.bytes, &item) {
             return Err(fault);
         }
         append(&mut self.bytes, &item)?;
-        self.seen.add(item.id);
+        self.facts = self.facts.with_item(&item);
         Ok(())
     }
 
@@ -348,6 +349,6 @@ impl PropsBuf {
     pub fn as_props(&self) -> Props<'_>
         ensures { result ≡ self.now.list }
     {
-        Props::of(self.place, &self.bytes)
+        Props::of(self.place, self.facts, &self.bytes)
     }
 }

@@ -3,7 +3,7 @@
 //! The getters that are called for each PUBLISH are inlined down to a function of the list's bytes:
 //! a list that no call borrows is kept in registers.
 
-ghost use Rattle.std.specs.Prelude.{◌≡◌};
+ghost use Rattle.std.specs.Prelude.{◌≡◌, ◌<◌, is_some};
 ghost use Rattle.std.specs.Option.{option_map};
 ghost use Rattle.mq_props.specs.First.{as_byte, as_two_bytes, as_four_bytes, as_varint, as_text, as_pair, as_binary, first_byte, first_two_bytes, first_four_bytes, first_varint, first_text, first_pair, first_binary};
 ghost use Rattle.mq_props.specs.Identifiers.{payload_format_indicator, message_expiry_interval, content_type, response_topic, correlation_data, subscription_identifier, session_expiry_interval, assigned_client_identifier, server_keep_alive, authentication_method, authentication_data, request_problem_information, will_delay_interval, request_response_information, response_information, server_reference, reason_string, receive_maximum, topic_alias_maximum, topic_alias, maximum_qos, retain_available, user_property, maximum_packet_size, wildcard_subscription_available, subscription_identifier_available, shared_subscription_available};
@@ -32,7 +32,7 @@ impl<'a> Value<'a> {
         }
     }
 
-    fn two_bytes(self) -> Option<u16>
+    pub(crate) fn two_bytes(self) -> Option<u16>
         ensures { result ≡ as_two_bytes (value_view self.entry) }
     {
         match self {
@@ -127,49 +127,77 @@ fn pair_in<'a>(bytes: &'a [u8], id: u8) -> Option<(&'a str, &'a str)>
 
 impl<'a> Props<'a> {
     fn first_byte(&self, id: u8) -> Option<u8>
+        requires { id < 43 }
         ensures { result ≡ first_byte id self.now.items }
     {
+        if !self.has(id) {
+            return None;
+        }
         self.first(id)?.byte()
     }
 
     #[inline(always)]
     fn first_two_bytes(&self, id: u8) -> Option<u16>
+        requires { id < 43 }
         ensures { result ≡ first_two_bytes id self.now.items }
     {
+        if !self.has(id) {
+            return None;
+        }
         two_bytes_in(self.bytes, id)
     }
 
     #[inline(always)]
     fn first_four_bytes(&self, id: u8) -> Option<u32>
+        requires { id < 43 }
         ensures { result ≡ first_four_bytes id self.now.items }
     {
+        if !self.has(id) {
+            return None;
+        }
         four_bytes_in(self.bytes, id)
     }
 
     #[inline(always)]
     fn first_varint(&self, id: u8) -> Option<u32>
+        requires { id < 43 }
         ensures { result ≡ first_varint id self.now.items }
     {
+        if !self.has(id) {
+            return None;
+        }
         varint_in(self.bytes, id)
     }
 
     #[inline(always)]
     fn first_text(&self, id: u8) -> Option<&'a str>
+        requires { id < 43 }
         ensures { option_map (λ text. text.now) result ≡ first_text id self.now.items }
     {
+        if !self.has(id) {
+            return None;
+        }
         text_in(self.bytes, id)
     }
 
     #[inline(always)]
     fn first_pair(&self, id: u8) -> Option<(&'a str, &'a str)>
+        requires { id < 43 }
         ensures { option_map (λ texts. (texts.0.now, texts.1.now)) result ≡ first_pair id self.now.items }
     {
+        if !self.has(id) {
+            return None;
+        }
         pair_in(self.bytes, id)
     }
 
     fn first_binary(&self, id: u8) -> Option<&'a [u8]>
+        requires { id < 43 }
         ensures { option_map (λ bytes. bytes.now) result ≡ first_binary id self.now.items }
     {
+        if !self.has(id) {
+            return None;
+        }
         self.first(id)?.binary()
     }
 
@@ -186,6 +214,14 @@ impl<'a> Props<'a> {
         ensures { result ≡ first_four_bytes message_expiry_interval self.now.items }
     {
         self.first_four_bytes(MESSAGE_EXPIRY_INTERVAL)
+    }
+
+    /// Whether there is a Message Expiry Interval.
+    #[inline(always)]
+    pub fn has_message_expiry_interval(&self) -> bool
+        ensures { result ≡ is_some (first_four_bytes message_expiry_interval self.now.items) }
+    {
+        self.has(MESSAGE_EXPIRY_INTERVAL)
     }
 
     /// The first Content Type.
@@ -215,6 +251,14 @@ impl<'a> Props<'a> {
         ensures { result ≡ first_varint subscription_identifier self.now.items }
     {
         self.first_varint(SUBSCRIPTION_IDENTIFIER)
+    }
+
+    /// Whether there is a Subscription Identifier.
+    #[inline(always)]
+    pub fn has_subscription_identifier(&self) -> bool
+        ensures { result ≡ is_some (first_varint subscription_identifier self.now.items) }
+    {
+        self.has(SUBSCRIPTION_IDENTIFIER)
     }
 
     /// The first Session Expiry Interval.
@@ -295,6 +339,14 @@ impl<'a> Props<'a> {
         self.first_text(REASON_STRING)
     }
 
+    /// Whether there is a Reason String.
+    #[inline(always)]
+    pub fn has_reason_string(&self) -> bool
+        ensures { result ≡ is_some (first_text reason_string self.now.items) }
+    {
+        self.has(REASON_STRING)
+    }
+
     /// The first Receive Maximum.
     pub fn get_receive_maximum(&self) -> Option<u16>
         ensures { result ≡ first_two_bytes receive_maximum self.now.items }
@@ -314,7 +366,7 @@ impl<'a> Props<'a> {
     pub fn get_topic_alias(&self) -> Option<u16>
         ensures { result ≡ first_two_bytes topic_alias self.now.items }
     {
-        self.first_two_bytes(TOPIC_ALIAS)
+        self.topic_alias
     }
 
     /// The first Maximum QoS.
@@ -337,6 +389,14 @@ impl<'a> Props<'a> {
         ensures { option_map (λ texts. (texts.0.now, texts.1.now)) result ≡ first_pair user_property self.now.items }
     {
         self.first_pair(USER_PROPERTY)
+    }
+
+    /// Whether there is a User Property.
+    #[inline(always)]
+    pub fn has_user_property(&self) -> bool
+        ensures { result ≡ is_some (first_pair user_property self.now.items) }
+    {
+        self.has(USER_PROPERTY)
     }
 
     /// The first Maximum Packet Size.

@@ -2,14 +2,17 @@
 #![tactic(auto)]
 
 mod buf;
+mod facts;
 mod fault;
 mod get;
+mod having;
 mod laws;
 mod list;
 mod prop;
 mod props;
 mod seen;
 mod table;
+mod usual;
 mod value;
 
 pub use buf::PropsBuf;

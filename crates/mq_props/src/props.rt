@@ -1,21 +1,23 @@
 //! A validated property list.
 
-ghost use Rattle.std.specs.Prelude.{◌≡◌, ℕ, ◌+◌, ◌≤◌, ◌<◌, ◌^◌, List, [], ◌∷◌, ◌++◌, length, IfOk, IfErr, IfSome, is_some, OnErr, IsOkAnd, MatchResult, MatchOption};
+ghost use Rattle.std.specs.Prelude.{◌≡◌, ℕ, ◌+◌, ◌≤◌, ◌<◌, ◌^◌, false, List, [], ◌∷◌, ◌++◌, length, IfOk, IfErr, IfSome, is_some, OnErr, IsOkAnd, MatchResult, MatchOption};
 ghost use Rattle.std.specs.Option.{option_map};
 ghost use Rattle.std.specs.Iterator.{YieldsFirstBy, item_count};
 ghost use Rattle.mq_wire.specs.Left.{past};
 ghost use Rattle.mq_wire.specs.Spellings.{AreBytes, max_varint};
 ghost use Rattle.mq_props.specs.Values.{Property, body};
-ghost use Rattle.mq_props.specs.Allowed.{first_of, AreAllowed, Lists};
+ghost use Rattle.mq_props.specs.Allowed.{first_of, occurs_in, AreAllowed, Lists};
 ghost use Rattle.mq_props.specs.Breaks.{BreaksList};
 ghost use Rattle.mq_props.specs.Empty.{begins_with_zero};
 ghost use Rattle.mq_props.specs.Reading.{properties_on, list_on, item_on, items_on, items_of, ReadsFront};
 ghost use Rattle.mq_props.specs.Views.{item_view, value_view};
 ghost use Rattle.mq_props.specs.Props.{prop_view};
 
+use crate::facts::Facts;
 use crate::fault::{PropFault, PropReason};
-use crate::list::check_items;
+use crate::list::facts_of;
 use crate::prop::{Prop, prop_of};
+use crate::seen::Seen;
 use crate::table::{Place, find_row};
 use crate::value::{Item, Value, read_value};
 use mq_wire::{Cursor, Reason};
@@ -28,19 +30,22 @@ use std::mem;
 /// It borrows the bytes that spell it. A contract sees its place and its properties, in order.
 #[derive(Debug, Drop)]
 pub struct Props<'a> {
-    place: Place,
     pub(crate) bytes: &'a [u8],
+    pub(crate) seen: Seen,
+    pub(crate) topic_alias: Option<u16>,
+    place: Place,
 }
 
 impl<'a> Model for Props<'a> {
-    ghost use Rattle.mq_props.specs.Listed.{Listed, IsList};
+    ghost use Rattle.mq_props.specs.Listed.{Listed};
+    ghost use Rattle.mq_props.specs.Making.{HoldsList};
     ghost use Rattle.mq_props.specs.Reading.{items_of};
 
     ghost Value = { Listed };
 
     ghost view = { λ p. record { place = p.place; items = items_of p.bytes.now } };
 
-    ghost invariant = { λ p. IsList p.place p.bytes.now };
+    ghost invariant = { λ p. HoldsList p.place (record { seen = p.seen; topic_alias = p.topic_alias }) p.bytes.now };
 }
 
 // The bytes that the cursor has left. It doesn't move.
@@ -65,8 +70,8 @@ fn all_of<'a>(place: Place, at: usize, bytes: &'a [u8]) -> Result<Props<'a>, Pro
         (λ fault. properties_on place [] (record { at = at; rest = bytes.entry.now }) ≡ Err fault) }
     ensures place { IfOk result (λ props. props.place ≡ place) }
 {
-    check_items(place, Cursor::starting_at(bytes, at))?;
-    Ok(Props { place, bytes })
+    let facts = facts_of(place, at, bytes)?;
+    Ok(Props::of(place, facts, bytes))
 }
 
 /// The bytes after an empty property list, which is the byte 0, if they begin with one (MQTT 5.0,
@@ -128,7 +133,7 @@ fn any_list_at<'a>(cursor: &mut Cursor<'a>, place: Place) -> Result<Props<'a>, P
 
 // The next property of any list, if there is one at the front of what is left.
 #[tactic(auto, unfolding(crate::specs::Reading::item_on))]
-fn next_item<'a>(cursor: &mut Cursor<'a>) -> Option<Item<'a>>
+pub(crate) fn next_item<'a>(cursor: &mut Cursor<'a>) -> Option<Item<'a>>
     ensures { MatchOption result (item_on cursor.old ≡ None) (λ item. item_on cursor.old ≡ Some (item_view item, cursor.new)) }
 {
     let Ok(id) = cursor.varint() else {
@@ -148,7 +153,7 @@ fn next_item<'a>(cursor: &mut Cursor<'a>) -> Option<Item<'a>>
 
 /// The value of the first property with the identifier among those that the bytes spell.
 #[inline(never)]
-pub fn first_in<'a>(bytes: &'a [u8], id: u8) -> Option<Value<'a>>
+pub(crate) fn first_in<'a>(bytes: &'a [u8], id: u8) -> Option<Value<'a>>
     ensures { option_map value_view result ≡ first_of id (items_of bytes.entry.now) }
 {
     let mut cursor = Cursor::new(bytes);
@@ -161,7 +166,7 @@ pub fn first_in<'a>(bytes: &'a [u8], id: u8) -> Option<Value<'a>>
 }
 
 impl<'a> Props<'a> {
-    ghost use Rattle.mq_props.specs.Listed.{IsList};
+    ghost use Rattle.mq_props.specs.Making.{HoldsList};
 
     /// Reads the property list of a place at the front of what the cursor has left (MQTT 5.0,
     /// 2.2.2): its length, and the properties that make up that many bytes. It allocates and copies
@@ -207,15 +212,21 @@ impl<'a> Props<'a> {
     pub fn empty(place: Place) -> Props<'a>
         ensures { result ≡ record { place = place; items = [] } }
     {
-        Props { place, bytes: &[] }
+        Props::of(place, Facts::new(), &[])
     }
 
-    // The list that the bytes spell.
-    pub(crate) fn of(place: Place, bytes: &'a [u8]) -> Props<'a>
-        requires { IsList place bytes.now }
+    // The list that the bytes spell, with its facts.
+    #[inline(always)]
+    pub(crate) fn of(place: Place, facts: Facts, bytes: &'a [u8]) -> Props<'a>
+        requires { HoldsList place facts bytes.now }
         ensures { result ≡ record { place = place; items = items_of bytes.entry.now } }
     {
-        Props { place, bytes }
+        Props {
+            bytes,
+            seen: facts.seen,
+            topic_alias: facts.topic_alias,
+            place,
+        }
     }
 
     /// The place that the list is for.
@@ -251,6 +262,17 @@ impl<'a> Props<'a> {
         PropsIter {
             cursor: Cursor::new(self.bytes),
         }
+    }
+
+    /// Whether there is a property with the identifier.
+    #[inline(always)]
+    pub(crate) fn has(&self, id: u8) -> bool
+        requires { id < 43 }
+        ensures occurs { result ≡ occurs_in id self.now.items }
+        ensures absent { result ≡ false → first_of id self.now.items ≡ None }
+        ensures allowed { AreAllowed self.now.place self.now.items }
+    {
+        self.seen.has(id)
     }
 
     /// The value of the first property with the identifier.

@@ -1,37 +1,41 @@
 //! The identifiers that have been read.
 
-ghost use Rattle.std.specs.Prelude.{◌≡◌, ℕ, ◌<◌, [], ◌∷◌, ◌++◌, List, false, slice_index_or};
+ghost use Rattle.std.specs.Prelude.{◌≡◌, ℕ, ◌<◌, [], ◌∷◌, ◌++◌, List};
 ghost use Rattle.mq_props.specs.Values.{Property};
 ghost use Rattle.mq_props.specs.Allowed.{occurs_in};
 ghost use Rattle.mq_props.specs.Views.{Sees};
 
-/// Which Property Identifiers, all below 43, have been seen.
-#[derive(Debug, Drop)]
+/// Which Property Identifiers, all below 43, have been seen: a bit for each.
+#[derive(Debug, Clone, Copy)]
 pub struct Seen {
-    by_id: [bool; 43],
+    bits: u64,
 }
 
 impl Seen {
     /// No identifier has been seen.
-    pub fn new() -> Seen
+    pub const fn new() -> Seen
         ensures { Sees result [] }
     {
-        Seen { by_id: [false; 43] }
+        Seen { bits: 0 }
     }
 
     /// Whether the identifier has been seen.
-    pub fn has(&self, id: u8) -> bool
+    #[inline(always)]
+    pub fn has(self, id: u8) -> bool
         requires { id < 43 }
-        ensures { (ps : List Property) → Sees self.now ps → result ≡ occurs_in id ps }
+        ensures { (ps : List Property) → Sees self ps → result ≡ occurs_in id ps }
     {
-        self.by_id[id as usize]
+        (self.bits >> id) & 1 == 1
     }
 
-    /// Marks the identifier as seen.
-    pub fn add(&mut self, id: u8)
+    /// The same, and the identifier.
+    #[inline(always)]
+    pub fn with(self, id: u8) -> Seen
         requires { id < 43 }
-        ensures { (ps : List Property) (p : Property) → Sees self.old ps → p.id ≡ id → Sees self.new (ps ++ p ∷ []) }
+        ensures { (ps : List Property) (p : Property) → Sees self ps → p.id ≡ id → Sees result (ps ++ p ∷ []) }
     {
-        self.by_id[id as usize] = true;
+        Seen {
+            bits: self.bits | 1 << id,
+        }
     }
 }

@@ -39,4 +39,5 @@ pub mod DropLaws
 pub mod WiderLaws
 pub mod OccasionLaws
 pub mod PlacesLaws
+pub mod TrialLaws
 pub mod HistoryLaws

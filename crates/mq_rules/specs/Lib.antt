@@ -15,6 +15,7 @@ pub mod Bindings
 pub mod Statements
 pub mod Steps
 pub mod Occasions
+pub mod Trials
 pub mod Under
 pub mod Growing
 pub mod Skipping

@@ -4,7 +4,7 @@
 //! Memory is taken only for a text that some statement looks at: the Topic Name of a PUBLISH that
 //! was sent, the Topic Filters of a SUBSCRIBE that was received, and the Reason Codes of a SUBACK
 //! that was sent.
-ghost use Rattle.std.specs.Prelude.{◌≡◌, ◌&&◌, ◌<◌, ◌≤◌, ℕ, List, [], true, is_some, length, slice_index, option_map, unwrap_or, IfOk, OnErr};
+ghost use Rattle.std.specs.Prelude.{◌≡◌, ◌&&◌, ◌<◌, ◌≤◌, [], true, is_some, length, slice_index, option_map, unwrap_or, IfOk, OnErr};
 ghost use Rattle.mq_props.specs.First.{first_two_bytes, first_four_bytes, first_varint, first_text, first_pair};
 ghost use Rattle.mq_packet.specs.declared.packet.RequestKind.TheVariants as requests;
 ghost use Rattle.mq_packet.specs.Reading.{view, connect_view, publish_view};
@@ -38,14 +38,6 @@ fn is_text(text: Option<&str>) -> bool
     text.is_some()
 }
 
-// Whether there is a pair of texts.
-#[inline]
-fn is_pair(pair: Option<(&str, &str)>) -> bool
-    ensures { result ≡ is_some {T = List ℕ × List ℕ} (option_map (λ texts. (texts.0.now, texts.1.now)) pair.entry) }
-{
-    pair.is_some()
-}
-
 /// Whether RETAIN is 1 and the QoS is above 0.
 #[inline(always)]
 pub(crate) fn is_retained(publish: &Publish<'_>) -> bool
@@ -73,7 +65,7 @@ fn has_reason_string(list: Option<&Props<'_>>) -> bool
     ensures { result ≡ is_some (first_text 31 (unwrap_or (option_map (λ list. list.now.items) list.entry) [])) }
 {
     match list {
-        Some(list) => is_text(list.get_reason_string()),
+        Some(list) => list.has_reason_string(),
         None => false,
     }
 }
@@ -84,7 +76,7 @@ fn has_user_property(list: Option<&Props<'_>>) -> bool
     ensures { result ≡ is_some (first_pair 38 (unwrap_or (option_map (λ list. list.now.items) list.entry) [])) }
 {
     match list {
-        Some(list) => is_pair(list.get_user_property()),
+        Some(list) => list.has_user_property(),
         None => false,
     }
 }
@@ -106,7 +98,7 @@ fn has_message_expiry(list: Option<&Props<'_>>) -> bool
     ensures { result ≡ is_some (first_four_bytes 2 (unwrap_or (option_map (λ list. list.now.items) list.entry) [])) }
 {
     match list {
-        Some(list) => list.get_message_expiry_interval().is_some(),
+        Some(list) => list.has_message_expiry_interval(),
         None => false,
     }
 }
@@ -117,7 +109,7 @@ fn has_subscription_identifier(list: Option<&Props<'_>>) -> bool
     ensures { result ≡ is_some (first_varint 11 (unwrap_or (option_map (λ list. list.now.items) list.entry) [])) }
 {
     match list {
-        Some(list) => list.get_subscription_identifier().is_some(),
+        Some(list) => list.has_subscription_identifier(),
         None => false,
     }
 }

@@ -40,6 +40,7 @@ pub fn read_connack<'a>(mut cursor: Cursor<'a>) -> Result<Connack<'a>, ReadFault
     )
 }
 
+// The Connect Acknowledge Flags: any but bit 0 breaks W20 (MQTT 5.0, section 3.2.2.1).
 fn connack_flags(cursor: &mut Cursor<'_>) -> Result<u8, ReadFault>
     ensures { ReadsField (λ n. n) result (read_field byte connack_flags_objection cursor.old) cursor.new }
 {

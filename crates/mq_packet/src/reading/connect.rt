@@ -26,6 +26,7 @@ fn are_flags(flags: u8) -> bool
         && (flags & WILL != 0 || flags & (WILL_QOS | WILL_RETAIN) == 0)
 }
 
+// The Connect Flags, unless they break W19 (MQTT 5.0, section 3.1.2.3).
 fn connect_flags(cursor: &mut Cursor<'_>) -> Result<u8, ReadFault>
     ensures { ReadsField (λ n. n) result (read_field byte connect_flags_objection cursor.old) cursor.new }
 {

@@ -60,6 +60,8 @@ pub fn brief_topic<'a>(flags: u8, cursor: Cursor<'a>) -> Option<&'a str>
     topic_without_properties(cursor)
 }
 
+// The Topic Name of a PUBLISH of QoS 0 without properties, if it is plain and isn't empty: no Topic
+// Alias can stand for an empty one there (MQTT 5.0, section 3.3.2.3.4).
 #[inline(always)]
 fn topic_without_properties<'a>(mut cursor: Cursor<'a>) -> Option<&'a str>
     requires { has_no_properties cursor.rest ≡ true }
@@ -89,6 +91,8 @@ pub fn identified_topic<'a>(flags: u8, cursor: Cursor<'a>) -> Option<&'a str>
     }
 }
 
+// The Topic Name of a PUBLISH of QoS 1 or 2, if it is plain and isn't empty, and if a Packet
+// Identifier other than 0 and an empty property list follow it.
 #[inline(always)]
 fn topic_with_identifier<'a>(mut cursor: Cursor<'a>) -> Option<&'a str>
     ensures brief { is_some result ≡ is_identified_body cursor.entry.rest }
@@ -120,6 +124,7 @@ fn starts_identified(bytes: &[u8]) -> bool
     after_empty_list(rest).is_some()
 }
 
+// Reads a PUBLISH of QoS 0, which breaks W08 if it has DUP 1 (MQTT 5.0, section 3.3.1.1).
 #[inline(always)]
 fn read_unacknowledged<'a>(
     cursor: Cursor<'a>,
@@ -137,6 +142,7 @@ fn read_unacknowledged<'a>(
     read_at_most_once(cursor, retain)
 }
 
+// Reads a PUBLISH of QoS 0 and DUP 0: it has no Packet Identifier (MQTT 5.0, section 3.3.2.2).
 #[inline(always)]
 fn read_at_most_once<'a>(mut cursor: Cursor<'a>, retain: bool) -> Result<Publish<'a>, ReadFault>
     ensures { Reads (λ p. publish (publish_view p)) result (read (publish_unacknowledged retain) cursor.entry) }
@@ -154,6 +160,7 @@ fn read_at_most_once<'a>(mut cursor: Cursor<'a>, retain: bool) -> Result<Publish
     })
 }
 
+// Reads a PUBLISH of QoS 1 or 2: it has a Packet Identifier (MQTT 5.0, section 3.3.2.2).
 #[inline(always)]
 fn read_acknowledged<'a>(
     mut cursor: Cursor<'a>,

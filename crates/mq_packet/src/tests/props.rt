@@ -321,6 +321,46 @@ fn the_bytes_of_a_list(rt: HostRuntime) {
     }
 }
 
+// Whether a list that is read has a Message Expiry Interval, a Subscription Identifier, a Reason
+// String and a User Property.
+fn kinds_in(place: Place, bytes: &[u8]) -> Option<[bool; 4]> {
+    let props = Props::read(&mut Cursor::new(bytes), place).ok()?;
+    Some([
+        props.has_message_expiry_interval(),
+        props.has_subscription_identifier(),
+        props.has_reason_string(),
+        props.has_user_property(),
+    ])
+}
+
+static KINDS: [(Place, &[u8], [bool; 4]); 6] = [
+    (Publish, &[0], [false, false, false, false]),
+    (
+        Publish,
+        &[7, 0x02, 0, 0, 0, 60, 0x0B, 1],
+        [true, true, false, false],
+    ),
+    (
+        Publish,
+        &[8, 0x0B, 0x80, 1, 0x26, 0, 0, 0, 0],
+        [false, true, false, true],
+    ),
+    (
+        Publish,
+        &[7, 0x26, 0, 1, b'+', 0, 1, b'v'],
+        [false, false, false, true],
+    ),
+    (Puback, &[4, 0x1F, 0, 1, b'x'], [false, false, true, false]),
+    (Will, &[5, 0x02, 0, 0, 0, 60], [true, false, false, false]),
+];
+
+#[test]
+fn which_kinds_are_there(rt: HostRuntime) {
+    for (place, bytes, kinds) in &KINDS {
+        assert_eq!(rt; kinds_in(*place, bytes), Some(*kinds));
+    }
+}
+
 #[test]
 fn first_of_each_in_publish(rt: HostRuntime) -> Result<(), Fail> {
     let list = list_of(

@@ -51,6 +51,7 @@ fn put_connect_payload(out: &mut Vec<u8>, packet: &Connect<'_>) -> Result<(), Pu
     put_binary_if_there(out, packet.password)
 }
 
+// The body of a CONNECT: its variable header, and then its payload (MQTT 5.0, section 3.1).
 #[tactic(auto, using(crate::proofs::GrowingLaws::lacks_first, crate::proofs::GrowingLaws::lacks_after, crate::proofs::GrowingLaws::lacks_byte, crate::proofs::GrowingLaws::lacks_after_byte), unfolding(crate::specs::Canonical::connect_body))]
 fn put_connect(out: &mut Vec<u8>, packet: &Connect<'_>) -> Result<(), PutFault>
     requires { valid (view (Packet.Connect packet.now)) ≡ true }
@@ -62,6 +63,7 @@ fn put_connect(out: &mut Vec<u8>, packet: &Connect<'_>) -> Result<(), PutFault>
     put_connect_payload(out, packet)
 }
 
+// The body of a CONNACK (MQTT 5.0, section 3.2), whose first byte has Session Present in bit 0.
 #[tactic(auto, using(crate::proofs::GrowingLaws::lacks_first, crate::proofs::GrowingLaws::lacks_after, crate::proofs::GrowingLaws::lacks_byte, crate::proofs::GrowingLaws::lacks_after_byte), unfolding(crate::specs::Canonical::connack_body))]
 fn put_connack(out: &mut Vec<u8>, packet: &Connack<'_>) -> Result<(), PutFault>
     ensures ok { OnOk result (out.new.items ≡ out.old.items ++ canonical_body (view (Packet.Connack packet.now))) }
@@ -73,6 +75,7 @@ fn put_connack(out: &mut Vec<u8>, packet: &Connack<'_>) -> Result<(), PutFault>
     put_list(out, &packet.properties)
 }
 
+// The body of a PUBLISH, whose payload is all that follows its properties (MQTT 5.0, section 3.3).
 #[tactic(auto, using(crate::proofs::GrowingLaws::lacks_first, crate::proofs::GrowingLaws::lacks_after, crate::proofs::GrowingLaws::lacks_byte, crate::proofs::GrowingLaws::lacks_after_byte), unfolding(crate::specs::Canonical::publish_body))]
 fn put_publish(out: &mut Vec<u8>, packet: &Publish<'_>) -> Result<(), PutFault>
     requires { valid (view (Packet.Publish packet.now)) ≡ true }
@@ -86,6 +89,7 @@ fn put_publish(out: &mut Vec<u8>, packet: &Publish<'_>) -> Result<(), PutFault>
     put_bytes(out, packet.payload)
 }
 
+// The shortest body of a PUBACK, PUBREC, PUBREL or PUBCOMP (MQTT 5.0, sections 3.4 to 3.7).
 #[tactic(auto, using(crate::proofs::GrowingLaws::lacks_first, crate::proofs::GrowingLaws::lacks_after, crate::proofs::GrowingLaws::lacks_byte, crate::proofs::GrowingLaws::lacks_after_byte), unfolding(crate::specs::Canonical::acknowledgement_body))]
 fn put_acknowledgement(out: &mut Vec<u8>, packet: &Acknowledgement<'_>) -> Result<(), PutFault>
     ensures ok { OnOk result (out.new.items ≡ out.old.items ++ acknowledgement_body packet.now.identifier packet.now.code packet.now.properties.items) }
@@ -96,6 +100,7 @@ fn put_acknowledgement(out: &mut Vec<u8>, packet: &Acknowledgement<'_>) -> Resul
     put_reason(out, packet.code, &packet.properties)
 }
 
+// The body of a SUBSCRIBE or UNSUBSCRIBE (MQTT 5.0, sections 3.8 and 3.10).
 #[tactic(auto, using(crate::proofs::GrowingLaws::lacks_first, crate::proofs::GrowingLaws::lacks_after, crate::proofs::GrowingLaws::lacks_byte, crate::proofs::GrowingLaws::lacks_after_byte), unfolding(crate::specs::Canonical::request_body))]
 fn put_request(out: &mut Vec<u8>, packet: &Request<'_>) -> Result<(), PutFault>
     ensures ok { OnOk result (out.new.items ≡ out.old.items ++ request_body packet.now.identifier packet.now.properties.items packet.now.filters) }
@@ -107,6 +112,7 @@ fn put_request(out: &mut Vec<u8>, packet: &Request<'_>) -> Result<(), PutFault>
     put_bytes(out, packet.filters.as_bytes())
 }
 
+// The body of a SUBACK or UNSUBACK (MQTT 5.0, sections 3.9 and 3.11).
 #[tactic(auto, using(crate::proofs::GrowingLaws::lacks_first, crate::proofs::GrowingLaws::lacks_after, crate::proofs::GrowingLaws::lacks_byte, crate::proofs::GrowingLaws::lacks_after_byte), unfolding(crate::specs::Canonical::answer_body))]
 fn put_answer(out: &mut Vec<u8>, packet: &Answer<'_>) -> Result<(), PutFault>
     ensures ok { OnOk result (out.new.items ≡ out.old.items ++ answer_body packet.now.identifier packet.now.properties.items packet.now.codes) }
@@ -118,6 +124,7 @@ fn put_answer(out: &mut Vec<u8>, packet: &Answer<'_>) -> Result<(), PutFault>
     put_bytes(out, packet.codes.as_bytes())
 }
 
+// The shortest body of a DISCONNECT (MQTT 5.0, section 3.14.2).
 #[tactic(auto, unfolding(crate::specs::Canonical::disconnect_body))]
 fn put_disconnect(out: &mut Vec<u8>, packet: &ReasonPacket<'_>) -> Result<(), PutFault>
     ensures ok { OnOk result (out.new.items ≡ out.old.items ++ canonical_body (view (Packet.Disconnect packet.now))) }
@@ -127,6 +134,8 @@ fn put_disconnect(out: &mut Vec<u8>, packet: &ReasonPacket<'_>) -> Result<(), Pu
     put_reason(out, packet.code, &packet.properties)
 }
 
+// The body of an AUTH. Its Reason Code and its property list are left out only together (MQTT 5.0,
+// section 3.15.2.1).
 #[tactic(auto, using(crate::proofs::GrowingLaws::lacks_first, crate::proofs::GrowingLaws::lacks_after, crate::proofs::GrowingLaws::lacks_byte, crate::proofs::GrowingLaws::lacks_after_byte))]
 fn put_auth(out: &mut Vec<u8>, packet: &ReasonPacket<'_>) -> Result<(), PutFault>
     ensures ok { OnOk result (out.new.items ≡ out.old.items ++ canonical_body (view (Packet.Auth packet.now))) }

@@ -102,6 +102,7 @@ pub fn put_binary_if_there(out: &mut Vec<u8>, bytes: Option<&[u8]>) -> Result<()
     }
 }
 
+// Appends the Will as the payload of a CONNECT has it; its flags are in the variable header.
 #[tactic(auto, using(crate::proofs::GrowingLaws::lacks_first, crate::proofs::GrowingLaws::lacks_after, crate::proofs::GrowingLaws::lacks_byte, crate::proofs::GrowingLaws::lacks_after_byte))]
 fn put_will(out: &mut Vec<u8>, will: &Will<'_>) -> Result<(), PutFault>
     requires { valid_will (will_view will.now) ≡ true }
@@ -127,6 +128,8 @@ pub fn put_will_if_there(out: &mut Vec<u8>, will: &Option<Will<'_>>) -> Result<(
     }
 }
 
+// Whether the Reason Code is 0x00, and there are no properties. `is_empty_auth` proves what the
+// body of an AUTH then is.
 fn is_bare(packet: &ReasonPacket<'_>) -> bool
     ensures { result ≡ ((packet.now.code == 0) && (length (properties_spelling packet.now.properties.items) == 0)) }
 {

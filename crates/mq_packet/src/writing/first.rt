@@ -35,6 +35,7 @@ fn qos_bits(weight: u8, qos: Qos) -> u8
     }
 }
 
+// The Connect Flags of a Will, all 0 without one (MQTT 5.0, sections 3.1.2.5 to 3.1.2.7).
 fn will_flags(will: &Option<Will<'_>>) -> u8
     ensures is { result ≡ will_flags (option_map will_view will.now) }
     ensures bound { result ≤ 52 }
@@ -45,12 +46,14 @@ fn will_flags(will: &Option<Will<'_>>) -> u8
     }
 }
 
+// Whether the text is there, as the User Name Flag says (MQTT 5.0, section 3.1.2.8).
 fn is_text(text: Option<&str>) -> bool
     ensures { result ≡ is_some (option_map (λ t. t.now) text.entry) }
 {
     text.is_some()
 }
 
+// Whether the binary data is there, as the Password Flag says (MQTT 5.0, section 3.1.2.9).
 fn is_binary(bytes: Option<&[u8]>) -> bool
     ensures { result ≡ is_some (option_map (λ b. b.now) bytes.entry) }
 {
@@ -67,6 +70,7 @@ pub fn connect_flags(packet: &Connect<'_>) -> u8
         + bit(USER_NAME, is_text(packet.user_name))
 }
 
+// The first byte of a PUBLISH, whose flags are DUP, QoS and RETAIN (MQTT 5.0, section 3.3.1).
 fn publish_first(packet: &Publish<'_>) -> u8
     ensures { result ≡ first_byte_of (view (Packet.Publish packet.now)) }
 {

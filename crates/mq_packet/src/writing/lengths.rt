@@ -29,6 +29,7 @@ fn sum_within(parts: &[usize]) -> Option<u32>
     Some(total as u32)
 }
 
+// How many bytes a property list has, its length before it included (MQTT 5.0, section 2.2.2).
 #[inline(always)]
 #[tactic(auto, using(crate::proofs::SizeLaws::list_length))]
 fn list_len(list: &Props<'_>) -> usize
@@ -39,6 +40,7 @@ fn list_len(list: &Props<'_>) -> usize
     varint_len(bytes.len() as u32) + bytes.len()
 }
 
+// How many bytes a text has, with the two of its length (MQTT 5.0, section 1.5.4).
 #[inline(always)]
 fn text_len(text: &str) -> usize
     ensures { result ≡ length (text_spelling text.now) }
@@ -46,12 +48,14 @@ fn text_len(text: &str) -> usize
     2 + text.len()
 }
 
+// How many bytes binary data has, with the two of its length (MQTT 5.0, section 1.5.6).
 fn binary_len(bytes: &[u8]) -> usize
     ensures { result ≡ length (binary_spelling bytes.now) }
 {
     2 + bytes.len()
 }
 
+// How many bytes a text has if it is there; a missing one has no length either.
 fn text_len_if_there(text: Option<&str>) -> usize
     ensures { result ≡ length (spelling_if text_spelling (option_map (λ t. t.now) text.entry)) }
 {
@@ -61,6 +65,7 @@ fn text_len_if_there(text: Option<&str>) -> usize
     }
 }
 
+// How many bytes binary data has if it is there; missing data has no length either.
 fn binary_len_if_there(bytes: Option<&[u8]>) -> usize
     ensures { result ≡ length (spelling_if binary_spelling (option_map (λ b. b.now) bytes.entry)) }
 {
@@ -70,6 +75,7 @@ fn binary_len_if_there(bytes: Option<&[u8]>) -> usize
     }
 }
 
+// How many bytes a Packet Identifier has; a PUBLISH of QoS 0 has none (MQTT 5.0, section 3.3.2.2).
 #[inline(always)]
 fn identifier_len_if_there(identifier: Option<u16>) -> usize
     ensures { result ≡ length (spelling_if two_bytes_spelling identifier) }
@@ -106,6 +112,8 @@ fn reason_len(code: u8, list: &Props<'_>) -> usize
     if code == 0 { 0 } else { 1 }
 }
 
+// How many bytes the body of a CONNECT has, if a Remaining Length can say it. Ten are those from
+// the Protocol Name to the Keep Alive (MQTT 5.0, section 3.1.2).
 fn connect_len(packet: &Connect<'_>) -> Option<u32>
     ensures { result ≡ within (length (canonical_body (view (Packet.Connect packet.now)))) }
 {
@@ -122,12 +130,14 @@ fn connect_len(packet: &Connect<'_>) -> Option<u32>
     ])
 }
 
+// The same for a CONNACK: two are its flags and its Reason Code (MQTT 5.0, section 3.2.2).
 fn connack_len(packet: &Connack<'_>) -> Option<u32>
     ensures { result ≡ within (length (canonical_body (view (Packet.Connack packet.now)))) }
 {
     sum_within(&[2, list_len(&packet.properties)])
 }
 
+// The same for a PUBLISH, whose payload has no length before it (MQTT 5.0, section 3.3.3).
 #[inline(always)]
 fn publish_len(packet: &Publish<'_>) -> Option<u32>
     ensures { result ≡ within (length (canonical_body (view (Packet.Publish packet.now)))) }
@@ -140,12 +150,14 @@ fn publish_len(packet: &Publish<'_>) -> Option<u32>
     ])
 }
 
+// The same for a PUBACK, PUBREC, PUBREL or PUBCOMP: two are its Packet Identifier.
 fn acknowledgement_len(packet: &Acknowledgement<'_>) -> Option<u32>
     ensures { result ≡ within (length (acknowledgement_body packet.now.identifier packet.now.code packet.now.properties.items)) }
 {
     sum_within(&[2, reason_len(packet.code, &packet.properties)])
 }
 
+// The same for a SUBSCRIBE or UNSUBSCRIBE, whose filters are held as they are spelled.
 fn request_len(packet: &Request<'_>) -> Option<u32>
     ensures { result ≡ within (length (request_body packet.now.identifier packet.now.properties.items packet.now.filters)) }
 {
@@ -156,6 +168,7 @@ fn request_len(packet: &Request<'_>) -> Option<u32>
     ])
 }
 
+// The same for a SUBACK or UNSUBACK, in which each Reason Code is a byte.
 fn answer_len(packet: &Answer<'_>) -> Option<u32>
     ensures { result ≡ within (length (answer_body packet.now.identifier packet.now.properties.items packet.now.codes)) }
 {
@@ -166,6 +179,7 @@ fn answer_len(packet: &Answer<'_>) -> Option<u32>
     ])
 }
 
+// The same for a DISCONNECT, which may be empty (MQTT 5.0, section 3.14.2.1).
 #[tactic(auto, unfolding(crate::specs::Canonical::disconnect_body))]
 fn disconnect_len(packet: &ReasonPacket<'_>) -> Option<u32>
     ensures { result ≡ within (length (canonical_body (view (Packet.Disconnect packet.now)))) }
@@ -173,6 +187,7 @@ fn disconnect_len(packet: &ReasonPacket<'_>) -> Option<u32>
     sum_within(&[reason_len(packet.code, &packet.properties)])
 }
 
+// The same for an AUTH: none, or its Reason Code and its property list, even an empty one.
 fn auth_len(packet: &ReasonPacket<'_>) -> Option<u32>
     ensures { result ≡ within (length (canonical_body (view (Packet.Auth packet.now)))) }
 {

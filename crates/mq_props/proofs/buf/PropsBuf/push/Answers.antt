@@ -8,7 +8,7 @@ use Rattle.mq_props.specs.Listed.{Listed}
 use Rattle.mq_props.specs.Making.{Made}
 use Rattle.mq_props.specs.Pushing.{push_fault_by_line}
 use Rattle.mq_props.proofs.Exact.{list_spelled}
-use Rattle.mq_props.proofs.Pushes.{writes, never_memory, sees_items, keeps_more, leaves, listed_after}
+use Rattle.mq_props.proofs.Pushes.{writes, never_memory, knows_items, keeps_more, leaves, listed_after}
 use Rattle.mq_props.proofs.buf.PropsBuf.push.Goals as goal
 
 pub returns-in-Some-clause-memory : goal.returns-in-Some-clause-memory
@@ -20,7 +20,7 @@ returns-in-Some-clause-memory c = λ is.
     absurd (never_memory list item.value (row_of item.id) (subst (λ (f : PushFault). push_fault_by_line list item.value (row_of item.id) ≡ Some f) same found))
 
 pub fault_in-requires-clause-sees : goal.fault_in-requires-clause-sees
-fault_in-requires-clause-sees c = rw c.deref.ensures.value (sees_items c.self.inside.place c.self.inside.seen c.self.inside.bytes.items c.self.invariant)
+fault_in-requires-clause-sees c = rw c.deref.ensures.value (knows_items c.self.inside.place c.self.inside.facts c.self.inside.bytes.items c.self.invariant).sees
 
 pub fault_in-requires-clause-spelled : goal.fault_in-requires-clause-spelled
 fault_in-requires-clause-spelled c = rw c.deref.ensures.value (list_spelled c.self.inside.place c.self.inside.bytes.items c.self.invariant.is_list)
@@ -45,8 +45,8 @@ invariant_of-self-2 c =
     let bytes = c.self.inside.bytes.items in
     let e : push_fault_by_line (record { place = c.self.inside.place; items = items_of bytes }) item.value (row_of item.id) ≡ None = rw c.deref.ensures.value at (sym c.fault_in.ensures ∙ c.in_default.is) in
     let left = leaves c.self.inside.place bytes c.append.new.out.items c.args.prop.now item c.item_of-item.ensures c.self.invariant.is_list e c.in_ok-append.ensures.ok c.in_ok-append.ensures.valid in
-    let seen = sees_items c.self.inside.place c.self.inside.seen bytes c.self.invariant in
-    keeps_more c.self.inside.place c.add.new.self bytes c.append.new.out.items item left (c.add.ensures (items_of bytes) item seen refl)
+    let knows = knows_items c.self.inside.place c.self.inside.facts bytes c.self.invariant in
+    keeps_more c.self.inside.place c.with_item-self-inside.result bytes c.append.new.out.items item left (c.with_item-self-inside.ensures (items_of bytes) knows)
 
 pub returns-clause-ok : goal.returns-clause-ok
 returns-clause-ok c =

@@ -1,6 +1,5 @@
-use Rattle.std.proofs.Common.{false, replicate, refl}
-use Rattle.mq_props.proofs.SeenLemmas.{none_seen}
+use Rattle.std.proofs.lemmas.Nat.Bits.{bit_at-zero}
 use Rattle.mq_props.proofs.seen.Seen.new.Goals as goal
 
 pub returns : goal.returns
-returns c = record { size = refl; same = none_seen (replicate 43 false) refl }
+returns c = record { same = bit_at-zero }
