@@ -8,7 +8,7 @@ use Rattle.std.specs.Option.{option_or}
 use Rattle.mq_judge.specs.declared.Form.TheVariants.{Text, Json}
 use Rattle.mq_judge.specs.declared.Refusal.{Refusal}
 use Rattle.mq_judge.specs.declared.Refusal.TheVariants as refusals
-use Rattle.mq_judge.specs.Report.{refused_line}
+use Rattle.mq_report.specs.Report.{refused_line}
 use Rattle.mq_trace.specs.Converting.{Converts, IsUnconverted, converted, copied, copied_back, timed, unconverted, unconverted_at, unconverted_back}
 use Rattle.mq_trace.specs.declared.converting.ConvertFault.TheVariants as faults
 use Rattle.mq_cli.specs.declared.failure.Failure.{Failure}

@@ -1,6 +1,3 @@
-pub mod CommandLineLemmas
-pub mod DigitLaws
-pub mod ExplainingLemmas
 pub mod ProgramLemmas
 pub mod ReviewingLemmas
 pub mod PacketLaws

@@ -12,18 +12,18 @@ use Rattle.mq_judge.specs.declared.Outcome.{Outcome}
 use Rattle.mq_judge.specs.declared.Refusal.{Refusal}
 use Rattle.mq_judge.specs.declared.Refusal.TheVariants as refusals
 use Rattle.mq_judge.specs.declared.RunFault.TheVariants as run_faults
-use Rattle.mq_judge.specs.Report.{refused_line, refused_report, report}
-use Rattle.mq_judge.specs.Runner.{RunsOver, default_limit}
-use Rattle.mq_judge.specs.Display.{Shows}
-use Rattle.mq_judge.specs.Stopping.{IsRefusedAt, IsRefusedNext, IsUnread}
+use Rattle.mq_report.specs.Report.{refused_line, refused_report, report}
+use Rattle.mq_judge.specs.Runner.{RunsOver}
+use Rattle.mq_report.specs.Stopping.{default_limit, IsRefusedAt, IsRefusedNext, IsUnread}
+use Rattle.mq_report.specs.Display.{Shows}
 use Rattle.mq_trace.proofs.Exports.{appends-kept, appends-then}
-use Rattle.mq_cli.specs.declared.command_line.Task.{Task}
-use Rattle.mq_cli.specs.declared.command_line.Task.TheVariants.{Check, Show, Packet, Rules, Explain}
+use Rattle.mq_command.specs.declared.command_line.Task.{Task}
+use Rattle.mq_command.specs.declared.command_line.Task.TheVariants.{Check, Show, Packet, Rules, Explain}
 use Rattle.mq_cli.specs.declared.failure.Obstacle.{Obstacle}
 use Rattle.mq_cli.specs.declared.failure.Obstacle.TheVariants as obstacles
 use Rattle.mq_cli.proofs.PacketLaws.{packet_lacks}
-use Rattle.mq_cli.specs.Citing.{explained_for}
-use Rattle.mq_cli.specs.Listing.{listed_for}
+use Rattle.mq_explain.specs.Citing.{explained_for}
+use Rattle.mq_explain.specs.Listing.{listed_for}
 use Rattle.mq_cli.specs.Messages.{AppendsAfter, BeginsRefusal, IsOfLog, LacksJsonMemory, IsRefusedBy, RefusesCheck, RefusesShow, StopsCheck, StopsShow, failure_of, FailsMisnamed, IsMisnamed, StopsAttempt, StopsTask, StopsText}
 use Rattle.mq_cli.specs.Streams.{AppendsPart, IsCutOff, IsTold, Stream, failure_line, no_role_line, no_statement_line}
 use Rattle.mq_cli.specs.declared.failure.Failure.{Failure}

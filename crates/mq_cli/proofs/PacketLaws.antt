@@ -3,14 +3,14 @@ use Rattle.std.proofs.Common.{◌≡◌, ℕ, Bool, true, false, List, Option, S
 use Rattle.std.specs.Prelude.{String, string_bytes, IsErr}
 use Rattle.std.specs.Io.KnownBytes.{Keeps}
 use Rattle.std.specs.declared.alloc.Global.{Global}
-use Rattle.mq_cli.specs.Digits.{by_operand, by_test, bytes_of, is_dash, oddity_in, oddity_line}
+use Rattle.mq_command.specs.Digits.{by_operand, by_test, bytes_of, is_dash, oddity_in, oddity_line}
 use Rattle.mq_cli.specs.Messages.{AppendsReportPart, IsMisread, IsMisspelled, StopsAttempt, StopsGiven, StopsRead, StopsSpelled}
 use Rattle.mq_cli.specs.Streams.{misuse_line}
-use Rattle.mq_cli.specs.declared.command_line.Task.TheVariants.{Packet}
+use Rattle.mq_command.specs.declared.command_line.Task.TheVariants.{Packet}
 use Rattle.mq_cli.specs.declared.failure.Failure.TheVariants as failures
 use Rattle.mq_cli.specs.declared.failure.Obstacle.{Obstacle}
 use Rattle.mq_cli.specs.declared.failure.Obstacle.TheVariants as obstacles
-use Rattle.mq_cli.specs.declared.oddity.Oddity.{Oddity}
+use Rattle.mq_command.specs.declared.oddity.Oddity.{Oddity}
 
 -- ---- by an operand
 

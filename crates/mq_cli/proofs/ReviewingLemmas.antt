@@ -13,10 +13,10 @@ use Rattle.mq_trace.specs.Events.{Placed, events}
 use Rattle.mq_judge.specs.declared.Form.TheVariants.{Text, Json}
 use Rattle.mq_judge.specs.declared.Refusal.{Refusal}
 use Rattle.mq_judge.specs.declared.Refusal.TheVariants as refusals
-use Rattle.mq_judge.specs.Report.{refused_line, refused_report}
-use Rattle.mq_judge.specs.Runner.{IsJudged, IsVerdictOn, default_limit}
-use Rattle.mq_judge.specs.Display.{annotated, is_timed}
-use Rattle.mq_judge.specs.Stopping.{IsRefusedAt}
+use Rattle.mq_report.specs.Report.{refused_line, refused_report}
+use Rattle.mq_judge.specs.Runner.{IsVerdictOn}
+use Rattle.mq_report.specs.Stopping.{IsJudged, default_limit, IsRefusedAt}
+use Rattle.mq_report.specs.Display.{annotated, is_timed}
 use Rattle.mq_cli.specs.declared.failure.Failure.{Failure}
 use Rattle.mq_cli.specs.declared.failure.Failure.TheVariants as failures
 use Rattle.mq_cli.specs.declared.trouble.Trouble.{Trouble}

@@ -5,16 +5,16 @@ use Rattle.std.specs.Io.KnownBytes.{Appends, Keeps}
 use Rattle.clap.specs.Words.{Text}
 use Rattle.mq_judge.specs.declared.Refusal.{Refusal}
 use Rattle.mq_judge.specs.declared.Refusal.TheVariants as refusals
-use Rattle.mq_judge.specs.Report.{refused_line}
+use Rattle.mq_report.specs.Report.{refused_line}
 use Rattle.mq_trace.specs.Converting.{Converts, converted, unconverted}
 use Rattle.mq_trace.specs.Refusals.{is_cut_short}
 use Rattle.mq_trace.specs.declared.converting.ConvertFault.TheVariants as faults
-use Rattle.mq_cli.specs.declared.command_line.Conversion.{Conversion}
+use Rattle.mq_command.specs.declared.command_line.Conversion.{Conversion}
 use Rattle.mq_cli.specs.declared.converting.Files.{Files as SourceFiles}
 use Rattle.mq_cli.specs.declared.failure.Failure.{Failure}
 use Rattle.mq_cli.specs.declared.failure.Failure.TheVariants as failures
 use Rattle.mq_cli.specs.declared.trouble.Trouble.{Trouble}
-use Rattle.mq_cli.specs.CommandLine.{path_named}
+use Rattle.mq_command.specs.CommandLine.{path_named}
 use Rattle.mq_cli.specs.Effects.{Doing, keeping, opening}
 use Rattle.mq_cli.specs.Messages.{IsOfLog}
 use Rattle.mq_cli.specs.Streams.{AppendsPart, Stream, same_file_line}

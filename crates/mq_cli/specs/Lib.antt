@@ -1,12 +1,6 @@
-pub mod CommandLine
-pub mod Citing
 pub mod Converting
-pub mod Digits
 pub mod Effects
-pub mod Explaining
 pub mod Given
-pub mod Listing
-pub mod Operands
 pub mod Messages
 pub mod Reviewing
 pub mod Program

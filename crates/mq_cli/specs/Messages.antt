@@ -6,23 +6,23 @@ use Rattle.mq_judge.specs.declared.Form.{Form}
 use Rattle.mq_judge.specs.declared.Form.TheVariants.{Text, Json, Summary}
 use Rattle.mq_judge.specs.declared.Refusal.{Refusal}
 use Rattle.mq_judge.specs.declared.Refusal.TheVariants as refusals
-use Rattle.mq_judge.specs.LongPacket.{long_packet_report}
-use Rattle.mq_judge.specs.OnePacket.{IsOnePacket, packet_report}
-use Rattle.mq_judge.specs.Report.{refused_line, refused_report, report}
-use Rattle.mq_judge.specs.Runner.{IsFaultless, IsJudged, default_limit}
-use Rattle.mq_judge.specs.Display.{WritesBeginning, annotated, is_timed, short_lines_of, long_lines_of}
-use Rattle.mq_judge.specs.Stopping.{IsRefusedAt, IsRefusedNext}
+use Rattle.mq_report.specs.LongPacket.{long_packet_report}
+use Rattle.mq_report.specs.OnePacket.{IsOnePacket, packet_report}
+use Rattle.mq_report.specs.Report.{refused_line, refused_report, report}
+use Rattle.mq_judge.specs.Runner.{IsFaultless}
+use Rattle.mq_report.specs.Stopping.{IsJudged, default_limit, IsRefusedAt, IsRefusedNext}
+use Rattle.mq_report.specs.Display.{WritesBeginning, annotated, is_timed, short_lines_of, long_lines_of}
 use Rattle.mq_trace.specs.Events.{Placed, events}
 use Rattle.mq_trace.specs.Refusals.{refused}
-use Rattle.mq_cli.specs.Citing.{explained_for}
-use Rattle.mq_cli.specs.Digits.{OfDigits, by_operand, bytes_of, most_text, oddity_in, oddity_line}
-use Rattle.mq_cli.specs.Listing.{listed_for}
-use Rattle.mq_cli.specs.declared.command_line.Task.{Task}
-use Rattle.mq_cli.specs.declared.command_line.Task.TheVariants.{Check, Show, Packet, Rules, Explain}
+use Rattle.mq_explain.specs.Citing.{explained_for}
+use Rattle.mq_command.specs.Digits.{OfDigits, by_operand, bytes_of, most_text, oddity_in, oddity_line}
+use Rattle.mq_explain.specs.Listing.{listed_for}
+use Rattle.mq_command.specs.declared.command_line.Task.{Task}
+use Rattle.mq_command.specs.declared.command_line.Task.TheVariants.{Check, Show, Packet, Rules, Explain}
 use Rattle.mq_cli.specs.declared.tasks.EventView.{EventView}
 use Rattle.mq_cli.specs.declared.tasks.EventView.TheVariants.{Lines, Faults}
-use Rattle.mq_cli.specs.declared.command_line.EarlyExit.{EarlyExit}
-use Rattle.mq_cli.specs.declared.command_line.EarlyExit.TheVariants.{Help, Usage, Memory}
+use Rattle.mq_command.specs.declared.command_line.EarlyExit.{EarlyExit}
+use Rattle.mq_command.specs.declared.command_line.EarlyExit.TheVariants.{Help, Usage, Memory}
 use Rattle.mq_cli.specs.declared.failure.Failure.{Failure}
 use Rattle.mq_cli.specs.declared.failure.Failure.TheVariants as failures
 use Rattle.mq_cli.specs.declared.failure.Obstacle.{Obstacle}

@@ -2,19 +2,19 @@
 use Rattle.std.specs.Prelude.{◌≡◌, ◌≢◌, ◌⊎◌, ℕ, Bool, true, List, [], Option, Some, IfSome, IsErrAnd, IsOkAnd, MatchResult, string_bytes}
 use Rattle.std.specs.Io.KnownBytes.{Appends, Keeps}
 use Rattle.clap.specs.Words.{Text}
-use Rattle.mq_cli.specs.declared.command_line.EarlyExit.{EarlyExit}
-use Rattle.mq_cli.specs.declared.command_line.Conversion.{Conversion}
-use Rattle.mq_cli.specs.declared.command_line.Review.{Review}
-use Rattle.mq_cli.specs.declared.command_line.Task.{Task}
-use Rattle.mq_cli.specs.declared.command_line.Work.{Work}
-use Rattle.mq_cli.specs.declared.command_line.Work.TheVariants.{Once, Twice, Convert}
-use Rattle.mq_cli.specs.declared.command_line.EarlyExit.TheVariants as exits
+use Rattle.mq_command.specs.declared.command_line.EarlyExit.{EarlyExit}
+use Rattle.mq_command.specs.declared.command_line.Conversion.{Conversion}
+use Rattle.mq_command.specs.declared.command_line.Review.{Review}
+use Rattle.mq_command.specs.declared.command_line.Task.{Task}
+use Rattle.mq_command.specs.declared.command_line.Work.{Work}
+use Rattle.mq_command.specs.declared.command_line.Work.TheVariants.{Once, Twice, Convert}
+use Rattle.mq_command.specs.declared.command_line.EarlyExit.TheVariants as exits
 use Rattle.mq_cli.specs.declared.failure.Failure.TheVariants.{Memory}
 use Rattle.mq_cli.specs.declared.host.Unmade.{Unmade}
 use Rattle.mq_cli.specs.declared.host.Unmade.TheVariants.{Exists, IsLog, Failed}
 use Rattle.mq_cli.specs.declared.trouble.Trouble.{Trouble}
 use Rattle.mq_cli.specs.declared.trouble.Trouble.TheVariants as troubles
-use Rattle.mq_cli.specs.CommandLine.{ReadsAsAsked, StopsFor, word_faults, path_of, reads_input, request_by, request_of}
+use Rattle.mq_command.specs.CommandLine.{ReadsAsAsked, StopsFor, word_faults, path_of, reads_input, request_by, request_of}
 use Rattle.mq_cli.specs.Converting.{DoesToFiles, FailsConverting, Files, IsConvertible, RefusesConverting, files_of}
 use Rattle.mq_cli.specs.Effects.{Doing}
 use Rattle.mq_cli.specs.Given.{Given, bytes_at}

@@ -8,17 +8,17 @@ use Rattle.clap.specs.Words.{Text}
 use Rattle.mq_judge.specs.declared.Form.TheVariants as forms
 use Rattle.mq_judge.specs.declared.Refusal.{Refusal}
 use Rattle.mq_judge.specs.declared.Refusal.TheVariants as refusals
-use Rattle.mq_judge.specs.Report.{refused_line}
-use Rattle.mq_judge.specs.Runner.{IsJudged, default_limit, found_in}
-use Rattle.mq_judge.specs.Display.{annotated, is_timed}
-use Rattle.mq_judge.specs.Stopping.{IsRefusedAt}
+use Rattle.mq_report.specs.Report.{refused_line}
+use Rattle.mq_judge.specs.Runner.{found_in}
+use Rattle.mq_report.specs.Stopping.{IsJudged, default_limit, IsRefusedAt}
+use Rattle.mq_report.specs.Display.{annotated, is_timed}
 use Rattle.mq_rules.specs.Notes.{tested_by}
 use Rattle.mq_trace.specs.Events.{Placed, events}
-use Rattle.mq_cli.specs.declared.command_line.Review.{Review}
+use Rattle.mq_command.specs.declared.command_line.Review.{Review}
 use Rattle.mq_cli.specs.declared.reviewing.Plan.{Plan as SourcePlan}
 use Rattle.mq_cli.specs.declared.failure.Failure.{Failure}
 use Rattle.mq_cli.specs.declared.failure.Failure.TheVariants as failures
-use Rattle.mq_cli.specs.CommandLine.{path_named}
+use Rattle.mq_command.specs.CommandLine.{path_named}
 use Rattle.mq_cli.specs.Messages.{IsRefusedBy, RefusesCheck, RefusesShow, StopsShow}
 use Rattle.mq_cli.specs.Streams.{AppendsPart, no_faults_line, no_file_line, no_number_line}
 

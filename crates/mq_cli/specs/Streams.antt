@@ -1,8 +1,8 @@
 -- What was written to a stream, and the lines that say what failed or what is asked for in vain.
 use Rattle.std.specs.Prelude.{◌≡◌, ◌⊎◌, ℕ, Bool, true, List, [], ◌∷◌, ◌++◌, codes, Option}
 use Rattle.std.specs.Io.KnownBytes.{Appends}
-use Rattle.mq_cli.specs.Digits.{oddity_line}
-use Rattle.mq_cli.specs.Listing.{all_codes}
+use Rattle.mq_command.specs.Digits.{oddity_line}
+use Rattle.mq_explain.specs.Listing.{all_codes}
 use Rattle.mq_cli.specs.declared.failure.Failure.{Failure}
 use Rattle.mq_cli.specs.declared.failure.Failure.TheVariants as failures
 use Rattle.mq_cli.specs.declared.misuse.Misuse.{Misuse}

@@ -1,10 +1,10 @@
 //! Converting a log of version 1 into one of version 2.
 ghost use Rattle.std.specs.Prelude.{◌≡◌, ◌≢◌, ◌≤◌, ◌⊎◌, ◌∷◌, [], List, Some, Ok, Err, IfErr, IfNone, IfOk, IfSome, MatchResult, OnOk, Option, length, option_map};
 ghost use Rattle.std.specs.Io.KnownBytes.{Appends, IsAtEnd, Keeps, prepend_known};
-ghost use Rattle.mq_judge.specs.Report.{refused_line};
+ghost use Rattle.mq_report.specs.Report.{refused_line};
 ghost use Rattle.mq_trace.specs.Converting.{converted};
 ghost use Rattle.clap.specs.Words.{Text};
-ghost use Rattle.mq_cli.specs.CommandLine.{path_named};
+ghost use Rattle.mq_command.specs.CommandLine.{path_named};
 ghost use Rattle.mq_cli.specs.Converting.{DoesToFiles, FailsConverting, IsConverted, IsConvertible, IsInconvertible, MakesFile, MakesNothing, RefusesConverting, StopsConverting, files_of, files_view};
 ghost use Rattle.mq_cli.specs.Effects.{Effect, keeping, opening};
 ghost use Rattle.mq_cli.specs.Given.{HasOpened, bytes_at};
@@ -14,7 +14,6 @@ ghost use Rattle.mq_cli.specs.Streams.{IsTold, misuse_line, stream};
 ghost use Rattle.mq_cli.specs.Troubles.{Tells, hint_line};
 
 use crate::beginning::{give_hint, read_start};
-use crate::command_line::Conversion;
 use crate::error_stream::ErrorStream;
 use crate::failure::{FAILED, Failure, MISUSED, PASSED, REFUSED};
 use crate::host::{Host, Identity, STANDARD_INPUT, Unmade};
@@ -24,6 +23,7 @@ use crate::noting::Noting;
 use crate::output::Output;
 use crate::tasks::refuse;
 use crate::trouble::Trouble;
+use mq_command::Conversion;
 use mq_judge::{ConvertFault, Form, Refusal, convert};
 use std::alloc::Global;
 use std::io::{Read, Write, sink};

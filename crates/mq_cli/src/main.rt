@@ -2,21 +2,14 @@
 #![tactic(auto)]
 
 mod beginning;
-mod citations;
-mod command_line;
 mod converting;
-mod digits;
 mod error_stream;
-mod explanations;
 mod failure;
 mod host;
-mod listing;
 mod meter;
 mod misuse;
 mod new_file;
 mod noting;
-mod oddity;
-mod operands;
 mod output;
 mod program;
 mod reading;

@@ -1,13 +1,13 @@
 //! What the words ask for in vain, and the messages that say so.
 ghost use Rattle.std.specs.Prelude.{◌≡◌, ◌⊎◌, ◌++◌, IfOk, codes, string_bytes};
 ghost use Rattle.std.specs.Io.KnownBytes.{Appends};
-ghost use Rattle.mq_cli.specs.Digits.{oddity_line};
+ghost use Rattle.mq_command.specs.Digits.{oddity_line};
 ghost use Rattle.mq_cli.specs.Streams.{IsCutOff, IsTold, failure_line, misuse_line, no_statement_line, stream};
 
 use crate::error_stream::ErrorStream;
 use crate::failure::{FAILED, Failure, MISUSED};
-use crate::listing::add_all_codes;
-use crate::oddity::Oddity;
+use mq_command::Oddity;
+use mq_explain::add_all_codes;
 use std::alloc::{AllocError, Global};
 
 /// Why what the words ask for can't be done.

@@ -8,7 +8,6 @@ ghost use Rattle.mq_cli.specs.Streams.{IsTold, stream};
 ghost use Rattle.mq_cli.specs.Troubles.{hint_line};
 
 use crate::beginning::{give_hint, read_start};
-use crate::command_line::{Task, Work, parse};
 use crate::converting::convert_file;
 use crate::error_stream::ErrorStream;
 use crate::failure::{Obstacle, REFUSED};
@@ -18,6 +17,7 @@ use crate::output::Output;
 use crate::reviewing::review;
 use crate::tasks::{attempt, stop};
 use crate::trouble::Trouble;
+use mq_command::{Task, Work, parse};
 use mq_judge::Progress;
 use std::alloc::Global;
 use std::convert::AsStr;

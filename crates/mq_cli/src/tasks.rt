@@ -1,35 +1,32 @@
 //! Doing what a command line asks for.
 ghost use Rattle.std.specs.Prelude.{◌≡◌, ◌≤◌, ◌↔◌, ◌⊎◌, ℕ, true, List, [], None, Some, IfErr, IfOk, IfSome, OnOk};
 ghost use Rattle.std.specs.Io.KnownBytes.{Appends, Keeps};
-ghost use Rattle.mq_cli.specs.Citing.{explained_for, if_some};
-ghost use Rattle.mq_cli.specs.Listing.{listed_for, statement_lines};
-ghost use Rattle.mq_cli.specs.Digits.{OfDigits};
+ghost use Rattle.mq_explain.specs.Citing.{explained_for, if_some};
+ghost use Rattle.mq_explain.specs.Listing.{listed_for, statement_lines};
+ghost use Rattle.mq_command.specs.Digits.{OfDigits};
 ghost use Rattle.mq_cli.specs.Messages.{AppendsReportOf, BeginsRefusal, HasFailed, HasPassed, IsOfLog, IsPrintedOn, IsRefusedOn, IsReportedOn};
 ghost use Rattle.mq_cli.specs.Messages.{IsShownOn, LacksJsonMemory, Prints, RefusesCheck, RefusesShow, SpellsNoPacket, SpellsPacket};
 ghost use Rattle.mq_cli.specs.Messages.{StopsAttempt, StopsCheck, StopsGiven, StopsRead, StopsShow, StopsSpelled, StopsText, failure_of, form_of, report_of_packet, text_in_view};
 ghost use Rattle.mq_cli.specs.Program.{FailsStop};
 ghost use Rattle.mq_cli.specs.Streams.{AppendsPart, no_role_line, no_statement_line, stream};
-ghost use Rattle.mq_judge.specs.OnePacket.{IsOnePacket};
-ghost use Rattle.mq_judge.specs.Report.{refused_report, report};
-ghost use Rattle.mq_judge.specs.Runner.{IsFaultless, IsJudged};
-ghost use Rattle.mq_judge.specs.Display.{Shows, is_timed};
+ghost use Rattle.mq_report.specs.OnePacket.{IsOnePacket};
+ghost use Rattle.mq_report.specs.Report.{refused_report, report};
+ghost use Rattle.mq_judge.specs.Runner.{IsFaultless};
+ghost use Rattle.mq_report.specs.Stopping.{IsJudged};
+ghost use Rattle.mq_report.specs.Display.{Shows, is_timed};
 ghost use Rattle.mq_trace.specs.Events.{events};
 ghost use Rattle.mq_trace.specs.Writing.{AppendsBeginning};
 
-use crate::citations::explanations_cited;
-use crate::command_line::{EarlyExit, Task};
-use crate::digits::{is_dash, packed};
 use crate::error_stream::ErrorStream;
-use crate::explanations::explanation;
 use crate::failure::{FAILED, FAULTY, Failure, MISUSED, Obstacle, PASSED, REFUSED};
-use crate::listing::{listing, role_named};
 use crate::misuse::Misuse;
-use crate::oddity::first_oddity;
 use crate::output::Output;
 use crate::reading::{MOST_TEXT, NoText, read_text};
 use crate::trouble::Trouble;
 use crate::writing::{flush, write_out};
 use hex::{FromHexError, decode};
+use mq_command::{EarlyExit, Task, first_oddity, is_dash, packed};
+use mq_explain::{explanation, explanations_cited, role_named, statement_list};
 use mq_judge::{
     Faults, Form, Outcome, Progress, Refusal, RunFault, run_watched, show, show_faults, show_long,
     write_long_packet, write_packet, write_refused,
@@ -371,7 +368,7 @@ fn list<'a, W: Write>(alloc: Global, role: Option<Role>, output: &mut W) -> Resu
     ensures stops { IfErr result (StopsText (Some (statement_lines role)) [] (W.contents output.old) (W.contents output.new)) }
     ensures statuses { IfOk result (λ status. status ≡ PASSED) }
 {
-    match listing(alloc, role) {
+    match statement_list(alloc, role) {
         Ok(text) => print(text.as_str(), output),
         Err(_) => Err(Obstacle::Failed(Failure::Memory)),
     }

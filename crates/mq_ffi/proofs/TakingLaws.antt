@@ -6,7 +6,7 @@ use Rattle.mq_trace.specs.declared.refusal.Refusal.{Refusal}
 use Rattle.mq_trace.specs.Refusals.{refused}
 use Rattle.mq_judge.specs.declared.judge.Judge.{Judge}
 use Rattle.mq_judge.specs.Judging.{Follows, RefusesIn, HasRefused}
-use Rattle.mq_judge.specs.Stopping.{StopsIn, IsRefusedByte}
+use Rattle.mq_report.specs.Stopping.{StopsIn, IsRefusedByte}
 use Rattle.mq_ffi.specs.declared.answer.Trouble.{Trouble}
 use Rattle.mq_ffi.specs.Living.{Answer, TakesIn}
 use Rattle.mq_ffi.specs.Telling.{in_parts, full_before, in_records}

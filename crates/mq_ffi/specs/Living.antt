@@ -7,7 +7,7 @@ use Rattle.mq_trace.specs.Refusals.{refused, is_cut_short}
 use Rattle.mq_trace.specs.Writing.{header_bytes}
 use Rattle.mq_judge.specs.declared.judge.Judge.{Judge}
 use Rattle.mq_judge.specs.Judging.{Knows, Follows, RefusesIn}
-use Rattle.mq_judge.specs.Stopping.{IsRefusedEnd}
+use Rattle.mq_report.specs.Stopping.{IsRefusedEnd}
 use Rattle.mq_ffi.specs.declared.answer.Trouble.{Trouble}
 use Rattle.mq_ffi.specs.declared.answer.Trouble.TheVariants as troubles
 use Rattle.mq_ffi.specs.declared.event.Event.{Event}

@@ -12,7 +12,7 @@ use Rattle.mq_trace.specs.Events.{Placed, events, events_back}
 use Rattle.mq_trace.specs.Refusals.{refused, is_cut_short}
 use Rattle.mq_trace.specs.Refusing.{moved}
 use Rattle.mq_trace.specs.Tracing.{Traced, IsTracedTo, KeepsHeader, TracesPiece, Why, StopsAt, StopsInHeader, Begins}
-use Rattle.mq_trace.proofs.Exports.{events-header, header-unchanged, keeps_header}
+use Rattle.mq_trace.proofs.Exports.{events-header, keeps_header}
 use Rattle.mq_rules.specs.declared.note.Seen.{Seen}
 use Rattle.mq_rules.specs.declared.role.Tested.{Tested}
 use Rattle.mq_rules.specs.declared.rule.Rule.{Rule}
@@ -24,7 +24,8 @@ use Rattle.mq_judge.specs.declared.watching.Watching.{Watching}
 use Rattle.mq_judge.specs.Watching.{IsFound, IsWatching}
 use Rattle.mq_judge.specs.declared.judge.Judge.{Judge}
 use Rattle.mq_judge.specs.Judging.{FollowsBy, KnowsBy, RefusesIn, JudgesPiece, JudgesPieceBy, TakesEvents, AreFaultsOf}
-use Rattle.mq_judge.specs.Stopping.{IsRefusedByte}
+use Rattle.mq_report.specs.Stopping.{IsRefusedByte}
+use Rattle.mq_report.proofs.HeaderLaws.{header-stays}
 
 -- ---- the events and the header
 
@@ -37,14 +38,6 @@ seen-nothing = refl
 pub unseen : (log : List ℕ) → length log ≤ 8 → seen_in log ≡ []
 unfolding seen_in
 unseen log h = ap (map seen) (events-header log h)
-
--- a whole header stays, whatever comes after it
-pub header-stays : (log more : List ℕ) → 8 ≤ length log → header_by (log ++ more) ≡ header_by log
-header-stays log [] long = ap header_by (append-nil log)
-header-stays log (byte ∷ more) long =
-    ap header_by (sym (append_assoc log (byte ∷ []) more))
-    ∙ header-stays (log ++ byte ∷ []) more (omega (arith, length-append log (byte ∷ [])))
-    ∙ header-unchanged log byte long
 
 -- the end that a whole header names
 pub tested-stays : (log more : List ℕ) → 8 ≤ length log → tested_by (log ++ more) ≡ tested_by log
@@ -279,27 +272,3 @@ cut_unnamed log h = go (nat_lt (length log) 8) _ h
     go : (b c : Bool) → None ≡ (if b then None else Some (header_by log)) → (b || c) ≡ true
     go true c h = refl
     go false c h = absurd (cc)
-
--- a header that is known is whole
-pub named_whole : (log : List ℕ) (found : Header) → Some found ≡ (if nat_lt (length log) 8 then None else Some (header_by log)) → 8 ≤ length log
-named_whole log found h = go (nat_lt (length log) 8) refl h
-  where
-    go : (b : Bool) → nat_lt (length log) 8 ≡ b → Some found ≡ (if b then None else Some (header_by log)) → 8 ≤ length log
-    go true is h = absurd (cc)
-    go false is h = ltb-false (length log) 8 is
-
--- where none is known it isn't
-pub unnamed_part : (log : List ℕ) → None ≡ (if nat_lt (length log) 8 then None else Some (header_by log)) → length log < 8
-unnamed_part log h = go (nat_lt (length log) 8) refl h
-  where
-    go : (b : Bool) → nat_lt (length log) 8 ≡ b → None ≡ (if b then None else Some (header_by log)) → length log < 8
-    go true is h = ltb-true (length log) 8 is
-    go false is h = absurd (cc)
-
--- a header that is known is that of the log
-pub named_by : (log : List ℕ) (found : Header) → Some found ≡ (if nat_lt (length log) 8 then None else Some (header_by log)) → found ≡ header_by log
-named_by log found h = go (nat_lt (length log) 8) h
-  where
-    go : (b : Bool) → Some found ≡ (if b then None else Some (header_by log)) → found ≡ header_by log
-    go true h = absurd (cc)
-    go false h = cc

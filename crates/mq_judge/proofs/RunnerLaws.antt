@@ -4,11 +4,11 @@ use Rattle.std.specs.FinMap as map
 use Rattle.std.specs.Io.KnownBytes.{Appends}
 use Rattle.mq_trace.specs.declared.refusal.Refusal.{Refusal}
 use Rattle.mq_trace.specs.declared.refusal.Refusal.TheVariants as refusals
-use Rattle.mq_judge.specs.declared.report.Form.{Form}
-use Rattle.mq_judge.specs.declared.report.Outcome.{Outcome}
-use Rattle.mq_judge.specs.declared.report.Outcome.TheVariants.{Pass, Fail}
-use Rattle.mq_judge.specs.declared.report.RunFault.{RunFault}
-use Rattle.mq_judge.specs.declared.report.RunFault.TheVariants as run_faults
+use Rattle.mq_report.specs.declared.report.Form.{Form}
+use Rattle.mq_report.specs.declared.report.Outcome.{Outcome}
+use Rattle.mq_report.specs.declared.report.Outcome.TheVariants.{Pass, Fail}
+use Rattle.mq_report.specs.declared.report.RunFault.{RunFault}
+use Rattle.mq_report.specs.declared.report.RunFault.TheVariants as run_faults
 use Rattle.mq_rules.specs.declared.role.Role.{Role}
 use Rattle.mq_judge.specs.declared.judge.Judge.{Judge}
 use Rattle.mq_judge.specs.Judging.{Finishes, Follows, RefusesIn, AreFaultsOf}
@@ -16,12 +16,12 @@ use Rattle.mq_trace.specs.Refusals.{refused, is_cut_short}
 use Rattle.mq_trace.specs.Events.{events}
 use Rattle.mq_rules.specs.Notes.{tested_by, seen_in}
 use Rattle.mq_rules.specs.FaultKeys.{FaultMap}
-use Rattle.mq_judge.specs.Report.{report, report_on, FailsToReport}
+use Rattle.mq_report.specs.Report.{report, report_on, FailsToReport}
 use Rattle.mq_trace.specs.Feeding.{FedAll}
-use Rattle.mq_judge.specs.Stopping.{FedBefore, IsRefusedAt, IsRefusedByte, IsRefusedEnd}
-use Rattle.mq_judge.specs.Runner.{default_limit, outcome_of, IsJudged, IsVerdictOn, JudgesOver, RunsOver}
+use Rattle.mq_report.specs.Stopping.{FedBefore, IsRefusedAt, IsRefusedByte, IsRefusedEnd, default_limit, IsJudged}
+use Rattle.mq_judge.specs.Runner.{outcome_of, IsVerdictOn, JudgesOver, RunsOver}
 use Rattle.mq_judge.proofs.JudgeLaws.{unrefused}
-use Rattle.mq_judge.specs.Chosen.{is_judged}
+use Rattle.mq_report.specs.Chosen.{is_judged}
 use Rattle.mq_trace.proofs.Exports.{pieces-are, some-taken, whole-taken}
 use Rattle.mq_rules.proofs.Exports.{entries-listed}
 

@@ -9,13 +9,13 @@ use Rattle.mq_rules.specs.FaultKeys.{FaultMap}
 use Rattle.mq_rules.specs.Notes.{tested_by, seen_in}
 use Rattle.mq_rules.proofs.Exports.{entries-listed}
 use Rattle.mq_judge.specs.declared.judge.Judge.{Judge}
-use Rattle.mq_judge.specs.declared.report.Outcome.{Outcome}
-use Rattle.mq_judge.specs.declared.report.RunFault.{RunFault}
-use Rattle.mq_judge.specs.declared.report.RunFault.TheVariants as run_faults
-use Rattle.mq_judge.specs.Chosen.{is_judged}
+use Rattle.mq_report.specs.declared.report.Outcome.{Outcome}
+use Rattle.mq_report.specs.declared.report.RunFault.{RunFault}
+use Rattle.mq_report.specs.declared.report.RunFault.TheVariants as run_faults
+use Rattle.mq_report.specs.Chosen.{is_judged}
 use Rattle.mq_judge.specs.Judging.{AreFaultsOf, Follows, RefusesIn}
 use Rattle.mq_judge.specs.Runner.{found_in}
-use Rattle.mq_judge.specs.Stopping.{FedBefore}
+use Rattle.mq_report.specs.Stopping.{FedBefore}
 use Rattle.mq_judge.specs.Telling.{Said, advanced, ended, SaidSoFar, IsTold, IsToldOf, IsToldOfRun, AreFirst, IsJudgedFor}
 
 -- of nothing nothing is said

@@ -9,9 +9,9 @@ use Rattle.mq_rules.specs.declared.role.Tested.{Tested}
 use Rattle.mq_rules.specs.declared.rule.Rule.{Rule}
 use Rattle.mq_rules.specs.Notes.{tested_by, seen_in}
 use Rattle.mq_rules.specs.Faults.{chosen_fault}
-use Rattle.mq_judge.specs.Chosen.{is_judged}
+use Rattle.mq_report.specs.Chosen.{is_judged}
 use Rattle.mq_rules.specs.FaultKeys.{FaultMap, fault_at}
-use Rattle.mq_judge.specs.Stopping.{StopsIn, IsRefusedEnd}
+use Rattle.mq_report.specs.Stopping.{StopsIn, IsRefusedEnd}
 use Rattle.mq_judge.specs.Watching.{IsFound, IsWatching}
 use Rattle.mq_judge.specs.declared.judge.Judge.{Judge}
 use Rattle.mq_judge.specs.declared.watching.Watching.{Watching}

@@ -1,12 +1,12 @@
 -- The result of judging a whole log, from a reader to a writer.
-use Rattle.std.specs.Prelude.{◌≡◌, ℕ, ◌==◌, false, List, [], length, Option, None, Result, Ok, Err, if◌then◌else◌}
+use Rattle.std.specs.Prelude.{◌≡◌, ℕ, ◌==◌, List, [], length, Option, Result, Ok, Err, if◌then◌else◌}
 use Rattle.std.specs.Io.KnownBytes.{Appends}
-use Rattle.mq_judge.specs.declared.report.Form.{Form}
-use Rattle.mq_judge.specs.declared.report.Form.TheVariants.{Json}
-use Rattle.mq_judge.specs.declared.report.Outcome.{Outcome}
-use Rattle.mq_judge.specs.declared.report.Outcome.TheVariants.{Pass, Fail}
-use Rattle.mq_judge.specs.declared.report.RunFault.{RunFault}
-use Rattle.mq_judge.specs.declared.report.RunFault.TheVariants as run_faults
+use Rattle.mq_report.specs.declared.report.Form.{Form}
+use Rattle.mq_report.specs.declared.report.Form.TheVariants.{Json}
+use Rattle.mq_report.specs.declared.report.Outcome.{Outcome}
+use Rattle.mq_report.specs.declared.report.Outcome.TheVariants.{Pass, Fail}
+use Rattle.mq_report.specs.declared.report.RunFault.{RunFault}
+use Rattle.mq_report.specs.declared.report.RunFault.TheVariants as run_faults
 use Rattle.std.specs.FinMap as map
 use Rattle.mq_rules.specs.declared.role.Role.{Role}
 use Rattle.mq_rules.specs.declared.fault.Fault.{Fault}
@@ -16,15 +16,10 @@ use Rattle.mq_rules.specs.Notes.{tested_by, seen_in}
 use Rattle.mq_trace.specs.declared.refusal.Refusal.{Refusal}
 use Rattle.mq_trace.specs.Events.{events}
 use Rattle.mq_rules.specs.Faults.{listed_faults}
-use Rattle.mq_judge.specs.Chosen.{is_judged}
-use Rattle.mq_trace.specs.Refusals.{refused, is_cut_short}
+use Rattle.mq_report.specs.Chosen.{is_judged}
 use Rattle.mq_trace.specs.Writing.{AppendsBeginning}
-use Rattle.mq_judge.specs.Report.{report}
-use Rattle.mq_judge.specs.Stopping.{IsRefusedAt}
-
--- the largest packet that is read by default, in bytes
-abbrev pub default_limit : ℕ
-default_limit = 16777216
+use Rattle.mq_report.specs.Report.{report}
+use Rattle.mq_report.specs.Stopping.{IsJudged, IsRefusedAt, default_limit}
 
 -- no statement that is judged is false at any position of the log
 abbrev pub IsFaultless : List ℕ → Type 0
@@ -33,11 +28,6 @@ IsFaultless log = listed_faults (is_judged (tested_by log)) (tested_by log) (see
 -- Pass exactly if the log has no faults
 abbrev pub outcome_of : List ℕ → Outcome
 outcome_of log = if length (listed_faults (is_judged (tested_by log)) (tested_by log) (seen_in log)) == 0 then Pass else Fail
-
--- The log can be judged: nothing is refused in it, and it ends after a whole record.
-pub record IsJudged (log : List ℕ) : Type 0 where
-  pub unrefused : refused default_limit log ≡ None
-  pub whole : is_cut_short log ≡ false
 
 -- the faults of a log, in ascending order
 abbrev pub found_in : List ℕ → List (FaultKey × Fault)

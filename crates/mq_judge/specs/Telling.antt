@@ -1,9 +1,9 @@
 -- What somebody is told while a log is judged.
 use Rattle.std.specs.Prelude.{◌≡◌, ℕ, ◌+◌, List, [], ◌∷◌, ◌++◌, length, Option, IfSome, Result, Ok, Err}
 use Rattle.mq_trace.specs.declared.refusal.Refusal.{Refusal}
-use Rattle.mq_judge.specs.declared.report.Outcome.{Outcome}
-use Rattle.mq_judge.specs.declared.report.RunFault.{RunFault}
-use Rattle.mq_judge.specs.declared.report.RunFault.TheVariants as run_faults
+use Rattle.mq_report.specs.declared.report.Outcome.{Outcome}
+use Rattle.mq_report.specs.declared.report.RunFault.{RunFault}
+use Rattle.mq_report.specs.declared.report.RunFault.TheVariants as run_faults
 use Rattle.mq_judge.specs.Runner.{found_in}
 
 -- What is said at once: so many more bytes of the log were judged, and so many faults are known by now; or no more of it is judged.

@@ -8,6 +8,7 @@ ghost use Rattle.mq_rules.specs.Notes.{tested_by, seen_in};
 ghost use Rattle.mq_trace.specs.Tracing.{IsTracedTo};
 
 use super::watching::{End, Judging, Watching};
+use mq_report::{DEFAULT_LIMIT, Verdict};
 use mq_rules::{Faults, Role, Tested};
 use mq_trace::{Refusal, Tracer};
 use std::alloc::Global;
@@ -21,22 +22,15 @@ pub struct Options {
 }
 
 impl Default for Options {
-    ghost use Rattle.mq_judge.specs.Runner.{default_limit};
+    ghost use Rattle.mq_report.specs.Stopping.{default_limit};
 
     ghost is_default = { λ options. options.limit ≡ default_limit };
 
     fn default() -> Self {
-        Options { limit: 16_777_216 }
+        Options {
+            limit: DEFAULT_LIMIT,
+        }
     }
-}
-
-/// The verdict on a log that isn't refused.
-#[derive(Drop)]
-pub struct Verdict {
-    /// How many events the log has.
-    pub events: u32,
-    /// A fault for each pair of a position and a statement that is false there.
-    pub faults: Faults,
 }
 
 /// Judges one log.

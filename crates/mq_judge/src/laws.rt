@@ -1,39 +1,12 @@
-//! Laws of what a judge knows, each proved as the contract of a function that does nothing.
-ghost use Rattle.std.specs.Prelude.{◌≡◌, ◌<◌, ◌++◌, ℕ, List, None, Some, codes, false, slice_index};
-ghost use Rattle.mq_trace.specs.Converting.{converted};
-ghost use Rattle.mq_trace.specs.Refusals.{refused, is_cut_short};
+//! A law of what a judge knows, proved as the contract of a function that does nothing.
+ghost use Rattle.std.specs.Prelude.{◌≡◌, ◌++◌, ℕ, List, Some};
 ghost use Rattle.mq_rules.specs.declared.fault.Fault.{Fault};
 ghost use Rattle.mq_rules.specs.declared.rule.Rule.{Rule};
 ghost use Rattle.mq_rules.specs.FaultKeys.{FaultMap, fault_at};
-ghost use Rattle.mq_judge.specs.declared.report.Form.{Form};
-ghost use Rattle.mq_judge.specs.Calendar.{IsDate, day_of_month, month_of, utc_text, year_of};
 ghost use Rattle.mq_judge.specs.Judging.{AreFaultsOf};
-ghost use Rattle.mq_judge.specs.Report.{report};
 
 /// A fault that is known of a log stays, with the event that decided it, its record and its offset,
 /// whatever bytes follow.
 pub fn known_faults_stay()
     ensures { (log more : List ℕ) (known later : FaultMap) → AreFaultsOf log known → AreFaultsOf (log ++ more) later → (k : ℕ) (rule : Rule) (fault : Fault) → fault_at known k rule ≡ Some fault → fault_at later k rule ≡ Some fault }
-{}
-
-/// A log of version 1 that isn't refused, and isn't cut short, has the same report once it is
-/// converted into version 2.
-pub fn converted_logs_have_the_same_report()
-    ensures { (limit : ℕ) (log : List ℕ) (form : Form) → slice_index log 4 ≡ 1 → refused limit log ≡ None → is_cut_short log ≡ false → report form (converted log) ≡ report form log }
-{}
-
-/// Each day of the years 1970 to 2099 has the date that is found for it, and no other one.
-pub fn dates_are_exact()
-    ensures found { (day : ℕ) → day < 47482 → IsDate day (year_of day) (month_of day) (day_of_month day) }
-    ensures alone { (day year month number : ℕ) → day < 47482 → IsDate day year month number → (year_of day ≡ year) × (month_of day ≡ month) × (day_of_month day ≡ number) }
-{}
-
-/// Some moments as times: the first one, around a leap day, and the last one before 2100.
-#[tactic(auto, unfolding(crate::specs::Calendar::utc_text, crate::specs::Calendar::day_of_month, crate::specs::Calendar::month_of, crate::specs::Calendar::year_of, crate::specs::Calendar::days_of_year_before, crate::specs::Calendar::days_before_month, crate::specs::Calendar::days_before_year, crate::specs::Calendar::last_begun, crate::specs::Calendar::sum_of_first, crate::specs::Calendar::days_of_month, crate::specs::Calendar::days_of_year, crate::specs::Calendar::is_leap_year))]
-pub fn worked_times()
-    ensures first { utc_text 0 ≡ codes "1970-01-01 00:00:00.000000 UTC" }
-    ensures leap_day { utc_text 951868799999999 ≡ codes "2000-02-29 23:59:59.999999 UTC" }
-    ensures after_leap_day { utc_text 951868800000000 ≡ codes "2000-03-01 00:00:00.000000 UTC" }
-    ensures afternoon { utc_text 1795712601123456 ≡ codes "2026-11-26 17:03:21.123456 UTC" }
-    ensures last { utc_text 4102444799999999 ≡ codes "2099-12-31 23:59:59.999999 UTC" }
 {}

@@ -1,22 +1,16 @@
 //! Judges a log from a reader, and writes the report on it.
-ghost use Rattle.std.specs.Prelude.{◌≡◌, ◌*◌, ◌==◌, List, IfSome, IfErr, OnOk, Err, if◌then◌else◌};
+ghost use Rattle.std.specs.Prelude.{◌≡◌, ◌*◌, ◌==◌, List, IfSome, Err, if◌then◌else◌};
 ghost use Rattle.std.specs.FinMap as map;
-ghost use Rattle.std.specs.Io.KnownBytes.{Appends};
-ghost use Rattle.mq_judge.specs.declared.report.RunFault.TheVariants as run_faults;
+ghost use Rattle.mq_report.specs.declared.report.RunFault.TheVariants as run_faults;
 ghost use Rattle.mq_trace.specs.declared.refusal.Refusal.{Refusal as AnyRefusal};
-ghost use Rattle.mq_judge.specs.Report.{report_on, FailsToReport};
 ghost use Rattle.mq_trace.specs.Feeding.{TakesAtMost};
 ghost use Rattle.mq_judge.specs.Runner.{JudgesOver, RunsOver};
 ghost use Rattle.mq_judge.specs.Telling.{IsToldOf, IsToldOfRun, IsJudgedFor, Said};
 
-use super::feeding::feed_log;
-use super::judge::{Judge, Options, Verdict};
+use super::judge::{Judge, Options};
 use super::progress::Progress;
-use super::report::json::write_json;
-use super::report::summary::write_summary;
-use super::report::text::write_text;
-use super::report::{Form, Outcome, RunFault};
 use super::telling::{Before, Telling};
+use mq_report::{Form, Outcome, RunFault, Verdict, feed_log, write_report};
 use mq_rules::Role;
 use mq_trace::Refusal;
 use std::alloc::Global;
@@ -171,29 +165,6 @@ fn judge_telling<R: Read, P: Progress, K: Before>(
     feed_log(&mut telling, progress, reader, &mut buffer, turns)?;
     let judge = telling.into_judge();
     judge.finish_with_role()
-}
-
-// Writes the report on a verdict in this form.
-//
-// Errors: `Write` if a write failed. A beginning of the report, but not all of it, was then
-// written. `Memory` if there is no memory for a report as JSON.
-fn write_report<W: Write>(
-    alloc: Global,
-    verdict: &Verdict,
-    role: Role,
-    form: Form,
-    writer: &mut W,
-) -> Result<(), RunFault>
-    ensures ok { OnOk result (Appends (W.contents writer.old) (W.contents writer.new)
-        (report_on form role (map.entries verdict.now.faults) verdict.now.events)) }
-    ensures err { IfErr result (FailsToReport form (W.contents writer.old) (W.contents writer.new)
-        (report_on form role (map.entries verdict.now.faults) verdict.now.events)) }
-{
-    match form {
-        Form::Text => write_text(verdict, role, writer),
-        Form::Json => write_json(alloc, verdict, role, writer),
-        Form::Summary => write_summary(verdict, role, writer),
-    }
 }
 
 // The outcome of a report on a verdict.

@@ -91,6 +91,7 @@ fn has_shared(fields: &PacketFields) -> bool
     }
 }
 
+// Whether any of a SUBSCRIBE's filters asks for a shared subscription.
 fn any_shared(filters: &[NotedFilter]) -> bool
     ensures { result ≡ list_any begins_shared filters.now }
 {

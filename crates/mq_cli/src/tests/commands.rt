@@ -1,13 +1,11 @@
 //! The command line, and `check`.
 use super::harness::{
-    Narrow, Trickle, WHOLE_LOG, is_failed_write, is_misuse, is_written, printed_by, status_by,
-    task_of,
+    Narrow, Trickle, WHOLE_LOG, is_failed_write, is_written, printed_by, status_by,
 };
-use crate::command_line::{EarlyExit, Task, parse};
 use crate::failure::{FAILED, FAULTY, MISUSED, PASSED, REFUSED};
 use crate::output::Outlet;
 use crate::tasks::stop;
-use mq_judge::{Judge, Options, Refusal};
+use mq_command::EarlyExit;
 use std::alloc::{AllocError, Global};
 use std::io::Cursor;
 use std::test::Fail;
@@ -50,8 +48,6 @@ const TAKEN_TWICE: &[u8] = b"MQTR\x01\x00\x01\x00\
     \x03\x00\x00\x00\x04\x40\x02\x00\x01";
 
 const CHECK: [&str; 2] = ["mqjudge", "check"];
-
-const VERSION: &str = "mqjudge 0.1.0 (reads log versions 1 and 2, judges 74 statements)\n";
 
 // A log, in parts, and the expected result.
 struct Row {
@@ -149,35 +145,6 @@ fn judges_logs_whole_and_byte_by_byte(rt: HostRuntime) -> Result<(), Fail> {
     Ok(())
 }
 
-// Whether a log that is judged with this limit on packets has so many events and no fault; or is
-// refused so, at once and at its end.
-fn is_judged(alloc: Global, limit: u32, log: &[u8], answer: Result<u32, Refusal>) -> bool {
-    let mut judge = Judge::new(alloc, Options { limit });
-    let fed = judge.feed(log);
-    match judge.finish() {
-        Ok(verdict) => { fed.is_ok() && verdict.faults.is_empty() && answer == Ok(verdict.events) }
-        Err(refusal) => fed == Err(refusal) && answer == Err(refusal),
-    }
-}
-
-#[test]
-fn reads_packets_up_to_the_limit(rt: HostRuntime) -> Result<(), Fail> {
-    let log = joined(
-        rt.alloc(),
-        &[HEADER, OPEN, SENT_CONNECT, RECV_CONNACK, SENT_LARGEST],
-    )?;
-    let rows = [
-        (268_435_460, Ok(3)),
-        (268_435_459, Err(Refusal::TooLarge(52))),
-        (15, Err(Refusal::TooLarge(52))),
-        (14, Err(Refusal::TooLarge(19))),
-    ];
-    for (limit, answer) in rows {
-        assert!(rt; is_judged(rt.alloc(), limit, &log, answer), "{limit}");
-    }
-    Ok(())
-}
-
 #[test]
 fn reports_a_failed_read(rt: HostRuntime) -> Result<(), Fail> {
     for fails_after in [0, 3, 8] {
@@ -224,120 +191,6 @@ fn reports_want_of_memory(rt: HostRuntime) {
     assert!(rt; is_written(&output, report) && is_written(&error, complaint));
 }
 
-// Whether these words ask for a check of this file, or of the input, with these flags.
-fn is_check_of(
-    alloc: Global,
-    words: &[&str],
-    wanted: Option<&str>,
-    flags: (bool, bool),
-) -> Result<bool, EarlyExit> {
-    let Task::Check {
-        file,
-        json,
-        summary,
-    } = task_of(alloc, words)?
-    else {
-        return Ok(false);
-    };
-    let path = file.as_ref().map(|path| path.as_str());
-    Ok(path == wanted && (json, summary) == flags)
-}
-
-#[test]
-fn reads_the_words_of_a_check(rt: HostRuntime) -> Result<(), Fail> {
-    let rows: [(&[&str], Option<&str>, (bool, bool)); 5] = [
-        (&["mqjudge", "check"], None, (false, false)),
-        (
-            &["mqjudge", "check", "a.log"],
-            Some("a.log"),
-            (false, false),
-        ),
-        (
-            &["mqjudge", "check", "--", "--help"],
-            Some("--help"),
-            (false, false),
-        ),
-        (&["mqjudge", "check", "--json"], None, (true, false)),
-        (
-            &["mqjudge", "check", "--summary", "a.log", "--json"],
-            Some("a.log"),
-            (true, true),
-        ),
-    ];
-    for (words, wanted, flags) in rows {
-        assert!(rt; is_check_of(rt.alloc(), words, wanted, flags)?, "{words:?}");
-    }
-    Ok(())
-}
-
-// Whether these words ask for help or the version, and it has this part.
-fn is_help(alloc: Global, words: &[&str], part: &str) -> bool {
-    match parse(alloc, words) {
-        Err(EarlyExit::Help(text)) => text.as_str().contains(part),
-        _ => false,
-    }
-}
-
-#[test]
-fn shows_help_and_the_version(rt: HostRuntime) {
-    let requests: [(&[&str], &str); 11] = [
-        (&["mqjudge", "--help"], "Usage: mqjudge <COMMAND>"),
-        (&["mqjudge", "-h"], "Usage: mqjudge <COMMAND>"),
-        (&["mqjudge", "help"], "Usage: mqjudge <COMMAND>"),
-        (
-            &["mqjudge", "help", "check"],
-            "Usage: mqjudge check [OPTIONS] [FILE]",
-        ),
-        (
-            &["mqjudge", "check", "--help"],
-            "Usage: mqjudge check [OPTIONS] [FILE]",
-        ),
-        (
-            &["mqjudge", "packet", "--help"],
-            "Usage: mqjudge packet [OPTIONS] <HEX>...",
-        ),
-        (
-            &["mqjudge", "rules", "--help"],
-            "Example: mqjudge rules --role client\n",
-        ),
-        (
-            &["mqjudge", "explain", "--help"],
-            "3 for misuse or an unknown word",
-        ),
-        (&["mqjudge", "show", "--help"], "docs/LOG_FORMAT.md"),
-        (&["mqjudge", "--version"], VERSION),
-        (&["mqjudge", "-V"], VERSION),
-    ];
-    for (words, part) in requests {
-        assert!(rt; is_help(rt.alloc(), words, part), "{words:?}");
-    }
-}
-
-#[test]
-fn says_in_help_what_each_status_means(rt: HostRuntime) {
-    let rows: [(&[&str], &str); 4] = [
-        (
-            &["mqjudge", "--help"],
-            "Statuses: 0 for a pass, 1 for faults, 2 for a refused log, 3 for misuse,\n4 if ",
-        ),
-        (
-            &["mqjudge", "check", "--help"],
-            "Statuses: 0 for no fault, 1 for faults, 2 for a refused log, 3 for misuse,\n4 if ",
-        ),
-        (
-            &["mqjudge", "show", "--help"],
-            "Statuses: 0 if the log was shown, 2 for a refused log, 3 for misuse,\n4 if ",
-        ),
-        (
-            &["mqjudge", "packet", "--help"],
-            "Statuses: 0 for one packet, 1 for other bytes, 3 for misuse,\n4 if ",
-        ),
-    ];
-    for (words, part) in rows {
-        assert!(rt; is_help(rt.alloc(), words, part), "{words:?}");
-    }
-}
-
 // A misuse whose text is longer than 64 bytes, as most are.
 #[test]
 fn writes_all_of_a_long_misuse(rt: HostRuntime) -> Result<(), Fail> {
@@ -346,53 +199,6 @@ fn writes_all_of_a_long_misuse(rt: HostRuntime) -> Result<(), Fail> {
     let usage = EarlyExit::Usage(String::from_str(rt.alloc(), text)?);
     assert!(rt; is_stopped(rt.alloc(), &usage, MISUSED, "", text));
     Ok(())
-}
-
-#[test]
-fn refuses_other_words(rt: HostRuntime) {
-    let misuses: [(&[&str], &str); 7] = [
-        (&[], "requires a subcommand"),
-        (&["mqjudge"], "requires a subcommand"),
-        (&["mqjudge", "chekc"], "unrecognized subcommand 'chekc'"),
-        (
-            &["mqjudge", "help", "chekc"],
-            "unrecognized subcommand 'chekc'",
-        ),
-        (
-            &["mqjudge", "check", "a", "b"],
-            "unexpected argument 'b' found",
-        ),
-        (
-            &["mqjudge", "check", "--quiet"],
-            "unexpected argument '--quiet' found",
-        ),
-        (
-            &["mqjudge", "--quick", "check"],
-            "unexpected argument '--quick' found",
-        ),
-    ];
-    for (words, part) in misuses {
-        assert!(rt; is_misuse(rt.alloc(), words, part), "{words:?}");
-    }
-}
-
-#[test]
-fn says_where_many_logs_are_judged(rt: HostRuntime) {
-    let line = "\nmqjudge: check takes one log; recorders/judge takes many\n";
-    let rows: [(&[&str], bool); 8] = [
-        (&["mqjudge", "check", "a", "b"], true),
-        (&["mqjudge", "check", "--json", "a", "-"], true),
-        (&["mqjudge", "check", "a", "--summary", "b", "c"], true),
-        (&["mqjudge", "check", "a", "b", "--quiet"], true),
-        (&["mqjudge", "check", "a", "--quiet"], false),
-        (&["mqjudge", "check", "--quiet", "--quick"], false),
-        (&["mqjudge", "show", "a", "b"], false),
-        (&["mqjudge", "explain", "S01", "S02"], false),
-    ];
-    for (words, many) in rows {
-        assert!(rt; is_misuse(rt.alloc(), words, "Usage: mqjudge"), "{words:?}");
-        assert!(rt; is_misuse(rt.alloc(), words, line) == many, "{words:?}");
-    }
 }
 
 // Whether a stop ends with this status, this output and this message.

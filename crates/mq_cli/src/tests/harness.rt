@@ -1,10 +1,10 @@
 //! What the tests share: the bytes of logs, a reader and a writer that fail, and what the words of
 //! a task do.
-use crate::command_line::{EarlyExit, Task, Work, parse};
 use crate::error_stream::ErrorStream;
 use crate::failure::{FAILED, Obstacle};
 use crate::output::Outlet;
 use crate::tasks::{attempt, stop};
+use mq_command::{EarlyExit, Task, Work, parse};
 use std::alloc::{AllocError, Global};
 use std::io;
 use std::io::{Cursor, ErrorKind, Read, Write};
@@ -130,8 +130,8 @@ impl Printed {
     }
 }
 
-/// The task that these words ask for, on one reading of a log or on none.
-pub fn task_of(alloc: Global, words: &[&str]) -> Result<Task, EarlyExit> {
+// The task that these words ask for, on one reading of a log or on none.
+fn task_of(alloc: Global, words: &[&str]) -> Result<Task, EarlyExit> {
     match parse(alloc, words)? {
         Work::Once(task) => Ok(task),
         Work::Twice(_) | Work::Convert(_) => Err(EarlyExit::Usage(String::new(alloc))),
@@ -201,12 +201,4 @@ pub fn status_by<W: Write, E: Write>(
 /// Whether these bytes were written, and no more.
 pub fn is_written<const N: usize>(cursor: &Cursor<[u8; N]>, bytes: &[u8]) -> bool {
     cursor.position() == bytes.len() as u64 && cursor.get_ref().starts_with(bytes)
-}
-
-/// Whether these words are refused, with a text that has this part.
-pub fn is_misuse(alloc: Global, words: &[&str], part: &str) -> bool {
-    match parse(alloc, words) {
-        Err(EarlyExit::Usage(text)) => text.as_str().contains(part),
-        _ => false,
-    }
 }

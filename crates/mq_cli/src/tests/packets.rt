@@ -1,12 +1,11 @@
 //! `packet`.
 use super::harness::{
-    Narrow, Printed, Trickle, is_failed_write, is_misuse, is_written, printed_by, status_by,
-    task_of,
+    Narrow, Printed, Trickle, is_failed_write, is_written, printed_by, status_by,
 };
-use crate::command_line::{EarlyExit, Task};
 use crate::failure::{FAILED, FAULTY, MISUSED, PASSED};
 use crate::misuse::Misuse;
 use crate::reading::{NoText, read_text};
+use mq_command::EarlyExit;
 use std::alloc::Global;
 use std::io;
 use std::io::Cursor;
@@ -558,28 +557,4 @@ fn reports_a_packet_without_memory(rt: HostRuntime) {
         (b"", b"mqjudge: out of memory\n")
     };
     assert!(rt; is_written(&output, line) && is_written(&error, complaint));
-}
-
-// Whether these words ask for the packet that these digits spell.
-fn is_packet_of(alloc: Global, words: &[&str], digits: &str) -> Result<bool, EarlyExit> {
-    match task_of(alloc, words)? {
-        Task::Packet { hex, long: false } => Ok(hex.as_str() == digits),
-        _ => Ok(false),
-    }
-}
-
-#[test]
-fn reads_the_words_of_a_packet(rt: HostRuntime) -> Result<(), Fail> {
-    assert!(rt; is_packet_of(rt.alloc(), &["mqjudge", "packet", "c000"], "c000")?);
-    let misuses: [(&[&str], &str); 2] = [
-        (&["mqjudge", "packet"], "<HEX>"),
-        (
-            &["mqjudge", "packet", "--json", "c000"],
-            "unexpected argument '--json' found",
-        ),
-    ];
-    for (words, part) in misuses {
-        assert!(rt; is_misuse(rt.alloc(), words, part), "{words:?}");
-    }
-    Ok(())
 }

@@ -1,6 +1,5 @@
 //! `show --faults`.
 use super::harness::{CONNECTED, CONNECTED_LINES, NESTED, Narrow, Trickle, add_record};
-use crate::command_line::{EarlyExit, Review, Work, parse};
 use crate::failure::{Failure, PASSED, REFUSED};
 use crate::reviewing::{Plan, show_twice};
 use std::alloc::{AllocError, Global};
@@ -205,40 +204,6 @@ fn reports_a_review_without_memory(rt: HostRuntime) {
     } else {
         assert_eq!(rt; given, Err(Failure::Memory));
     }
-}
-
-// Whether these words ask for a review of this file with its faults, near to them by this number of
-// positions, with long lines or not.
-fn is_review_of(
-    alloc: Global,
-    words: &[&str],
-    path: Option<&str>,
-    number: Option<&str>,
-    is_long: bool,
-) -> Result<bool, EarlyExit> {
-    let Work::Twice(
-        Review {
-            file,
-            faults,
-            around,
-            long,
-        },
-    ) = parse(alloc, words)?
-    else {
-        return Ok(false);
-    };
-    let file = file.as_ref().map(|path| path.as_str());
-    let around = around.as_ref().map(|number| number.as_str());
-    Ok(faults && long == is_long && file == path && around == number)
-}
-
-#[test]
-fn reads_the_words_of_a_review(rt: HostRuntime) -> Result<(), Fail> {
-    let words = ["mqjudge", "show", "--around", "3", "--faults", "a.log"];
-    assert!(rt; is_review_of(rt.alloc(), &words, Some("a.log"), Some("3"), false)?);
-    let words = ["mqjudge", "show", "--faults", "--long"];
-    assert!(rt; is_review_of(rt.alloc(), &words, None, None, true)?);
-    Ok(())
 }
 
 // A log of 3,000 packets whose Packet Identifier is 0.

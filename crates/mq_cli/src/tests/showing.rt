@@ -1,10 +1,9 @@
 //! `show`.
 use super::harness::{
-    NESTED, Narrow, Trickle, WHOLE_LOG, is_failed_write, is_misuse, is_written, printed_by,
-    status_by, task_of,
+    NESTED, Narrow, Trickle, WHOLE_LOG, is_failed_write, is_written, printed_by, status_by,
 };
-use crate::command_line::{EarlyExit, Task};
 use crate::failure::{FAILED, PASSED, REFUSED};
+use mq_command::EarlyExit;
 use std::alloc::Global;
 use std::io::Cursor;
 use std::test::Fail;
@@ -189,30 +188,4 @@ fn reports_a_show_without_memory(rt: HostRuntime) {
         b"mqjudge: out of memory\n"
     };
     assert!(rt; is_written(&error, complaint));
-}
-
-// Whether these words ask for the events of this file, or of the input.
-fn is_show_of(alloc: Global, words: &[&str], wanted: Option<&str>) -> Result<bool, EarlyExit> {
-    match task_of(alloc, words)? {
-        Task::Show { file, .. } => Ok(file.as_ref().map(|path| path.as_str()) == wanted),
-        _ => Ok(false),
-    }
-}
-
-#[test]
-fn reads_the_words_of_a_show(rt: HostRuntime) -> Result<(), Fail> {
-    let rows: [(&[&str], Option<&str>); 2] = [
-        (&["mqjudge", "show"], None),
-        (&["mqjudge", "show", "a.log"], Some("a.log")),
-    ];
-    for (words, wanted) in rows {
-        assert!(rt; is_show_of(rt.alloc(), words, wanted)?, "{words:?}");
-    }
-    Ok(())
-}
-
-#[test]
-fn refuses_to_show_two_files(rt: HostRuntime) {
-    let words = ["mqjudge", "show", "a", "b"];
-    assert!(rt; is_misuse(rt.alloc(), &words, "unexpected argument 'b' found"));
 }

@@ -1,5 +1,5 @@
 use Rattle.std.proofs.Common.{rules}
-use Rattle.mq_cli.proofs.DigitLaws.{read_whole}
+use Rattle.mq_command.proofs.DigitLaws.{read_whole}
 use Rattle.mq_cli.proofs.reading.read_text.Goals as goal
 
 pub returns-else-most-len-clause-text : goal.returns-else-most-len-clause-text

@@ -1,5 +1,5 @@
 use Rattle.std.proofs.Common.{rules, subst, ◌≡◌, List, ℕ, [], IfErr, Some}
-use Rattle.mq_cli.specs.Listing.{statement_lines}
+use Rattle.mq_explain.specs.Listing.{statement_lines}
 use Rattle.mq_cli.specs.Messages.{StopsText}
 use Rattle.mq_cli.proofs.tasks.list.Goals as goal
 

@@ -1,5 +1,5 @@
 use Rattle.std.proofs.Common.{rules, subst, true, false, List, ℕ, IfOk, OnOk, ◌≡◌}
-use Rattle.mq_cli.specs.Digits.{is_dash}
+use Rattle.mq_command.specs.Digits.{is_dash}
 use Rattle.mq_cli.specs.Messages.{AppendsReportOf, SpellsNoPacket, SpellsPacket}
 use Rattle.mq_cli.proofs.PacketLaws.{dash_stops, operand_stops}
 use Rattle.mq_cli.proofs.tasks.packet_given.Goals as goal

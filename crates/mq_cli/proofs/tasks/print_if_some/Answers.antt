@@ -1,5 +1,5 @@
 use Rattle.std.proofs.Common.{rules, sym, subst, ◌≡◌, List, ℕ, IfErr, Option, Some}
-use Rattle.mq_cli.specs.Citing.{if_some}
+use Rattle.mq_explain.specs.Citing.{if_some}
 use Rattle.mq_cli.specs.Messages.{StopsText}
 use Rattle.mq_cli.specs.Streams.{no_statement_line}
 use Rattle.mq_cli.proofs.tasks.print_if_some.Goals as goal

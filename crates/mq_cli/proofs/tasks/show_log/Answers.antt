@@ -1,4 +1,4 @@
-use Rattle.mq_judge.specs.Display.{is_timed}
+use Rattle.mq_report.specs.Display.{is_timed}
 use Rattle.mq_cli.specs.Messages.{text_in_view}
 use Rattle.mq_cli.proofs.MessageLaws.{lines_stop, shown_refusal_is_printed, shown_refusal_stops}
 use Rattle.mq_cli.proofs.tasks.show_log.Goals as goal

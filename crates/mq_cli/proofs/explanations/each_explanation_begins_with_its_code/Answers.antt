@@ -1,5 +1,0 @@
-use Rattle.mq_cli.proofs.ExplainingLemmas.{begins_with_its_code}
-use Rattle.mq_cli.proofs.explanations.each_explanation_begins_with_its_code.Goals as goal
-
-pub returns : goal.returns
-returns c = begins_with_its_code

@@ -1,0 +1,267 @@
+//! The words of each task, of help, and of misuse.
+use crate::*;
+use std::alloc::Global;
+use std::test::Fail;
+
+const VERSION: &str = "mqjudge 0.1.0 (reads log versions 1 and 2, judges 74 statements)\n";
+
+// The task that these words ask for, on one reading of a log or on none.
+fn task_of(alloc: Global, words: &[&str]) -> Result<Task, EarlyExit> {
+    match parse(alloc, words)? {
+        Work::Once(task) => Ok(task),
+        Work::Twice(_) | Work::Convert(_) => Err(EarlyExit::Usage(String::new(alloc))),
+    }
+}
+
+// Whether these words ask for a check of this file, or of the input, with these flags.
+fn is_check_of(
+    alloc: Global,
+    words: &[&str],
+    wanted: Option<&str>,
+    flags: (bool, bool),
+) -> Result<bool, EarlyExit> {
+    let Task::Check {
+        file,
+        json,
+        summary,
+    } = task_of(alloc, words)?
+    else {
+        return Ok(false);
+    };
+    let path = file.as_ref().map(|path| path.as_str());
+    Ok(path == wanted && (json, summary) == flags)
+}
+
+#[test]
+fn reads_the_words_of_a_check(rt: HostRuntime) -> Result<(), Fail> {
+    let rows: [(&[&str], Option<&str>, (bool, bool)); 5] = [
+        (&["mqjudge", "check"], None, (false, false)),
+        (
+            &["mqjudge", "check", "a.log"],
+            Some("a.log"),
+            (false, false),
+        ),
+        (
+            &["mqjudge", "check", "--", "--help"],
+            Some("--help"),
+            (false, false),
+        ),
+        (&["mqjudge", "check", "--json"], None, (true, false)),
+        (
+            &["mqjudge", "check", "--summary", "a.log", "--json"],
+            Some("a.log"),
+            (true, true),
+        ),
+    ];
+    for (words, wanted, flags) in rows {
+        assert!(rt; is_check_of(rt.alloc(), words, wanted, flags)?, "{words:?}");
+    }
+    Ok(())
+}
+
+// Whether these words ask for help or the version, and it has this part.
+fn is_help(alloc: Global, words: &[&str], part: &str) -> bool {
+    match parse(alloc, words) {
+        Err(EarlyExit::Help(text)) => text.as_str().contains(part),
+        _ => false,
+    }
+}
+
+#[test]
+fn shows_help_and_the_version(rt: HostRuntime) {
+    let requests: [(&[&str], &str); 11] = [
+        (&["mqjudge", "--help"], "Usage: mqjudge <COMMAND>"),
+        (&["mqjudge", "-h"], "Usage: mqjudge <COMMAND>"),
+        (&["mqjudge", "help"], "Usage: mqjudge <COMMAND>"),
+        (
+            &["mqjudge", "help", "check"],
+            "Usage: mqjudge check [OPTIONS] [FILE]",
+        ),
+        (
+            &["mqjudge", "check", "--help"],
+            "Usage: mqjudge check [OPTIONS] [FILE]",
+        ),
+        (
+            &["mqjudge", "packet", "--help"],
+            "Usage: mqjudge packet [OPTIONS] <HEX>...",
+        ),
+        (
+            &["mqjudge", "rules", "--help"],
+            "Example: mqjudge rules --role client\n",
+        ),
+        (
+            &["mqjudge", "explain", "--help"],
+            "3 for misuse or an unknown word",
+        ),
+        (&["mqjudge", "show", "--help"], "docs/LOG_FORMAT.md"),
+        (&["mqjudge", "--version"], VERSION),
+        (&["mqjudge", "-V"], VERSION),
+    ];
+    for (words, part) in requests {
+        assert!(rt; is_help(rt.alloc(), words, part), "{words:?}");
+    }
+}
+
+#[test]
+fn says_in_help_what_each_status_means(rt: HostRuntime) {
+    let rows: [(&[&str], &str); 4] = [
+        (
+            &["mqjudge", "--help"],
+            "Statuses: 0 for a pass, 1 for faults, 2 for a refused log, 3 for misuse,\n4 if ",
+        ),
+        (
+            &["mqjudge", "check", "--help"],
+            "Statuses: 0 for no fault, 1 for faults, 2 for a refused log, 3 for misuse,\n4 if ",
+        ),
+        (
+            &["mqjudge", "show", "--help"],
+            "Statuses: 0 if the log was shown, 2 for a refused log, 3 for misuse,\n4 if ",
+        ),
+        (
+            &["mqjudge", "packet", "--help"],
+            "Statuses: 0 for one packet, 1 for other bytes, 3 for misuse,\n4 if ",
+        ),
+    ];
+    for (words, part) in rows {
+        assert!(rt; is_help(rt.alloc(), words, part), "{words:?}");
+    }
+}
+
+// Whether these words are refused, with a text that has this part.
+fn is_misuse(alloc: Global, words: &[&str], part: &str) -> bool {
+    match parse(alloc, words) {
+        Err(EarlyExit::Usage(text)) => text.as_str().contains(part),
+        _ => false,
+    }
+}
+
+#[test]
+fn refuses_other_words(rt: HostRuntime) {
+    let misuses: [(&[&str], &str); 7] = [
+        (&[], "requires a subcommand"),
+        (&["mqjudge"], "requires a subcommand"),
+        (&["mqjudge", "chekc"], "unrecognized subcommand 'chekc'"),
+        (
+            &["mqjudge", "help", "chekc"],
+            "unrecognized subcommand 'chekc'",
+        ),
+        (
+            &["mqjudge", "check", "a", "b"],
+            "unexpected argument 'b' found",
+        ),
+        (
+            &["mqjudge", "check", "--quiet"],
+            "unexpected argument '--quiet' found",
+        ),
+        (
+            &["mqjudge", "--quick", "check"],
+            "unexpected argument '--quick' found",
+        ),
+    ];
+    for (words, part) in misuses {
+        assert!(rt; is_misuse(rt.alloc(), words, part), "{words:?}");
+    }
+}
+
+#[test]
+fn says_where_many_logs_are_judged(rt: HostRuntime) {
+    let line = "\nmqjudge: check takes one log; recorders/judge takes many\n";
+    let rows: [(&[&str], bool); 8] = [
+        (&["mqjudge", "check", "a", "b"], true),
+        (&["mqjudge", "check", "--json", "a", "-"], true),
+        (&["mqjudge", "check", "a", "--summary", "b", "c"], true),
+        (&["mqjudge", "check", "a", "b", "--quiet"], true),
+        (&["mqjudge", "check", "a", "--quiet"], false),
+        (&["mqjudge", "check", "--quiet", "--quick"], false),
+        (&["mqjudge", "show", "a", "b"], false),
+        (&["mqjudge", "explain", "S01", "S02"], false),
+    ];
+    for (words, many) in rows {
+        assert!(rt; is_misuse(rt.alloc(), words, "Usage: mqjudge"), "{words:?}");
+        assert!(rt; is_misuse(rt.alloc(), words, line) == many, "{words:?}");
+    }
+}
+
+// Whether these words ask for the packet that these digits spell.
+fn is_packet_of(alloc: Global, words: &[&str], digits: &str) -> Result<bool, EarlyExit> {
+    match task_of(alloc, words)? {
+        Task::Packet { hex, long: false } => Ok(hex.as_str() == digits),
+        _ => Ok(false),
+    }
+}
+
+#[test]
+fn reads_the_words_of_a_packet(rt: HostRuntime) -> Result<(), Fail> {
+    assert!(rt; is_packet_of(rt.alloc(), &["mqjudge", "packet", "c000"], "c000")?);
+    let misuses: [(&[&str], &str); 2] = [
+        (&["mqjudge", "packet"], "<HEX>"),
+        (
+            &["mqjudge", "packet", "--json", "c000"],
+            "unexpected argument '--json' found",
+        ),
+    ];
+    for (words, part) in misuses {
+        assert!(rt; is_misuse(rt.alloc(), words, part), "{words:?}");
+    }
+    Ok(())
+}
+
+// Whether these words ask for a review of this file with its faults, near to them by this number of
+// positions, with long lines or not.
+fn is_review_of(
+    alloc: Global,
+    words: &[&str],
+    path: Option<&str>,
+    number: Option<&str>,
+    is_long: bool,
+) -> Result<bool, EarlyExit> {
+    let Work::Twice(
+        Review {
+            file,
+            faults,
+            around,
+            long,
+        },
+    ) = parse(alloc, words)?
+    else {
+        return Ok(false);
+    };
+    let file = file.as_ref().map(|path| path.as_str());
+    let around = around.as_ref().map(|number| number.as_str());
+    Ok(faults && long == is_long && file == path && around == number)
+}
+
+#[test]
+fn reads_the_words_of_a_review(rt: HostRuntime) -> Result<(), Fail> {
+    let words = ["mqjudge", "show", "--around", "3", "--faults", "a.log"];
+    assert!(rt; is_review_of(rt.alloc(), &words, Some("a.log"), Some("3"), false)?);
+    let words = ["mqjudge", "show", "--faults", "--long"];
+    assert!(rt; is_review_of(rt.alloc(), &words, None, None, true)?);
+    Ok(())
+}
+
+// Whether these words ask for the events of this file, or of the input.
+fn is_show_of(alloc: Global, words: &[&str], wanted: Option<&str>) -> Result<bool, EarlyExit> {
+    match task_of(alloc, words)? {
+        Task::Show { file, .. } => Ok(file.as_ref().map(|path| path.as_str()) == wanted),
+        _ => Ok(false),
+    }
+}
+
+#[test]
+fn reads_the_words_of_a_show(rt: HostRuntime) -> Result<(), Fail> {
+    let rows: [(&[&str], Option<&str>); 2] = [
+        (&["mqjudge", "show"], None),
+        (&["mqjudge", "show", "a.log"], Some("a.log")),
+    ];
+    for (words, wanted) in rows {
+        assert!(rt; is_show_of(rt.alloc(), words, wanted)?, "{words:?}");
+    }
+    Ok(())
+}
+
+#[test]
+fn refuses_to_show_two_files(rt: HostRuntime) {
+    let words = ["mqjudge", "show", "a", "b"];
+    assert!(rt; is_misuse(rt.alloc(), &words, "unexpected argument 'b' found"));
+}

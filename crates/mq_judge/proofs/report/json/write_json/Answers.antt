@@ -1,8 +1,0 @@
-use Rattle.std.proofs.Common.{◌∙◌, ap}
-use Rattle.std.specs.FinMap as map
-use Rattle.serde_json.specs.Written.{has_float}
-use Rattle.mq_judge.proofs.JsonLaws.{report_unfloating}
-use Rattle.mq_judge.proofs.report.json.write_json.Goals as goal
-
-pub write_value-requires : goal.write_value-requires
-write_value-requires g c = ap has_float c.in-Ok.ensures ∙ report_unfloating c.args.role (map.entries c.args.verdict.now.faults) c.args.verdict.now.events

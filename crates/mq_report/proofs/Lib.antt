@@ -1,0 +1,17 @@
+pub mod DigitLaws
+pub mod HeaderLaws
+pub mod FeedingLaws
+pub mod LineLaws
+pub mod ReportLaws
+pub mod JsonLaws
+pub mod SummaryLaws
+pub mod OutgoingLaws
+pub mod DetailLaws
+pub mod OneLineLaws
+pub mod CalendarLaws
+pub mod ViewLaws
+pub mod NearLaws
+pub mod DisplayLaws
+pub mod CodeLaws
+pub mod OnePacketLaws
+pub mod LongPacketLaws

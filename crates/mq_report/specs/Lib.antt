@@ -1,0 +1,16 @@
+pub mod Stopping
+pub mod Chosen
+pub mod Report
+pub mod Summaries
+pub mod ItemText
+pub mod Outgoing
+pub mod Calendar
+pub mod Details
+pub mod Detailing
+pub mod OneLine
+pub mod Display
+pub mod Views
+pub mod Tracing
+pub mod OnePacket
+pub mod Sentences
+pub mod LongPacket

@@ -1,0 +1,145 @@
+//! What is shown of a packet that breaks a rule: its type, and its bytes around the fault.
+#![tactic(auto, using(crate::proofs::OutgoingLaws::putting, crate::proofs::DetailLaws::detailing))]
+
+ghost use Rattle.std.specs.Prelude.{◌≡◌, ◌<◌, ◌≤◌, ◌^◌, [], ◌∷◌};
+ghost use Rattle.std.specs.List.{flat_map};
+ghost use Rattle.mq_report.specs.Details.{between, broken_words, gap_words, hex_digits, hex_words, marked, name_beside, shown_from, type_names, type_words, words_from};
+ghost use Rattle.mq_report.specs.ItemText.{with_spaces};
+ghost use Rattle.mq_report.specs.Outgoing.{Puts};
+
+use super::super::outgoing::Outgoing;
+use super::quoting::put_hex_digits;
+use std::io::Write;
+
+/// How many bytes are shown at most.
+const SHOWN: usize = 64;
+
+/// How many of them come before the one at fault, if that isn't among the packet's first `SHOWN`.
+const BEFORE: usize = 32;
+
+/// Appends what is shown of a packet that has these bytes and breaks a rule at this offset, each
+/// word with a space before it: its type, and at most 64 of its bytes in hexadecimal digits, with
+/// the one at fault in brackets. They are the first ones, or those around the fault if that is
+/// farther. If the packet ends before the offset, the brackets have nothing between them. Where
+/// bytes are left out there is `..`.
+pub fn put_broken<W: Write>(out: &mut Outgoing<'_, W>, bytes: &[u8], at: u32)
+    ensures { Puts W.contents out.old (with_spaces (broken_words bytes.now at)) out.new }
+{
+    let at = at as usize;
+    put_type(out, bytes);
+    put_from(out, bytes, shown_from(at), at);
+}
+
+// Appends the type that the first byte names (MQTT 5.0, section 2.1.2).
+fn put_type<W: Write>(out: &mut Outgoing<'_, W>, bytes: &[u8])
+    ensures { Puts W.contents out.old (with_spaces (type_words bytes.now)) out.new }
+{
+    match bytes {
+        [first, ..] => {
+            out.put(" type ");
+            out.put(type_name(*first / 16));
+        }
+        [] => {}
+    }
+}
+
+// The name of the type of this number (MQTT 5.0, section 2.1.2).
+fn type_name(number: u8) -> &'static str
+    requires { number < 16 }
+    ensures { result.now ≡ name_beside number type_names }
+{
+    match number {
+        0 => "Reserved",
+        1 => "CONNECT",
+        2 => "CONNACK",
+        3 => "PUBLISH",
+        4 => "PUBACK",
+        5 => "PUBREC",
+        6 => "PUBREL",
+        7 => "PUBCOMP",
+        8 => "SUBSCRIBE",
+        9 => "SUBACK",
+        10 => "UNSUBSCRIBE",
+        11 => "UNSUBACK",
+        12 => "PINGREQ",
+        13 => "PINGRESP",
+        14 => "DISCONNECT",
+        15 => "AUTH",
+        _ => unreachable!(),
+    }
+}
+
+// Appends the bytes from one offset on, with the one at fault in brackets.
+fn put_from<W: Write>(out: &mut Outgoing<'_, W>, bytes: &[u8], start: usize, at: usize)
+    requires { (start ≤ at) × (at < 2 ^ 32) }
+    ensures { Puts W.contents out.old (with_spaces (words_from start at bytes.now)) out.new }
+{
+    let end = start + SHOWN;
+    out.put(" bytes");
+    put_gap(out, start > 0);
+    put_hex(out, between(bytes, start, at));
+    put_marked(out, between(bytes, at, at + 1));
+    put_hex(out, between(bytes, at + 1, end));
+    put_gap(out, end < bytes.len());
+}
+
+// The offset of the first byte that is shown, if the one at this offset is at fault.
+fn shown_from(at: usize) -> usize
+    ensures is { result ≡ shown_from at }
+    ensures before { result ≤ at }
+{
+    if at < SHOWN { 0 } else { at - BEFORE }
+}
+
+// The bytes from one offset to another, of which the latter doesn't count, as far as there are any.
+fn between(bytes: &[u8], start: usize, end: usize) -> &[u8]
+    ensures { result.now ≡ between start end bytes.now }
+{
+    let end = end.min(bytes.len());
+    let start = start.min(end);
+    &bytes[start..end]
+}
+
+// Appends `..` if bytes are left out.
+fn put_gap<W: Write>(out: &mut Outgoing<'_, W>, left_out: bool)
+    ensures { Puts W.contents out.old (with_spaces (gap_words left_out)) out.new }
+{
+    if left_out {
+        out.put(" ..");
+    }
+}
+
+// Appends bytes in hexadecimal digits, each with a space before it.
+fn put_hex<W: Write>(out: &mut Outgoing<'_, W>, bytes: &[u8])
+    ensures { Puts W.contents out.old (with_spaces (flat_map hex_words bytes.now)) out.new }
+{
+    for byte in bytes {
+        put_hex_word(out, *byte);
+    }
+}
+
+// Appends a space and the hexadecimal digits of a byte.
+fn put_hex_word<W: Write>(out: &mut Outgoing<'_, W>, byte: u8)
+    ensures { Puts W.contents out.old (with_spaces (hex_words byte)) out.new }
+{
+    out.put(" ");
+    put_hex_digits(out, byte);
+}
+
+// Appends the byte at fault in brackets, or empty brackets if there is none.
+fn put_marked<W: Write>(out: &mut Outgoing<'_, W>, bytes: &[u8])
+    ensures { Puts W.contents out.old (with_spaces (marked bytes.now ∷ [])) out.new }
+{
+    out.put(" [");
+    put_all_digits(out, bytes);
+    out.put("]");
+}
+
+// Appends the hexadecimal digits of bytes, with nothing between them.
+fn put_all_digits<W: Write>(out: &mut Outgoing<'_, W>, bytes: &[u8])
+    ensures { Puts W.contents out.old (flat_map hex_digits bytes.now) out.new }
+{
+    for byte in bytes {
+        put_hex_digits(out, *byte);
+    }
+}

@@ -1,0 +1,25 @@
+//! What is written of logs: a report on the verdict, a line for each event, with or without the
+//! faults at them, and what some bytes are that should be one packet.
+#![tactic(auto)]
+
+mod display;
+mod feeding;
+mod finding;
+mod laws;
+mod lines;
+mod long_packet;
+mod report;
+mod sentences;
+
+pub use display::{show, show_faults, show_long};
+pub use feeding::{DEFAULT_LIMIT, feed_log};
+pub use finding::write_packet;
+pub use laws::{converted_logs_have_the_same_report, dates_are_exact, worked_times};
+pub use long_packet::write_long_packet;
+pub use report::json::write_json;
+pub use report::summary::write_summary;
+pub use report::text::write_text;
+pub use report::{Form, Outcome, RunFault, Verdict, write_refused, write_report};
+
+#[cfg(test)]
+mod tests;

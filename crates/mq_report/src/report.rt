@@ -1,0 +1,141 @@
+//! Reports: what is written for a verdict, or for a log that is refused.
+ghost use Rattle.std.specs.Prelude.{◌≡◌, Some, IfErr, OnOk};
+ghost use Rattle.std.specs.FinMap as map;
+ghost use Rattle.std.specs.Io.KnownBytes.{Appends};
+ghost use Rattle.mq_report.specs.Report.{verdict_text, refused_report, report_on, FailsToReport};
+
+pub mod item;
+pub mod json;
+pub mod line;
+pub mod packet_summary;
+pub mod summary;
+pub mod text;
+
+use self::json::{write_json, write_refusal};
+use self::line::write_line;
+use self::summary::write_summary;
+use self::text::write_text;
+use super::lines::Lines;
+use mq_rules::{Faults, Role};
+use mq_trace::Refusal;
+use std::alloc::Global;
+use std::fmt;
+use std::io::Write;
+
+/// The form that a report is written in.
+#[derive(Clone, Copy, Debug, PartialEq, Eq)]
+pub enum Form {
+    /// Lines of words: one for each fault, and a last one.
+    Text,
+    /// One line of JSON, without spaces and with its keys in ascending order.
+    Json,
+    /// Lines of words: one for each statement that has faults, and a last one.
+    Summary,
+}
+
+/// The outcome of a report.
+#[derive(Clone, Copy, Debug, PartialEq, Eq)]
+pub enum Outcome {
+    /// There are no faults.
+    Pass,
+    /// There is at least one fault.
+    Fail,
+}
+
+/// The verdict on a log that isn't refused.
+#[derive(Drop)]
+pub struct Verdict {
+    /// How many events the log has.
+    pub events: u32,
+    /// A fault for each pair of a position and a statement that is false there.
+    pub faults: Faults,
+}
+
+/// Why there is no outcome.
+#[derive(Clone, Copy, Debug, PartialEq, Eq)]
+pub enum RunFault {
+    /// The log can't be judged.
+    Refused(Refusal),
+    /// A write failed: the writer returned an error, also one for an interruption, or took no byte.
+    Write,
+    /// There was no memory for a report as JSON.
+    Memory,
+}
+
+impl From<Refusal> for RunFault {
+    ghost use Rattle.mq_report.specs.declared.report.RunFault.TheVariants.{Refused};
+
+    ghost from_gives = { λ refusal fault. fault ≡ Refused refusal };
+
+    fn from(refusal: Refusal) -> Self {
+        RunFault::Refused(refusal)
+    }
+}
+
+/// How many faults and events there are, as a report's last line shows it.
+#[derive(Clone, Copy)]
+struct Counts {
+    faults: usize,
+    events: u32,
+}
+
+impl fmt::Display for Counts {
+    ghost output = { λ counts. Some (verdict_text counts.faults counts.events) };
+
+    fn fmt<W: fmt::Write>(&self, f: &mut fmt::Formatter<W>) -> fmt::Result {
+        let Counts { faults, events } = *self;
+        if faults == 0 {
+            write!(f, "pass {events} events")
+        } else {
+            write!(f, "fail {faults} faults {events} events")
+        }
+    }
+}
+
+/// Writes the report on a verdict for an end in this role, in this form.
+///
+/// # Errors
+///
+/// `Write` if a write failed. A beginning of the report, but not all of it, was then written.
+/// `Memory` if there is no memory for a report as JSON. Nothing was then written.
+pub fn write_report<W: Write>(
+    alloc: Global,
+    verdict: &Verdict,
+    role: Role,
+    form: Form,
+    writer: &mut W,
+) -> Result<(), RunFault>
+    ensures ok { OnOk result (Appends (W.contents writer.old) (W.contents writer.new)
+        (report_on form role (map.entries verdict.now.faults) verdict.now.events)) }
+    ensures err { IfErr result (FailsToReport form (W.contents writer.old) (W.contents writer.new)
+        (report_on form role (map.entries verdict.now.faults) verdict.now.events)) }
+{
+    match form {
+        Form::Text => write_text(verdict, role, writer),
+        Form::Json => write_json(alloc, verdict, role, writer),
+        Form::Summary => write_summary(verdict, role, writer),
+    }
+}
+
+/// Writes the line that replaces the report for a log that is refused. It takes memory only in the
+/// form `Json`.
+///
+/// # Errors
+///
+/// `Write` if a write failed: the writer returned an error, also one for an interruption, or took
+/// no byte. A beginning of the line, but not all of it, was then written. `Memory` if there is no
+/// memory for the JSON. Nothing was then written.
+pub fn write_refused<W: Write>(
+    alloc: Global,
+    refusal: &Refusal,
+    form: Form,
+    writer: &mut W,
+) -> Result<(), RunFault>
+    ensures ok { OnOk result (Appends (W.contents writer.old) (W.contents writer.new) (refused_report form refusal.now)) }
+    ensures err { IfErr result (FailsToReport form (W.contents writer.old) (W.contents writer.new) (refused_report form refusal.now)) }
+{
+    match form {
+        Form::Text | Form::Summary => write_line(*refusal, &mut Lines::new(), writer),
+        Form::Json => write_refusal(alloc, *refusal, writer),
+    }
+}

@@ -1,0 +1,141 @@
+//! Reports as JSON. Each is built as a value, and written as one line without spaces.
+ghost use Rattle.std.specs.Prelude.{◌≡◌, false, length, IfOk, IfErr, OnOk};
+ghost use Rattle.std.specs.FinMap as map;
+ghost use Rattle.std.specs.Io.KnownBytes.{Appends};
+ghost use Rattle.serde_json.specs.View.{view, items_view};
+ghost use Rattle.serde_json.specs.Written.{compact_text, has_float};
+ghost use Rattle.mq_report.specs.declared.report.Form.TheVariants.{Json};
+ghost use Rattle.mq_report.specs.Report.{line, fault_data, fault_items, verdict_word, report_data, refused_data, refused_report, report_on, FailsToReport};
+
+use super::line::write_bytes;
+use super::{RunFault, Verdict};
+use mq_rules::{Fault, FaultKey, Faults, Role};
+use mq_trace::Refusal;
+use serde_json::{Value, json, push};
+use std::alloc::{AllocError, Global};
+use std::io::Write;
+
+/// Writes the report on a verdict for an end in this role as one line of JSON: how many events
+/// there are, the faults, ascending by position and then by statement, and whether there are any.
+/// The whole value is built in memory before anything is written.
+///
+/// # Errors
+///
+/// `Write` if a write failed: the writer returned an error, also one for an interruption, or took
+/// no byte. A beginning of the report, but not all of it, was then written. `Memory` if there is no
+/// memory for the value or its text. Nothing was then written.
+#[tactic(auto, unfolding(crate::specs::Report::json_report))]
+pub fn write_json<W: Write>(
+    alloc: Global,
+    verdict: &Verdict,
+    role: Role,
+    writer: &mut W,
+) -> Result<(), RunFault>
+    ensures ok { OnOk result (Appends (W.contents writer.old) (W.contents writer.new)
+        (report_on Json role (map.entries verdict.now.faults) verdict.now.events)) }
+    ensures err { IfErr result (FailsToReport Json (W.contents writer.old) (W.contents writer.new)
+        (report_on Json role (map.entries verdict.now.faults) verdict.now.events)) }
+{
+    match report_value(alloc, verdict, role) {
+        Ok(value) => write_value(alloc, &value, writer),
+        Err(_) => Err(RunFault::Memory),
+    }
+}
+
+/// Writes a refusal as one line of JSON: its byte, its name and its number.
+///
+/// # Errors
+///
+/// As `write_json`.
+pub fn write_refusal<W: Write>(
+    alloc: Global,
+    refusal: Refusal,
+    writer: &mut W,
+) -> Result<(), RunFault>
+    ensures ok { OnOk result (Appends (W.contents writer.old) (W.contents writer.new) (refused_report Json refusal)) }
+    ensures err { IfErr result (FailsToReport Json (W.contents writer.old) (W.contents writer.new) (refused_report Json refusal)) }
+{
+    match refused_value(alloc, refusal) {
+        Ok(value) => write_value(alloc, &value, writer),
+        Err(_) => Err(RunFault::Memory),
+    }
+}
+
+// A refusal as a value.
+fn refused_value(alloc: Global, refusal: Refusal) -> Result<Value, AllocError>
+    ensures { IfOk result (λ value. view value ≡ refused_data refusal) }
+{
+    json!(in alloc; {
+        "at": refusal.byte(),
+        "name": refusal.name(),
+        "refused": refusal.number()
+    })
+}
+
+// The report on a verdict as a value.
+fn report_value(alloc: Global, verdict: &Verdict, role: Role) -> Result<Value, AllocError>
+    ensures { IfOk result (λ value. view value ≡ report_data role (map.entries verdict.now.faults) verdict.now.events) }
+{
+    let faults = fault_values(alloc, &verdict.faults, role)?;
+    json!(in alloc; {
+        "events": verdict.events,
+        "faults": faults,
+        "verdict": verdict_word(&verdict.faults)
+    })
+}
+
+// The verdict as a word.
+fn verdict_word(faults: &Faults) -> &'static str
+    ensures { result.now ≡ verdict_word (length (map.entries faults.now)) }
+{
+    if faults.is_empty() { "pass" } else { "fail" }
+}
+
+// The faults as values, in their order.
+fn fault_values(alloc: Global, faults: &Faults, role: Role) -> Result<Vec<Value>, AllocError>
+    ensures { IfOk result (λ values. items_view values.items ≡ fault_items role (map.entries faults.now)) }
+{
+    let mut values = Vec::new(alloc);
+    for (key, fault) in faults.iter() {
+        let value = fault_value(alloc, role, *key, *fault)?;
+        push(&mut values, value)?;
+    }
+    Ok(values)
+}
+
+// A fault as a value.
+fn fault_value(alloc: Global, role: Role, key: FaultKey, fault: Fault) -> Result<Value, AllocError>
+    ensures { IfOk result (λ value. view value ≡ fault_data role key fault) }
+{
+    json!(in alloc; {
+        "citation": key.rule.citation(role),
+        "code": key.rule.code(),
+        "decided": fault.decided,
+        "offset": fault.offset,
+        "position": key.position,
+        "record": fault.record_no
+    })
+}
+
+// Writes a value as one line of JSON.
+//
+// Errors: As `write_json`.
+fn write_value<W: Write>(alloc: Global, value: &Value, writer: &mut W) -> Result<(), RunFault>
+    requires { has_float (view value.now) ≡ false }
+    ensures ok { OnOk result (Appends (W.contents writer.old) (W.contents writer.new) (line (compact_text (view value.now)))) }
+    ensures err { IfErr result (FailsToReport Json (W.contents writer.old) (W.contents writer.new) (line (compact_text (view value.now)))) }
+{
+    match line_of(alloc, value) {
+        Ok(text) => write_bytes(text.as_slice(), writer),
+        Err(_) => Err(RunFault::Memory),
+    }
+}
+
+// A value as one line of JSON.
+fn line_of(alloc: Global, value: &Value) -> Result<Vec<u8>, AllocError>
+    ensures { IfOk result (λ text. has_float (view value.now) ≡ false → text.items ≡ line (compact_text (view value.now))) }
+{
+    let mut text = value.to_vec(alloc)?;
+    text.push(b'\n')?;
+    Ok(text)
+}

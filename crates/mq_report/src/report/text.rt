@@ -1,0 +1,85 @@
+//! Reports as text: a line for each fault.
+ghost use Rattle.std.specs.Prelude.{◌≡◌, Some, IfErr, OnOk};
+ghost use Rattle.std.specs.FinMap as map;
+ghost use Rattle.std.specs.Io.KnownBytes.{Appends};
+ghost use Rattle.mq_trace.specs.Writing.{AppendsBeginning};
+ghost use Rattle.mq_report.specs.Report.{offset_text, fault_text, report_on};
+
+use super::super::lines::Lines;
+use super::line::write_line;
+use super::{Counts, Form, RunFault, Verdict};
+use mq_rules::{Fault, FaultKey, Role};
+use std::fmt;
+use std::io::Write;
+
+/// Where in a packet a fault is, as reports show it.
+#[derive(Clone, Copy)]
+struct Offset(Option<u32>);
+
+impl fmt::Display for Offset {
+    ghost output = { λ offset. Some (offset_text offset.0) };
+
+    fn fmt<W: fmt::Write>(&self, f: &mut fmt::Formatter<W>) -> fmt::Result {
+        match self.0 {
+            Some(offset) => write!(f, "{offset}"),
+            None => write!(f, "-"),
+        }
+    }
+}
+
+/// A fault of an end in this role, as reports show it.
+#[derive(Clone, Copy)]
+struct Found {
+    role: Role,
+    key: FaultKey,
+    fault: Fault,
+}
+
+impl fmt::Display for Found {
+    ghost output = { λ found. Some (fault_text found.role found.key found.fault) };
+
+    fn fmt<W: fmt::Write>(&self, f: &mut fmt::Formatter<W>) -> fmt::Result {
+        let FaultKey { position, rule } = self.key;
+        let Fault {
+            decided,
+            record_no,
+            offset,
+        } = self.fault;
+        let code = rule.code();
+        let citation = rule.citation(self.role);
+        let offset = Offset(offset);
+        write!(
+            f,
+            "fault {position} {code} {citation} decided {decided} record {record_no} offset {offset}"
+        )
+    }
+}
+
+/// Writes the report on a verdict for an end in this role: a line for each fault, ascending by
+/// position and then by statement, and a last line. It takes no memory.
+///
+/// # Errors
+///
+/// `Write` if a write failed: the writer returned an error, also one for an interruption, or took
+/// no byte. A beginning of the report, but not all of it, was then written.
+pub fn write_text<W: Write>(verdict: &Verdict, role: Role, writer: &mut W) -> Result<(), RunFault>
+    ensures ok { OnOk result (Appends (W.contents writer.old) (W.contents writer.new)
+        (report_on Form.Text role (map.entries verdict.now.faults) verdict.now.events)) }
+    ensures write { IfErr result (λ fault. (fault ≡ RunFault.Write) × AppendsBeginning (W.contents writer.old) (W.contents writer.new)
+        (report_on Form.Text role (map.entries verdict.now.faults) verdict.now.events)) }
+{
+    let mut lines = Lines::new();
+    for (key, fault) in verdict.faults.iter() {
+        let found = Found {
+            role,
+            key: *key,
+            fault: *fault,
+        };
+        write_line(found, &mut lines, writer)?;
+    }
+    let counts = Counts {
+        faults: verdict.faults.len(),
+        events: verdict.events,
+    };
+    write_line(counts, &mut lines, writer)
+}

@@ -1,0 +1,3 @@
+//! What no clause says of the details of packets: their text, written out.
+
+mod details;
