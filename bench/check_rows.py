@@ -1,7 +1,7 @@
 #!/usr/bin/env python3
 """Compares worked logs with reference.py: each must get the report that is beside it. With --mqjudge the program must say so too.
 
-They are the worked logs of mq_judge's tests, the logs of examples/, and some that are too long for those tests.
+They are the worked logs of mq_worked, the logs of examples/, and some that are too long for its tests.
 
 usage: bench/check_rows.py [--mqjudge PATH]
 """
@@ -18,7 +18,7 @@ sys.dont_write_bytecode = True  # the repository stays as it is
 from judges import judges
 
 TOP = Path(__file__).resolve().parent.parent
-FOLDER = TOP / "crates/mq_judge/src/tests/statements"
+FOLDER = TOP / "crates/mq_worked/src/tests/statements"
 TEXT = r'("(?:[^"\\]|\\.)*")'
 TABLE = re.compile(r'pub const \w+: &str = "\\\n(.*?)";', re.DOTALL)
 HEADERS = {"client": "000100", "server": "010100", "silent-client": "000000"}

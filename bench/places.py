@@ -6,8 +6,9 @@ where each statement is put to the test, which are the sentences of the function
 named `applies` in crates/mq_rules/specs. Like statements.py it looks at the whole log for each position and statement, and
 keeps no state from one position to the next. Where a statement is judged is reference.py's.
 
-The proved definitions leave W01 to W21 to a later change, since a note doesn't keep the whole packet. Here they are over the
-packets themselves. Bytes that break a rule put only that rule to the test, and a direction that is lost only W03.
+Of W01 to W21 the proved definitions are `tries` in crates/mq_packet/specs and Trials.antt in crates/mq_rules/specs, over the
+packets themselves, since a note doesn't keep the whole packet. Bytes that break a rule put only that rule to the test, and a
+direction that is lost only W03.
 
 For each log it prints a line for each statement that can be judged for its end, and how many of these have a place. A
 statement on packets that only the other end sends is left out if it has none. With --self-test it checks worked logs and
@@ -574,8 +575,6 @@ def coverage(log: Log, found: dict[str, list[int]]) -> Iterator[str]:
 
 # ---- the self-test
 
-# The suite's kept logs that don't put their own statement to the test.
-UNTESTED = {"S01", "S02", "S03", "S05", "S06", "W21"}
 BEGINNINGS = 3  # of each log, with which its places are compared
 SHORT = 5_000  # bytes of a worked log on which the laws are checked
 
@@ -588,17 +587,8 @@ def wrong_worked(worked: list[worked_places.Worked]) -> Iterator[str]:
 
 
 def wrong_suite(logs: list[tuple[suite.Row, Log]]) -> Iterator[str]:
-    """Each statement has to be tested by some log, and by its own two, but for the kept ones that are known."""
-    yield from (f"no log of the suite tests {code}" for code in CITATIONS if not any(places(log, code) for _, log in logs))
-    broken = [(row.code, log) for row, log in logs if row.which == suite.BROKEN]
-    yield from (f"{code} broken: it doesn't test its statement" for code, log in broken if not places(log, code))
-    found = untested_kept(logs)
-    yield from (f"{code} kept: it doesn't test its statement" for code in sorted(found - UNTESTED))
-    yield from (f"{code} kept: now it tests its statement" for code in sorted(UNTESTED - found))
-
-
-def untested_kept(logs: list[tuple[suite.Row, Log]]) -> set[str]:
-    return {row.code for row, log in logs if row.which == suite.KEPT and not places(log, row.code)}
+    """Each statement has to be tested by its own two logs."""
+    yield from (f"{row.code} {row.which}: it doesn't test its statement" for row, log in logs if not places(log, row.code))
 
 
 def made(count: int) -> Iterator[tuple[str, bytes]]:
@@ -662,7 +652,6 @@ def self_test(count: int) -> int:
     wrong += [f"no log tests {one}" for one in untested]
     for line in wrong:
         print(f"{line:.1000}")
-    print(f"kept logs of the suite that don't test their statement: {' '.join(sorted(untested_kept(logs)))}")
     seen = f"{len(worked)} worked logs, {laws.logs} others with {laws.places} places and {laws.faults} faults"
     print(f"places: {seen}, {len(wrong)} wrong, in {time.monotonic() - begun:.0f} s")
     return 1 if wrong else 0

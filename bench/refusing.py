@@ -29,12 +29,12 @@ import check_rows
 HERE = Path(__file__).resolve().parent
 CRATES = HERE.parent / "crates"
 PROGRAM = CRATES / "mq_cli/out/mq_cli"
-TESTS = [CRATES / "mq_packet/out/mq_packet_tests", CRATES / "mq_judge/out/mq_judge_tests"]
+TESTS = [CRATES / "mq_packet/out/mq_packet_tests", CRATES / "mq_worked/out/mq_worked_tests"]
 COMPILER = "cc"
 SECONDS = 60
 NO_MEMORY = (4, b"mqjudge: out of memory\n")
 
-# Logs in the words of the worked logs of mq_judge's tests. Together they take all watchers past what they keep at first.
+# Logs in the words of the worked logs of mq_worked. Together they take all watchers past what they keep at first.
 LOGS = {
     "a message is sent again": "client OPEN >CONNECT-KEPT <CONNACK >PUBLISH1:1 CLOSE OPEN >RECONNECT <CONNACK-RESUMED >RESEND1:1",
     "sent again on its connection": "client OPEN >CONNECT-KEPT <CONNACK >PUBLISH1:1 >RESEND1:1",

@@ -1,12 +1,14 @@
 #!/usr/bin/env python3
-"""Checks that the table of statements in docs/STATEMENTS.md is the one that the program has, and that the number of statements in
-README.md and docs/STATEMENTS.md is the number of its rows.
+"""Checks that the table of statements in docs/STATEMENTS.md is the one that the program has, that the number of statements in
+README.md and docs/STATEMENTS.md is the number of its rows, and that docs/STANDARD.md names the statements where it should.
 
 The rows are those of `TABLE` in crates/mq_rules/src/table.rt, and what each statement says is its doc comment in
 crates/mq_rules/src/rule.rt, which is also its sentence in `Rule::sentence` of crates/mq_rules/src/naming.rt. In the
 document the table is between the lines `<!-- rules -->` and `<!-- /rules -->`. If it differs, the first line that does is
 printed, and the status is 1; with --write the table is written instead. The two pages are the only ones that say how many
-statements there are: each has to say it, and nowhere another number, or the status is 1, with --write too.
+statements there are: each has to say it, and nowhere another number, or the status is 1, with --write too. What is asked of
+docs/STANDARD.md is in standard_page.py; --write writes the numbers of its rows into it. Each run without --write first looks whether
+flaws in it would be found.
 
 usage: bench/rules_table.py [--write]
 """
@@ -15,9 +17,14 @@ import re
 import sys
 from pathlib import Path
 
+sys.dont_write_bytecode = True  # the repository stays as it is
+import standard_page
+
 TOP = Path(__file__).resolve().parent.parent
+README = TOP / "README.md"
 DOCUMENT = TOP / "docs" / "STATEMENTS.md"
-COUNTING = (TOP / "README.md", DOCUMENT)
+STANDARD = TOP / "docs" / "STANDARD.md"
+COUNTING = (README, DOCUMENT)
 COUNT = re.compile(r"\b(\d+)\s+(?:statements|rules)\b")
 SOURCES = TOP / "crates" / "mq_rules" / "src"
 BEGIN, END = "<!-- rules -->\n", "<!-- /rules -->\n"
@@ -59,6 +66,21 @@ def table() -> str:
     return "\n".join(lines) + "\n"
 
 
+def citations() -> standard_page.Statements:
+    """The citations of each statement, whomever it binds, by its code."""
+    rows = ROW.findall((SOURCES / "table.rt").read_text())
+    return {code: {one for cited in (client, server) for one in cited.split(",") if one} for _, code, _, client, server, _ in rows}
+
+
+def on_the_standard(write: bool) -> list[str]:
+    """What is wrong with docs/STANDARD.md, once its numbers are written if they are to be; else with finding that, too."""
+    page, readme, statements = STANDARD.read_text(), README.read_text(), citations()
+    if not write:
+        return standard_page.wrong(page, readme, statements) or standard_page.unfound(page, readme, statements)
+    STANDARD.write_text(standard_page.with_counts(page))
+    return standard_page.wrong(STANDARD.read_text(), readme, statements)
+
+
 def miscounted(page: Path, count: int) -> list[str]:
     """What is wrong with the numbers of statements that a page says, where there are so many."""
     name = page.relative_to(TOP)
@@ -69,8 +91,8 @@ def miscounted(page: Path, count: int) -> list[str]:
 
 
 def main() -> None:
-    options = argparse.ArgumentParser(description="Checks the table of statements in docs/STATEMENTS.md.")
-    options.add_argument("--write", action="store_true", help="write the table into the document")
+    options = argparse.ArgumentParser(description="Checks the tables in docs/STATEMENTS.md and docs/STANDARD.md.")
+    options.add_argument("--write", action="store_true", help="write the table and the numbers into the documents")
     write = options.parse_args().write
     document = DOCUMENT.read_text()
     if document.count(BEGIN) != 1 or document.count(END) != 1:
@@ -84,6 +106,7 @@ def main() -> None:
     elif there != wanted:
         pairs = zip(there.splitlines() + [""], wanted.splitlines() + [""])
         wrong += next([f"the document has:  {have}", f"the program has:   {want}"] for have, want in pairs if have != want)
+    wrong += on_the_standard(write)
     for line in wrong:
         print(line)
     sys.exit(1 if wrong else 0)

@@ -2,7 +2,7 @@
 """Makes and checks the conformance suite, `examples/suite/`: for each statement, for one end that it binds, a log that breaks it
 and one that keeps it, each with its exact report as text and as JSON.
 
-The logs and their reports are the rows of `tests/statements/suite.rt` of mq_judge, whose tests judge them too: what the row shows, the
+The logs and their reports are the rows of `tests/statements/suite.rt` of mq_worked, whose tests judge them too: what the row shows, the
 log in words, and the report, with a semicolon between its lines. The reports were written from the statements' words before any
 program judged the logs. The two logs of a statement differ in one record, which is changed, added or missing.
 
@@ -42,8 +42,8 @@ ABOUT = """\
 # The conformance suite
 
 Logs for those who make a checker of MQTT 5.0 sessions, or a recorder: for each statement that
-`mqjudge` checks, a log in which the tested end breaks it and one in which it keeps it. The two
-differ in one record. Each log has its exact report beside it:
+`mqjudge` checks, a log in which the tested end breaks it and one in which it keeps it. Both put it
+to the test, and they differ in one record. Each log has its exact report beside it:
 
 | File | What it is |
 |---|---|
