@@ -1,15 +1,18 @@
 #!/usr/bin/env python3
 """A small broker of MQTT 5.0 that keeps the rules: what the exerciser's tests are played against.
 
-It keeps its sessions and messages in memory, and serves 127.0.0.1 alone. It answers whatever breaks a rule by closing
-the connection. `denied/x` is a topic that nobody may use, and `wrong` is a wrong password. It does all that a broker
-may do, so that each statement is put to the test: it assigns Topic Aliases, sends Response Information and reasons.
+It keeps its sessions and messages in memory, or also in a file, so that they outlive it, and serves 127.0.0.1 alone. It
+answers whatever breaks a rule by closing the connection. `denied/x` is a topic that nobody may use, and `wrong` is a
+wrong password. It does all that a broker may do, so that each statement is put to the test: it assigns Topic Aliases,
+sends Response Information and reasons.
 
-usage: recorders/plain_broker.py PORT
+usage: recorders/plain_broker.py PORT [FILE]
 """
 from __future__ import annotations
 
 import asyncio
+import os
+import pickle
 import sys
 from collections import OrderedDict, deque
 from dataclasses import dataclass, field
@@ -89,6 +92,9 @@ class Session:
     last: int = 0
     link: Link | None = None
 
+    def __getstate__(self) -> dict[str, object]:
+        return self.__dict__ | {"link": None}
+
     def new_identifier(self) -> int:
         while True:
             self.last = self.last % LARGEST_IDENTIFIER + 1
@@ -151,10 +157,21 @@ def check_filter(raw: bytes) -> str:
 class Broker:
     """All sessions, and what is retained."""
 
-    def __init__(self) -> None:
+    def __init__(self, file: Path | None = None) -> None:
         self.sessions: dict[str, Session] = {}
         self.retained: dict[bytes, Message] = {}
         self.assigned = 0
+        self._file = file
+        if file is not None and file.exists():
+            self.sessions, self.retained, self.assigned = pickle.loads(file.read_bytes())
+
+    def keep(self) -> None:
+        """Writes what has to outlive it into its file, as a whole."""
+        if self._file is not None:
+            new = self._file.with_suffix(".new")
+            living = {name: one for name, one in self.sessions.items() if one.expiry}
+            new.write_bytes(pickle.dumps((living, self.retained, self.assigned)))
+            os.replace(new, self._file)
 
     def publish(self, message: Message, origin: Session | None) -> bool:
         """Gives a message to whom it concerns. It says whether there is anybody."""
@@ -228,6 +245,7 @@ class Link(asyncio.Protocol):
                 raise Wrong
         except Wrong as wrong:
             self.refuse(wrong.code)
+        self.broker.keep()
 
     def connection_lost(self, error: Exception | None) -> None:
         self.leave(has_will=True)
@@ -593,8 +611,8 @@ def passed_on(properties: Properties) -> list[tuple[int, Value]]:
     return [one for one in properties if one[0] in PASSED_ON]
 
 
-async def serve(port: int) -> None:
-    broker = Broker()
+async def serve(port: int, file: Path | None) -> None:
+    broker = Broker(file)
     server = await asyncio.get_running_loop().create_server(lambda: Link(broker), HOST, port, backlog=200)
     async with server:
         await server.serve_forever()
@@ -602,6 +620,6 @@ async def serve(port: int) -> None:
 
 if __name__ == "__main__":
     try:
-        asyncio.run(serve(int(sys.argv[1])))
+        asyncio.run(serve(int(sys.argv[1]), Path(sys.argv[2]) if len(sys.argv) > 2 else None))
     except KeyboardInterrupt:
         pass

@@ -82,6 +82,10 @@ class CodeHosts(WithLogs):
         said = [text.partition("in use.")[2].partition(" sent again")[0] for text in texts]
         words = " This looks like the PUBLISH of event "
         self.assertEqual(said, [f"{words}4", "", f"{words}6"])
+        changed = [record(2, publish("d", 1)), *sent[1:]]  # the first fault is about another message
+        (self.logs / "a.log").write_bytes(reconnected(sent, changed))
+        self.assertIn("that is in use. Event 12 looks like the PUBLISH of event 5 sent again: ",
+                      run(self.logs, "--github")[1])
 
     def test_a_place_that_cannot_be_written(self) -> None:
         for name in ("--html", "--sarif"):

@@ -10,6 +10,7 @@ from __future__ import annotations
 
 import asyncio
 import contextlib
+import io
 import os
 import shutil
 import signal
@@ -22,29 +23,32 @@ from collections import Counter
 from collections.abc import Callable, Iterator
 from concurrent.futures import ThreadPoolExecutor
 from pathlib import Path
+from types import SimpleNamespace
+from unittest import mock
 from xml.etree import ElementTree
 
 sys.dont_write_bytecode = True  # the repository stays as it is
 HERE = Path(__file__).resolve().parent
 sys.path.insert(0, str(HERE))
 from exercising.both_ends import Fairness, other_end
+from exercising.campaign import Campaign
 from exercising.client_verbs import HOSTS
 from exercising.client_verbs import NEEDS as CLIENT_NEEDS
-from exercising.evidence import BINDING, FOREIGN, SERVER_AT, tested_by
+from exercising.evidence import BINDING, FOREIGN
 from exercising.notation import NotationError, bytes_of
 from exercising.packets import Cutter, Packet, Prop, Type, connack, connect, packet, publish, reply, subscribe
-from exercising.running import Fate, Runner
+from exercising.running import Fate, Result, Runner, in_turn
+from exercising.situations import situations
 from exercising.stage import Silence, Target
 from exercising.table import Scenario, TableError, parse, read_scenarios
 from exercising.verbs import CLIENTS, NEEDS
 from judging.program import Judge
+from judging.verdict import Verdict
 from log_format import VERSIONS
 from planting import Plant, State, serve
 from testing import (
     HOST,
-    PAHO,
     PATIENCE,
-    TOP,
     InFolder,
     accepts,
     find,
@@ -52,7 +56,6 @@ from testing import (
     judge_program,
     missing,
     process,
-    python_with,
     wait_until,
 )
 from testing import broker as mosquitto_broker
@@ -61,9 +64,6 @@ COMMAND = HERE / "exercise"
 PLAIN = HERE / "plain_broker.py"
 TABLE = HERE / "exercising/broker.scenarios"
 CLIENT_TABLE = HERE / "exercising/client.scenarios"
-DRIVERS = HERE / "exercising/drivers"
-SUITE = TOP / "examples/suite"
-INCLUDED = ("/usr/include", "/usr/local/include")
 RUN_SECONDS = 400
 OPEN, SENT, RECV, CLOSE, REST = 1, 2, 3, 4, 5
 ACCEPTED = connack()
@@ -195,32 +195,6 @@ class Packets(unittest.TestCase):
                 Cutter().feed(bytes((first, len(body))) + body)
 
 
-class Evidence(unittest.TestCase):
-    def test_a_log_that_breaks_a_statement_tests_it(self) -> None:
-        for path in sorted(SUITE.glob("*-broken.log")):
-            log = path.read_bytes()
-            code, is_server = path.name.split("-")[0], bool(log[SERVER_AT])
-            if code in BINDING[is_server] and code not in FOREIGN[is_server] and not is_broken_packet(code):
-                self.assertIn(code, tested_by(log), path.name)
-
-    def test_a_log_without_connections_tests_nothing(self) -> None:
-        for is_server in (True, False):
-            self.assertEqual(tested_by(log_of(is_server=is_server)), set())
-
-    def test_silence_and_limits(self) -> None:
-        hello = [(OPEN, b""), (RECV, connect("a", True, [(Prop.RECEIVE_MAXIMUM, 1)])), (SENT, ACCEPTED)]
-        asked = [*hello, (RECV, bytes.fromhex("c000")), (SENT, bytes.fromhex("d000"))]
-        self.assertNotIn("E7R", tested_by(log_of(*asked)))
-        self.assertIn("E7R", tested_by(log_of(*asked, (REST, b""))))
-        self.assertIn("S07", tested_by(log_of(*hello, (SENT, publish("a", b"", 1, 1)))))
-        self.assertNotIn("S07", tested_by(log_of(*hello, (SENT, publish("a", b"", 0)))))
-
-
-def is_broken_packet(code: str) -> bool:
-    """Whether a statement is on a packet's bytes: where those are broken, they can't be read to say what it tests."""
-    return code.startswith("W")
-
-
 class BothEnds(InFolder):
     """The broker answers an acknowledgement that was never asked for, before or after the client's own fault."""
 
@@ -337,6 +311,50 @@ class Listing(Called):
         self.assertEqual([line.split()[0] for line in printed.splitlines()[:-1]], wanted)
         status, printed, _ = self.called("list", "--client")
         self.assertEqual((status, printed.splitlines()[-1]), (0, f"{len(client_table())} scenarios"))
+
+
+    def test_situations_each_with_a_scenario(self) -> None:
+        for words, is_server in ((["--for", "s06"], True), (["--client"], False)):
+            status, printed, _ = self.called("list", "--situations", *words)
+            lines = printed.splitlines()
+            wanted = [one for one in situations(is_server) if "--for" not in words or one.code == "S06"]
+            self.assertEqual((status, lines[-1], len(lines)), (0, f"{len(wanted)} situations", len(wanted) + 1))
+            if is_server:
+                self.assertRegex(printed, r"S06 q1 unanswered kill first +broker-kill-q1")
+
+
+class Order(unittest.TestCase):
+    def test_first_come_those_that_bring_about_most(self) -> None:
+        text = "one-{a}  a={1 2}  | aims S01\n  a rest\ntwo-{a}  a={1 2}  | aims S01\n  a rest\n"
+        found = in_turn(parse(text, "x", CLIENTS.shapes, NEEDS), ["two-2", "gone"])
+        self.assertEqual([one.name for one in found], ["two-2", "one-1", "two-1", "one-2"])
+
+    def test_silence_grows_while_answers_are_slow(self) -> None:
+        with mock.patch("exercising.stage.time.monotonic") as clock:
+            clock.return_value = 100.0
+            silence = Silence(0.1, most=1.0)
+            seen = [silence.now]
+            for moment, slow in ((100, 0.05), (103, 0.2), (104, 0.03), (109, 0.01), (112.5, 0.5), (200, 0.001)):
+                clock.return_value = moment
+                silence.learn(slow)
+                seen.append(round(silence.now, 3))
+        self.assertEqual(seen, [0.1, 0.2, 0.8, 0.8, 0.8, 1.0, 0.1])
+
+    def test_scenarios_are_played_again_until_one_shows_it_again(self) -> None:
+        def result(name: str, *codes: str) -> Result:
+            verdict = Verdict(Path(name), 1, keeps=True)
+            for code in codes:
+                verdict.take(f"fault 4 {code} x decided 9 record 4 offset -", 0)
+            return Result(Scenario(name, (), frozenset(), False, (), "x:1"), Fate.COMPLETED, verdicts=[verdict])
+
+        again: dict[str, list[str]] = {"one": [], "two": ["S06"], "three": ["S06"], "four": []}
+        results = [result(name, "S06", "S01") for name in again]
+        runner = SimpleNamespace(results=results, stop_reason="", play_again=lambda one: result(
+            one.scenario.name, *again[one.scenario.name]))
+        with contextlib.redirect_stderr(io.StringIO()):
+            played = Campaign._play_again(SimpleNamespace(), runner)
+        self.assertEqual(list(played), ["one", "two"])
+        self.assertEqual([sorted(one.broken) for one in results], [["S01"], ["S01", "S06"], ["S01"], ["S01"]])
 
 
 class Misuse(Called):
@@ -543,7 +561,7 @@ class Once(Called):
         fairness = Fairness()
         fairness.judge = judge = Judge(judge_program(), 20, fairness.weigh, keeps=True)
         with self.plain() as port:
-            runner = Runner(Target(HOST, port), "ab12", self.logs, Silence(0.1), 2, judge)
+            runner = Runner(Target(HOST, port), "ab12", self.logs, Silence(0.1), 2, judge, fairness)
             runner.play_all(parse(text, "x.scenarios", CLIENTS.shapes, NEEDS), None)
         fates = {result.scenario.name: (result.fate, result.why) for result in runner.results}
         self.assertEqual(fates["two"], (Fate.COMPLETED, ""))
@@ -552,45 +570,12 @@ class Once(Called):
 
 
 class Clients(Called):
-    maxDiff = None
-
-    def against(self, *words: object) -> tuple[int, str]:
-        """The status of a run against a client, and what it prints."""
-        status, printed, errors = self.called("client", "--out", self.logs, "--program", judge_program(), *words)
-        self.assertIn(status, (0, 1), f"{printed}\n{errors}")
-        return status, printed
-
     def test_one_that_never_connects(self) -> None:
         words = ("client", "--out", self.logs, "--program", judge_program(), "--only", "plain-q0", "--")
         status, printed, _ = self.called(*words, "sh", "-c", "sleep 60 # {port}")
         self.assertEqual(status, 4)
         self.assertIn("too many scenarios weren't completed: 1 of 1", printed)
         self.assertIn("the client doesn't connect", printed)
-
-    @unittest.skipIf(python_with(PAHO) is None, missing(PAHO))
-    def test_paho_for_python(self) -> None:
-        status, printed = self.against("--", python_with(PAHO), DRIVERS / "paho_python.py", "{port}", "{id}")
-        broken = next(line for line in printed.splitlines() if line.startswith("  broken ")).split()[2:]
-        self.assertEqual((status, {"C14", "C17", "S07"} - set(broken)), (1, set()), printed)
-        right = {scenario.name for scenario in client_table() if not scenario.breaks_rules}
-        faults = {path.parent.name: own_faults(path) for path in self.logs.rglob("*.log") if path.parent.name in right}
-        self.assertEqual({name: codes for name, codes in faults.items() if codes}, {})
-
-    @unittest.skipIf(missing("cc"), missing("cc"))
-    def test_the_drivers_in_c(self) -> None:
-        libraries = (("mosquitto", "mosquitto.h", "mosquitto"), ("paho_c", "MQTTAsync.h", "paho-mqtt3a"))
-        there = [one for one in libraries if any(Path(place, one[1]).exists() for place in INCLUDED)]
-        if not there:
-            self.skipTest("no header of a library is installed")
-        for name, _, library in there:
-            driver = self.folder / name
-            subprocess.run(["cc", "-o", driver, DRIVERS / f"{name}.c", f"-l{library}"], check=True)
-            self.logs = self.folder / f"{name}-logs"
-            some = "plain,driven,drop-q1"
-            _, printed = self.against("--only", some, "--", driver, "{port}", "{id}")
-            names = [scenario.name for scenario in client_table() if scenario.name.startswith(tuple(some.split(",")))]
-            self.assertIn(f"{len(names)} scenarios in ", printed)
-            self.assertIn(f"({len(names)} completed)", printed)
 
 
 def own_faults(path: Path) -> list[str]:
@@ -640,6 +625,8 @@ class Mosquitto(Called):
             (inside if verdict.path.parent.name == "inside" else outside).update(verdict.faults)
         self.assertEqual({"C14", "S07", "W14"} - {key.split()[0] for key in outside}, set(), printed)
         self.assertEqual([key for key in outside if outside[key] > inside[key]], [])
+        names = {path.name for path in (self.logs / "inside").rglob("*.log")}
+        self.assertIn("packet-size-40-q1-a.1.server.log", names)
         self.assertFalse(accepts(port))
 
 

@@ -220,6 +220,36 @@ class Printed(Case):
         self.assertRegex(printed, r"RECV CONNACK size 18 code 0x00 .*maximum-packet-size 100\b")
         self.assertIn("SENT PUBLISH size 214 ", printed)
         self.assertEqual(printed.count("A packet isn't larger than the peer's Maximum Packet Size."), 1)
+        report = self.folder / "report.xml"
+        wanted = {"large-packet": "Maximum Packet Size 100, announced by event 3 (CONNACK); this packet: 214",
+                  "qos": "Maximum QoS 1, announced by event 3 (CONNACK); this packet: 2",
+                  "flood": "Receive Maximum 5, announced by event 3 (CONNACK)"}
+        for name, words in wanted.items():
+            log = TOP / f"examples/sessions/client-{name}.log"
+            printed = self.judged(log, "--junit", report, program=judge_program())[1].splitlines()
+            place = printed.index(f"      {words}")  # under the fault lines
+            self.assertTrue(printed[place - 1].startswith("    fault ") and " record " in printed[place + 1])
+            self.assertIn(f"\n    {words}\n", ElementTree.parse(report).findtext(".//failure") or "")
+
+    def test_limits_that_are_announced_far_away(self) -> None:
+        """That of the fault's connection holds, and what holds without one."""
+        def sent(number: int) -> tuple[int, bytes]:
+            return 2, bytes.fromhex("3207000161") + number.to_bytes(2, "big") + b"\0x"
+
+        pings = [(2, b"\xc0\0"), (3, b"\xd0\0")] * 50
+        limits = [(3, bytes.fromhex(f"2006000003 2100{limit:02x}")) for limit in (1, 2)]
+        alias = (2, bytes.fromhex("300900016103230007") + b"xx")
+        for records, words in (
+            ([(2, CONNECT), limits[0], (4, b""), (1, b""), (2, CONNECT), limits[1], *pings, *map(sent, (1, 2, 3))],
+             "Receive Maximum 2, announced by event 7 (CONNACK)"),
+            ([(2, CONNECT), (3, bytes.fromhex("2003000000")), *pings, alias],
+             "Topic Alias Maximum isn't in event 3 (CONNACK), so 0 holds; this packet: 7"),
+        ):
+            (self.logs / "a.log").write_bytes(log_of((1, b""), *records, (4, b"")))
+            for option in ("--json", "--html", "--most"):
+                place = {"--json": [], "--html": [self.folder / "page.html"], "--most": ["0"]}[option]
+                printed = self.judged(self.logs, option, *place, program=judge_program())[1]
+                self.assertEqual(printed.count(f"      {words}\n"), option != "--json", printed)
 
     def test_what_to_ask_next(self) -> None:
         log = TOP / "examples/identifier-in-use.log"
@@ -229,6 +259,15 @@ class Printed(Case):
         self.assertEqual(answer.returncode, 0)
         self.assertIn("Packet Identifier", answer.stdout)
         self.assertNotIn("explain", self.judged(TOP / "examples/pass.log", program=judge_program())[1])
+
+    def test_the_advice_on_what_is_sent_again(self) -> None:
+        answer = subprocess.run([judge_program(), "explain", "S01"], capture_output=True, text=True)
+        client, server = " ".join(answer.stdout.split()).partition("In a client:")[2].split("In a server:")
+        self.assertIn("A PUBLISH that is sent again needs DUP 1", client)
+        self.assertIn("What is sent again to a resumed session needs DUP 1", server)
+        page = " ".join((TOP / "docs/STATEMENTS.md").read_text().split())
+        self.assertIn("With DUP 0 it can't be told from a new one, so it is reported as S01: then its Packet Identifier"
+                      " is right, and DUP is wrong.", page)
 
     def on_a_terminal(self, **variables: str) -> str:
         """What is written to a terminal."""

@@ -5,6 +5,7 @@ usage: recorders/test_judged_logs.py
 """
 from __future__ import annotations
 
+import json
 import os
 import subprocess
 import sys
@@ -214,6 +215,32 @@ class Foreign(Case):
         self.assertEqual(status, 1)
         self.assertIn("    fault 2 W01 MQTT-2.1.3-1 decided 2 record 2 offset 0", printed)
         self.assertEqual(printed.splitlines()[-1], "1 log: 0 pass, 1 fail, 0 refused, 0 failed")
+        self.assertNotIn("what to change", printed)
+
+    def test_so_do_the_reports_in_place_of_advice(self) -> None:
+        """One log breaks W01 in HTTP, one lets it pass, and another has MQTT that breaks S01."""
+        (self.logs / "a.log").write_bytes(log_of((1, b""), (2, self.HTTP * 9), (4, b"")))
+        (self.logs / "b.log").write_bytes(log_of((1, b""), (3, self.HTTP), (4, b""), is_server=True))
+        (self.logs / "c.log").write_bytes((TOP / "examples/identifier-in-use.log").read_bytes())
+        page, report = self.folder / "page.html", self.folder / "report.sarif"
+        words = (self.logs, "--html", page, "--sarif", report, "--github")
+        status, printed, _ = self.judged(*words, program=judge_program())
+        self.assertEqual(status, 1)
+        annotations = [line for line in printed.splitlines() if line.startswith("::")]
+        self.assertEqual([line.partition(",title=")[2].split(": ")[0] for line in annotations],
+                         [f"not MQTT::{self.SPEAKS}", "S01 MQTT-2.2.1-3::1 fault, the first at event 5",
+                          f"not MQTT::{self.SPEAKS}"])
+        self.assertEqual([line.split()[0] for line in annotations], ["::error", "::error", "::warning"])
+        results = json.loads(report.read_text())["runs"][0]["results"]
+        self.assertEqual([result["message"]["text"].partition(": ")[2] for result in results if
+                          result["ruleId"] == "W01"], [self.SPEAKS] * 5)
+        text = page.read_text()
+        self.assertEqual(text.count(f"<p class=foreign>{self.SPEAKS[0].upper()}{self.SPEAKS[1:]}</p>"), 2)
+        self.assertEqual((text.count("<article "), text.count("not MQTT</span>")), (1, 2))
+        self.assertNotIn("47</mark> 45 54", text)
+        self.assertNotIn("forgets the 0x02 of PUBREL", text)  # the advice on W01
+        self.assertIn('<a class="code" href="#l1">W01</a>', text)
+        self.assertIn("<section class=log id=l1 ", text)
 
     def test_mqtt_is_not_named(self) -> None:
         """Neither is what only contains such bytes, or what comes on a later connection, whose events are shown."""

@@ -8,7 +8,10 @@ usage: recorders/test_planted.py [NAME ..]
 """
 from __future__ import annotations
 
+import contextlib
 import os
+import re
+import shlex
 import subprocess
 import sys
 import tempfile
@@ -20,27 +23,42 @@ sys.dont_write_bytecode = True  # the repository stays as it is
 HERE = Path(__file__).resolve().parent
 sys.path.insert(0, str(HERE))
 from exercising.evidence import BINDING, FOREIGN
-from planting import Plant, all_plants
+from exercising.situations import Situation, situations
+from planting import Plant
+from plants import all_plants
 from testing import HOST, accepts, free_port, judge_program, process, wait_until
 
-RUN_SECONDS = 200
-QUICK = ("--rest", "0.05", "--wait", "0.4", "--jobs", "8", "--wrong-password", "wrong")
-AT_ONCE = max(2, (os.cpu_count() or 2) - 1)
+RUN_SECONDS = 300
+OPTIONS = ("--rest", "0.05", "--jobs", "8", "--wrong-password", "wrong", "--denied", "denied/x")
+QUICK, PATIENT = 0.4, 2.0  # seconds that an answer is waited for
+AT_ONCE = 1 + (os.cpu_count() or 2)
 LEAST = 150
+BROKEN_IN = re.compile(r"^(\w+) in .*\n    in \d+ of \d+ situations: (.*)$", re.MULTILINE)
 
 
-def broken_by(plant: Plant) -> tuple[set[str], str]:
-    """The statements that the exerciser reports as broken where this is planted, and what it prints."""
+def broken_by(plant: Plant, patience: float = QUICK) -> tuple[set[str], set[Situation], str]:
+    """The statements that the exerciser reports as broken where this is planted, in which situations, and all that it
+    prints."""
     broker, proxy = free_port(), free_port()
-    with tempfile.TemporaryDirectory() as folder, process(sys.executable, HERE / "plain_broker.py", broker):
-        wait_until(lambda: accepts(broker), "the plain broker listens")
-        with process(sys.executable, HERE / "planting.py", proxy, broker, plant.name):
+    planting = [sys.executable, str(HERE / "planting.py"), str(proxy), str(broker), plant.name]
+    with tempfile.TemporaryDirectory() as folder, contextlib.ExitStack() as stack:
+        options = [*OPTIONS, "--wait", str(patience), *(["--slow"] if plant.is_slow else [])]
+        if plant.dies:
+            options += ["--start", shlex.join([*planting, f"{folder}/kept"])]
+        else:
+            stack.enter_context(process(sys.executable, HERE / "plain_broker.py", broker))
+            wait_until(lambda: accepts(broker), "the plain broker listens")
+            stack.enter_context(process(*planting))
             wait_until(lambda: accepts(proxy), "the proxy listens")
-            command = [sys.executable, str(HERE / "exercise"), "broker", f"{HOST}:{proxy}", "--out", f"{folder}/logs",
-                       "--program", judge_program(), "--only", plant.only, *QUICK]
-            answer = subprocess.run(command, capture_output=True, text=True, timeout=RUN_SECONDS)
+        command = [sys.executable, str(HERE / "exercise"), "broker", f"{HOST}:{proxy}", "--out", f"{folder}/logs",
+                   "--program", judge_program(), "--only", plant.only, *options]
+        answer = subprocess.run(command, capture_output=True, text=True, timeout=RUN_SECONDS)
     line = next((line for line in answer.stdout.splitlines() if line.startswith("  broken ")), "")
-    return set(line.split()[2:]), answer.stdout + answer.stderr
+    broken = set(line.split()[2:])
+    found = {Situation(code, ()) for code in broken}
+    found |= {Situation(code, tuple(text.split())) for code, texts in BROKEN_IN.findall(answer.stdout)
+              for text in texts.split(", ")}
+    return broken, found, answer.stdout + answer.stderr
 
 
 class Planted(unittest.TestCase):
@@ -52,9 +70,15 @@ class Planted(unittest.TestCase):
     def test_each_is_reported(self) -> None:
         plants = [*all_plants().values()]
         with ThreadPoolExecutor(AT_ONCE) as pool:
-            seen = {plant.name: broken for plant, (broken, _) in zip(plants, pool.map(broken_by, plants))}
-        missed = {plant.name: sorted(seen[plant.name]) for plant in plants if plant.code not in seen[plant.name]}
+            seen = dict(zip(all_plants(), pool.map(broken_by, plants)))
+        for plant in plants:
+            if plant.code not in seen[plant.name][0]:  # on a busy machine an answer may have been late
+                seen[plant.name] = broken_by(plant, PATIENT)
+        missed = {plant.name: sorted(seen[plant.name][0]) for plant in plants if plant.code not in seen[plant.name][0]}
+        reported = {one for plant in plants for one in seen[plant.name][1] if one.code == plant.code}
+        empty = sorted(f"{one.code} {one.text}" for one in set(situations(True)) - reported)
         self.assertEqual(missed, {}, "planted, and not reported; beside each what was reported")
+        self.assertEqual(empty, [], "situations in which no planted fault was reported")
 
 
 def show(names: list[str]) -> int:
@@ -62,10 +86,11 @@ def show(names: list[str]) -> int:
     chosen = [plant for name, plant in all_plants().items() if name.startswith(tuple(names))]
     missed = 0
     with ThreadPoolExecutor(AT_ONCE) as pool:
-        for plant, (broken, printed) in zip(chosen, pool.map(broken_by, chosen)):
+        for plant, (broken, found, printed) in zip(chosen, pool.map(broken_by, chosen)):
             missed += plant.code not in broken
             word = "found" if plant.code in broken else "MISSED"
-            print(f"{word:6} {plant.name:24} {' '.join(sorted(broken))}", flush=True)
+            own = ", ".join(sorted(one.text for one in found if one.code == plant.code and one.words))
+            print(f"{word:6} {plant.name:24} {' '.join(sorted(broken))} | {own}", flush=True)
             if len(chosen) == 1:
                 print(printed)
     return 1 if missed else 0

@@ -10,6 +10,7 @@ from __future__ import annotations
 
 import os
 import re
+import runpy
 import subprocess
 import sys
 import unittest
@@ -108,6 +109,44 @@ class Pages(unittest.TestCase):
         self.assertEqual(len(set(folders)), 4)
         for folder, text in zip(folders, blocks().values(), strict=True):
             self.assertEqual({name for name in folders if re.search(rf"\b{name}\b", text)}, {folder})
+
+
+class Documents(unittest.TestCase):
+    """What somebody looks for who comes anew."""
+
+    def test_what_a_trial_takes_and_prints(self) -> None:
+        text = " ".join(section(README, "Try it in two minutes, unproved").split())
+        self.assertIn("takes one processor one to two minutes", text)
+        self.assertIn("three lines of the tool: that the run ended, with which status; that races weren't looked for"
+                      " (there are no threads); and `proved=no`", text)
+
+    def test_where_a_toolchain_comes_from(self) -> None:
+        self.assertIn("That comes from those who make Rattle", section(README, "Build").replace("\n", " "))
+
+    def test_what_each_recorder_needs(self) -> None:
+        page = (HERE / "README.md").read_text()
+        rows = [[cell.strip() for cell in row.split("|")] for row in re.findall(r"^\| (`.*?) \|$", page, re.MULTILINE)]
+        needs = {row[0].strip("`"): row[2] for row in rows if len(row) == 5}
+        wanted = {"proxy": ["websockets"], "preload/run": ["`cc`"], "from-capture": ["`tshark`", "tcpdump", "dumpcap"],
+                  "paho_recorder.py": ["paho-mqtt 1.6"], "exercise": ["nothing"]}
+        self.assertEqual(needs.keys(), wanted.keys())
+        for script, names in wanted.items():
+            self.assertTrue((HERE / script).is_file(), script)
+            self.assertEqual([name for name in names if name not in needs[script]], [], script)
+        for name in ("(needs `cc`)", "(`tshark`)", "(paho-mqtt)", "The proxy needs Python alone."):
+            self.assertIn(name, section(README, "Record your own session"))
+
+    def test_how_to_change_it(self) -> None:
+        """The pages that a change begins with: each has a table of files, which `bench/check_docs.py` looks for."""
+        page = TOP / "CONTRIBUTING.md"
+        for title in ("Add a form of report", "Add a count", "Change the recorders"):
+            self.assertGreaterEqual(section(page, title).count("\n| "), 5, title)
+        crates = section(page, "The crates")
+        self.assertIn("`recorders/`", crates)
+        self.assertIn("(#change-the-recorders)", crates)
+        tests = section(HERE / "README.md", "Tests")
+        parts = runpy.run_path(str(HERE / "test"))["PARTS"]
+        self.assertEqual([name for name in parts if f"`{name}`" not in tests], [])
 
 
 class Commands(InFolder):

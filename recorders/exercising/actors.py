@@ -34,7 +34,9 @@ class Actor:
     def rest(self) -> None:
         """Waits until the tested end is at rest, and writes that."""
         if not self.is_over:
-            self.link.rest(self.stage.silence.now)
+            silence = self.stage.silence.now
+            self.stage.longest_rest = max(self.stage.longest_rest, silence)
+            self.link.rest(silence)
 
     def leave(self) -> None:
         """The scenario is over."""

@@ -8,38 +8,60 @@ from __future__ import annotations
 
 import tempfile
 import threading
+from collections.abc import Iterator
 from dataclasses import dataclass, field
 from pathlib import Path
 
-from exercising.evidence import RECV, REST, SENT, SERVER_AT
+from exercising.evidence import RECV, REST, SENT, SERVER_AT, Evidence, is_sturdy, positions_without_rests, read
 from judging.program import Judge
 from judging.story import Fault
 from judging.verdict import FAULT, FAULTS, PASSED, Verdict, fault_of
 from arguments import counted
-from log_format import HEADER_SIZE, LARGEST_MOMENT, records, version_of
+from log_format import HEADER_SIZE, MARK, Version, body_size, version_of
 
 LOOK, ONCE = "look", "once"  # why a fault doesn't count: what comes after our own, or was seen once and not again
 BY_SILENCE = frozenset(("E1R", "E2R", "E3R", "E4R", "E5R", "E6R", "E7R", "S06", "C23"))
-NEEDS_PEER = frozenset(("C08",))  # of the statements W and C: whether there is a session depends on the peer
-REST_LINE = "REST"
+EXCHANGED = {SENT: RECV, RECV: SENT}
+OF_BYTES = "W"  # the letter of the statements on a packet's bytes
 
 
-def is_sturdy(code: str) -> bool:
-    """Whether a statement holds whatever the peer does."""
-    return code[0] in "WC" and code not in NEEDS_PEER
+class Pieces:
+    """Cuts a log that grows into its header and its records."""
+
+    def __init__(self) -> None:
+        self._version: Version | None = None
+        self._left = b""
+
+    def feed(self, data: bytes) -> Iterator[bytes]:
+        """What these bytes complete: the header, and each record. Of what is no log there is nothing."""
+        self._left += data
+        if self._version is None:
+            self._version = version_of(self._left[:HEADER_SIZE])
+            if self._version is None:
+                return
+            yield self._take(HEADER_SIZE)
+        head_size = self._version.head_size
+        while len(self._left) >= head_size:
+            size = head_size + body_size(self._left[:head_size])
+            if len(self._left) < size:
+                return
+            yield self._take(size)
+
+    def _take(self, size: int) -> bytes:
+        piece, self._left = self._left[:size], self._left[size:]
+        return piece
+
+
+def exchanged(piece: bytes) -> bytes:
+    """A log's header or a record as it is for the other end; nothing where that has none."""
+    if piece.startswith(MARK):
+        return piece[:SERVER_AT] + bytes((piece[SERVER_AT] ^ 1,)) + piece[SERVER_AT + 1 :]
+    return b"" if piece[0] == REST else bytes((EXCHANGED.get(piece[0], piece[0]),)) + piece[1:]
 
 
 def other_end(log: bytes) -> bytes:
     """The log as it is for the other end: without RESTs, since nobody knows when that end is at rest."""
-    version = version_of(log)
-    if version is None:
-        return log
-    head = bytearray(log[:HEADER_SIZE])
-    head[SERVER_AT] ^= 1
-    exchanged = {SENT: RECV, RECV: SENT}
-    kept = [version.record(exchanged.get(kind, kind), body, min(moment or 0, LARGEST_MOMENT))
-            for kind, body, moment in records(log) if kind != REST]
-    return bytes(head) + b"".join(kept)
+    return b"".join(map(exchanged, Pieces().feed(log)))
 
 
 @dataclass
@@ -47,36 +69,58 @@ class Fairness:
     """Takes out of a verdict what may be the exerciser's own doing."""
 
     judge: Judge | None = None
-    own: dict[Path, tuple[int, str]] = field(default_factory=dict)  # the exerciser's first fault: its event and code
+    own: dict[Path, list[Fault]] = field(default_factory=dict)  # the exerciser's faults, at the log's own positions
     looks: dict[Path, list[Fault]] = field(default_factory=dict)
     _lock: threading.Lock = field(default_factory=threading.Lock)
 
     def weigh(self, verdict: Verdict) -> None:
         if verdict.status != FAULTS:
             return
-        first = self.first_of_own(verdict.path)
+        first = min((fault.position for fault in self.own_faults(verdict.path)), default=None)
         looks = [fault for fault in verdict.found
-                 if first is not None and first[0] <= fault.decided and not is_sturdy(fault.code)]
+                 if first is not None and first <= fault.decided and not is_sturdy(fault.code)]
         with self._lock:
-            if first is not None:
-                self.own[verdict.path] = first
             self.looks[verdict.path] = looks
         take_out(verdict, looks, LOOK)
 
-    def first_of_own(self, path: Path) -> tuple[int, str] | None:
-        """The first event of the log at which the exerciser breaks a statement, and which; None if there is none."""
+    def own_faults(self, path: Path) -> list[Fault]:
+        """What the exerciser breaks itself, but for what shows by silence: whether it was at rest nobody knows."""
+        with self._lock:
+            if path in self.own:
+                return self.own[path]
+        found = self._judge_other_end(path)
+        self.keep_own(path, found)
+        return found
+
+    def keep_own(self, path: Path, faults: list[Fault]) -> None:
+        with self._lock:
+            self.own[path] = faults
+
+    def _judge_other_end(self, path: Path) -> list[Fault]:
         assert self.judge is not None
+        log = path.read_bytes()
         with tempfile.NamedTemporaryFile(suffix=".log") as room:
-            room.write(other_end(path.read_bytes()))
+            room.write(other_end(log))
             room.flush()
-            found = [FAULT.fullmatch(line) for line in self.judge.ask("check", room.name).splitlines()]
-        faults = [fault for fault in map(fault_of, filter(None, found)) if fault.code not in BY_SILENCE]
-        if not faults:
-            return None
-        first = min(faults, key=lambda fault: fault.position)
-        kept = [int(line.split()[0]) for line in self.judge.ask("show", str(path)).splitlines()
-                if line.split()[0].isdecimal() and line.split()[-1] != REST_LINE]
-        return (kept[first.position - 1], first.code) if first.position <= len(kept) else None
+            lines = [FAULT.fullmatch(line) for line in self.judge.ask("check", room.name).splitlines()]
+        faults = [fault for fault in map(fault_of, filter(None, lines)) if fault.code not in BY_SILENCE]
+        return in_the_log(log, faults)
+
+    def evidence(self, verdict: Verdict, may_break: bool) -> Evidence:
+        """Where a log puts what to the test. What the exerciser broke is looked for only if it may have, or if the log
+        has faults."""
+        own = self.own_faults(verdict.path) if may_break or verdict.found else []
+        bad = {fault.position: fault.code for fault in (*verdict.found, *own) if fault.code[0] == OF_BYTES}
+        found = read(verdict.path.read_bytes(), bad)
+        if own:
+            found.keep_before(min(fault.position for fault in own))
+        return found
+
+
+def in_the_log(log: bytes, faults: list[Fault]) -> list[Fault]:
+    """The other end's faults at the positions of the log itself, which has RESTs."""
+    kept = positions_without_rests(log) if faults else []
+    return [fault._replace(position=kept[fault.position - 1]) for fault in faults if fault.position <= len(kept)]
 
 
 def take_out(verdict: Verdict, faults: list[Fault], why: str) -> None:

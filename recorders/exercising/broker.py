@@ -2,11 +2,12 @@
 from __future__ import annotations
 
 import argparse
+from pathlib import Path
 
 from arguments import Parser
 from exercising.campaign import Campaign, Plan, say
 from exercising.hello import announced, greet, is_this_host
-from exercising.running import Runner
+from exercising.running import AGAIN, AGAIN_MARK, Runner
 from exercising.stage import Silence, Target
 from exercising.started import Started
 from exercising.table import Scenario
@@ -45,15 +46,25 @@ class BrokerCampaign(Campaign):
             self.started.start()
         say(f"{self.target} announces {announced(greet(self.target, self.run))}")
         plan = self.plan
-        return Runner(self.target, self.run, plan.out, Silence(plan.rest), plan.jobs, self.judge, self.started)
+        return Runner(self.target, self.run, plan.out, Silence(plan.rest), plan.jobs, self.judge, self.fairness,
+                      self.started, self.live)
 
     def end(self) -> None:
         if self.started is not None:
             self.started.stop()
 
     def inside_verdicts(self) -> list[Verdict]:
-        logs = find_logs([self.inside]).logs if self.inside is not None and self.inside.is_dir() else []
-        return [self.judge.judge(path) for path in logs]
+        if self.inside is None or not self.inside.is_dir():
+            return []
+        for path in find_logs([self.inside]).logs:
+            self._rename(path)
+        return [self.judge.judge(path) for path in find_logs([self.inside]).logs]
+
+    def _rename(self, path: Path) -> None:
+        """Takes the run out of a log's name, so that it is the same in each run."""
+        for prefix, new in ((f"x{self.run}-", ""), (f"x{self.run}{AGAIN_MARK}-", f"{AGAIN}-")):
+            if path.name.startswith(prefix):
+                path.rename(path.with_name(new + path.name.removeprefix(prefix)))
 
 
 def check_address(options: argparse.Namespace, parser: Parser) -> None:

@@ -6,6 +6,7 @@ import secrets
 import signal
 import sys
 import time
+from collections import Counter
 from collections.abc import Mapping
 from dataclasses import dataclass
 from pathlib import Path
@@ -14,6 +15,7 @@ from types import FrameType
 from arguments import Parser
 from exercising.both_ends import BY_SILENCE, ONCE, Fairness, take_out
 from exercising.links import Gone
+from exercising.live import Live, LiveJudge, find_library
 from exercising.outcome import Outcome, silent_faults
 from exercising.running import Result, Runner
 from exercising.table import Scenario
@@ -26,7 +28,7 @@ from judging.verdict import FAILED, FAULTS, PASSED, REFUSED, Verdict
 
 RUN_BYTES = 2  # of the name that is this run's own
 AGAIN_SECONDS = 60.0  # after which no more faults by silence are tried again
-AGAIN_OF_A_CODE = 1  # scenarios of a code that are played again
+AGAIN_OF_A_CODE = 3  # scenarios of a code that are played again, until one of them shows it again
 ENDED_MOST = 0.25  # of the scenarios, beyond which a run says too little
 REACHABLE = "REACHABLE"
 
@@ -83,8 +85,10 @@ class Campaign:
         self.plan, self.scenarios = plan, scenarios
         self.run = secrets.token_hex(RUN_BYTES)
         self.fairness = Fairness()
-        self.judge = Judge(plan.program, plan.most, self.fairness.weigh, keeps=True)
+        self.judge = LiveJudge(plan.program, plan.most, self.fairness.weigh)
         self.fairness.judge = self.judge
+        library = find_library()
+        self.live = Live(library, self.judge, self.fairness, say) if library is not None else None
 
     # ---- what is tested
 
@@ -111,6 +115,7 @@ class Campaign:
         plan, begun = self.plan, time.monotonic()
         try:
             runner = self.begin()
+            say(f"judged {'live, by the library for C' if self.live else f'after each scenario, by {plan.program}'}")
             stop_at_signals(runner)
             runner.play_all(plan.scenarios, plan.seconds)
             again = {} if runner.stop_reason else self._play_again(runner)
@@ -131,15 +136,17 @@ class Campaign:
         again: dict[str, Result] = {}
         until = time.monotonic() + AGAIN_SECONDS
         suspects = [result for result in runner.results if silent_faults(result, BY_SILENCE)]
-        tried: dict[str, int] = {}
+        tried: Counter[str] = Counter()
+        confirmed: set[str] = set()
         for result in sorted(suspects, key=lambda one: one.seconds):
-            fresh = [code for code in silent_faults(result, BY_SILENCE) if tried.get(code, 0) < AGAIN_OF_A_CODE]
+            fresh = [code for code in silent_faults(result, BY_SILENCE)
+                     if code not in confirmed and tried[code] < AGAIN_OF_A_CODE]
             if not fresh or time.monotonic() > until or runner.stop_reason:
                 continue
             say(f"again, alone and with more time: {result.scenario.name} ({' '.join(sorted(fresh))})")
-            again[result.scenario.name] = runner.play_again(result.scenario)
-            for code in fresh:
-                tried[code] = tried.get(code, 0) + 1
+            again[result.scenario.name] = repeated = runner.play_again(result)
+            tried.update(fresh)
+            confirmed |= repeated.broken
         for result in suspects:
             seen = again[result.scenario.name].broken if result.scenario.name in again else set()
             for verdict in result.verdicts:

@@ -56,6 +56,7 @@ class ClientCampaign(Campaign):
 
     def begin(self) -> Runner:
         plan = self.plan
-        runner = ClientRunner(Target(HOST, NO_PORT), self.run, plan.out, Silence(plan.rest), plan.jobs, self.judge)
+        runner = ClientRunner(Target(HOST, NO_PORT), self.run, plan.out, Silence(plan.rest), plan.jobs, self.judge,
+                              self.fairness, live=self.live)
         runner.program, runner.output = self.program, plan.out / "client.txt"
         return runner

@@ -60,7 +60,7 @@ class Link:
         self.seen: list[Packet] = []  # all that came
         self.has_ended = False  # the tested end sends no more
         self.is_closed = False  # we have closed
-        self.slowest = 0.0  # answer, in seconds
+        self.waited = 0.0  # for the last answer, in seconds
         connection.setsockopt(socket.IPPROTO_TCP, socket.TCP_NODELAY, 1)
         connection.settimeout(SEND_SECONDS)
         recorder.opened(key)
@@ -108,7 +108,7 @@ class Link:
         while True:
             for at, got in enumerate(self.inbox):
                 if kind in (None, got.kind) and identifier in (None, got.identifier):
-                    self.slowest = max(self.slowest, time.monotonic() - begun)
+                    self.waited = time.monotonic() - begun
                     return self.inbox.pop(at)
             left = begun + seconds - time.monotonic()
             if left <= 0 or self.is_over:

@@ -10,6 +10,7 @@ from arguments import counted
 from exercising.both_ends import LOOK, ONCE, Fairness
 from exercising.evidence import BINDING, FOREIGN
 from exercising.running import Fate, Result
+from exercising.situations import Situation, by_code, reference, situations
 from exercising.table import Scenario
 from judging.story import Fault
 from judging.verdict import REFUSED, Verdict, show
@@ -73,6 +74,29 @@ class Outcome:
     def untested(self) -> list[str]:
         return sorted(set(self.reachable) - self.tested - self.broken)
 
+    # ---- the situations in which they were tested
+
+    @property
+    def met(self) -> set[Situation]:
+        """Those that came about in completed scenarios, and those with faults that count."""
+        return {one for result in self.completed for one in result.met} | self.broken_in
+
+    @property
+    def broken_in(self) -> set[Situation]:
+        return {one for result in self.results for one in result.broken_in}
+
+    def why_avoided(self, situation: Situation) -> str:
+        """Why a situation didn't come about."""
+        name = reference(self.is_server).get(situation)
+        result = next((one for one in self.results if one.scenario.name == name), None)
+        if name in self.left_out:
+            return self.left_out[name]
+        if name is not None and result is None:
+            return "the scenarios that bring it about weren't chosen"
+        if result is not None and result.fate is not Fate.COMPLETED:
+            return f"{name} wasn't completed"
+        return "the tested end avoids it"
+
     # ---- what the scenarios came to
 
     @property
@@ -118,6 +142,7 @@ class Outcome:
         lines += self._untested_lines()
         lines += [row("out of reach", len(FOREIGN[self.is_server]), f"{' '.join(sorted(FOREIGN[self.is_server]))}: only"
                       " an end that sends other packets could break them")]
+        lines += self._situation_lines()
         lines += self._inside_lines()
         lines += self._fault_lines(fairness)
         lines += self._incomplete_lines()
@@ -131,6 +156,26 @@ class Outcome:
         texts = [f"{' '.join(codes)}: {why}" for why, codes in sorted(reasons.items(), key=lambda one: one[1])]
         return [row("not tested" if not at else "", len(self.untested) if not at else None, text)
                 for at, text in enumerate(texts or ["-"])]
+
+    def _situation_lines(self) -> list[str]:
+        """In how many situations the statements were tested, and which ones didn't come about."""
+        every, met = situations(self.is_server), self.met
+        lines = [row("situations", len(met), f"of {len(every)} came about; faults in {len(self.broken_in)}")]
+        reasons: dict[str, list[str]] = defaultdict(list)
+        for one in every:
+            if one not in met:
+                reasons[self.why_avoided(one)].append(f"{one.code} {one.text}".rstrip())
+        texts = [f"{named(names, ', ')}: {why}" for why, names in sorted(reasons.items(), key=lambda one: len(one[1]))]
+        return lines + [row("avoided" if not at else "", len(every) - len(met) if not at else None, text)
+                        for at, text in enumerate(texts)]
+
+    def _broken_situations(self, code: str) -> list[str]:
+        """In which situations a statement is broken."""
+        broken = sorted(one for one in self.broken_in if one.code == code and one.words)
+        if not broken:
+            return []
+        return [f"    in {len(broken)} of {len(by_code(self.is_server)[code])} situations:"
+                f" {', '.join(one.text for one in broken)}"]
 
     def _inside_lines(self) -> list[str]:
         """What was recorded inside the tested end."""
@@ -149,6 +194,7 @@ class Outcome:
             here = [verdict for verdict in self.verdicts if any(key.split()[0] == code for key in verdict.faults)]
             first = min(here, key=lambda verdict: (verdict not in self.inside, verdict.events or 0, verdict.path))
             lines.append(f"{code} in {named(names) or 'no scenario, but inside the broker'}")
+            lines += self._broken_situations(code)
             lines.append(f"    {self.program} show --faults --around 3 {show(first.path)}")
             if again := sorted(name for name, result in self.again.items() if code in result.broken):
                 lines.append(f"    seen again, alone and with more time: {named(again)}")
@@ -191,11 +237,11 @@ def row(title: str, count: int | None, text: str) -> str:
     return f"  {title:{WIDTH}}{'' if count is None else count:>4}  {text}".rstrip()
 
 
-def named(names: Iterable[str]) -> str:
+def named(names: Iterable[str], between: str = " ") -> str:
     """Some names, and how many more there are."""
     every = list(names)
     more = f" and {len(every) - NAMED} more" if len(every) > NAMED else ""
-    return f"{' '.join(every[:NAMED])}{more}"
+    return f"{between.join(every[:NAMED])}{more}"
 
 
 def in_words(counts: Counter[str]) -> str:

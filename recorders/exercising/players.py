@@ -83,7 +83,7 @@ class Player(Actor):
         """An answer that has to come, or None if it takes too long."""
         got = self.link.expect(kind, self.stage.target.patience, identifier)
         if got is not None:
-            self.stage.silence.learn(self.link.slowest)
+            self.stage.silence.learn(self.link.waited)
         return got
 
     def send(self, data: bytes) -> None:

@@ -12,8 +12,10 @@ from dataclasses import dataclass, field
 from enum import Enum
 from pathlib import Path
 
-from exercising.evidence import tested_by
+from exercising.both_ends import Fairness
 from exercising.links import Gone, Tape
+from exercising.live import Live
+from exercising.situations import Situation, ending_of, met_at, met_by, reference
 from exercising.stage import Silence, Stage, Target, Unfit, Unreachable
 from exercising.started import Started
 from exercising.table import Scenario
@@ -23,7 +25,7 @@ from judging.program import Judge
 from judging.verdict import Verdict
 from recording import End
 
-CONNECTIONS_MOST = 40  # at a time, of all scenarios together
+CONNECTIONS_MOST = 64  # at a time, of all scenarios together
 SCENARIO_SECONDS = 60.0
 SLOW_SECONDS = 300.0  # for scenarios that need slow
 LOOKS_AGAIN = 3  # before a tested end is called dead
@@ -31,6 +33,7 @@ LOOK_SECONDS = 0.5
 PROGRESS_SECONDS = 5.0
 MEETING_SECONDS = 90.0  # for all scenarios to come to the broker's death
 AGAIN = "again"  # the folder of what is played once more
+AGAIN_MARK = "a"  # in the Client Identifiers there, after the run's name
 AGAIN_FACTOR = 10.0  # times the silence
 
 
@@ -53,12 +56,22 @@ class Result:
     observed: list[str] = field(default_factory=list)
     verdicts: list[Verdict] = field(default_factory=list)
     tested: frozenset[str] = frozenset()  # codes that its logs put to the test
+    met: frozenset[Situation] = frozenset()  # what came about in its logs
+    places: dict[tuple[Path, str, int], frozenset[Situation]] = field(default_factory=dict)  # of faults
+    rest: float = 0.0  # the silence that counted as rest, in seconds
     seconds: float = 0.0
 
     @property
     def broken(self) -> set[str]:
         """The codes of the faults that count."""
         return {key.split()[0] for verdict in self.verdicts for key in verdict.faults}
+
+    @property
+    def broken_in(self) -> set[Situation]:
+        """The situations in which faults that count came about."""
+        counted = [(verdict.path, fault.code, fault.position) for verdict in self.verdicts for fault in verdict.found
+                   if fault.code in self.broken and fault.code not in verdict.overlooked]
+        return {one for place in counted for one in self.places.get(place, ())}
 
 
 class Stopped(Gone):
@@ -139,9 +152,9 @@ class Runner:
     tested: End = End.SERVER
 
     def __init__(self, target: Target, run: str, out: Path, silence: Silence, jobs: int, judge: Judge,
-                 started: Started | None = None) -> None:
+                 fairness: Fairness, started: Started | None = None, live: Live | None = None) -> None:
         self.target, self.run, self.out, self.silence, self.jobs = target, run, out, silence, jobs
-        self._judge, self._started = judge, started
+        self._judge, self._fairness, self._started, self._live = judge, fairness, started, live
         self._places = Places(CONNECTIONS_MOST)
         self._numbers: dict[str, int] = {}
         self._lock = threading.Lock()
@@ -162,7 +175,8 @@ class Runner:
         alone = [scenario for scenario in chosen if "alone" in scenario.needs]
         gentle = [scenario for scenario in chosen if scenario not in deadly and scenario not in alone]
         progress = Progress(len(chosen))
-        self._play_side_by_side(in_turn(gentle), until, progress, self.jobs)
+        useful = [*dict.fromkeys(reference(self.tested is End.SERVER).values())]
+        self._play_side_by_side(in_turn(gentle, useful), until, progress, self.jobs)
         self._play_side_by_side(alone, until, progress, 1)
         for death in dict.fromkeys(map(death_of, deadly)):
             self._play_to_a_death([one for one in deadly if death_of(one) == death], death[0], until, progress)
@@ -210,10 +224,11 @@ class Runner:
 
     # ---- one of them
 
-    def play_again(self, scenario: Scenario) -> Result:
-        """Plays a scenario alone, with ten times the silence, and with other names."""
-        slow = Silence(self.silence.now, AGAIN_FACTOR, 0.0, self.silence.most * AGAIN_FACTOR)
-        stage = self._stage(scenario, self.out / AGAIN / scenario.name, slow, f"{self.run}a")
+    def play_again(self, result: Result) -> Result:
+        """Plays a scenario alone, with ten times the silence that it had, and with other names."""
+        scenario = result.scenario
+        slow = Silence(max(self.silence.seconds, result.rest), AGAIN_FACTOR, self.silence.most * AGAIN_FACTOR)
+        stage = self._stage(scenario, self.out / AGAIN / scenario.name, slow, f"{self.run}{AGAIN_MARK}")
         started = self._started
         if started is not None:
             stage.kill = lambda: started.restart(death_of(scenario)[0])
@@ -237,13 +252,23 @@ class Runner:
             result.fate, result.why = Fate.ENDED, f"the exerciser failed: {error!r}"
         finally:
             stage.tape.finish()
+            stage.judge_last()
             if not self.is_dead:
                 stage.sweep()
-        logs = find_logs([folder]).logs
-        result.verdicts = [self._judge.judge(path) for path in logs]
-        result.tested = frozenset().union(*(tested_by(path.read_bytes()) for path in logs))
-        result.seconds = time.monotonic() - begun
+        result.verdicts = [self._judge.judge(path) for path in find_logs([folder]).logs]
+        for verdict in result.verdicts:
+            self._take_evidence(result, verdict)
+        result.rest, result.seconds = stage.longest_rest, time.monotonic() - begun
         return result
+
+    def _take_evidence(self, result: Result, verdict: Verdict) -> None:
+        """What a log puts to the test, and in which situations its faults are."""
+        found = self._fairness.evidence(verdict, result.scenario.breaks_rules)
+        ending = ending_of(result.scenario)
+        result.tested |= found.tested
+        result.met |= met_by(found, ending)
+        places = [(fault.code, fault.position) for fault in verdict.found]
+        result.places |= {(verdict.path, *place): where for place, where in met_at(found, ending, places).items()}
 
     def _stage(self, scenario: Scenario, folder: Path, silence: Silence, run: str) -> Stage:
         most = SLOW_SECONDS if "slow" in scenario.needs else SCENARIO_SECONDS * silence.factor
@@ -257,7 +282,11 @@ class Runner:
 
         tape = Tape(folder, self.tested, f"x{run}-{scenario.name}-", self.warnings.append)
         number = self._numbers.setdefault(scenario.name, len(self._numbers))
-        return self._new_stage(scenario, run, number, tape, silence, check)
+        stage = self._new_stage(scenario, run, number, tape, silence, check)
+        if self._live is not None:
+            watch = self._live.watch(folder)
+            stage.judge_now, stage.judge_last = watch.advance, watch.finish
+        return stage
 
     def _new_stage(self, scenario: Scenario, run: str, number: int, tape: Tape, silence: Silence,
                    check: Callable[[], None]) -> Stage:
@@ -285,12 +314,14 @@ def death_of(scenario: Scenario) -> tuple[str, ...]:
     return next(step.words for line in scenario.lines for step in line.steps if step.verb == "kill")
 
 
-def in_turn(scenarios: list[Scenario]) -> list[Scenario]:
-    """The first variant of each paragraph, then the second ones, and so on: all kinds come early."""
+def in_turn(scenarios: list[Scenario], useful: list[str]) -> list[Scenario]:
+    """First those that bring about the most situations; then the first variant of each paragraph, then the second ones,
+    and so on: all kinds come early."""
     groups: dict[str, int] = Counter()
     places = {}
+    ranks = {name: rank for rank, name in enumerate(useful)}
     for scenario in scenarios:
-        places[scenario.name] = groups[scenario.place]
+        places[scenario.name] = (ranks.get(scenario.name, len(ranks)), groups[scenario.place])
         groups[scenario.place] += 1
     return sorted(scenarios, key=lambda one: places[one.name])
 

@@ -2,6 +2,9 @@
 from __future__ import annotations
 
 import socket
+import threading
+import time
+from collections import deque
 from collections.abc import Callable
 from dataclasses import dataclass, field
 
@@ -13,6 +16,7 @@ CONNECT_SECONDS = 5.0
 ANSWER_SECONDS = 2.0
 SWEEP_SECONDS = 1.0
 MOST_SILENCE = 1.0  # a fault by silence is seen again with ten times the silence
+RECENT_SECONDS = 8.0  # in which answers are slow while the machine is loaded: longer than most scenarios take
 QUARTER = 4  # an honest answer takes at most a quarter of the silence that counts as rest
 
 
@@ -49,19 +53,36 @@ class Target:
 
 @dataclass
 class Silence:
-    """How much silence after a ping counts as rest. It grows where answers are slow."""
+    """How much silence after a ping counts as rest. It grows while answers are slow."""
 
     seconds: float
     factor: float = 1.0
-    slowest: float = 0.0  # honest answer so far
     most: float = MOST_SILENCE
+    _slow: deque[tuple[float, float]] = field(default_factory=deque)  # when answers came, and how slow: ever faster
+    _lock: threading.Lock = field(default_factory=threading.Lock)
 
     @property
     def now(self) -> float:
         return min(max(self.seconds, self.slowest * QUARTER) * self.factor, self.most)
 
+    @property
+    def slowest(self) -> float:
+        """The slowest honest answer of late."""
+        with self._lock:
+            self._forget(time.monotonic())
+            return self._slow[0][1] if self._slow else 0.0
+
     def learn(self, seconds: float) -> None:
-        self.slowest = max(self.slowest, seconds)
+        now = time.monotonic()
+        with self._lock:
+            self._forget(now)
+            while self._slow and self._slow[-1][1] <= seconds:
+                self._slow.pop()
+            self._slow.append((now, seconds))
+
+    def _forget(self, now: float) -> None:
+        while self._slow and self._slow[0][0] < now - RECENT_SECONDS:
+            self._slow.popleft()
 
 
 @dataclass
@@ -77,6 +98,9 @@ class Stage:
     meet: Callable[[], None] = lambda: None  # waits for the others who prepare for the broker's death
     kill: Callable[[], None] = lambda: None  # ends the broker, and starts it again
     check: Callable[[], None] = lambda: None  # raises Gone where the scenario has to end
+    judge_now: Callable[[], None] = lambda: None  # has what was recorded so far judged
+    judge_last: Callable[[], None] = lambda: None  # has all of it judged
+    longest_rest: float = 0.0  # the silence that counted as rest in it, in seconds
     observed: list[str] = field(default_factory=list)  # what was seen and isn't judged
     sessions: set[str] = field(default_factory=set)  # Client Identifiers that may have one
     retained: set[str] = field(default_factory=set)  # topics that may have a message

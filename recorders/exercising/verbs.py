@@ -102,10 +102,11 @@ def play_step(actor: Actor, step: Step, what: Verb, number: int) -> None:
     actor.stage.check()
     if what.shape.counts or step.times == 1:
         what.act(actor, numbered(step, number))
-        return
-    for own in range(step.times):
-        actor.stage.check()
-        what.act(actor, numbered(step, own))
+    else:
+        for own in range(step.times):
+            actor.stage.check()
+            what.act(actor, numbered(step, own))
+    actor.stage.judge_now()
 
 
 def numbered(step: Step, number: int) -> Step:
@@ -238,7 +239,11 @@ def closes(player: Player, step: Step) -> None:
 
 
 def last_words(link: Link) -> str:
-    return str(link.seen[-1]) if link.seen else "without a packet"
+    """The last packet that came, without its Packet Identifier: the same things are to look the same."""
+    if not link.seen:
+        return "without a packet"
+    last = link.seen[-1]
+    return last.name if last.code is None else f"{last.name} 0x{last.code:02x}"
 
 
 @verb("together")

@@ -7,6 +7,7 @@ from judging.chart import FULL, LEAN, PEERS, SHORT, Drawing
 from judging.events import Event, Text
 from judging.explain import Explanation
 from judging.labels import WORDS, fate_of, label, short_label
+from judging.limits import LIMITS, TOO_LARGE, limit_said
 from judging.markup import counted, escaped, isolated, number
 from judging.reasons import reason
 from judging.resends import TAKEN, looks_like
@@ -15,16 +16,10 @@ from judging.texts import WORDS as WRONG
 from log_format import time_text
 
 FIELDS = 40  # of a packet that are shown
-MATES, LEAN_MATES = 30, 6  # events under the same Packet Identifier that are listed
+MATES, LEAN_MATES = 12, 6  # events under the same Packet Identifier that are listed
 BYTES_OF_A_LINE = 8
 SIZES = {"size", "payload", "password", "correlation-data", "authentication-data", "will-payload",
          "will-correlation-data"}  # fields of which only the size in bytes is printed
-LIMITS = {  # what the peer announces: its field, its name, what holds without it, and the field of a packet to compare
-    "S07": ("receive-maximum", "Receive Maximum", "65,535 holds", ""),
-    "C14": ("maximum-packet-size", "Maximum Packet Size", "there is no limit", "size"),
-    "C15": ("topic-alias-maximum", "Topic Alias Maximum", "0 holds", "topic-alias"),
-    "C17": ("maximum-qos", "Maximum QoS", "2 holds", "qos"),
-}
 
 
 class Cards:
@@ -53,8 +48,8 @@ class Cards:
         name = self._drawing.card(fault)
         explanation = self._explanations.get(fault.code)
         facts = self._facts(fault, scene)
-        if others := self._others(run):
-            facts.insert(0, ("All of them", others))
+        if each := self._each(run):
+            facts = [("All of them", each), ("The first", facts[0][1]), *facts[1:]]
         cause = self._cause(fault, scene)
         shown = f" data-a={self._drawing.place(cause.position)}" if cause else ""
         kind = " class=ignored" if way else ""
@@ -65,7 +60,7 @@ class Cards:
             f"{ignored_by(way)}</h4>"
             f"<p>{escaped(explanation.sentence if explanation else '')}"
             f'<dl>{"".join(f"<dt>{term}<dd>{text}" for term, text in facts if text)}</dl>'
-            f"{self._resend(fault)}{self._advice(fault.code, name, explanation)}</article>"
+            f"{self._resend(run)}{self._advice(fault.code, name, explanation)}</article>"
         )
 
     def _head(self, run: list[Fault]) -> str:
@@ -79,12 +74,30 @@ class Cards:
         """Where links to the other faults of a run lead to: the head of their card."""
         return "".join(f"<i id={self._drawing.card(fault)}{self._decider(fault)}></i>" for fault in run[1:])
 
-    def _others(self, run: list[Fault]) -> str:
-        """The faults of a run."""
+    def _each(self, run: list[Fault]) -> str:
+        """The faults of a run: a line for each, or where there is less room only a link."""
         if len(run) == 1:
             return ""
-        links = [self._link(fault.position, str(fault.position)) for fault in run[1:]]
-        return f"<b>{run[0].position}</b>, {', '.join(links)}. Here is the first"
+        if self._detail < FULL:
+            return ", ".join(self._link(fault.position, str(fault.position)) for fault in run)
+        return f"<ol class=run tabindex=0>{''.join(map(self._line, run))}</ol>"
+
+    def _line(self, fault: Fault) -> str:
+        """A fault of a run: what tells it from the others."""
+        scene = self._story.scenes.get(fault.position)
+        link = self._link(fault.position, str(fault.position))
+        if scene is None:
+            return f"<li>{link}"
+        event, first = scene.event, self._resent.get(fault.position) if fault.code == TAKEN else None
+        facts = [
+            escaped(label(event)),
+            f"offset {fault.offset}" if fault.offset is not None else "",
+            f"{event.field('size')} bytes" if fault.code == TOO_LARGE else "",
+            f"{event.time:%H:%M:%S.%f}" if event.time else self._time(event),
+            f"decided at {self._link(fault.decided, str(fault.decided))}" if fault.decided > fault.position else "",
+            f"looks like {self._link(first, str(first))} sent again" if first else "",
+        ]
+        return f"<li>{link}<span> {', '.join(fact for fact in facts if fact)}</span>"
 
     def _decider(self, fault: Fault) -> str:
         """Which event to light with a fault, since it shows it."""
@@ -141,16 +154,8 @@ class Cards:
         announcer = self._announcer(fault, scene)
         if announcer is None:
             return ""
-        field, name, default, own = LIMITS[fault.code]
         link = self._link(announcer.position, f"event {announcer.position}")
-        value = announcer.field(field)
-        text = f"{name} isn't in {link} ({announcer.name}), so {default}"
-        if value:
-            text = f"<b>{name} {number(int(value))}</b>, announced by {link} ({announcer.name})"
-        elif announcer.is_cut:
-            text = f"{name} may be in {link} ({announcer.name}), which is too long to be shown"
-        mine = scene.event.field(own) if own else None
-        return f"{text}; this packet: <b>{number(int(mine))}</b>" if mine and mine.isdecimal() else text
+        return limit_said(fault.code, announcer, scene.event, link, lambda text: f"<b>{text}</b>")
 
     def _alias(self, fault: Fault, scene: Scene) -> str:
         """What set a Topic Alias, where that was on an earlier connection."""
@@ -201,10 +206,14 @@ class Cards:
             words.append(f"<b>{text}</b>" if event.position == place else self._link(event.position, text))
         return ", ".join(words)
 
-    def _resend(self, fault: Fault) -> str:
-        """Which PUBLISH one looks like that takes an identifier in use. What is usual comes after it."""
-        first = self._resent.get(fault.position) if fault.code == TAKEN else None
-        return f"<p class=advice>{looks_like(self._link(first, f'event {first}'))}</p>" if first else ""
+    def _resend(self, run: list[Fault]) -> str:
+        """Which PUBLISH the first one looks like that may be an earlier one. What is usual comes after it."""
+        fault = next((fault for fault in run if fault.code == TAKEN and fault.position in self._resent), None)
+        if fault is None:
+            return ""
+        first = self._resent[fault.position]
+        subject = "This" if len(run) == 1 else self._link(fault.position)
+        return f"<p class=advice>{looks_like(self._link(first, f'event {first}'), subject)}</p>"
 
     def _advice(self, code: str, name: str, explanation: Explanation | None) -> str:
         """What usually breaks a statement, and what to change: in full at the first fault of a code, else by a link."""
@@ -242,7 +251,8 @@ def fields(event: Event) -> str:
     """The fields of a packet. Of some only the size is printed."""
     words = []
     for name, values in event.fields[:FIELDS]:
-        unit = " bytes" if name in SIZES else f" ({reason(event.name, values[0])})" if name == "code" and values else ""
+        unit = f" ({reason(event.name, values[0])})" if name == "code" and values else ""
+        unit = f" byte{'' if values == ['1'] else 's'}" if name in SIZES else unit
         text = " = ".join(map(value_shown, values))
         words.append(f"<span class=field><i>{name}</i> {text}{unit}</span>")
     if event.is_cut or len(event.fields) > FIELDS:

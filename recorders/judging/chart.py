@@ -5,6 +5,7 @@ is room, and its letters keep their size.
 """
 from __future__ import annotations
 
+from bisect import bisect
 from collections.abc import Iterable
 from dataclasses import dataclass, field
 from html import escape
@@ -12,6 +13,7 @@ from html import escape
 from judging.events import Event
 from judging.labels import difference, fate_of, label, label_shown, time_shown, title
 from judging.markup import attribute, counted, number
+from judging.parts import LONG_PART, PART, Band, Link, Row, drawn, in_parts, lifelines, shape
 from judging.story import WHOLE, Connection, Fault, Scene, Story, runs_of
 
 TOP = 34  # above the first row
@@ -19,7 +21,10 @@ ROW, CODES = 28, 14  # what a row takes, and codes under it
 GAP = 30
 LINE = 18  # of an arrow, from the top of its row
 EARLY = 9  # pixels before the line of a gap where a band ends that ended in the gap
-LANE, LANES = 7, 4  # lines to what shows a fault are beside each other
+ROOM, LANE, LANES = 12, 7, 4  # lines to what shows a fault are beside each other, this far from the chart
+FOOT = 6  # under the last row
+LEAST_BAND = 4
+DIGITS = 3  # of positions that have room beside a chart: for more the style has its classes
 LEAST = 10  # events of a fold among others that aren't known
 SEEN_OF_RUN = 3  # faults of a run that are drawn, beside the last one; those between are folded
 PEERS = {"client": "server", "server": "client"}
@@ -49,7 +54,8 @@ class Drawing:
         self.scenes = [chosen[place] for place in sorted(chosen)]
         spare = self.story.scenes.keys() - chosen.keys()
         places = places_of(fault for run in self.runs for fault in run) or [0]
-        self.folded = {place: self.story.scenes[place] for place in nearest(spare, places, self.most_folded)}
+        folded = in_folds(spare, sorted(chosen), places, self.most_folded)
+        self.folded = {place: self.story.scenes[place] for place in folded}
 
     @property
     def drawn(self) -> set[int]:
@@ -129,6 +135,20 @@ def nearest(chosen: Iterable[int], places: list[int], most: int) -> list[int]:
     return sorted(distances, key=lambda place: distances[place])[:most]
 
 
+def in_folds(spare: Iterable[int], chosen: list[int], places: list[int], most: int) -> list[int]:
+    """At most so many positions of others, for folds: those between the first events that are drawn, then the next.
+
+    Some of every gap would be of no use: a fold shows what it has.
+    """
+    gaps: dict[int, list[int]] = {}
+    for place in sorted(spare):
+        gaps.setdefault(bisect(chosen, place), []).append(place)
+    found: list[int] = []
+    for gap in gaps.values():
+        found += nearest(gap, places, most - len(found))
+    return found
+
+
 def beginning(connection: Connection | None) -> list[Event]:
     """How a connection began."""
     found = (connection.opening, connection.connect, connection.connack) if connection else ()
@@ -173,8 +193,8 @@ class Chart:
             self._faults.setdefault(fault.position, []).append(fault)
         self._keys = keys_of(self._story, self._story.told)
         self._lines: dict[int, int] = {}  # of events: where they are drawn
-        self._bands: list[str] = []
-        self._rows: list[str] = []
+        self._bands: list[Band] = []
+        self._rows: list[Row] = []
         self._begun: tuple[Connection, int] | None = None  # the band that isn't at its end, and where it begins
         self._height = TOP
         self._is_timed = drawing.is_timed
@@ -195,18 +215,17 @@ class Chart:
         return self._whole()
 
     def _whole(self) -> str:
-        story, log = self._story, self._drawing.log
-        name = attribute(self._drawing.name)
+        story = self._story
         end = f"{story.end}, tested" if story.end else "tested end"
         peer = PEERS.get(story.end, "peer")
-        height = self._height + 6
-        heads = f"<text class=h y=14>{end}</text><text class='h p' x=100% y=14>{peer}</text>{lifelines(20, height)}"
-        about = (f"<title id=t{log}>Sequence chart of {name}</title><desc id=d{log}>"
-                 f"{number(len(self._drawing.scenes))} of {counted(story.events, 'event')}, from top to bottom; on the"
-                 f" left the {end}. The code of a fault is a link to what is said of it.</desc>")
-        timed = " timed" if self._is_timed else ""
-        return (f'<svg class="chart{timed}" height={height} role=group aria-labelledby="t{log} d{log}">{about}'
-                f'{"".join(self._bands)}{heads}{"".join(self._rows)}{self._links()}</svg>')
+        heads = f"<text class=h y=14>{end}</text><text class='h p' x=100% y=14>{peer}</text>"
+        about = (f"{attribute(self._drawing.name)}, {number(len(self._drawing.scenes))} of"
+                 f" {counted(story.events, 'event')}, from top to bottom; on the left the {end}. The code of a fault is"
+                 " a link to what is said of it.")
+        kinds = ("timed" if self._is_timed else "", f"n{self._digits}" if self._digits > DIGITS else "")
+        least = PART if self._drawing.detail == FULL or not story.told else LONG_PART
+        parts = in_parts(self._rows, self._bands, self._links(), heads, self._height + FOOT, least)
+        return f'<div class="{" ".join(["chart", *filter(None, kinds)])}" role=group aria-label="{about}">{parts}</div>'
 
     def _skip(self, before: Scene | None, scene: Scene | None) -> None:
         """Draws a line for the events between two; several where some of them are known, and others aren't."""
@@ -219,7 +238,7 @@ class Chart:
 
     def _put_gap(self, gap: Gap, before: Scene | None, after: Scene | None) -> None:
         """Draws a line for some events, and under it what opens."""
-        middle = self._height + GAP // 2
+        top, middle = self._height, self._height + GAP // 2
         self._height += GAP
         inside = self._begun[0] if self._begun else None
         closing = inside.closing.position if inside and inside.closing else 0
@@ -231,12 +250,13 @@ class Chart:
         more = f" on {counted(between, 'connection')}" if between > 1 else ""
         count = counted(gap.last - gap.first + 1, "event")
         if not gap.scenes:
-            self._rows.append(f"<svg class=gap y={middle}><line x2=100% /><text>{count}{more} not shown</text></svg>")
+            words = f"><line x2=100% /><text>{count}{more} not shown</text></svg>"
+            self._rows.append(Row(top, "<svg class=gap", middle, words))
             return
         height, rows = self._fold(gap.scenes, inside if gap.first <= closing <= gap.last else None)
         link = f"<a href=#{self._drawing.place(gap.first)}>Show {count}{more}</a>"
-        self._rows.append(f"<svg class=gap y={middle} data-h={height}><svg class=fold y={GAP // 2}>{rows}</svg>"
-                          f"<line x2=100% /><text>{link}</text></svg>")
+        words = f" data-h={height}><svg class=fold y={GAP // 2}>{rows}</svg><line x2=100% /><text>{link}</text></svg>"
+        self._rows.append(Row(top, "<svg class=gap", middle, words))
 
     def _fold(self, scenes: list[Scene], ending: Connection | None) -> tuple[int, str]:
         """The rows of a fold, and how high they are: it has places of its own, and maybe the end of a band."""
@@ -247,8 +267,8 @@ class Chart:
         for scene in scenes:
             self._put(scene)
         self._end_band(self._height)
-        sides = lifelines(-GAP // 2 - EARLY, self._height) if self._bands else ""
-        height, rows = self._height, "".join([*self._bands, sides, *self._rows])
+        height, bands = self._height, "".join(shape(band, -GAP, self._height) for band in self._bands)
+        rows = f"{bands}{lifelines(-GAP // 2 - EARLY, height) if bands else ''}{drawn(self._rows, 0)}"
         self._height, self._bands, self._rows, self._lines, self._begun = kept
         self._is_folded = False
         return height, rows
@@ -257,7 +277,7 @@ class Chart:
         """Draws an event in a row of its own."""
         event = scene.event
         faults = self._faults.get(event.position, [])
-        line = self._height + LINE
+        top, line = self._height, self._height + LINE
         self._lines[event.position] = line
         if event.kind == "OPEN" and scene.connection:
             self._end_band(self._height)
@@ -268,8 +288,8 @@ class Chart:
             words.append(self._codes(event, faults))
         if self._drawing.detail == FULL and not self._is_folded:
             words.insert(0, f"<title>{title(scene)}</title>")
-        self._rows.append(f"<svg id={self._drawing.place(event.position)} class={self._kind(scene, faults)}"
-                          f" y={line}>{''.join(words)}</svg>")
+        begin = f"<svg id={self._drawing.place(event.position)} class={self._kind(scene, faults)}"
+        self._rows.append(Row(top, begin, line, f">{''.join(words)}</svg>"))
         if event.kind == "CLOSE":
             self._end_band(self._height - 2)
         self._before = event
@@ -316,20 +336,19 @@ class Chart:
         place = "c" if event.is_packet else '"c b"'
         return f"<text class={place}>{' '.join(links)}</text>"
 
-    def _links(self) -> str:
-        """Lines from faults to the later events that show them."""
+    def _links(self) -> list[Link]:
+        """Lines from faults to the later events that show them. Those that overlap are beside each other."""
         lines, ignored = self._lines, self._drawing.overlooked
         pairs = sorted({(lines[fault.position], lines[fault.decided], fault.code in ignored)
                         for fault in self._story.told
                         if fault.decided > fault.position and {fault.position, fault.decided} <= lines.keys()})
         ends = [0] * LANES
-        paths = []
+        links = []
         for first, last, is_ignored in pairs:
             lane = next((lane for lane in range(LANES) if ends[lane] < first), LANES - 1)
             ends[lane] = max(ends[lane], last)
-            kind = " class=i" if is_ignored else ""
-            paths.append(f'<path{kind} d="M3 {first}H{12 + LANE * lane}V{last}H5"/>')
-        return f"<svg class=d x=100%>{''.join(paths)}</svg>" if paths else ""
+            links.append(Link(first, last, ROOM + LANE * lane, is_ignored))
+        return links
 
     def _end_band(self, end: int) -> None:
         """Ends the band of the connection that is drawn."""
@@ -337,18 +356,12 @@ class Chart:
             return
         connection, start = self._begun
         self._begun = None
-        self._bands.append(f"<rect class={connection.fate} y={start} width=100% height={max(end - start, 4)} />")
+        self._bands.append(Band(connection.fate, start, max(end, start + LEAST_BAND)))
 
     def _refuse(self) -> None:
-        line = self._height + LINE
+        words = f"><line x2=100% /><text>{attribute(self._story.refusal)}</text></svg>"
+        self._rows.append(Row(self._height, '<svg class="x stop"', self._height + LINE, words))
         self._height += ROW
-        self._rows.append(f'<svg class="x stop" y={line}><line x2=100% />'
-                          f"<text>{attribute(self._story.refusal)}</text></svg>")
-
-
-def lifelines(first: int, last: int) -> str:
-    """The two ends, from one place to another."""
-    return f"<line class=l y1={first} y2={last} /><line class=l x1=100% x2=100% y1={first} y2={last} />"
 
 
 def draw(drawing: Drawing) -> str:

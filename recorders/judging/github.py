@@ -23,6 +23,8 @@ def general(text: str) -> str:
 
 
 def of_log(verdict: Verdict, explanations: dict[str, Explanation]) -> list[str]:
+    if verdict.is_foreign:  # no advice on a statement would help
+        return [command("warning" if verdict.status == PASSED else "error", verdict, "not MQTT", verdict.foreign)]
     lines = []
     counts = Counter(fault.code for fault in verdict.found)
     for code in sorted(counts):
@@ -31,7 +33,8 @@ def of_log(verdict: Verdict, explanations: dict[str, Explanation]) -> list[str]:
         time = verdict.time_at(first.position)
         place = f"event {first.position}, {time}" if time else f"event {first.position}"
         text = f"{counted(counts[code], 'fault')}, the first at {place}: {explanations[code].sentence}"
-        text += verdict.resend_at(first)
+        again = next((fault for fault in verdict.found if fault.code == code and verdict.resend_at(fault)), first)
+        text += verdict.resend_at(again, "This" if again is first else f"Event {again.position}")
         advice = explanations[code].advice(verdict.end)
         text += f"\n{advice}" if advice else ""
         lines.append(command("warning" if way else "error", verdict, f"{code} {first.citation}",

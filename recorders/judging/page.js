@@ -3,7 +3,7 @@
   const find = (name) => document.getElementById(name);
   const all = (selector, place) => [...(place || document).querySelectorAll(selector)];
   const [form, verdict, code, name, count] = ["filter", "verdict", "code", "name", "count"].map(find);
-  const marks = ["lit", "other", "near", "chosen", "choosing"];
+  const marks = ["lit", "other", "near", "chosen", "choosing", "here"];
 
   // Shows the logs, and what is said of them, that have this verdict, this statement, and this in their names.
   function choose() {
@@ -50,28 +50,28 @@
     more.replaceWith(copy);
   }
 
-  // Opens or closes a fold of a chart: all that is under it moves.
+  // Opens or closes a fold of a chart: all that is under it in its part moves, and so does what comes after the part.
   function toggle(gap) {
     const isOpen = gap.classList.toggle("open");
     const [from, size] = [Number(gap.getAttribute("y")), Number(gap.dataset.h) * (isOpen ? 1 : -1)];
-    const chart = gap.closest(".chart");
+    const part = gap.closest(".part");
     const link = gap.querySelector(":scope > text a");
     link.textContent = link.textContent.replace(/^\w+/, isOpen ? "Hide" : "Show");
-    const move = (place, part, above = 0) => {
-      const at = Number(place.getAttribute(part));
-      if (above + at > from) place.setAttribute(part, at + size);
+    const move = (place, name, above = 0) => {
+      const at = Number(place.getAttribute(name));
+      if (above + at > from) place.setAttribute(name, at + size);
       return above + at > from;
     };
-    for (const place of chart.children) {
+    for (const place of part.children) {
       if (place.matches("rect")) move(place, "y") || move(place, "height", Number(place.getAttribute("y")));
-      else if (place.matches("line")) move(place, "y2");
+      else if (place.matches("line")) for (const name of ["y1", "y2"]) move(place, name);
       else move(place, "y");
     }
     const moved = (text, before, at) => before + (Number(at) + (Number(at) > from ? size : 0));
-    for (const path of all(".d path", chart)) {
+    for (const path of all(".d path", part)) {
       path.setAttribute("d", path.getAttribute("d").replace(/([ V])(\d+)/g, moved));
     }
-    move(chart, "height");
+    move(part, "height");
   }
 
   // Brings an event into view inside its chart; the page stays where it is.
@@ -81,6 +81,15 @@
     const picture = event.closest(".picture");
     const place = event.getBoundingClientRect().top - picture.getBoundingClientRect().top;
     picture.scrollTop += place - picture.clientHeight / 2;
+  }
+
+  // Marks the line of an event in the list of a run.
+  function point(card, event) {
+    const line = event && all(".run li", card).find((one) => one.firstElementChild?.hash === `#${event.id}`);
+    if (!line) return;
+    line.classList.add("here");
+    const list = line.parentElement;
+    list.scrollTop += line.getBoundingClientRect().top - list.getBoundingClientRect().top - list.clientHeight / 2;
   }
 
   // Lights what belongs to a fault: its event, what is under its Packet Identifier, and what shows or caused it.
@@ -95,10 +104,11 @@
     }
     if (isMoved) target.scrollIntoView();
     const card = target.closest("article");
-    const event = card ? find(target.id.replace(/^f(\d+-\d+)-.*/, "e$1")) : target.closest(".chart > svg, .fold > svg");
+    const event = card ? find(target.id.replace(/^f(\d+-\d+)-.*/, "e$1")) : target.closest(".part > svg, .fold > svg");
     if (event) show(event);
     if (!card) return;
     card.classList.add("chosen");
+    point(card, event);
     advise(card);
     if (!event) return;
     const chart = event.closest(".chart");

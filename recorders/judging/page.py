@@ -81,7 +81,7 @@ class Entry:
 
     @property
     def has_section(self) -> bool:
-        return self.verdict.status != PASSED or bool(self.verdict.ignored)
+        return not self.verdict.is_plain_pass
 
     @property
     def badness(self) -> tuple[int, int, int]:
@@ -99,7 +99,7 @@ class Gallery:
     def take(self, verdict: Verdict) -> None:
         if verdict.story is None:
             return
-        if is_plain_pass(verdict):
+        if verdict.is_plain_pass:
             self._passes += 1
             verdict.story = verdict.story if self._passes <= MANY_LOGS else None
             return
@@ -132,15 +132,16 @@ class Page:
         charts = {entry.number for entry in worst}
         drawn = [entry for entry in entries if entry.number in charts]
         passed = "" if len(entries) >= FEW else "".join(map(pass_shown, plain_passes(entries)))
+        foreign = foreign_places(entries[:ROWS])
         for level in LEVELS:
-            places = self._places(drawn) if level.detail == FULL else {}
+            places = foreign | (self._places(drawn) if level.detail == FULL else {})
             head, foot = self._head(entries, pictured, charts, places), self._statements(entries, places) + END
             foot = passed + foot
             room = LARGEST - len((head + foot).encode())
             sections = self._fill(drawn, level, min(room, WITH_FOLDS) if level.folded else room)
             if sections is not None:
                 return head + sections + foot
-        return self._head(entries, pictured, set(), {}) + passed + self._statements(entries, {}) + END
+        return self._head(entries, pictured, set(), foreign) + passed + self._statements(entries, foreign) + END
 
     def _places(self, drawn: list[Entry]) -> dict[str, str]:
         """Where what to change is said of a code: on the card of its first fault that has one."""
@@ -208,25 +209,25 @@ class Page:
         rows = []
         for code in sorted(faults | ignored):
             kind = "" if faults[code] else ' class="ignored"'
-            cell = f'<td class="num">{number(ignored[code]) if ignored[code] else "–"}' if ignored else ""
+            cell = f"<td class=num data-u=ignored>{number(ignored[code])}" if ignored[code] else "<td class=num>–"
+            cell = cell if ignored else ""
             rows.append(f'<tr{kind}><th scope=row><a class="code" href="#{places.get(code, f"r-{code}")}">{code}</a>'
-                        f'<td class="num">{number(faults[code])}<td class="num">{number(logs[code])}{cell}'
+                        f'<td class=num{unit("fault", faults[code])}>{number(faults[code])}'
+                        f'<td class=num{unit("log", logs[code])}>{number(logs[code])}{cell}'
                         f"<td>{escaped(self.explanations[code].sentence)}")
         return f'<h2 id="codes">Faults by statement</h2><table class="codes">{heads}<tbody>{"".join(rows)}</table>'
 
     def _rows(self, entries: list[Entry], charts: set[int]) -> str:
         """A row for each log that isn't just a pass, the worst ones first, and what chooses among all."""
         words = {class_of(entry.verdict.status): WORDS[entry.verdict.status] for entry in entries}
-        verdicts = "".join(f'<option value="{kind}">{word}</option>' for kind, word in words.items())
-        codes = "".join(f"<option>{code}</option>" for code in self.explanations)
+        verdicts = choice("Verdict", "verdict", words, len(words) > 1)
+        codes = choice("Statement", "code", {code: code for code in self.explanations}, bool(self.explanations))
         lines = "".join(row(entry, entry.number in charts) for entry in entries if entry.has_section)
         heads = table_heads("Log", "Tested end", ".Events", "Verdict", "Statements", "SHA-256")
         table = f'<table class="logs">{heads}<tbody>{lines}</table>' if lines else ""
         return (
             '<h2 id="logs">Logs</h2><form id="filter" hidden aria-label="Choose logs">'
-            f'<label>Verdict <select id="verdict"><option value="">all</option>{verdicts}</select></label>'
-            f'<label>Statement <select id="code"><option value="">all</option>{codes}</select></label>'
-            '<label>Name <input id="name" type="search" autocomplete="off"></label>'
+            f'{verdicts}{codes}<label>Name <input id="name" type="search" autocomplete="off"></label>'
             f'<output id="count" aria-live="polite">{counted(len(entries), "log")}</output></form>{table}'
         )
 
@@ -239,7 +240,9 @@ class Page:
         head = (f'<section class=log id=l{entry.number} data-c="{codes}" data-v={kind}'
                 f' data-n="{attribute(entry.name)}" data-end="{end_of(verdict)}">'
                 f"{heading(entry)}<p class=about>{about(entry)}</p>{hash_line(entry)}{notes}")
-        if verdict.last.startswith("refused "):
+        if verdict.is_foreign:
+            head += f"<p class=foreign>{escaped(verdict.foreign[:1].upper() + verdict.foreign[1:])}</p>"
+        elif verdict.last.startswith("refused "):
             head += refused(verdict)
         elif verdict.status in MEANINGS:
             lines = "\n".join(verdict.first[-LINES:]) if verdict.status == FAILED else ""
@@ -330,6 +333,16 @@ def entries_of(verdicts: list[Verdict]) -> list[Entry]:
     return entries
 
 
+def foreign_places(entries: list[Entry]) -> dict[str, str]:
+    """Where codes lead to that came only in logs without MQTT: to what is said of the first, in place of advice."""
+    others = {code for entry in entries if not entry.verdict.is_foreign for code in {*entry.codes, *entry.ignored}}
+    places: dict[str, str] = {}
+    for entry in entries:
+        for code in ({*entry.codes, *entry.ignored} - others) if entry.verdict.is_foreign else ():
+            places.setdefault(code, f"l{entry.number}")
+    return places
+
+
 def entry_of(place: int, verdict: Verdict, folder: str) -> Entry:
     ignored: Counter[str] = Counter()
     for text in verdict.ignored:
@@ -380,6 +393,13 @@ def what_came(entry: Entry) -> str:
     return "refused" if verdict.status == REFUSED else WORDS[verdict.status]
 
 
+def choice(name: str, place: str, words: dict[str, str], is_useful: bool) -> str:
+    """What logs are chosen by. It is hidden where they don't differ in it."""
+    options = "".join(f'<option value="{value}">{word}</option>' for value, word in words.items())
+    return (f'<label{"" if is_useful else " hidden"}>{name} <select id="{place}"><option value="">all</option>{options}'
+            "</select></label>")
+
+
 def table_heads(*names: str) -> str:
     """The heads of a table: those with a dot before them are of columns of numbers."""
     heads = "".join(f"<th scope=col{' class=num' if name[0] == '.' else ''}>{name.lstrip('.')}" for name in names)
@@ -396,6 +416,7 @@ def row(entry: Entry, has_section: bool) -> str:
     if verdict.last.startswith("refused "):
         codes = escaped(verdict.refusal) + (' <span class="way">ignored</span>' if verdict.ignored else "")
     ignored = f' <span class="way">{number(entry.ignored.total())} ignored</span>' if entry.ignored else ""
+    ignored += ' <span class="way">not MQTT</span>' if verdict.is_foreign else ""
     said = f'<td class="badge {kind}">{what_came(entry)}<td>{codes}{ignored}'
     return f"{cells(entry, has_section)}{said}{hash_cell(entry)}"
 
@@ -409,11 +430,16 @@ def cells(entry: Entry, has_section: bool) -> str:
     events = number(verdict.events) if verdict.events is not None else ""
     codes = " ".join(sorted({*entry.codes, *entry.ignored}))
     return (f'<tr{place} data-v="{class_of(verdict.status)}" data-c="{codes}"><th scope=row>{words}'
-            f"<td>{end_of(verdict)}<td class=num>{events}")
+            f"<td class=end>{end_of(verdict)}<td class=num{unit('event', verdict.events)}>{events}")
 
 
 def hash_cell(entry: Entry) -> str:
     return f"<td class=hash>{entry.digest}"
+
+
+def unit(thing: str, count: int | None) -> str:
+    """What a number counts, which stands beside it where there is no room for the table's head."""
+    return f" data-u={thing}{'' if count == 1 else 's'}"
 
 
 def heading(entry: Entry) -> str:
@@ -425,11 +451,6 @@ def picture(drawing: Drawing) -> str:
     """The chart of a log, in what scrolls where it is long."""
     name = attribute(drawing.name)
     return f'<div class=picture tabindex=0 role=region aria-label="Chart of {name}">{draw(drawing)}</div>'
-
-
-def is_plain_pass(verdict: Verdict) -> bool:
-    """Whether a log passed, and nothing of it was ignored."""
-    return verdict.status == PASSED and not verdict.ignored
 
 
 def plain_passes(entries: list[Entry]) -> list[Entry]:
@@ -503,7 +524,8 @@ def recorded(span: tuple[int, int]) -> str:
 
 
 def notes_of(verdict: Verdict) -> list[str]:
-    notes = [*(f"ignored: {text}" for text in verdict.ignored), *verdict.notes]
+    own = verdict.foreign if verdict.is_foreign else ""  # it has a paragraph of its own
+    notes = [*(f"ignored: {text}" for text in verdict.ignored), *(note for note in verdict.notes if note != own)]
     if verdict.whole is not None:
         notes.append(f"The log ends inside a record: judged are its first {number(verdict.whole)} bytes.")
     return notes

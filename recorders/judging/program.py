@@ -14,6 +14,7 @@ from typing import BinaryIO
 
 from arguments import naming, why
 from judging.excerpt import sentence_in
+from judging.limits import LIMITS, Limits
 from judging.looking import look_at
 from judging.places import what_else
 from judging.resends import TAKEN, Resends
@@ -87,26 +88,32 @@ class Judge:
     def _finish(self, verdict: Verdict, log: Path) -> None:
         """Weighs a verdict, and has its faults explained, or says what a file is that isn't a log."""
         self._weigh(verdict)
-        is_foreign = self._look(verdict, log)
+        verdict.is_foreign = self._look(verdict, log)
         if verdict.status == REFUSED and verdict.last.startswith(NO_LOG) and (note := what_else(log)):
             verdict.notes.append(note)
         identifiers: dict[int, int] = {}
         has_times = bool(verdict.shown) and has_moments(log)
         if (verdict.status == FAULTS and verdict.positions) or (self._tells and verdict.found) or has_times:
             identifiers = self._explain(verdict, log)
-        if is_foreign:
+        if verdict.is_foreign:
             verdict.excerpts = {}  # what is spoken says more than its bytes do
         suspects = {place: identifiers[place] for place in verdict.suspects & identifiers.keys()}
-        end = end_of(header_of(log)) if self._keeps or suspects else ""
+        end = end_of(header_of(log)) if self._keeps or suspects or LIMITS.keys() & verdict.positions.keys() else ""
         if self._keeps:
             verdict.end = end
-        resends = Resends(end, suspects)
-        if self._tells and (verdict.found or verdict.status in (REFUSED, TOO_SHORT) or is_brief(verdict.events)):
-            self._tell(verdict, log, identifiers, resends)
-        elif suspects and (self._keeps or TAKEN in verdict.positions):
-            self._find_resends(log, resends)
-        verdict.resent = resends.confirmed(log)
+        resends, limits = Resends(end, suspects), Limits(end, verdict.positions)
+        if self._is_told(verdict):
+            self._tell(verdict, log, identifiers, [resends, limits])
+        else:
+            are_resends_said = bool(suspects) and (self._keeps or TAKEN in verdict.positions)
+            self._find(log, [*([resends] if are_resends_said else []), limits])
+        verdict.resent, verdict.limits = resends.confirmed(log), limits.found
         mark_texts(verdict.excerpts, verdict.story, log)
+
+    def _is_told(self, verdict: Verdict) -> bool:
+        """Whether there is to be a story of a log, which a picture needs."""
+        is_short = verdict.status in (REFUSED, TOO_SHORT) or is_brief(verdict.events)
+        return self._tells and not verdict.is_foreign and (bool(verdict.found) or is_short)
 
     def _look(self, verdict: Verdict, log: Path) -> bool:
         """Says in the verdict what can be seen without judging. It gives whether the log has nothing of MQTT."""
@@ -170,7 +177,7 @@ class Judge:
             verdict.excerpts = excerpts
         return identifiers
 
-    def _tell(self, verdict: Verdict, log: Path, identifiers: dict[int, int], resends: Resends) -> None:
+    def _tell(self, verdict: Verdict, log: Path, identifiers: dict[int, int], others: list[Resends | Limits]) -> None:
         """Asks what happened, for the faults that are told of."""
         told = choose(verdict.found, verdict.overlooked)
         places = {fault.position for fault in told}
@@ -178,8 +185,9 @@ class Judge:
 
         def take(line: str) -> None:
             teller.take(line)
-            if not resends.is_done:
-                resends.take(line)
+            for other in others:
+                if not other.is_done:
+                    other.take(line)
 
         try:
             self._read(take, "show", "--long", log=log)
@@ -187,10 +195,19 @@ class Judge:
             return
         verdict.story = teller.story()
 
-    def _find_resends(self, log: Path, resends: Resends) -> None:
-        """Asks what happened up to the last PUBLISH that may be an earlier one."""
+    def _find(self, log: Path, finders: list[Resends | Limits]) -> None:
+        """Asks what happened, as far as is needed: up to a PUBLISH that may be an earlier one, or beyond a limit."""
+        def is_enough() -> bool:
+            return all(finder.is_done for finder in finders)
+
+        def take(line: str) -> None:
+            for finder in finders:
+                if not finder.is_done:
+                    finder.take(line)
+
         with contextlib.suppress(OSError):
-            self._read(resends.take, "show", "--long", log=log, is_enough=lambda: resends.is_done)
+            if not is_enough():
+                self._read(take, "show", "--long", log=log, is_enough=is_enough)
 
     def ask(self, *words: str) -> str:
         """What the program prints for some words; nothing where it can't be run."""

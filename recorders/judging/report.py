@@ -36,9 +36,10 @@ def print_table(verdicts: list[Verdict], program: str) -> None:
     refusals = Counter(verdict.refusal for verdict in verdicts if verdict.status == REFUSED)
     for refusal in sorted(refusals):
         print(f"{refusal}: {counted(refusals[refusal], 'log')}")
-    if faults:
-        code = min(faults).split()[0]
-        others = ", and so for each code" if len(faults) > 1 else ""
+    explained = {key for verdict in verdicts if not verdict.is_foreign for key in verdict.faults}
+    if explained:
+        code = min(explained).split()[0]
+        others = ", and so for each code" if len(explained) > 1 else ""
         print(f"what breaks {code}, and what to change: {program} explain {code}{others}")
 
 

@@ -20,10 +20,10 @@ ANSWERS = {"SUBSCRIBE": "SUBACK", "UNSUBSCRIBE": "UNSUBACK"}
 ACKNOWLEDGEMENTS = ("PUBACK", "PUBREC", "PUBCOMP")
 
 
-def looks_like(event: str) -> str:
-    """What is said of such a PUBLISH, with the words for the event that it repeats."""
-    return (f"This looks like the PUBLISH of {event} sent again: then its Packet Identifier is right, and DUP has to"
-            " be 1 (section 3.3.1.1).")
+def looks_like(event: str, subject: str = "This") -> str:
+    """What is said of such a PUBLISH, with the words for the event that it repeats, and for its own."""
+    return (f"{subject} looks like the PUBLISH of {event} sent again: then its Packet Identifier is right, and DUP has"
+            " to be 1 (section 3.3.1.1).")
 
 
 class Sending(NamedTuple):

@@ -54,7 +54,7 @@ def plain(text: str) -> str:
 
 def result(verdict: Verdict, fault: Fault, explanations: dict[str, Explanation], numbers: dict[str, int]) -> Json:
     """A fault. Code hosts want a line: a log has none, so it is 1, and the message says the event."""
-    sentence = explanations[fault.code].sentence
+    sentence = verdict.foreign if verdict.is_foreign else explanations[fault.code].sentence
     time = verdict.time_at(fault.position)
     place = f"event {fault.position}, record {fault.record}"
     place += f", offset {fault.offset}" if fault.offset is not None else ""

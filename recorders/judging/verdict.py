@@ -69,10 +69,12 @@ class Verdict:
     ignored: list[str] = field(default_factory=list)  # what the policy left out of the status, and why
     notes: list[str] = field(default_factory=list)  # what else there is to say of it
     foreign: str = ""  # what is spoken in its place, where that isn't MQTT; one of the notes
+    is_foreign: bool = False  # nothing else is spoken: what breaks a statement there can't be changed by its advice
     has_rest: bool | None = None  # None where it isn't a log
     sentences: dict[str, str] = field(default_factory=dict)  # what each code says
     excerpts: dict[str, list[str]] = field(default_factory=dict)  # what happened around each code's first fault
     moments: dict[int, int] = field(default_factory=dict)  # of the events at fault, where the log has moments
+    limits: dict[str, str] = field(default_factory=dict)  # what a code's first fault goes beyond, and who announced it
     resent: dict[int, int] = field(default_factory=dict)  # of PUBLISHes under an identifier in use: which each repeats
     keeps: bool = False  # whether each fault is kept, for a report that names all
     found: list[Fault] = field(default_factory=list)  # all faults, where they are kept
@@ -108,6 +110,11 @@ class Verdict:
     def refusal(self) -> str:
         """Why the log was refused, without the place."""
         return self.last.partition(" at ")[0]
+
+    @property
+    def is_plain_pass(self) -> bool:
+        """There is nothing to say of it but that it passes."""
+        return self.status == PASSED and not self.ignored and not self.is_foreign
 
     @property
     def headline(self) -> str:
@@ -163,10 +170,10 @@ class Verdict:
         """When an event at fault happened; empty where that isn't known."""
         return time_text(self.moments.get(position))
 
-    def resend_at(self, fault: Fault) -> str:
+    def resend_at(self, fault: Fault, subject: str = "This") -> str:
         """A sentence, after a space, if a fault's PUBLISH looks like an earlier one; else nothing."""
         first = self.resent.get(fault.position) if fault.code == TAKEN else None
-        return f" {looks_like(f'event {first}')}" if first else ""
+        return f" {looks_like(f'event {first}', subject)}" if first else ""
 
     def _with_time(self, line: str) -> str:
         """A line as the program printed it; that of a fault with the time of its record, if that is known."""
@@ -195,6 +202,7 @@ class Verdict:
         kept = [line for line in self.first if line.startswith("fault ") and line.split()[2] == code]
         lines = [f"  {self._with_time(line)}" for line in kept]
         lines += [f"  and {count - len(kept)} more"] if count > len(kept) else []
+        lines += [f"    {self.limits[code]}"] if code in self.limits else []
         if code == TAKEN:
             self._tell_of_resend(kept, lines)
         return [f"{key} {counted(count, 'fault')}{sentence}", *lines]

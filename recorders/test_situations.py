@@ -1,0 +1,250 @@
+#!/usr/bin/env python3
+"""Tests of what the exerciser says of situations: where a log puts each statement to the test, and what is so there.
+
+Its reading (exercising/reading.py) is compared with the second opinion on places (bench/places.py), event by event, on
+the conformance suite and on all short logs of a run against the small broker that keeps the rules.
+
+usage: recorders/test_situations.py [LOGS ..]
+"""
+from __future__ import annotations
+
+import subprocess
+import sys
+import unittest
+from collections.abc import Iterable, Iterator
+from pathlib import Path
+from types import ModuleType
+
+sys.dont_write_bytecode = True  # the repository stays as it is
+HERE = Path(__file__).resolve().parent
+sys.path.insert(0, str(HERE))
+from exercising.client_verbs import HOSTS
+from exercising.client_verbs import NEEDS as CLIENT_NEEDS
+from exercising.evidence import BINDING, CLOSE, OPEN, RECV, REST, SENT, Evidence, events_of, read
+from exercising.outcome import Outcome
+from exercising.packets import PING, PONG, Prop, Type, acknowledgement, connack, connect, packet, publish, subscribe
+from exercising.running import Fate, Result
+from exercising.situations import (
+    PLAIN,
+    Situation,
+    ending_of,
+    met_at,
+    met_by,
+    parse,
+    reference,
+    situations,
+)
+from exercising.table import Scenario, TableError, read_scenarios
+from exercising.verbs import CLIENTS, NEEDS
+from log_format import VERSIONS
+from testing import HOST, PATIENCE, TOP, InFolder, accepts, free_port, judge_program, process, wait_until
+
+BENCH = TOP / "bench"
+SUITE = TOP / "examples/suite"
+LONGEST = 6_000  # bytes of a log that the second opinion reads: it takes time that grows with the square
+LEAST = {True: 150, False: 50}
+Record = tuple[int, bytes]
+
+
+def tables() -> dict[bool, dict[str, Scenario]]:
+    """The scenarios of brokers and of clients, by their names."""
+    broker = read_scenarios(HERE / "exercising/broker.scenarios", CLIENTS.shapes, NEEDS)
+    client = read_scenarios(HERE / "exercising/client.scenarios", HOSTS.shapes, CLIENT_NEEDS)
+    return {True: {one.name: one for one in broker}, False: {one.name: one for one in client}}
+
+
+def log_of(*records: Record, is_server: bool = True) -> bytes:
+    version = VERSIONS[2]
+    return version.header(is_server, False) + b"".join(version.record(kind, body, 0) for kind, body in records)
+
+
+def opened(*announced: tuple[int, int], present: bool = False) -> list[Record]:
+    """A connection with a session that lives on."""
+    pairs = [(Prop.SESSION_EXPIRY, 300), *announced]
+    return [(OPEN, b""), (RECV, connect("a", not present, pairs)), (SENT, connack(present))]
+
+
+def tags_at(evidence: Evidence, code: str) -> list[set[str]]:
+    return [set(place.tags) for place in evidence.places if place.code == code]
+
+
+class Language(unittest.TestCase):
+    def test_braces_are_variants(self) -> None:
+        found = parse("# a comment\nS06 {q1 q2} drop  # another\nW02\n", "x")
+        wanted = [Situation("S06", ("q1", "drop")), Situation("S06", ("q2", "drop")), Situation("W02", ())]
+        self.assertEqual(found, wanted)
+
+    def test_what_is_wrong_is_said_with_its_line(self) -> None:
+        for text, wanted in {
+            "S6 q1": "x:1: 'S6' is no code",
+            "\nS06 {}": "x:2: nothing is in the braces",
+            "S06 q1\nS06 {q1 q2}": "x:2: S06 q1 is also at x:1",
+        }.items():
+            with self.assertRaises(TableError) as caught:
+                parse(text, "x")
+            self.assertTrue(str(caught.exception).startswith(wanted), str(caught.exception))
+
+
+class Tables(unittest.TestCase):
+    def test_there_are_so_many_and_each_statement_has_one(self) -> None:
+        for is_server, least in LEAST.items():
+            self.assertGreaterEqual(len(situations(is_server)), least)
+            aims = {code for scenario in tables()[is_server].values() for code in scenario.aims}
+            self.assertEqual({one.code for one in situations(is_server)}, aims)
+
+    def test_a_reference_names_scenarios_and_situations_that_there_are(self) -> None:
+        for is_server, table in tables().items():
+            kept = reference(is_server)
+            self.assertEqual(set(kept.values()) - set(table), set())
+            self.assertEqual(set(kept) - set(situations(is_server)), set())
+
+    def test_each_situation_of_a_broker_came_about_in_the_reference_run(self) -> None:
+        self.assertEqual(sorted(set(situations(True)) - set(reference(True))), [])
+
+
+class Readings(unittest.TestCase):
+    """What is read of made logs."""
+
+    def test_a_message_that_is_open_when_the_session_is_resumed(self) -> None:
+        first = [*opened(), (SENT, publish("t", b"", 2, 1)), (SENT, publish("t", b"", 1, 2))]
+        second = [*opened(present=True), (SENT, publish("t", b"", 2, 1, dup=True)),
+                  (SENT, publish("t", b"", 1, 2, dup=True))]
+        served = [(RECV, acknowledgement(Type.PUBREC, 1)), (SENT, acknowledgement(Type.PUBREL, 1)),
+                  (RECV, acknowledgement(Type.PUBCOMP, 1)), (RECV, acknowledgement(Type.PUBACK, 2))]
+        found = read(log_of(*first, (CLOSE, b""), *second, *served, (REST, b"")))
+        self.assertEqual([(place.position, place.is_judged) for place in found.places if place.code == "S06"],
+                         [(4, True), (5, True)])
+        self.assertLessEqual({"q2", "unanswered", "one", "drop", "first"}, tags_at(found, "S06")[0])
+        unserved = read(log_of(*first, (CLOSE, b""), *second, (REST, b"")))
+        self.assertEqual({place.is_judged for place in unserved.places if place.code == "S06"}, {False})
+        self.assertNotIn("S06", unserved.tested)
+        wanted = Situation("S06", ("q2", "unanswered", "one", "drop", "first", "plain"))
+        for evidence in (found, unserved):
+            self.assertIn(wanted, met_by(evidence, frozenset((PLAIN,))))
+
+    def test_the_end_before_the_kind_of_answer_and_how_many(self) -> None:
+        messages = [(SENT, publish("t", b"", 2, number)) for number in range(1, 6)]
+        received = [(RECV, acknowledgement(Type.PUBREC, 1)), (SENT, acknowledgement(Type.PUBREL, 1))]
+        left = [(RECV, packet(Type.DISCONNECT)), (CLOSE, b"")]
+        found = read(log_of(*opened(), *messages, *received, *left, *opened(present=True), (REST, b"")))
+        first, *others = tags_at(found, "S06")
+        self.assertLessEqual({"released", "many", "bye"}, first)
+        self.assertTrue(all("unanswered" in tags for tags in others))
+
+    def test_the_receive_maximum(self) -> None:
+        limited = opened((Prop.RECEIVE_MAXIMUM, 2))
+        sent = [(SENT, publish("t", b"", 1, number)) for number in (1, 2, 3)]
+        answer = (RECV, acknowledgement(Type.PUBACK, 1, 0x80))
+        found = read(log_of(*limited, sent[0], sent[1], answer, sent[2]))
+        self.assertEqual([place.position for place in found.places if place.code == "S07"], [5, 7])
+        self.assertEqual([{"refused", "refilled"} <= tags for tags in tags_at(found, "S07")], [False, True])
+        self.assertLessEqual({"maximum-2", "q1", "new"}, tags_at(found, "S07")[0])
+
+    def test_silence(self) -> None:
+        asked = [*opened(), (RECV, PING), (SENT, PONG)]
+        self.assertNotIn("E7R", read(log_of(*asked)).tested)
+        self.assertIn("E7R", read(log_of(*asked, (REST, b""))).tested)
+
+    def test_deliveries(self) -> None:
+        asked = [*opened(), (RECV, subscribe(1, [("a/+", 1), ("a/#", 0)])), (SENT, bytes.fromhex("90050001000100"))]
+        found = read(log_of(*asked, (SENT, publish("a/b", b"", 1, 1, retain=True))))
+        for code in ("B01", "B02"):
+            self.assertLessEqual({"plus", "hash", "several-filters", "retained"}, tags_at(found, code)[0])
+        self.assertIn("granted-1", tags_at(found, "B02")[0])
+
+    def test_after_the_peer_broke_a_rule(self) -> None:
+        found = read(log_of(*opened(), (RECV, PING), (SENT, PONG), (REST, b"")))
+        found.keep_before(4)
+        self.assertEqual({code[0] for code in found.tested}, {"W", "C"})
+
+    def test_a_rest_after_a_broken_packet_says_nothing(self) -> None:
+        asked = log_of(*opened(), (RECV, b"\xc1\0"), (RECV, PING), (REST, b""))
+        self.assertIn("E7R", read(asked).tested)
+        self.assertNotIn("E7R", read(asked, {4: "W01"}).tested)
+
+    def test_how_a_scenario_ends_connections(self) -> None:
+        broker = tables()[True]
+        for name, wanted in {"connect-plain": PLAIN, "outbound-reset-q1-none-1": "reset",
+                             "takeover-3-times": "takeover", "broker-term-inbound": "term"}.items():
+            self.assertEqual(ending_of(broker[name]), {wanted})
+
+    def test_the_situations_at_a_fault(self) -> None:
+        found = read(log_of(*opened((Prop.RECEIVE_MAXIMUM, 1)), *[(SENT, publish("t", b"", 1, one)) for one in (1, 2)]))
+        where = met_at(found, frozenset((PLAIN,)), [("S07", 5), ("S01", 5), ("S07", 9)])
+        self.assertEqual({one.text for one in where["S07", 5]}, {"maximum-1 q1"})
+        self.assertEqual(where["S07", 9], frozenset())
+
+    def test_a_log_without_connections_tests_nothing(self) -> None:
+        for is_server in (True, False):
+            self.assertEqual(read(log_of(is_server=is_server)).tested, set())
+
+
+class LastTable(InFolder):
+    def test_what_came_about_and_why_others_did_not(self) -> None:
+        wrapped, kept, table = Situation("S01", ("wrapped",)), reference(True), tables()[True]
+        first = next(iter(kept.values()))
+        held, avoided, *_ = [one for one, name in kept.items() if name == first]
+        scenario = table[first]
+        result = Result(scenario, Fate.COMPLETED, met=frozenset((held,)))
+        outcome = Outcome(True, "broker x", self.folder, [result], [*table.values()],
+                          left_out={kept[wrapped]: "no --slow"})
+        lines = outcome._situation_lines()
+        self.assertEqual(lines[0], f"  situations           1  of {len(situations(True))} came about; faults in 0")
+        self.assertEqual(outcome.why_avoided(wrapped), "no --slow")
+        self.assertTrue(any(line.endswith("no --slow") and "S01 wrapped" in line for line in lines))
+        self.assertEqual(outcome.why_avoided(avoided), "the tested end avoids it")
+        other = next(one for one, name in kept.items() if name not in (first, kept[wrapped]))
+        self.assertEqual(outcome.why_avoided(other), "the scenarios that bring it about weren't chosen")
+
+
+def second_opinion() -> tuple[ModuleType, ModuleType]:
+    sys.path.insert(0, str(BENCH))
+    import places
+    import reading
+
+    return places, reading
+
+
+def differences(paths: Iterable[Path]) -> Iterator[str]:
+    """Where this reading of a log differs from the second opinion."""
+    places, reading = second_opinion()
+    for path in paths:
+        log = path.read_bytes()
+        recording = reading.Recording(log)
+        if len(log) > LONGEST or recording.refusal:
+            continue
+        known = places.log_of(recording)
+        bad = {at: event.item.rule for at, event in enumerate(known.events, 1) if isinstance(event.item, reading.Bad)}
+        found = read(log, bad)
+        bound = BINDING[found.is_server]
+        wanted = {(code, at) for code, all_at in places.all_places(known).items() if code in bound for at in all_at}
+        seen = {(place.code, place.position) for place in found.places if place.is_judged}
+        if (count := sum(1 for _ in events_of(log, {}))) != known.last:
+            yield f"{path.name}: {count} events, and not {known.last}"
+        yield from (f"{path.name}: {code} at {at} is no place" for code, at in sorted(seen - wanted))
+        yield from (f"{path.name}: {code} at {at} is missing" for code, at in sorted(wanted - seen))
+
+
+@unittest.skipUnless((BENCH / "places.py").is_file(), "bench/ isn't there")
+class SecondOpinion(InFolder):
+    def test_the_suite(self) -> None:
+        self.assertEqual([*differences(sorted(SUITE.glob("*.log")))], [])
+
+    def test_logs_of_a_run(self) -> None:
+        port = free_port()
+        words = [sys.executable, HERE / "exercise", "broker", f"{HOST}:{port}", "--out", self.logs, "--program",
+                 judge_program(), "--rest", "0.05", "--wait", "0.4", "--wrong-password", "wrong"]
+        with process(sys.executable, HERE / "plain_broker.py", port):
+            wait_until(lambda: accepts(port), "the plain broker listens")
+            subprocess.run([str(word) for word in words], capture_output=True, timeout=PATIENCE * 5)
+        logs = sorted(self.logs.rglob("*.log"))
+        self.assertGreater(len(logs), 300)
+        self.assertEqual([*differences(logs)], [])
+
+
+if __name__ == "__main__":
+    if len(sys.argv) > 1:
+        lines = [*differences(path for word in sys.argv[1:] for path in sorted(Path(word).rglob("*.log")))]
+        print("\n".join(lines) or "no difference")
+        sys.exit(1 if lines else 0)
+    unittest.main()

@@ -1,0 +1,151 @@
+#!/usr/bin/env python3
+"""Tests that recorders/exercise reaches with real software what it has reached before: statements, and known faults.
+
+Each run is a whole one: mosquitto is started, killed and started again, and each client is played the broker for in all
+scenarios. What isn't installed is left out, and said.
+
+usage: recorders/test_tables.py
+"""
+from __future__ import annotations
+
+import os
+import re
+import shlex
+import subprocess
+import sys
+import unittest
+from pathlib import Path
+
+sys.dont_write_bytecode = True  # the repository stays as it is
+HERE = Path(__file__).resolve().parent
+sys.path.insert(0, str(HERE))
+from exercising.client_verbs import HOSTS, NEEDS
+from exercising.evidence import BINDING, FOREIGN
+from exercising.table import read_scenarios
+from test_exercise import own_faults
+from testing import HOST, PAHO, InFolder, find, free_port, judge_program, missing, python_with
+
+COMMAND = HERE / "exercise"
+DRIVERS = HERE / "exercising/drivers"
+INCLUDED = ("/usr/include", "/usr/local/include")
+NODE_MODULES = "/usr/share/nodejs"  # where Debian has those of Node.js
+RUN_SECONDS = 600
+BROKER, CLIENT = BINDING[True] - FOREIGN[True], BINDING[False] - FOREIGN[False]
+# What each can't be made to do, so that the statement isn't tested.
+MOSQUITTO_LACKS = frozenset("C15 C16 C22 W21".split())
+DRIVER_LACKS = frozenset("C15 C16 C20 W21".split())
+MQTT_JS_LACKS = DRIVER_LACKS | frozenset("S02 S03 S05".split())  # what it sends again has DUP 0
+PUB_LACKS = frozenset("C15 C16 C20 E1A E1O E1R E2A E2O E2R E3O E4A E4R S01 S02 S03 S04 S05 S06 W13 W15 W16 W17 W21"
+                      .split())
+SUB_LACKS = frozenset("C15 C16 C17 C18 C20 E3A E3O E3R S01 S02 S03 S04 S05 S06 S07 W07 W08 W14 W21".split())
+MOSQUITTO_BREAKS = {"C14", "S01", "S06", "S07", "W13", "W14"}
+LEAST_SITUATIONS = 220  # of a broker
+SETTINGS = """listener {port} 127.0.0.1
+allow_anonymous true
+persistence true
+persistence_location {folder}/
+autosave_interval 1
+autosave_on_changes true
+sys_interval 1
+max_packet_size 200000
+message_size_limit 50000
+acl_file {folder}/acl
+password_file {folder}/passwd
+"""
+
+
+def count_in(printed: str, title: str) -> int:
+    """The number in a row of the last table."""
+    found = re.search(rf"^  {title} +(\d+)", printed, re.MULTILINE)
+    return int(found[1]) if found else 0
+
+
+def broken_in(printed: str) -> set[str]:
+    line = next(line for line in printed.splitlines() if line.startswith("  broken "))
+    return set(line.split()[2:])
+
+
+class Tables(InFolder):
+    def run_it(self, *words: object, variables: dict[str, str] | None = None) -> str:
+        """Runs the exerciser. Whatever was required has to be tested."""
+        command = [sys.executable, str(COMMAND), *map(str, words)]
+        answer = subprocess.run(command, capture_output=True, text=True, timeout=RUN_SECONDS,
+                                env=os.environ | (variables or {}))
+        self.assertIn(answer.returncode, (0, 1), f"{answer.stdout}\n{answer.stderr}")
+        self.assertNotIn("required, and not tested", answer.stdout, answer.stdout)
+        return answer.stdout
+
+    def client(
+        self, lacks: frozenset[str], *words: object, does: str = "driver", variables: dict[str, str] | None = None
+    ) -> set[str]:
+        """The statements that a client breaks, of which all but these have to be tested."""
+        printed = self.run_it("client", "--out", self.logs, "--program", judge_program(), "--require",
+                              ",".join(sorted(CLIENT - lacks)), "--does", does, "--", *words, variables=variables)
+        return broken_in(printed)
+
+    def driver_in_c(self, name: str, header: str, library: str) -> Path:
+        if missing("cc") or not any(Path(place, header).exists() for place in INCLUDED):
+            self.skipTest(f"{missing('cc') or header} isn't there")
+        driver = self.folder / name
+        subprocess.run(["cc", "-o", driver, DRIVERS / f"{name}.c", f"-l{library}"], check=True)
+        return driver
+
+
+class Brokers(Tables):
+    @unittest.skipIf(missing("mosquitto"), missing("mosquitto"))
+    def test_mosquitto(self) -> None:
+        port, config = free_port(), self.folder / "mosquitto.conf"
+        (self.folder / "acl").write_text("topic readwrite #\ntopic readwrite $SYS/#\ntopic deny denied/#\n")
+        password = self.folder / "passwd"
+        password.touch()
+        subprocess.run([find("mosquitto_passwd") or "mosquitto_passwd", "-b", password, "right", "right"], check=True)
+        config.write_text(("" if os.geteuid() else "user root\n") + SETTINGS.format(port=port, folder=self.folder))
+        printed = self.run_it(
+            "broker", f"{HOST}:{port}", "--out", self.logs, "--program", judge_program(), "--denied", "denied/x",
+            "--start", shlex.join([find("mosquitto") or "mosquitto", "-c", str(config)]), "--wrong-password", "wrong",
+            "--require", ",".join(sorted(BROKER - MOSQUITTO_LACKS)),
+        )
+        self.assertEqual(MOSQUITTO_BREAKS - broken_in(printed), set(), printed)
+        self.assertGreaterEqual(count_in(printed, "situations"), LEAST_SITUATIONS, printed)
+
+
+class Clients(Tables):
+    @unittest.skipIf(python_with(PAHO) is None, missing(PAHO))
+    def test_paho_for_python(self) -> None:
+        broken = self.client(DRIVER_LACKS | {"W13"}, python_with(PAHO), DRIVERS / "paho_python.py", "{port}", "{id}")
+        self.assertEqual({"C14", "C17", "S02", "S07", "E3A"} - broken, set())
+        table = read_scenarios(HERE / "exercising/client.scenarios", HOSTS.shapes, NEEDS)
+        right = {scenario.name for scenario in table if not scenario.breaks_rules}
+        own = {path.parent.name: own_faults(path) for path in self.logs.rglob("*.log") if path.parent.name in right}
+        self.assertEqual({name: codes for name, codes in own.items() if codes}, {})
+
+    def test_libmosquitto(self) -> None:
+        driver = self.driver_in_c("mosquitto", "mosquitto.h", "mosquitto")
+        self.assertEqual({"S02", "E3A"} - self.client(DRIVER_LACKS | {"W13"}, driver, "{port}", "{id}"), set())
+
+    def test_paho_for_c(self) -> None:
+        driver = self.driver_in_c("paho_c", "MQTTAsync.h", "paho-mqtt3a")
+        self.assertEqual({"C14", "C17"} - self.client(DRIVER_LACKS | {"W12"}, driver, "{port}", "{id}"), set())
+
+    @unittest.skipIf(missing("node"), missing("node"))
+    def test_mqtt_js(self) -> None:
+        variables = {"NODE_PATH": os.pathsep.join(filter(None, (os.environ.get("NODE_PATH"), NODE_MODULES)))}
+        looking = subprocess.run(["node", "-e", "require('mqtt')"], env=os.environ | variables, capture_output=True)
+        if looking.returncode:
+            self.skipTest("MQTT.js isn't installed")
+        broken = self.client(MQTT_JS_LACKS, "node", DRIVERS / "mqtt_js.js", "{port}", "{id}", variables=variables)
+        self.assertEqual({"C14", "C17", "S01", "S07"} - broken, set())
+
+    @unittest.skipIf(missing("mosquitto_pub"), missing("mosquitto_pub"))
+    def test_mosquitto_pub(self) -> None:
+        self.client(PUB_LACKS, "mosquitto_pub", "-V", "5", "-p", "{port}", "-i", "{id}", "-c", "-x", "300",
+                    "-q", "{qos}", "-t", "echo/t", "-m", "hello", "--repeat", "{n}", does="publish")
+
+    @unittest.skipIf(missing("mosquitto_sub"), missing("mosquitto_sub"))
+    def test_mosquitto_sub(self) -> None:
+        self.client(SUB_LACKS, "mosquitto_sub", "-V", "5", "-p", "{port}", "-i", "{id}", "-c", "-x", "300", "-q", "2",
+                    "-k", "5", "-t", "do/#", does="subscribe")
+
+
+if __name__ == "__main__":
+    unittest.main()
