@@ -4,7 +4,7 @@
 usage: bench/check_forms.py PROGRAM [LOG ..]
 
 The text report of each log is made into the other forms here, in Python: each of the worked logs of check_rows.py, a log of
-3,000 faults, one of long packets that break a rule, refused logs, some of all these in version 2, one with moments of a century, and
+3,000 faults, one of long packets that break a rule, one of texts that do, refused logs, some of all these in version 2, one with moments of a century, and
 the logs that are named. JSON is also read back by Python's json module. What `show --faults` is to print is made from the text report,
 from what `show` prints, and from Python's dates. The bytes of packets that break a rule are those that reading.py finds in the log.
 Each line of `show` is that of showing.py, and each of `show --long` begins with it.
@@ -57,17 +57,46 @@ def long_broken() -> bytes:
         for payload in (b"", b"x" * 100):
             # The second property is the first one again.
             body = length.to_bytes(2, "big") + b"t" * length + b"\x04\x01\x01\x01\x01" + payload
-            size = len(body)
-            packets.append(b"\x30" + (bytes([size]) if size < 128 else bytes([size % 128 + 128, size // 128])) + body)
+            packets.append(b"\x30" + counted(body))
     words = ["OPEN", ">" + CONNECT.hex(), "<" + CONNACK.hex()]
     words += [">" + part.hex() for packet in packets for part in (packet[:40], packet[40:])]
     return check_rows.log_of("client " + " ".join(words), {})
+
+
+def wrong_texts() -> bytes:
+    """A client that sends packets whose texts are wrong, near to their ends or far from them, in each field that is one."""
+    words = ["OPEN", ">" + CONNECT.hex(), "<" + CONNACK.hex()]
+    for before in (b"", b"a/", b"z" * 60 + b"/", b"z/" * 45):
+        texts = [before + wrong for wrong in (b"\xff", b"\xc3\xa9\xc3(", b"\xed\xa0\x80", b"\xe2\x82", b"\0b\0")]
+        names = [*texts, *(before + wrong for wrong in (b"+", b"a#"))]
+        filters = [*texts, *(before + wrong for wrong in (b"a+/#", b"+/#/c", b"+/##", b"#b", b"+/+/c+"))]
+        bodies = [(0x30, spelled(name) + b"\0x") for name in names]
+        bodies += [(0x30, spelled(b"a") + counted(b"\x08" + spelled(name))) for name in names]
+        for text in texts:
+            pairs = counted(b"&" + spelled(text) + spelled(b"v")), counted(b"&" + spelled(b"n") + spelled(text))
+            bodies += [(0x30, spelled(b"a") + pair) for pair in pairs]
+        bodies += [(0x82, b"\0\1\0" + spelled(one) + b"\0") for one in [*filters, b""]]
+        bodies += [(0xA2, b"\0\1\0" + spelled(b"a") + spelled(one)) for one in [*filters, b""]]
+        words += [">" + bytes([first]).hex() + counted(body).hex() for first, body in bodies]
+    return check_rows.log_of("client " + " ".join(words), {})
+
+
+def spelled(text: bytes) -> bytes:
+    """A text after its length."""
+    return len(text).to_bytes(2, "big") + text
+
+
+def counted(body: bytes) -> bytes:
+    """Fewer than 16,384 bytes after their number, as a Variable Byte Integer."""
+    size = len(body)
+    return (bytes([size]) if size < 128 else bytes([size % 128 + 128, size // 128])) + body
 
 
 def logs(paths: list[str]) -> list[tuple[str, bytes]]:
     found = [(row.name, row.log) for row in check_rows.rows()]
     found.append(("3,000 faults", many_faults(3000)))
     found.append(("long packets that break a rule", long_broken()))
+    found.append(("texts that break a rule", wrong_texts()))
     found += [(f"{count} bytes", many_faults(1)[:count]) for count in range(0, 60)]
     draw = random.Random("moments")
     seconds = [*found[::SELDOM], ("20 faults", many_faults(20)), ("long packets that break a rule", long_broken())]
@@ -110,7 +139,7 @@ def in_short(text: str) -> str:
 
 
 def bytes_around(packet: bytes, at: int) -> str:
-    """A packet's bytes with the one at fault in brackets: the first 64, or if it isn't among them 32 before it and 31 after it."""
+    """A packet's bytes with the marked one in brackets: the first 64, or if it isn't among them 32 before it and 31 after it."""
     begin = 0 if at < 64 else at - 32
     words = [f"{byte:02X}" for byte in packet[begin : begin + 64]]
     here = slice(at - begin, at - begin + 1)
@@ -127,9 +156,10 @@ def with_bytes(events: str, log: bytes) -> str:
     found = reading.Recording(log).events
     for n, (line, event) in enumerate(zip(lines, found, strict=True)):
         if isinstance(event.item, reading.Bad):
-            packet, at = event.item.packet, event.item.at
+            packet, mark = event.item.packet, showing.marked_at(event.item)
             name = reading.NAMES[packet[0] >> 4] or "Reserved"
-            lines[n] = f"{line.partition(' type ')[0]} type {name} bytes {bytes_around(packet, at)}"
+            place = f" at {mark}" if mark != event.item.at else ""
+            lines[n] = f"{line.partition(' type ')[0]} type {name}{place} bytes {bytes_around(packet, mark)}"
     return "".join(f"{line}\n" for line in lines)
 
 

@@ -1,4 +1,5 @@
 """What `mqjudge show` and `mqjudge packet` are to print, by how reading.py reads a log and a packet."""
+import re
 from datetime import UTC, datetime, timedelta
 
 import reading
@@ -8,6 +9,12 @@ WAYS = {reading.SENT: "SENT", reading.RECV: "RECV"}
 MARKS = {reading.OPEN: "OPEN", reading.CLOSE: "CLOSE", reading.REST: "REST", reading.RELEASE: "RELEASE"}
 EPOCH = datetime(1970, 1, 1, tzinfo=UTC)
 MICROSECOND = timedelta(microseconds=1)
+LENGTH = 2  # bytes before a text that say how long it is
+WRONG = {  # the first byte of a text that breaks these rules; in a Topic Filter + fills a level, and # the last one
+    "W05": re.compile(rb"\0"),
+    "W14": re.compile(rb"[+#]"),
+    "W15": re.compile(rb"(?<![^/])[+#](?=[^/])|(?<=[^/])[+#]|#(?=/)"),
+}
 Answer = tuple[int, str]  # status and output
 
 
@@ -26,6 +33,39 @@ def event_text(event: Event) -> str:
     if event.kind in WAYS:
         return f"{WAYS[event.kind]} {item_text(event.item)}"
     return f"RELEASE {event.released}" if event.kind == reading.RELEASE else MARKS[event.kind]
+
+
+def text_at(packet: bytes, at: int) -> bytes:
+    """The text whose length is at this place, or what there is of it."""
+    return packet[at + LENGTH : at + LENGTH + int.from_bytes(packet[at : at + LENGTH], "big")]
+
+
+def wrong_in(rule: str, text: bytes) -> int | None:
+    """The place of the first byte of a text that breaks a rule, if the rule is one on texts and any byte does."""
+    match rule:
+        case "W04":
+            try:
+                text.decode()
+            except UnicodeDecodeError as error:
+                return error.start
+            return None
+        case "W05" | "W14" | "W15":
+            found = WRONG[rule].search(text)
+            return found.start() if found else None
+    return None
+
+
+def marked_at(bad: Bad) -> int:
+    """The offset of the byte that `--long` marks: of a text that breaks a rule the first wrong byte, and not its length.
+
+    The offset of a User Property is that of its first text, also where the second one breaks the rule.
+    """
+    second = bad.at + LENGTH + len(text_at(bad.packet, bad.at))
+    for begin in (bad.at, second) if bad.rule in ("W04", "W05") else (bad.at,):
+        place = wrong_in(bad.rule, text_at(bad.packet, begin))
+        if place is not None:
+            return begin + LENGTH + place
+    return bad.at
 
 
 def show(log: bytes) -> Answer:

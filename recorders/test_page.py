@@ -134,8 +134,11 @@ class Texts(Case):
             name(b"a\xed\xa0\x80"): "PUBLISH at 5 bytes 30 07 00 04 61 [ED] A0 80 00",  # a surrogate
             name(b"a\0b\0"): "PUBLISH at 5 bytes 30 07 00 04 61 [00] 62 00 00",
             name(b"a/+/#"): "PUBLISH at 6 bytes 30 08 00 05 61 2F [2B] 2F 23 00",
-            subscribe(b"a/b+/c"): "SUBSCRIBE at 9 bytes 82 0C 00 01 00 00 06 61 2F [62 2B] 2F 63 00",
+            subscribe(b"a/b+/c"): "SUBSCRIBE at 10 bytes 82 0C 00 01 00 00 06 61 2F 62 [2B] 2F 63 00",
             subscribe(b"+/#/c"): "SUBSCRIBE at 9 bytes 82 0B 00 01 00 00 05 2B 2F [23] 2F 63 00",
+            packet(0xA2, b"\0\1\0\0\1a\0\3#/b"): "UNSUBSCRIBE at 10 bytes A2 0B 00 01 00 00 01 61 00 03 [23] 2F 62",
+            packet(0x30, b"\0\1a\x08&\0\1n\0\2v\xff"):  # in the second text of a User Property
+                "PUBLISH at 13 bytes 30 0C 00 01 61 08 26 00 01 6E 00 02 76 [FF]",
             subscribe(b""): "SUBSCRIBE bytes 82 06 00 01 00 [00] 00 00",  # here the length is what is wrong
         }
         for one, words in wanted.items():

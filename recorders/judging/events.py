@@ -34,7 +34,7 @@ class Bytes:
     """The bytes of a packet that they break a statement of, as far as they are printed."""
 
     digits: list[str]  # two hexadecimal digits each
-    marked: range | None  # which of them are marked; None where the packet ends at the offset
+    marked: range | None  # which of them are marked; None where the packet ends there
     first: int  # the offset of the first one
     is_cut: bool  # others come after them
 
@@ -53,7 +53,7 @@ class Event:
     def broken(self) -> re.Match[str] | None:
         """Of a packet whose bytes break a statement: its code, the offset, the type, and the bytes.
 
-        Where what is wrong in a text is marked, and not the text's length at the offset, that place comes too (`at`).
+        Where a byte of a text is marked, and not the text's length at the offset, that place comes too (`at`).
         """
         return BROKEN.fullmatch(self.rest) if self.is_packet else None
 
@@ -153,7 +153,7 @@ def unquoted(word: str) -> str:
 
 
 def bytes_of(text: str, offset: int) -> Bytes:
-    """The bytes that are printed: `..` stands for those that aren't, and those from the offset on are in brackets."""
+    """The bytes that are printed: `..` stands for those that aren't, and those from `offset` on are in brackets."""
     words = text.split()
     is_cut = len(words) > 1 and words[-1] == ".."
     words = [word for word in words if word != ".."]

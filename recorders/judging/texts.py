@@ -1,8 +1,8 @@
 """Marks what is wrong in a text, for those who look at a packet's bytes.
 
-For a text that breaks a statement (W04, W05, W14, W15) the program's offset, and its mark, is on the text's length.
-What is shown marks the byte or the character itself, and has the 64 bytes around it: those come from the log, since
-the program prints the ones around the length.
+For a text that breaks a statement (W04, W05, W14, W15) the program's offset is that of the text's length, and its mark
+is on the first byte that is wrong in the text. Of what isn't UTF-8 all bytes are marked here that belong together, by
+the packet in the log.
 """
 from __future__ import annotations
 
@@ -17,7 +17,7 @@ WORDS = {  # what is marked, by the statement
     "W04": "what isn't UTF-8",
     "W05": "U+0000",
     "W14": "the wildcard",
-    "W15": "the level that isn't valid",
+    "W15": "the misplaced wildcard",
 }
 BAD = " BAD "  # in a line of a packet that its bytes break a statement of
 OPEN, SENT, RECV = 1, 2, 3  # kinds of records
@@ -96,27 +96,31 @@ def wrong_in(code: str, text: bytes) -> range | None:
         return range(at, at + 1) if at >= 0 else None
     if code == "W14":
         return next((range(at, at + 1) for at, byte in enumerate(text) if byte in b"+#"), None)
-    return wrong_level(text) if code == "W15" else None
+    return misplaced_in(text) if code == "W15" else None
 
 
-def wrong_level(topic_filter: bytes) -> range | None:
-    """The first level of a filter that isn't valid: one with # that isn't # alone at the end, or + that isn't alone."""
+def misplaced_in(topic_filter: bytes) -> range | None:
+    """The first wildcard of the first level that isn't valid: one with # that isn't # alone at the end, or + that isn't
+    alone."""
     at = 0
     levels = topic_filter.split(b"/")
     for number, level in enumerate(levels, 1):
         is_wrong = b"#" in level and (level != b"#" or number < len(levels))
         if is_wrong or (b"+" in level and level != b"+"):
-            return range(at, at + len(level))
+            at += next(place for place, byte in enumerate(level) if byte in b"+#")
+            return range(at, at + 1)
         at += len(level) + 1
     return None
 
 
 def wrong_at(code: str, offset: int, packet: bytes) -> range | None:
-    """The same in a packet, by the offset of the text's length."""
-    size = int.from_bytes(packet[offset : offset + LENGTH], "big")
-    begin = offset + LENGTH
-    found = wrong_in(code, packet[begin : begin + size])
-    return range(begin + found.start, begin + found.stop) if found else None
+    """The same in a packet, by the offset of the text's length, or of a User Property, which has two texts."""
+    for _ in range(2 if code in ("W04", "W05") else 1):
+        begin = offset + LENGTH
+        offset = begin + int.from_bytes(packet[begin - LENGTH : begin], "big")
+        if found := wrong_in(code, packet[begin:offset]):
+            return range(begin + found.start, begin + found.stop)
+    return None
 
 
 def printed(packet: bytes, marked: range) -> str:
@@ -149,8 +153,8 @@ def remarked(event: Event, packet: bytes) -> str:
 
 
 def is_about_text(event: Event | None) -> bool:
-    """Whether an event's mark is on the length of a text."""
-    return bool(event and event.broken and event.broken["code"] in WORDS and not event.broken["at"])
+    """Whether what an event's bytes break is a statement on a text."""
+    return bool(event and event.broken and event.broken["code"] in WORDS)
 
 
 def mark_texts(excerpts: dict[str, list[str]], story: Story | None, log: Path) -> None:

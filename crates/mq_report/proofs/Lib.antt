@@ -7,6 +7,7 @@ pub mod JsonLaws
 pub mod SummaryLaws
 pub mod OutgoingLaws
 pub mod DetailLaws
+pub mod MarkingLaws
 pub mod OneLineLaws
 pub mod CalendarLaws
 pub mod ViewLaws

@@ -7,11 +7,13 @@ use Rattle.std.specs.List.{flat_map, list_all, starts_with}
 use Rattle.mq_props.specs.Values.{Value, Property, byte_value, two_bytes_value, four_bytes_value, varint_value, text_value, pair_value, binary_value}
 use Rattle.mq_props.specs.Listed.{Listed}
 use Rattle.mq_packet.specs.Entries.{Entry, ConnectFields, PublishFields, WillFields, AskedFilter, connect, connack, publish, acknowledgement, request, answer, pingreq, pingresp, disconnect, auth}
+use Rattle.mq_packet.specs.declared.rule.PacketRule.{PacketRule}
 use Rattle.mq_trace.specs.Events.{Event, Item, packet as whole_item, bad as broken_item, lost as lost_item, opened, closed, rested, released, sent, received}
 use Rattle.mq_rules.specs.Notes.{qos_number}
 use Rattle.mq_report.specs.ItemText.{flag_number, with_spaces}
+use Rattle.mq_report.specs.Marking.{between, marked_at}
 use Rattle.mq_report.specs.OneLine.{is_on_one_line}
-use Rattle.mq_report.specs.Details.{hex_digits, is_quoting, is_control, escaped, quoted, reason_text, flag_text, size_text, property_names, name_beside, property_name, value_words, with_prefix, property_after, properties_after, property_words, will_words, user_words, password_words, connect_words, publish_words, option_words, filter_words, code_words, packet_words, type_names, type_words, between, hex_words, marked, gap_words, shown_from, words_from, broken_words, broken_details, item_details, detail_text, broken_detail_text}
+use Rattle.mq_report.specs.Details.{hex_digits, is_quoting, is_control, escaped, quoted, reason_text, flag_text, size_text, property_names, name_beside, property_name, value_words, with_prefix, property_after, properties_after, property_words, will_words, user_words, password_words, connect_words, publish_words, option_words, filter_words, code_words, packet_words, type_names, type_words, hex_words, marked, gap_words, shown_from, words_from, mark_words, words_around, broken_words, broken_details, item_details, detail_text, broken_detail_text}
 
 -- a test that holds of each part of a list holds of all of it
 all_both : {X : Type 0} (test : X → Bool) (xs ys : List X) → list_all test xs ≡ true → list_all test ys ≡ true → list_all test (xs ++ ys) ≡ true
@@ -217,17 +219,26 @@ from_fit start at bytes =
     (first there (after ++ end) (marked_fits (between at (at + 1) bytes))
     (words_both after end (hex_all_fit (between (at + 1) (start + 64) bytes)) (gap_fits (nat_lt (start + 64) (length bytes))))))
 
-broken_fits : (bytes : List ℕ) (at : ℕ) → list_all is_on_one_line (broken_words bytes at) ≡ true
-broken_fits bytes at = words_both (type_words bytes) (words_from (shown_from at) at bytes) (type_fits bytes) (from_fit (shown_from at) at bytes)
+mark_fits : (at mark : ℕ) → list_all is_on_one_line (mark_words at mark) ≡ true
+mark_fits at mark = elim (mark == at) as (λ t. list_all is_on_one_line (if t then [] else codes "at" ∷ decimal mark ∷ []) ≡ true) [
+  | true ↦ refl
+  | false ↦ alone (decimal mark) (decimal_fits mark)
+]
+
+around_fit : (at mark : ℕ) (bytes : List ℕ) → list_all is_on_one_line (words_around at mark bytes) ≡ true
+around_fit at mark bytes = words_both (mark_words at mark) (words_from (shown_from mark) mark bytes) (mark_fits at mark) (from_fit (shown_from mark) mark bytes)
+
+broken_fits : (bytes : List ℕ) (rule : PacketRule) (at : ℕ) → list_all is_on_one_line (broken_words bytes rule at) ≡ true
+broken_fits bytes rule at = let mark = marked_at bytes rule at in words_both (type_words bytes) (words_around at mark bytes) (type_fits bytes) (around_fit at mark bytes)
 
 broken_item_fits : (item : Item) → list_all is_on_one_line (broken_details item) ≡ true
 broken_item_fits (whole_item size entry) = refl
-broken_item_fits (broken_item bytes rule at) = broken_fits bytes at
+broken_item_fits (broken_item bytes rule at) = broken_fits bytes rule at
 broken_item_fits lost_item = refl
 
 item_fits : (item : Item) → list_all is_on_one_line (item_details item) ≡ true
 item_fits (whole_item size entry) = packet_fits entry
-item_fits (broken_item bytes rule at) = broken_fits bytes at
+item_fits (broken_item bytes rule at) = broken_fits bytes rule at
 item_fits lost_item = refl
 
 -- whatever the event

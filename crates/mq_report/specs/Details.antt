@@ -1,15 +1,17 @@
 -- What `show --long` prints of an event after its line's usual words: the fields and the properties of its packet, each by its name. Texts are in double
 -- quotes; of binary data only the length in bytes is printed, since it may be secret. Of a packet that breaks a rule its type and its bytes are printed.
-use Rattle.std.specs.Prelude.{ℕ, ◌+◌, ◌-◌, ◌/◌, ◌%◌, ◌==◌, ◌||◌, nat_lt, Bool, true, false, List, [], ◌∷◌, ◌++◌, length, take, drop, codes, decimal, Option, Some, None, if◌then◌else◌}
+use Rattle.std.specs.Prelude.{ℕ, ◌+◌, ◌-◌, ◌/◌, ◌%◌, ◌==◌, ◌||◌, nat_lt, Bool, true, false, List, [], ◌∷◌, ◌++◌, length, codes, decimal, Option, Some, None, if◌then◌else◌}
 use Rattle.std.specs.Fmt.{digit_glyph}
 use Rattle.std.specs.List.{flat_map, starts_with}
 use Rattle.mq_props.specs.declared.table.id.TheConstants.{PAYLOAD_FORMAT_INDICATOR, MESSAGE_EXPIRY_INTERVAL, CONTENT_TYPE, RESPONSE_TOPIC, CORRELATION_DATA, SUBSCRIPTION_IDENTIFIER, SESSION_EXPIRY_INTERVAL, ASSIGNED_CLIENT_IDENTIFIER, SERVER_KEEP_ALIVE, AUTHENTICATION_METHOD, AUTHENTICATION_DATA, REQUEST_PROBLEM_INFORMATION, WILL_DELAY_INTERVAL, REQUEST_RESPONSE_INFORMATION, RESPONSE_INFORMATION, SERVER_REFERENCE, REASON_STRING, RECEIVE_MAXIMUM, TOPIC_ALIAS_MAXIMUM, TOPIC_ALIAS, MAXIMUM_QOS, RETAIN_AVAILABLE, USER_PROPERTY, MAXIMUM_PACKET_SIZE, WILDCARD_SUBSCRIPTION_AVAILABLE, SUBSCRIPTION_IDENTIFIER_AVAILABLE, SHARED_SUBSCRIPTION_AVAILABLE}
 use Rattle.mq_props.specs.Values.{Value, Property, byte_value, two_bytes_value, four_bytes_value, varint_value, text_value, pair_value, binary_value}
 use Rattle.mq_props.specs.Listed.{Listed}
 use Rattle.mq_packet.specs.Entries.{Entry, ConnectFields, PublishFields, WillFields, AskedFilter, connect, connack, publish, acknowledgement, request, answer, pingreq, pingresp, disconnect, auth}
+use Rattle.mq_packet.specs.declared.rule.PacketRule.{PacketRule}
 use Rattle.mq_trace.specs.Events.{Event, Item, packet as whole_item, bad as broken_item, sent, received}
 use Rattle.mq_rules.specs.Notes.{qos_number}
 use Rattle.mq_report.specs.ItemText.{flag_number, with_spaces}
+use Rattle.mq_report.specs.Marking.{between, marked_at}
 
 -- the two hexadecimal digits of a byte, in capitals
 abbrev pub hex_digits : ℕ → List ℕ
@@ -187,10 +189,6 @@ abbrev pub type_words : List ℕ → List (List ℕ)
 type_words [] = []
 type_words (first ∷ others) = codes "type" ∷ name_beside (first / 16) type_names ∷ []
 
--- the bytes from one offset to another, of which the latter doesn't count, as far as there are any
-abbrev pub between : (start end : ℕ) → List ℕ → List ℕ
-between start end bytes = take (end - start) (drop start bytes)
-
 -- bytes in hexadecimal digits
 abbrev pub hex_words : ℕ → List (List ℕ)
 hex_words byte = hex_digits byte ∷ []
@@ -204,29 +202,37 @@ abbrev pub gap_words : (left_out : Bool) → List (List ℕ)
 gap_words true = codes ".." ∷ []
 gap_words false = []
 
--- Of a packet that has a fault at this offset 64 bytes are shown at most: the first ones, or if the fault is farther, the 32 before it, the one there and the 31
+-- Of a packet with a mark at this offset 64 bytes are shown at most: the first ones, or if the mark is farther, the 32 before it, the one there and the 31
 -- after it. So they begin at this offset.
 abbrev pub shown_from : (at : ℕ) → ℕ
 shown_from at = if nat_lt at 64 then 0 else at - 32
 
--- those from one offset on, with the one at fault in brackets, and `..` where bytes are left out
+-- those from one offset on, with the marked one in brackets, and `..` where bytes are left out
 abbrev pub words_from : (start at : ℕ) → List ℕ → List (List ℕ)
 words_from start at bytes = codes "bytes" ∷ (gap_words (nat_lt 0 start) ++ (flat_map hex_words (between start at bytes) ++ (marked (between at (at + 1) bytes)
     ∷ (flat_map hex_words (between (at + 1) (start + 64) bytes) ++ gap_words (nat_lt (start + 64) (length bytes))))))
 
--- a packet that has these bytes and breaks a rule at this offset: its type, and its bytes around the fault
-abbrev pub broken_words : List ℕ → ℕ → List (List ℕ)
-broken_words bytes at = type_words bytes ++ words_from (shown_from at) at bytes
+-- where the mark is, if it isn't at the fault's offset
+abbrev pub mark_words : (at mark : ℕ) → List (List ℕ)
+mark_words at mark = if mark == at then [] else codes "at" ∷ decimal mark ∷ []
+
+-- a packet's bytes around the mark, with its place
+abbrev pub words_around : (at mark : ℕ) → List ℕ → List (List ℕ)
+words_around at mark bytes = mark_words at mark ++ words_from (shown_from mark) mark bytes
+
+-- a packet that has these bytes and breaks a rule at this offset: its type, and its bytes around the one that is wrong
+abbrev pub broken_words : List ℕ → PacketRule → ℕ → List (List ℕ)
+broken_words bytes rule at = type_words bytes ++ words_around at (marked_at bytes rule at) bytes
 
 -- what was sent or received, if it breaks a rule
 abbrev pub broken_details : Item → List (List ℕ)
-broken_details (broken_item bytes rule at) = broken_words bytes at
+broken_details (broken_item bytes rule at) = broken_words bytes rule at
 broken_details _ = []
 
 -- what was sent or received, if it is a packet or breaks a rule
 abbrev pub item_details : Item → List (List ℕ)
 item_details (whole_item size entry) = packet_words entry
-item_details (broken_item bytes rule at) = broken_words bytes at
+item_details (broken_item bytes rule at) = broken_words bytes rule at
 item_details _ = []
 
 -- what these words are for the item of an event, if it has one

@@ -6,6 +6,7 @@ pub mod ItemText
 pub mod Outgoing
 pub mod Calendar
 pub mod Details
+pub mod Marking
 pub mod Detailing
 pub mod OneLine
 pub mod Display

@@ -28,9 +28,9 @@ has_fields _ = true
 abbrev pub field_lines : Entry → List ℕ
 field_lines packet = if has_fields packet then inner_line (packet_words packet) else []
 
--- a packet that breaks a rule at this offset: its type and its bytes around the fault, and then what the statement says
+-- a packet that breaks a rule at this offset: its type and its bytes around the one that is wrong, and then what the statement says
 abbrev pub fault_lines : List ℕ → PacketRule → ℕ → List ℕ
-fault_lines bytes rule at = inner_line (broken_words bytes at) ++ inner_line (packet_rule_code rule ∷ packet_rule_sentence rule ∷ [])
+fault_lines bytes rule at = inner_line (broken_words bytes rule at) ++ inner_line (packet_rule_code rule ∷ packet_rule_sentence rule ∷ [])
 
 -- one frame, by the result of reading its body
 abbrev pub frame_lines : List ℕ → Result Entry DecodeFault → List ℕ

@@ -242,10 +242,11 @@ pub fn show<R: Read, W: Write>(
 /// Shows the events of a log as `show` does, in long lines: the words of each line are followed by
 /// the other fields of its packet and its properties, each by its name. Those of a packet that
 /// breaks a rule are followed by `type <TYPE> bytes <bytes>`: the type that its first byte names
-/// (`Reserved` if that is 0), and at most 64 of its bytes, with the one at the offset in brackets.
-/// They are the first ones, or if the offset isn't among them, 32 before it, the one there and 31
-/// after it; `..` stands where bytes are left out, and `[]` at the end if the packet ends before
-/// the offset.
+/// (`Reserved` if that is 0), and at most 64 of its bytes, with one in brackets: the one at the
+/// fault's offset, or if that is a text's, the first wrong byte of the text, whose own offset then
+/// comes before the bytes, as `at <n>`. They are the first ones, or if the marked one isn't among
+/// them, 32 before it, that one and 31 after it; `..` stands where bytes are left out, and `[]` at
+/// the end if the packet ends before the offset.
 ///
 /// # Errors
 ///

@@ -24,7 +24,7 @@ use std::io::Write;
 
 /// Writes the line that `write_packet` writes of these bytes, and after it what else there is to
 /// say, each line after two spaces: of a packet its other fields and its properties, as `show_long`
-/// writes them; of one that breaks a rule its type, its bytes around the offset with the one there
+/// writes them; of one that breaks a rule its type, its bytes around the one that is wrong, which is
 /// in brackets, and the statement's code and sentence. Returns whether they are a packet.
 ///
 /// # Errors
@@ -152,16 +152,16 @@ fn put_field_line<W: Write>(out: &mut Outgoing<'_, W>, packet: &Packet<'_>)
 fn put_fault<W: Write>(out: &mut Outgoing<'_, W>, bytes: &[u8], rule: PacketRule, at: u32)
     ensures { Puts W.contents out.old (fault_lines bytes.now rule at) out.new }
 {
-    put_bytes(out, bytes, at);
+    put_bytes(out, bytes, rule, at);
     put_statement(out, rule);
 }
 
 // Appends the line of its type and its bytes.
-fn put_bytes<W: Write>(out: &mut Outgoing<'_, W>, bytes: &[u8], at: u32)
-    ensures { Puts W.contents out.old (inner_line (broken_words bytes.now at)) out.new }
+fn put_bytes<W: Write>(out: &mut Outgoing<'_, W>, bytes: &[u8], rule: PacketRule, at: u32)
+    ensures { Puts W.contents out.old (inner_line (broken_words bytes.now rule at)) out.new }
 {
     out.put(" ");
-    put_broken(out, bytes, at);
+    put_broken(out, bytes, rule, at);
     out.put("\n");
 }
 

@@ -479,7 +479,7 @@ fn reports_a_packet_line_that_fails(rt: HostRuntime) -> Result<(), Fail> {
 }
 
 // Digits, the status, and what is printed of them with `--long`.
-const LONG: [(&str, u8, &str); 11] = [
+const LONG: [(&str, u8, &str); 13] = [
     (
         "320700016100010078",
         PASSED,
@@ -506,6 +506,20 @@ const LONG: [(&str, u8, &str); 11] = [
         "BAD W01 offset 0\n\
         \x20 type PUBACK bytes [41] 02 00 01\n\
         \x20 W01 The flags of a packet other than PUBLISH are those of its type.\n",
+    ),
+    (
+        "30070002C328006869",
+        FAULTY,
+        "BAD W04 offset 2\n\
+        \x20 type PUBLISH at 4 bytes 30 07 00 02 [C3] 28 00 68 69\n\
+        \x20 W04 A text is well-formed UTF-8.\n",
+    ),
+    (
+        "A20B0001000001610003232F62",
+        FAULTY,
+        "BAD W15 offset 8\n\
+        \x20 type UNSUBSCRIBE at 10 bytes A2 0B 00 01 00 00 01 61 00 03 [23] 2F 62\n\
+        \x20 W15 A Topic Filter is valid.\n",
     ),
     ("D00000", FAULTY, "left over 1 bytes\n"),
     ("", FAULTY, "need more bytes\n"),

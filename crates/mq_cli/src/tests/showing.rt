@@ -64,9 +64,19 @@ const LINES_OF_ALL: &str = "1 record 1 OPEN\n\
     21 record 18 RECV DISCONNECT size 2\n\
     22 record 18 RECV LOST\n";
 
+// A client's log with a Topic Name that isn't UTF-8.
+const WRONG_TEXT: &[u8] = b"MQTR\x01\x00\x01\x00\
+    \x01\x00\x00\x00\x00\
+    \x02\x00\x00\x00\x09\x30\x07\x00\x02\xc3(\x00hi";
+
 // A log, and what is shown of it.
-static ROWS: [(&[u8], &str, u8); 8] = [
+static ROWS: [(&[u8], &str, u8); 9] = [
     (WHOLE_LOG, WHOLE_LINES, PASSED),
+    (
+        WRONG_TEXT,
+        "1 record 1 OPEN\n2 record 2 SENT BAD W04 offset 2\n",
+        PASSED,
+    ),
     (LOG_OF_ALL, LINES_OF_ALL, PASSED),
     (b"MQTR\x01\x00\x01\x00", "", PASSED),
     (b"MQTR\x01\x00\x01", "refused 10 Cut at 7\n", REFUSED),
@@ -113,14 +123,16 @@ fn shows_logs_whole_and_byte_by_byte(rt: HostRuntime) -> Result<(), Fail> {
     Ok(())
 }
 
+// The lines of the one with a wrong text, long: the first byte that is wrong is marked.
+const LONG_WRONG_TEXT: &str = "1 record 1 OPEN\n\
+    2 record 2 SENT BAD W04 offset 2 type PUBLISH at 4 bytes 30 07 00 02 [C3] 28 00 68 69\n";
+
 #[test]
 fn shows_long_lines(rt: HostRuntime) -> Result<(), Fail> {
-    let printed = printed_by(
-        rt.alloc(),
-        &["mqjudge", "show", "--long"],
-        &mut &WHOLE_LOG[..],
-    )?;
-    assert!(rt; printed.says(PASSED, LONG_LINES));
+    for (log, lines) in [(WHOLE_LOG, LONG_LINES), (WRONG_TEXT, LONG_WRONG_TEXT)] {
+        let printed = printed_by(rt.alloc(), &["mqjudge", "show", "--long"], &mut &log[..])?;
+        assert!(rt; printed.says(PASSED, lines), "{lines}");
+    }
     Ok(())
 }
 

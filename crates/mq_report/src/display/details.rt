@@ -16,6 +16,7 @@ ghost use Rattle.mq_trace.specs.Reception.{event_of, item_of};
 mod broken;
 mod detail;
 mod laws;
+mod marking;
 mod property;
 mod quoting;
 
@@ -47,7 +48,7 @@ fn put_item_details<W: Write>(out: &mut Outgoing<'_, W>, item: &Item<'_>)
 {
     match item {
         Item::Packet(packet) => put_packet_details(out, packet),
-        Item::Bad { bytes, at, .. } => put_broken(out, bytes, *at),
+        Item::Bad { bytes, rule, at } => put_broken(out, bytes, *rule, *at),
         Item::Lost => {}
     }
 }
@@ -68,7 +69,7 @@ fn put_broken_item<W: Write>(out: &mut Outgoing<'_, W>, item: &Item<'_>)
     ensures { Puts W.contents out.old (with_spaces (broken_details (item_of item.now))) out.new }
 {
     match item {
-        Item::Bad { bytes, at, .. } => put_broken(out, bytes, *at),
+        Item::Bad { bytes, rule, at } => put_broken(out, bytes, *rule, *at),
         Item::Packet(_) | Item::Lost => {}
     }
 }

@@ -153,16 +153,17 @@ fn nothing_is_said_of_other_events(rt: HostRuntime) {
     }
 }
 
-// Whether this is printed of a packet that has these bytes and breaks a rule at this offset.
-fn is_broken_as(alloc: Global, bytes: &[u8], at: u32, text: &str) -> bool {
-    let item = Item::Bad {
-        bytes,
-        rule: PacketRule::W09,
-        at,
-    };
+// Whether this is printed of a packet that has these bytes and breaks this rule at this offset.
+fn breaks_as(alloc: Global, rule: PacketRule, bytes: &[u8], at: u32, text: &str) -> bool {
+    let item = Item::Bad { bytes, rule, at };
     let mut written = Vec::new(alloc);
     let answer = write_details(&Event::Sent(item), &mut written);
     answer.is_ok() && written.as_slice() == text.as_bytes()
+}
+
+// The same of a rule on no text.
+fn is_broken_as(alloc: Global, bytes: &[u8], at: u32, text: &str) -> bool {
+    breaks_as(alloc, PacketRule::W09, bytes, at, text)
 }
 
 #[test]
@@ -219,6 +220,70 @@ fn of_a_long_packet_at_most_64_bytes_are_shown(rt: HostRuntime) -> Result<(), Fa
         let bytes = counting(rt.alloc(), count)?;
         assert!(rt; is_broken_as(rt.alloc(), bytes.as_slice(), at, text), "{text}");
     }
+    Ok(())
+}
+
+#[test]
+#[rattlefmt::skip]
+fn what_is_wrong_in_a_text_is_marked(rt: HostRuntime) {
+    let rows: [(PacketRule, &[u8], u32, &str); 23] = [
+        // Not UTF-8: an odd byte, a surrogate, and a character that is cut.
+        (PacketRule::W04, b"0\x05\x00\x02\xc3(\x00", 2, " type PUBLISH at 4 bytes 30 05 00 02 [C3] 28 00"),
+        (PacketRule::W04, b"0\x07\x00\x04a\xed\xa0\x80\x00", 2, " type PUBLISH at 5 bytes 30 07 00 04 61 [ED] A0 80 00"),
+        (PacketRule::W04, b"0\x07\x00\x04ab\xe2\x82\x00", 2, " type PUBLISH at 6 bytes 30 07 00 04 61 62 [E2] 82 00"),
+        // In a Will Topic.
+        (PacketRule::W04, b"\x10\x15\x00\x04MQTT\x05\x06\x00<\x00\x00\x00\x00\x00\x03w\xc0t\x00\x00", 16, " type CONNECT at 19 bytes 10 15 00 04 4D 51 54 54 05 06 00 3C 00 00 00 00 00 03 77 [C0] 74 00 00"),
+        // U+0000, and then another one.
+        (PacketRule::W05, b"0\x07\x00\x04a\x00b\x00\x00", 2, " type PUBLISH at 5 bytes 30 07 00 04 61 [00] 62 00 00"),
+        // In the first and in the second text of a User Property.
+        (PacketRule::W05, b"0\x0b\x00\x01a\x07&\x00\x01\x00\x00\x01v", 7, " type PUBLISH at 9 bytes 30 0B 00 01 61 07 26 00 01 [00] 00 01 76"),
+        (PacketRule::W04, b"0\x0c\x00\x01a\x08&\x00\x01n\x00\x02v\xff", 7, " type PUBLISH at 13 bytes 30 0C 00 01 61 08 26 00 01 6E 00 02 76 [FF]"),
+        (PacketRule::W05, b"0\x0c\x00\x01a\x08&\x00\x01n\x00\x02v\x00", 7, " type PUBLISH at 13 bytes 30 0C 00 01 61 08 26 00 01 6E 00 02 76 [00]"),
+        // A wildcard in a Topic Name and in a Response Topic.
+        (PacketRule::W14, b"0\x08\x00\x05a/+/#\x00", 2, " type PUBLISH at 6 bytes 30 08 00 05 61 2F [2B] 2F 23 00"),
+        (PacketRule::W14, b"0\x0a\x00\x01a\x06\x08\x00\x03r/#", 7, " type PUBLISH at 11 bytes 30 0A 00 01 61 06 08 00 03 72 2F [23]"),
+        // The first wildcard that is misplaced, after others that aren't.
+        (PacketRule::W15, b"\x82\x0c\x00\x01\x00\x00\x06a/b+/c\x00", 5, " type SUBSCRIBE at 10 bytes 82 0C 00 01 00 00 06 61 2F 62 [2B] 2F 63 00"),
+        (PacketRule::W15, b"\x82\x0b\x00\x01\x00\x00\x05+/#/c\x00", 5, " type SUBSCRIBE at 9 bytes 82 0B 00 01 00 00 05 2B 2F [23] 2F 63 00"),
+        (PacketRule::W15, b"\x82\x0c\x00\x01\x00\x00\x06+/+c/#\x00", 5, " type SUBSCRIBE at 9 bytes 82 0C 00 01 00 00 06 2B 2F [2B] 63 2F 23 00"),
+        (PacketRule::W15, b"\x82\x09\x00\x01\x00\x00\x03/#b\x00", 5, " type SUBSCRIBE at 8 bytes 82 09 00 01 00 00 03 2F [23] 62 00"),
+        (PacketRule::W15, b"\x82\x0a\x00\x01\x00\x00\x04+/##\x00", 5, " type SUBSCRIBE at 9 bytes 82 0A 00 01 00 00 04 2B 2F [23] 23 00"),
+        // In the second filter of an UNSUBSCRIBE.
+        (PacketRule::W15, b"\xa2\x0b\x00\x01\x00\x00\x01a\x00\x03#/b", 8, " type UNSUBSCRIBE at 10 bytes A2 0B 00 01 00 00 01 61 00 03 [23] 2F 62"),
+        // An empty filter has no byte, so its length is marked; so is that of a text that isn't wrong or
+        // isn't whole.
+        (PacketRule::W15, b"\x82\x06\x00\x01\x00\x00\x00\x00", 5, " type SUBSCRIBE bytes 82 06 00 01 00 [00] 00 00"),
+        (PacketRule::W15, b"\x82\x0b\x00\x01\x00\x00\x00\x00\x00\x02+b\x00", 5, " type SUBSCRIBE bytes 82 0B 00 01 00 [00] 00 00 00 02 2B 62 00"),
+        (PacketRule::W14, b"0\x04\x00\x01a\x00", 2, " type PUBLISH bytes 30 04 [00] 01 61 00"),
+        (PacketRule::W04, b"0\x04\x00\x01a\x00", 2, " type PUBLISH bytes 30 04 [00] 01 61 00"),
+        (PacketRule::W05, b"0\x04\x00\x05a\x00", 2, " type PUBLISH bytes 30 04 [00] 05 61 00"),
+        (PacketRule::W05, b"0\x01\x00", 2, " type PUBLISH bytes 30 01 [00]"),
+        // Another rule isn't on a text.
+        (PacketRule::W06, b"0\x04\x00\x01\x00\x00", 2, " type PUBLISH bytes 30 04 [00] 01 00 00"),
+    ];
+    for (rule, bytes, at, text) in rows {
+        assert!(rt; breaks_as(rt.alloc(), rule, bytes, at, text), "{text}");
+    }
+}
+
+// A PUBLISH whose topic has 120 bytes, with a U+0000 after 90.
+fn with_far_nul(alloc: Global) -> Result<Vec<u8>, Fail> {
+    let mut bytes = Vec::new(alloc);
+    bytes.extend_from_slice(b"\x30\x7b\x00\x78")?;
+    for place in 0..120 {
+        let byte = if place == 90 { 0 } else { b'z' };
+        bytes.push(byte)?;
+    }
+    bytes.push(0)?;
+    Ok(bytes)
+}
+
+#[test]
+#[rattlefmt::skip]
+fn the_bytes_around_the_mark_are_shown(rt: HostRuntime) -> Result<(), Fail> {
+    let bytes = with_far_nul(rt.alloc())?;
+    let text = " type PUBLISH at 94 bytes .. 7A 7A 7A 7A 7A 7A 7A 7A 7A 7A 7A 7A 7A 7A 7A 7A 7A 7A 7A 7A 7A 7A 7A 7A 7A 7A 7A 7A 7A 7A 7A 7A [00] 7A 7A 7A 7A 7A 7A 7A 7A 7A 7A 7A 7A 7A 7A 7A 7A 7A 7A 7A 7A 7A 7A 7A 7A 7A 7A 7A 7A 7A 00";
+    assert!(rt; breaks_as(rt.alloc(), PacketRule::W05, bytes.as_slice(), 2, text));
     Ok(())
 }
 

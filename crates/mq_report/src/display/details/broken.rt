@@ -1,33 +1,55 @@
-//! What is shown of a packet that breaks a rule: its type, and its bytes around the fault.
+//! What is shown of a packet that breaks a rule: its type, and its bytes around the wrong one.
 #![tactic(auto, using(crate::proofs::OutgoingLaws::putting, crate::proofs::DetailLaws::detailing))]
 
 ghost use Rattle.std.specs.Prelude.{◌≡◌, ◌<◌, ◌≤◌, ◌^◌, [], ◌∷◌};
 ghost use Rattle.std.specs.List.{flat_map};
-ghost use Rattle.mq_report.specs.Details.{between, broken_words, gap_words, hex_digits, hex_words, marked, name_beside, shown_from, type_names, type_words, words_from};
+ghost use Rattle.mq_report.specs.Details.{broken_words, gap_words, hex_digits, hex_words, mark_words, marked, name_beside, shown_from, type_names, type_words, words_around, words_from};
 ghost use Rattle.mq_report.specs.ItemText.{with_spaces};
+ghost use Rattle.mq_report.specs.Marking.{between};
 ghost use Rattle.mq_report.specs.Outgoing.{Puts};
 
 use super::super::outgoing::Outgoing;
+use super::marking::marked_at;
 use super::quoting::put_hex_digits;
+use mq_packet::PacketRule;
 use std::io::Write;
 
 /// How many bytes are shown at most.
 const SHOWN: usize = 64;
 
-/// How many of them come before the one at fault, if that isn't among the packet's first `SHOWN`.
+/// How many of them come before the marked one, if that isn't among the packet's first `SHOWN`.
 const BEFORE: usize = 32;
 
 /// Appends what is shown of a packet that has these bytes and breaks a rule at this offset, each
 /// word with a space before it: its type, and at most 64 of its bytes in hexadecimal digits, with
-/// the one at fault in brackets. They are the first ones, or those around the fault if that is
-/// farther. If the packet ends before the offset, the brackets have nothing between them. Where
-/// bytes are left out there is `..`.
-pub fn put_broken<W: Write>(out: &mut Outgoing<'_, W>, bytes: &[u8], at: u32)
-    ensures { Puts W.contents out.old (with_spaces (broken_words bytes.now at)) out.new }
+/// the one in brackets that `marked_at` gives. They are the first ones, or those around the mark if
+/// that is farther. If the mark isn't at the offset, its own offset comes before them, as `at 4`. If
+/// the packet ends before the mark, the brackets have nothing between them. Where bytes are left
+/// out there is `..`.
+pub fn put_broken<W: Write>(out: &mut Outgoing<'_, W>, bytes: &[u8], rule: PacketRule, at: u32)
+    ensures { Puts W.contents out.old (with_spaces (broken_words bytes.now rule at)) out.new }
 {
-    let at = at as usize;
     put_type(out, bytes);
-    put_from(out, bytes, shown_from(at), at);
+    put_around(out, bytes, at as usize, marked_at(bytes, rule, at));
+}
+
+// Appends the bytes around the mark, with its place.
+fn put_around<W: Write>(out: &mut Outgoing<'_, W>, bytes: &[u8], at: usize, mark: usize)
+    requires { mark < 2 ^ 33 }
+    ensures { Puts W.contents out.old (with_spaces (words_around at mark bytes.now)) out.new }
+{
+    put_mark(out, at, mark);
+    put_from(out, bytes, shown_from(mark), mark);
+}
+
+// Appends the offset of the mark, if it isn't the fault's.
+fn put_mark<W: Write>(out: &mut Outgoing<'_, W>, at: usize, mark: usize)
+    ensures { Puts W.contents out.old (with_spaces (mark_words at mark)) out.new }
+{
+    if mark != at {
+        out.put(" at ");
+        out.put_number(mark as u64);
+    }
 }
 
 // Appends the type that the first byte names (MQTT 5.0, section 2.1.2).
@@ -69,9 +91,9 @@ fn type_name(number: u8) -> &'static str
     }
 }
 
-// Appends the bytes from one offset on, with the one at fault in brackets.
+// Appends the bytes from one offset on, with the marked one in brackets.
 fn put_from<W: Write>(out: &mut Outgoing<'_, W>, bytes: &[u8], start: usize, at: usize)
-    requires { (start ≤ at) × (at < 2 ^ 32) }
+    requires { (start ≤ at) × (at < 2 ^ 33) }
     ensures { Puts W.contents out.old (with_spaces (words_from start at bytes.now)) out.new }
 {
     let end = start + SHOWN;
@@ -83,7 +105,7 @@ fn put_from<W: Write>(out: &mut Outgoing<'_, W>, bytes: &[u8], start: usize, at:
     put_gap(out, end < bytes.len());
 }
 
-// The offset of the first byte that is shown, if the one at this offset is at fault.
+// The offset of the first byte that is shown, if the one at this offset is marked.
 fn shown_from(at: usize) -> usize
     ensures is { result ≡ shown_from at }
     ensures before { result ≤ at }
@@ -126,7 +148,7 @@ fn put_hex_word<W: Write>(out: &mut Outgoing<'_, W>, byte: u8)
     put_hex_digits(out, byte);
 }
 
-// Appends the byte at fault in brackets, or empty brackets if there is none.
+// Appends the marked byte in brackets, or empty brackets if there is none.
 fn put_marked<W: Write>(out: &mut Outgoing<'_, W>, bytes: &[u8])
     ensures { Puts W.contents out.old (with_spaces (marked bytes.now ∷ [])) out.new }
 {

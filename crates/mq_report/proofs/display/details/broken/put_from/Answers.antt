@@ -1,7 +1,8 @@
 use Rattle.std.proofs.Common.{◌+◌, nat_lt, [], ◌∷◌, ◌++◌, length, codes}
 use Rattle.std.specs.List.{flat_map}
-use Rattle.mq_report.specs.Details.{between, gap_words, hex_words, marked}
+use Rattle.mq_report.specs.Details.{gap_words, hex_words, marked}
 use Rattle.mq_report.specs.ItemText.{with_spaces}
+use Rattle.mq_report.specs.Marking.{between}
 use Rattle.mq_report.specs.Outgoing.{Puts}
 use Rattle.mq_report.proofs.DetailLaws.{puts_words}
 use Rattle.mq_report.proofs.display.details.broken.put_from.Goals as goal
