@@ -29,7 +29,7 @@ import check_rows
 HERE = Path(__file__).resolve().parent
 CRATES = HERE.parent / "crates"
 PROGRAM = CRATES / "mq_cli/out/mq_cli"
-TESTS = [CRATES / "mq_packet/out/mq_packet_tests", CRATES / "mq_worked/out/mq_worked_tests"]
+TESTS = [CRATES / "mq_packet_tests/out/mq_packet_tests_tests", CRATES / "mq_worked/out/mq_worked_tests"]
 COMPILER = "cc"
 SECONDS = 60
 NO_MEMORY = (4, b"mqjudge: out of memory\n")

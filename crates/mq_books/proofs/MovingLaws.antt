@@ -5,7 +5,7 @@ use Rattle.std.specs.Option.{option_or}
 use Rattle.std.proofs.lemmas.Bool.{eq-eqb}
 use Rattle.indexmap.specs.IndexMap.{get}
 use Rattle.indexmap.specs.IndexSet.{contains, index_set_len}
-use Rattle.mq_trace.specs.declared.place.Place3.{Place3}
+use Rattle.mq_log.specs.declared.place.Place3.{Place3}
 use Rattle.mq_rules.specs.declared.role.Tested.{Tested}
 use Rattle.mq_rules.specs.declared.fate.Fate.{Fate}
 use Rattle.mq_rules.specs.declared.note.Note.{Note}
@@ -13,7 +13,7 @@ use Rattle.mq_rules.specs.declared.note.Seen.{Seen}
 use Rattle.mq_rules.specs.declared.rule.Rule.{Rule}
 use Rattle.mq_rules.specs.declared.rule.Rule.TheVariants.{S01}
 use Rattle.mq_packet.specs.declared.packet.Qos.{Qos}
-use Rattle.mq_trace.specs.declared.kind.Direction.TheVariants.{Sent, Recv}
+use Rattle.mq_log.specs.declared.kind.Direction.TheVariants.{Sent, Recv}
 use Rattle.mq_rules.specs.declared.bare.Bare.{Bare}
 use Rattle.mq_rules.specs.declared.bare.BareFields.{BareFields}
 use Rattle.mq_rules.specs.declared.bare.BareFields.TheVariants as bares

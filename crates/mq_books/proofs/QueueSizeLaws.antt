@@ -8,7 +8,7 @@ use Rattle.std.proofs.lemmas.Cmp.{nat_eq_equiv}
 use Rattle.std.proofs.lemmas.List.{length-map}
 use Rattle.std.proofs.lemmas.Map.Keys.{IsDistinct-cons}
 use Rattle.std.proofs.lemmas.Map.Made.{is_some-lookup, length-le_from_is_member}
-use Rattle.mq_trace.specs.declared.place.Place3.{Place3}
+use Rattle.mq_log.specs.declared.place.Place3.{Place3}
 use Rattle.mq_books.specs.declared.ordering.Debt.{Debt}
 use Rattle.mq_books.specs.Orderings.{is_still_due, from_due, looked_at, Queued, IsAscending, IsQueue, IsTidied}
 use Rattle.mq_books.proofs.QueueLaws.{still-due}

@@ -2,8 +2,8 @@
 use Rattle.std.proofs.Common.{◌≡◌, ℕ, ◌==◌, nat_eq, Bool, true, false, cond, ◌&&◌, ◌||◌, not, List, ◌∷◌, Option, Some, None, Bor, refl, ap, sym, subst, ◌∙◌}
 use Rattle.indexmap.specs.IndexSet.{contains}
 use Rattle.mq_packet.specs.declared.packet.Qos.{Qos}
-use Rattle.mq_trace.specs.declared.kind.Direction.{Direction}
-use Rattle.mq_trace.specs.declared.kind.Direction.TheVariants.{Sent, Recv}
+use Rattle.mq_log.specs.declared.kind.Direction.{Direction}
+use Rattle.mq_log.specs.declared.kind.Direction.TheVariants.{Sent, Recv}
 use Rattle.mq_rules.specs.declared.role.Tested.{Tested}
 use Rattle.mq_rules.specs.declared.fate.Fate.{Fate}
 use Rattle.mq_rules.specs.declared.rule.Rule.TheVariants.{L3}

@@ -1,6 +1,6 @@
 -- What is kept of the identifiers that are open in a session.
 use Rattle.std.specs.Prelude.{ℕ, nat_lt, Bool, false, ◌&&◌, ◌||◌, cond, List, Option, Some, None, option_map}
-use Rattle.mq_trace.specs.declared.place.Place3.{Place3}
+use Rattle.mq_log.specs.declared.place.Place3.{Place3}
 use Rattle.mq_rules.specs.declared.role.Role.{Role}
 use Rattle.mq_rules.specs.declared.fate.Fate.{Fate}
 use Rattle.mq_rules.specs.declared.note.Note.{Note}

@@ -2,7 +2,7 @@
 use Rattle.std.specs.Prelude.{ℕ, ◌≡◌, nat_eq, nat_le, nat_lt, length, Bool, true, false, ◌&&◌, ◌||◌, not, cond, List, [], ◌∷◌, Option, Some, None, is_some}
 use Rattle.indexmap.specs.IndexMap.{get, IsUnique}
 use Rattle.indexmap.specs.IndexSet.{contains}
-use Rattle.mq_trace.specs.declared.place.Place3.{Place3}
+use Rattle.mq_log.specs.declared.place.Place3.{Place3}
 use Rattle.mq_rules.specs.declared.role.Role.{Role}
 use Rattle.mq_rules.specs.declared.role.Tested.{Tested}
 use Rattle.mq_rules.specs.declared.fate.Fate.{Fate}

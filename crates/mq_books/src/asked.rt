@@ -18,8 +18,8 @@ use crate::known::{excuse, judge_by};
 use crate::selective::Selective;
 use crate::sizes::map_size;
 use indexmap::IndexMap;
+use mq_log::Place3;
 use mq_rules::{Bare, Brisk, Fate, Faults, Memory, Note, Tested, Watch};
-use mq_trace::Place3;
 use std::alloc::Global;
 use std::marker::PhantomData;
 

@@ -24,8 +24,8 @@ use crate::known::judge_by;
 use crate::selective::Selective;
 use crate::sizes::map_size;
 use indexmap::IndexMap;
+use mq_log::Place3;
 use mq_rules::{Fate, Faults, Memory, Note, PacketFields, Rule, Tested, Watch};
-use mq_trace::Place3;
 use std::alloc::Global;
 use std::marker::PhantomData;
 

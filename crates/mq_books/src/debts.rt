@@ -11,8 +11,8 @@ use crate::exchange::Exchange;
 use crate::fated::Fated;
 use crate::owed::Owed;
 use crate::selective::Selective;
+use mq_log::Place3;
 use mq_rules::{Bare, Both, Brisk, Fate, Faults, Memory, Note, Tested, Watch};
-use mq_trace::Place3;
 use std::alloc::Global;
 
 /// Watches all statements of an exchange: each answer was asked for, each cause is answered before

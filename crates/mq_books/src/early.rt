@@ -15,11 +15,11 @@ ghost use Rattle.mq_rules.specs.Weights.{in_word};
 ghost use Rattle.mq_books.specs.Weights.{held_weigh};
 
 use crate::fated::Fated;
+use mq_log::Place3;
 use mq_rules::{
     Bare, Brisk, Fate, Faults, History, Memory, Note, PacketFields, Role, Seen, Tested, Watch,
     step_apart,
 };
-use mq_trace::Place3;
 use std::alloc::Global;
 
 /// A watcher that holds the events of an undecided connection, and passes them on, in order, with

@@ -5,9 +5,9 @@ ghost use Rattle.std.specs.Prelude.{◌≡◌, Some, not};
 ghost use Rattle.mq_rules.specs.Words.{only};
 ghost use Rattle.mq_rules.specs.Notes.{is_at_least_once, is_exactly_once, refuses};
 
+use mq_log::Direction;
 use mq_packet::Qos;
 use mq_rules::{Bare, BareFields, Note, Rule};
-use mq_trace::Direction;
 
 /// An exchange: under which Packet Identifier an event is a cause, and under which one it is an
 /// answer.

@@ -8,8 +8,8 @@ ghost use Rattle.mq_rules.specs.Connections.{latest_fate};
 ghost use Rattle.mq_rules.specs.Under.{seen, Follows, IsUnder, fate_before, turns_with, IsKnown, turns_known, either_adds};
 ghost use Rattle.mq_rules.specs.Growing.{Gains, GainsWithin};
 
+use mq_log::Place3;
 use mq_rules::{Both, Fate, Faults, Memory, Note, Watch};
-use mq_trace::Place3;
 
 /// A watcher that can take in an event of a connection before the event that decides its fate.
 ///

@@ -43,10 +43,10 @@ use broken::{
 use earlier::Earlier;
 use entry::{Entry, take_entries};
 use indexmap::{IndexMap, IndexSet};
+use mq_log::{Direction, Place3};
 use mq_rules::{
     Bare, BareFields, Fate, Faults, ItemNote, Memory, Note, PacketFields, Role, Rule, Tested, Watch,
 };
-use mq_trace::{Direction, Place3};
 use resends::{
     Bounds, Resent, bounded_after, bounds_after, excused_by_itself, excused_now, passed_since,
     resent_still, settle, settles_now, take_confirmed,

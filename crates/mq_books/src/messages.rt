@@ -11,12 +11,12 @@ use crate::debts::Debts;
 use crate::exchange::{E1, E2, E3, E4};
 use crate::fated::Fated;
 use crate::selective::Selective;
+use mq_log::{Direction, Place3};
 use mq_packet::Qos;
 use mq_rules::{
     Bare, BareFields, Both, Brisk, Fate, Faults, ItemNote, Memory, Note, PacketFields, Tested,
     Watch,
 };
-use mq_trace::{Direction, Place3};
 use std::alloc::Global;
 
 /// Watches what the tested end owes for the messages that it receives and sends: E1A to E4R.

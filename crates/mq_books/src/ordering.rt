@@ -9,8 +9,8 @@ ghost use Rattle.mq_books.specs.Orderings.{first_debt, from_due, queued_by, orde
 use crate::known::judge_by;
 use crate::sizes::map_size;
 use indexmap::IndexMap;
+use mq_log::Place3;
 use mq_rules::{Fate, Faults, Memory, Rule};
-use mq_trace::Place3;
 use std::collections::VecDeque;
 
 /// A cause that fell due at a position, where none was due under its identifier.

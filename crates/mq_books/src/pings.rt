@@ -16,11 +16,11 @@ use crate::fated::Fated;
 use crate::known::judge_by;
 use crate::quota::more;
 use crate::selective::Selective;
+use mq_log::{Direction, Place3};
 use mq_rules::{
     Bare, BareFields, Brisk, Fate, Faults, ItemNote, Memory, Note, PacketFields, Role, Rule,
     Tested, Watch,
 };
-use mq_trace::{Direction, Place3};
 
 /// Watches E7R.
 #[derive(Drop)]

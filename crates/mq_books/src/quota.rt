@@ -20,12 +20,12 @@ use crate::fated::Fated;
 use crate::known::judge_by;
 use crate::messages::is_acknowledged;
 use crate::selective::Selective;
+use mq_log::{Direction, Place3};
 use mq_packet::Qos;
 use mq_rules::{
     Bare, BareFields, Brisk, Fate, Faults, ItemNote, Memory, Note, PacketFields, Role, Rule,
     Tested, Watch,
 };
-use mq_trace::{Direction, Place3};
 
 /// The Receive Maximum of a peer that announces none.
 pub const RECEIVE_MAXIMUM: u16 = 65_535;

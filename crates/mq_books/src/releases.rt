@@ -24,10 +24,10 @@ use crate::messages::is_acknowledged;
 use crate::selective::Selective;
 use crate::sizes::set_size;
 use indexmap::IndexSet;
+use mq_log::{Direction, Place3};
 use mq_rules::{
     Bare, BareFields, Fate, Faults, ItemNote, Memory, Note, PacketFields, Role, Rule, Tested, Watch,
 };
-use mq_trace::{Direction, Place3};
 use std::alloc::Global;
 
 /// Watches L1, L2 and L3.

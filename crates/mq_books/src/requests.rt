@@ -13,10 +13,10 @@ use crate::debts::Debts;
 use crate::exchange::{E5, E6};
 use crate::fated::Fated;
 use crate::selective::Selective;
+use mq_log::Place3;
 use mq_rules::{
     Bare, Both, Brisk, Fate, Faults, ItemNote, Memory, Note, PacketFields, Rule, Tested, Watch,
 };
-use mq_trace::Place3;
 use std::alloc::Global;
 
 /// Watches what a server owes for each SUBSCRIBE and UNSUBSCRIBE: E5A to E6R. They bind no client:

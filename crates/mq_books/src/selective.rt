@@ -11,8 +11,8 @@ ghost use Rattle.mq_rules.specs.Under.{seen, Follows, IsUnder, IsKnown, fate_bef
 ghost use Rattle.mq_books.specs.Concerns.{Passes};
 
 use crate::fated::Fated;
+use mq_log::Place3;
 use mq_rules::{Bare, Both, Brisk, Fate, Faults, Memory, Note, Watch};
-use mq_trace::Place3;
 
 /// A watcher of which it is known which events concern it: any other event leaves what it keeps as
 /// it is, and shows none of its statements to be false.

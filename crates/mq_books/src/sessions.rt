@@ -13,8 +13,8 @@ use crate::releases::Releases;
 use crate::requests::Requests;
 use crate::selective::Selecting;
 use crate::subs_all::Subs;
+use mq_log::Place3;
 use mq_rules::{Bare, Both, Brisk, Fate, Faults, Memory, Note, Tested, Watch};
-use mq_trace::Place3;
 use std::alloc::Global;
 
 /// What is sent under Packet Identifiers, within the send quota, and in answer to pings.

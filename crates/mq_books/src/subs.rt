@@ -30,12 +30,12 @@ use crate::known::judge_by;
 use crate::selective::Selective;
 use crate::sizes::map_size;
 use indexmap::IndexMap;
+use mq_log::{Direction, Place3};
 use mq_packet::Qos;
 use mq_rules::{
     Bare, BareFields, Brisk, Fate, Faults, Memory, Note, NotedFilter, PacketFields, PublishNote,
     Rule, Tested, Text, Watch, qos_number,
 };
-use mq_trace::{Direction, Place3};
 use std::alloc::Global;
 
 // ---- shared subscriptions

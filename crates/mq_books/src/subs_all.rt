@@ -11,11 +11,11 @@ use crate::counts::{Counts, Subacks, Unsubacks};
 use crate::fated::Fated;
 use crate::selective::{Selective, step_first};
 use crate::subs::Deliveries;
+use mq_log::{Direction, Place3};
 use mq_rules::{
     Bare, BareFields, Both, Brisk, Fate, Faults, ItemNote, Memory, Note, PacketFields, Tested,
     Watch,
 };
-use mq_trace::{Direction, Place3};
 use std::alloc::Global;
 
 /// Watches B01 to B04.

@@ -7,8 +7,8 @@ ghost use Rattle.mq_books.specs.Burden.{burden};
 
 use crate::early::Early;
 use crate::sessions::Sessions;
+use mq_log::Place3;
 use mq_rules::{Bare, Both, Brisk, Conn, Faults, Memory, Note, Shapes, Tested, Watch};
-use mq_trace::Place3;
 use std::alloc::Global;
 
 /// Watches all 74 statements: W and C as the events come, and those on sessions once their

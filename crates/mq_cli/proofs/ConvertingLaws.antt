@@ -14,9 +14,9 @@ use Rattle.mq_trace.specs.declared.converting.ConvertFault.TheVariants as faults
 use Rattle.mq_cli.specs.declared.failure.Failure.{Failure}
 use Rattle.mq_cli.specs.declared.failure.Failure.TheVariants as failures
 use Rattle.mq_cli.specs.declared.trouble.Trouble.{Trouble}
-use Rattle.mq_trace.specs.Framing.{ahead_in, record_size, records}
-use Rattle.mq_trace.specs.Pieces.{pieces}
-use Rattle.mq_trace.specs.Refusals.{is_cut_short}
+use Rattle.mq_log.specs.Framing.{ahead_in, record_size, records}
+use Rattle.mq_log.specs.Pieces.{pieces}
+use Rattle.mq_log.specs.Refusals.{is_cut_short}
 use Rattle.mq_cli.specs.declared.trouble.Trouble.TheVariants as troubles
 use Rattle.mq_cli.specs.Converting.{DoesToFiles, FailsConverting, HasHeader, IsConverted, IsConvertible, IsInconvertible, RefusesConverting, StopsConverting}
 use Rattle.mq_cli.specs.Effects.{Doing}

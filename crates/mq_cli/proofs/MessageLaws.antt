@@ -4,7 +4,7 @@ use Rattle.std.proofs.KnownBytes.{Appends-kept, Keeps-refl}
 use Rattle.std.specs.Io.KnownBytes.{Appends, Keeps}
 use Rattle.std.specs.Prelude.{String, string_bytes}
 use Rattle.std.specs.declared.alloc.Global.{Global}
-use Rattle.mq_trace.specs.Events.{Placed, events}
+use Rattle.mq_log.specs.Events.{Placed, events}
 use Rattle.mq_trace.specs.Writing.{AppendsBeginning}
 use Rattle.mq_judge.specs.declared.Form.{Form}
 use Rattle.mq_judge.specs.declared.Form.TheVariants.{Text, Json}

@@ -9,7 +9,7 @@ use Rattle.std.specs.Str.Parse.{AllDigits, ParsesUnsigned, digits_value, without
 use Rattle.mq_rules.specs.declared.role.Role.{Role}
 use Rattle.mq_rules.specs.FaultKeys.{FaultMap}
 use Rattle.mq_rules.proofs.Exports.{both_true}
-use Rattle.mq_trace.specs.Events.{Placed, events}
+use Rattle.mq_log.specs.Events.{Placed, events}
 use Rattle.mq_judge.specs.declared.Form.TheVariants.{Text, Json}
 use Rattle.mq_judge.specs.declared.Refusal.{Refusal}
 use Rattle.mq_judge.specs.declared.Refusal.TheVariants as refusals

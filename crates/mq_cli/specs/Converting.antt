@@ -7,7 +7,7 @@ use Rattle.mq_judge.specs.declared.Refusal.{Refusal}
 use Rattle.mq_judge.specs.declared.Refusal.TheVariants as refusals
 use Rattle.mq_report.specs.Report.{refused_line}
 use Rattle.mq_trace.specs.Converting.{Converts, converted, unconverted}
-use Rattle.mq_trace.specs.Refusals.{is_cut_short}
+use Rattle.mq_log.specs.Refusals.{is_cut_short}
 use Rattle.mq_trace.specs.declared.converting.ConvertFault.TheVariants as faults
 use Rattle.mq_command.specs.declared.command_line.Conversion.{Conversion}
 use Rattle.mq_cli.specs.declared.converting.Files.{Files as SourceFiles}

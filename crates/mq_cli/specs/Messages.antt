@@ -12,8 +12,8 @@ use Rattle.mq_report.specs.Report.{refused_line, refused_report, report}
 use Rattle.mq_judge.specs.Runner.{IsFaultless}
 use Rattle.mq_report.specs.Stopping.{IsJudged, default_limit, IsRefusedAt, IsRefusedNext}
 use Rattle.mq_report.specs.Display.{WritesBeginning, annotated, is_timed, short_lines_of, long_lines_of}
-use Rattle.mq_trace.specs.Events.{Placed, events}
-use Rattle.mq_trace.specs.Refusals.{refused}
+use Rattle.mq_log.specs.Events.{Placed, events}
+use Rattle.mq_log.specs.Refusals.{refused}
 use Rattle.mq_explain.specs.Citing.{explained_for}
 use Rattle.mq_command.specs.Digits.{OfDigits, by_operand, bytes_of, most_text, oddity_in, oddity_line}
 use Rattle.mq_explain.specs.Listing.{listed_for}

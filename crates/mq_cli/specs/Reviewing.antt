@@ -13,7 +13,7 @@ use Rattle.mq_judge.specs.Runner.{found_in}
 use Rattle.mq_report.specs.Stopping.{IsJudged, default_limit, IsRefusedAt}
 use Rattle.mq_report.specs.Display.{annotated, is_timed}
 use Rattle.mq_rules.specs.Notes.{tested_by}
-use Rattle.mq_trace.specs.Events.{Placed, events}
+use Rattle.mq_log.specs.Events.{Placed, events}
 use Rattle.mq_command.specs.declared.command_line.Review.{Review}
 use Rattle.mq_cli.specs.declared.reviewing.Plan.{Plan as SourcePlan}
 use Rattle.mq_cli.specs.declared.failure.Failure.{Failure}

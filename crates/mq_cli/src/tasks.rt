@@ -14,7 +14,7 @@ ghost use Rattle.mq_report.specs.Report.{refused_report, report};
 ghost use Rattle.mq_judge.specs.Runner.{IsFaultless};
 ghost use Rattle.mq_report.specs.Stopping.{IsJudged};
 ghost use Rattle.mq_report.specs.Display.{Shows, is_timed};
-ghost use Rattle.mq_trace.specs.Events.{events};
+ghost use Rattle.mq_log.specs.Events.{events};
 ghost use Rattle.mq_trace.specs.Writing.{AppendsBeginning};
 
 use crate::error_stream::ErrorStream;

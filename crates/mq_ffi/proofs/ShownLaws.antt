@@ -10,9 +10,9 @@ use Rattle.std.specs.FinMap.{entries, entries_sorted, get-entries}
 use Rattle.std.specs.FinMap.Entries.{find, below_all, is_sorted, same_entries}
 use Rattle.std.proofs.lemmas.Bool.{ltb-true, ltb-false, ne_eqb}
 use Rattle.std.proofs.lemmas.List.{length-map}
-use Rattle.mq_trace.specs.Context.{context, placed_for, put}
-use Rattle.mq_trace.specs.Events.{Placed, events}
-use Rattle.mq_trace.proofs.Exports.{events-kept}
+use Rattle.mq_log.specs.Context.{context, placed_for, put}
+use Rattle.mq_log.specs.Events.{Placed, events}
+use Rattle.mq_log.proofs.Exports.{events-kept}
 use Rattle.mq_rules.specs.declared.note.Seen.{Seen}
 use Rattle.mq_rules.specs.declared.role.Tested.{Tested}
 use Rattle.mq_rules.specs.declared.rule.Rule.{Rule}

@@ -1,8 +1,8 @@
 -- What a caller gets from the judge that its handle holds, and the judge that the handle holds then.
 use Rattle.std.specs.Prelude.{◌≡◌, ℕ, ◌==◌, nat_lt, ◌||◌, Bool, true, false, List, [], Option, Some, None, Result, Ok, Err, if◌then◌else◌}
-use Rattle.mq_trace.specs.declared.header.Header.{Header}
-use Rattle.mq_trace.specs.declared.refusal.Refusal.{Refusal}
-use Rattle.mq_trace.specs.Refusing.{number_of, name_of, refusal_offset}
+use Rattle.mq_log.specs.declared.header.Header.{Header}
+use Rattle.mq_log.specs.declared.refusal.Refusal.{Refusal}
+use Rattle.mq_log.specs.Refusing.{number_of, name_of, refusal_offset}
 use Rattle.mq_ffi.specs.declared.answer.Trouble.{Trouble}
 use Rattle.mq_ffi.specs.declared.answer.Trouble.TheVariants as troubles
 use Rattle.mq_ffi.specs.declared.event.Event.{Event}

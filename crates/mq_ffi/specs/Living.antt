@@ -1,9 +1,9 @@
 -- What a judge answers that is told what happens while it happens, and its state then.
 use Rattle.std.specs.Prelude.{◌≡◌, ℕ, Bool, true, false, List, [], ◌∷◌, ◌++◌, length, Option, Some, None, Result, Ok, Err, IfSome}
-use Rattle.mq_trace.specs.declared.refusal.Refusal.{Refusal}
-use Rattle.mq_trace.specs.declared.header.Header.{Header}
-use Rattle.mq_trace.specs.Events.{events}
-use Rattle.mq_trace.specs.Refusals.{refused, is_cut_short}
+use Rattle.mq_log.specs.declared.refusal.Refusal.{Refusal}
+use Rattle.mq_log.specs.declared.header.Header.{Header}
+use Rattle.mq_log.specs.Events.{events}
+use Rattle.mq_log.specs.Refusals.{refused, is_cut_short}
 use Rattle.mq_trace.specs.Writing.{header_bytes}
 use Rattle.mq_judge.specs.declared.judge.Judge.{Judge}
 use Rattle.mq_judge.specs.Judging.{Knows, Follows, RefusesIn}

@@ -13,7 +13,7 @@ use crate::event::Event;
 use crate::fault::FaultRow;
 use crate::handle::Handle;
 use crate::live::Live;
-use mq_trace::Header;
+use mq_log::Header;
 use std::alloc::Global;
 
 /// The largest packet that is read if the caller names no limit, in bytes.

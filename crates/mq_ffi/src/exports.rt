@@ -1,7 +1,7 @@
 //! What C calls. Each function takes the judge out of the handle, asks it, and puts it back.
 ghost use Rattle.std.specs.Prelude.{◌≡◌, ℕ, Some, option_map};
 ghost use Rattle.std.specs.FinMap as map;
-ghost use Rattle.mq_trace.specs.Refusing.{number_of, name_of, refusal_offset};
+ghost use Rattle.mq_log.specs.Refusing.{number_of, name_of, refusal_offset};
 ghost use Rattle.mq_rules.specs.FaultKeys.{faults_at};
 ghost use Rattle.mq_rules.specs.Rules.{code_of as code_text};
 ghost use Rattle.mq_rules.specs.Naming.{citation_of, sentence_of};

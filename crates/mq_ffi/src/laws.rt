@@ -1,7 +1,7 @@
 //! What an event shows, as the contract of a function that does nothing.
 ghost use Rattle.std.specs.Prelude.{◌≡◌, ◌<◌, ◌≤◌, ◌++◌, ℕ, List, [], length};
 ghost use Rattle.std.specs.FinMap as map;
-ghost use Rattle.mq_trace.specs.Events.{events};
+ghost use Rattle.mq_log.specs.Events.{events};
 ghost use Rattle.mq_rules.specs.FaultKeys.{FaultMap};
 ghost use Rattle.mq_judge.specs.Judging.{AreFaultsOf};
 ghost use Rattle.mq_ffi.specs.Giving.{shown_by};

@@ -16,7 +16,7 @@ use crate::taking::{take_event, take_in};
 use crate::turn::{Turn, next_in_turn};
 use crate::writing::header_of;
 use mq_judge::{Faults, Judge, Options, Refusal};
-use mq_trace::Header;
+use mq_log::Header;
 use std::alloc::Global;
 
 /// What a judge is told.

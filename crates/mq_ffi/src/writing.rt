@@ -3,7 +3,7 @@ ghost use Rattle.std.specs.Prelude.{◌≡◌, ◌∷◌};
 ghost use Rattle.std.specs.Int.{w32, to_be_bytes};
 ghost use Rattle.mq_trace.specs.Writing.{header_bytes};
 
-use mq_trace::Header;
+use mq_log::Header;
 
 /// The bytes of a log's header.
 pub fn header_of(header: Header) -> [u8; 8]

@@ -3,16 +3,17 @@ use Rattle.std.proofs.Common.{◌≡◌, ℕ, zero, suc, ◌+◌, ◌<◌, ◌�
 use Rattle.std.specs.Prelude.{◌||◌, IfSome, if◌then◌else◌}
 use Rattle.std.proofs.lemmas.Bool.{ltb-true, ltb-false}
 use Rattle.std.proofs.lemmas.List.{length-map, nil_from_length}
-use Rattle.mq_trace.specs.declared.refusal.Refusal.{Refusal}
-use Rattle.mq_trace.specs.declared.refusal.Refusal.TheVariants as refusals
-use Rattle.mq_trace.specs.declared.header.Header.{Header}
+use Rattle.mq_log.specs.declared.refusal.Refusal.{Refusal}
+use Rattle.mq_log.specs.declared.refusal.Refusal.TheVariants as refusals
+use Rattle.mq_log.specs.declared.header.Header.{Header}
 use Rattle.mq_trace.specs.declared.reading.Reading.{Reading}
-use Rattle.mq_trace.specs.Framing.{header_by}
-use Rattle.mq_trace.specs.Events.{Placed, events, events_back}
-use Rattle.mq_trace.specs.Refusals.{refused, is_cut_short}
-use Rattle.mq_trace.specs.Refusing.{moved}
+use Rattle.mq_log.specs.Framing.{header_by}
+use Rattle.mq_log.specs.Events.{Placed, events, events_back}
+use Rattle.mq_log.specs.Refusals.{refused, is_cut_short}
+use Rattle.mq_log.specs.Refusing.{moved}
 use Rattle.mq_trace.specs.Tracing.{Traced, IsTracedTo, KeepsHeader, TracesPiece, Why, StopsAt, StopsInHeader, Begins}
-use Rattle.mq_trace.proofs.Exports.{events-header, keeps_header}
+use Rattle.mq_log.proofs.Exports.{events-header}
+use Rattle.mq_trace.proofs.Exports.{keeps_header}
 use Rattle.mq_rules.specs.declared.note.Seen.{Seen}
 use Rattle.mq_rules.specs.declared.role.Tested.{Tested}
 use Rattle.mq_rules.specs.declared.rule.Rule.{Rule}

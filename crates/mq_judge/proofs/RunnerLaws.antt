@@ -2,8 +2,8 @@
 use Rattle.std.proofs.Common.{◌≡◌, ℕ, Bool, true, false, ◌⊎◌, inl, inr, List, [], ◌∷◌, ◌++◌, length, Option, Some, None, refl, sym, ap, subst, ◌∙◌, append-nil, ◌==◌, IfOk, IfSome, Ok, Err, Result, if◌then◌else◌}
 use Rattle.std.specs.FinMap as map
 use Rattle.std.specs.Io.KnownBytes.{Appends}
-use Rattle.mq_trace.specs.declared.refusal.Refusal.{Refusal}
-use Rattle.mq_trace.specs.declared.refusal.Refusal.TheVariants as refusals
+use Rattle.mq_log.specs.declared.refusal.Refusal.{Refusal}
+use Rattle.mq_log.specs.declared.refusal.Refusal.TheVariants as refusals
 use Rattle.mq_report.specs.declared.report.Form.{Form}
 use Rattle.mq_report.specs.declared.report.Outcome.{Outcome}
 use Rattle.mq_report.specs.declared.report.Outcome.TheVariants.{Pass, Fail}
@@ -12,8 +12,8 @@ use Rattle.mq_report.specs.declared.report.RunFault.TheVariants as run_faults
 use Rattle.mq_rules.specs.declared.role.Role.{Role}
 use Rattle.mq_judge.specs.declared.judge.Judge.{Judge}
 use Rattle.mq_judge.specs.Judging.{Finishes, Follows, RefusesIn, AreFaultsOf}
-use Rattle.mq_trace.specs.Refusals.{refused, is_cut_short}
-use Rattle.mq_trace.specs.Events.{events}
+use Rattle.mq_log.specs.Refusals.{refused, is_cut_short}
+use Rattle.mq_log.specs.Events.{events}
 use Rattle.mq_rules.specs.Notes.{tested_by, seen_in}
 use Rattle.mq_rules.specs.FaultKeys.{FaultMap}
 use Rattle.mq_report.specs.Report.{report, report_on, FailsToReport}

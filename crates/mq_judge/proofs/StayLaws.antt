@@ -2,9 +2,9 @@
 use Rattle.std.proofs.Common.{◌≡◌, ℕ, ◌+◌, ◌≤◌, Bool, true, false, cond, nat_lt, List, [], ◌∷◌, ◌++◌, length, map, Option, Some, None, refl, sym, ap, ◌∙◌, arith, append_assoc, append-nil}
 use Rattle.std.specs.Option.{option_or}
 use Rattle.std.proofs.lemmas.Bool.{ltb-true, ltb-false}
-use Rattle.mq_trace.specs.Context.{context, placed_for, put}
-use Rattle.mq_trace.specs.Events.{Placed, events}
-use Rattle.mq_trace.proofs.Exports.{events-kept}
+use Rattle.mq_log.specs.Context.{context, placed_for, put}
+use Rattle.mq_log.specs.Events.{Placed, events}
+use Rattle.mq_log.proofs.Exports.{events-kept}
 use Rattle.mq_rules.specs.declared.note.Seen.{Seen}
 use Rattle.mq_rules.specs.declared.role.Tested.{Tested}
 use Rattle.mq_rules.specs.declared.rule.Rule.{Rule}

@@ -2,9 +2,9 @@
 use Rattle.std.proofs.Common.{◌≡◌, ℕ, ◌+◌, ◌<◌, List, [], ◌∷◌, length, map, Option, Some, None, refl, sym, ap, ◌∙◌, subst, arith}
 use Rattle.std.specs.Option.{option_or}
 use Rattle.std.specs.FinMap.{entries, get-empty}
-use Rattle.mq_trace.specs.declared.place.Place3.{Place3}
-use Rattle.mq_trace.specs.Events.{Placed, events}
-use Rattle.mq_trace.specs.Reception.{AreEvents}
+use Rattle.mq_log.specs.declared.place.Place3.{Place3}
+use Rattle.mq_log.specs.Events.{Placed, events}
+use Rattle.mq_log.specs.Reception.{AreEvents}
 use Rattle.mq_rules.specs.declared.role.Tested.{Tested}
 use Rattle.mq_rules.specs.declared.rule.Rule.{Rule}
 use Rattle.mq_rules.specs.declared.note.Seen.{Seen}

@@ -1,10 +1,10 @@
 -- The state of a judge, and what its calls return.
 use Rattle.std.specs.Prelude.{◌≡◌, ℕ, ◌≤◌, false, List, ◌++◌, length, Some, None, Result, Ok, Err}
-use Rattle.mq_trace.specs.declared.refusal.Refusal.{Refusal}
+use Rattle.mq_log.specs.declared.refusal.Refusal.{Refusal}
 use Rattle.mq_trace.specs.declared.reading.Reading.{Reading}
 use Rattle.mq_trace.specs.Tracing.{Traced, IsTracedTo, KeepsHeader}
-use Rattle.mq_trace.specs.Events.{events}
-use Rattle.mq_trace.specs.Refusals.{refused, is_cut_short}
+use Rattle.mq_log.specs.Events.{events}
+use Rattle.mq_log.specs.Refusals.{refused, is_cut_short}
 use Rattle.mq_rules.specs.declared.role.Tested.{Tested}
 use Rattle.mq_rules.specs.declared.rule.Rule.{Rule}
 use Rattle.mq_rules.specs.Notes.{tested_by, seen_in}

@@ -1,5 +1,5 @@
 pub mod Judging
 pub mod Runner
-pub use Rattle.mq_trace.specs.Refusals
+pub use Rattle.mq_log.specs.Refusals
 pub mod Watching
 pub mod Telling

@@ -13,8 +13,8 @@ use Rattle.mq_rules.specs.declared.fault.Fault.{Fault}
 use Rattle.mq_rules.specs.declared.faults.FaultKey.{FaultKey}
 use Rattle.mq_rules.specs.FaultKeys.{FaultMap}
 use Rattle.mq_rules.specs.Notes.{tested_by, seen_in}
-use Rattle.mq_trace.specs.declared.refusal.Refusal.{Refusal}
-use Rattle.mq_trace.specs.Events.{events}
+use Rattle.mq_log.specs.declared.refusal.Refusal.{Refusal}
+use Rattle.mq_log.specs.Events.{events}
 use Rattle.mq_rules.specs.Faults.{listed_faults}
 use Rattle.mq_report.specs.Chosen.{is_judged}
 use Rattle.mq_trace.specs.Writing.{AppendsBeginning}

@@ -1,6 +1,6 @@
 -- What somebody is told while a log is judged.
 use Rattle.std.specs.Prelude.{◌≡◌, ℕ, ◌+◌, List, [], ◌∷◌, ◌++◌, length, Option, IfSome, Result, Ok, Err}
-use Rattle.mq_trace.specs.declared.refusal.Refusal.{Refusal}
+use Rattle.mq_log.specs.declared.refusal.Refusal.{Refusal}
 use Rattle.mq_report.specs.declared.report.Outcome.{Outcome}
 use Rattle.mq_report.specs.declared.report.RunFault.{RunFault}
 use Rattle.mq_report.specs.declared.report.RunFault.TheVariants as run_faults

@@ -8,9 +8,10 @@ ghost use Rattle.mq_rules.specs.Notes.{tested_by, seen_in};
 ghost use Rattle.mq_trace.specs.Tracing.{IsTracedTo};
 
 use super::watching::{End, Judging, Watching};
+use mq_log::Refusal;
 use mq_report::{DEFAULT_LIMIT, Verdict};
 use mq_rules::{Faults, Role, Tested};
-use mq_trace::{Refusal, Tracer};
+use mq_trace::Tracer;
 use std::alloc::Global;
 use std::marker::Brand;
 

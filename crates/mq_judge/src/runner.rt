@@ -2,7 +2,7 @@
 ghost use Rattle.std.specs.Prelude.{◌≡◌, ◌*◌, ◌==◌, List, IfSome, Err, if◌then◌else◌};
 ghost use Rattle.std.specs.FinMap as map;
 ghost use Rattle.mq_report.specs.declared.report.RunFault.TheVariants as run_faults;
-ghost use Rattle.mq_trace.specs.declared.refusal.Refusal.{Refusal as AnyRefusal};
+ghost use Rattle.mq_log.specs.declared.refusal.Refusal.{Refusal as AnyRefusal};
 ghost use Rattle.mq_trace.specs.Feeding.{TakesAtMost};
 ghost use Rattle.mq_judge.specs.Runner.{JudgesOver, RunsOver};
 ghost use Rattle.mq_judge.specs.Telling.{IsToldOf, IsToldOfRun, IsJudgedFor, Said};
@@ -10,9 +10,9 @@ ghost use Rattle.mq_judge.specs.Telling.{IsToldOf, IsToldOfRun, IsJudgedFor, Sai
 use super::judge::{Judge, Options};
 use super::progress::Progress;
 use super::telling::{Before, Telling};
+use mq_log::Refusal;
 use mq_report::{Form, Outcome, RunFault, Verdict, feed_log, write_report};
 use mq_rules::Role;
-use mq_trace::Refusal;
 use std::alloc::Global;
 use std::io::{Read, Write};
 use std::marker::Brand;

@@ -3,7 +3,8 @@ ghost use Rattle.std.specs.Prelude.{◌≡◌};
 
 use super::judge::Judge;
 use super::progress::Progress;
-use mq_trace::{Feed, Refusal};
+use mq_log::Refusal;
+use mq_trace::Feed;
 use std::marker::{Brand, PhantomData};
 
 /// What had been told before. Each call of `judge_telling` picks it.

@@ -4,17 +4,18 @@ ghost use Rattle.mq_books.specs.Burden.{burden};
 ghost use Rattle.mq_rules.specs.declared.note.Seen.{Seen as TheSeen};
 ghost use Rattle.mq_packet.specs.Reading.{view};
 ghost use Rattle.mq_packet.specs.declared.packet.Packet.TheVariants as packets;
-ghost use Rattle.mq_trace.specs.Events.{packet as packet_item};
-ghost use Rattle.mq_trace.specs.Flows.{item_event};
-ghost use Rattle.mq_trace.specs.Reception.{event_of};
+ghost use Rattle.mq_log.specs.Events.{packet as packet_item};
+ghost use Rattle.mq_log.specs.Flows.{item_event};
+ghost use Rattle.mq_log.specs.Reception.{event_of};
 ghost use Rattle.mq_rules.specs.Notes.{tested_as, note_of, note_of_bare};
 ghost use Rattle.mq_rules.specs.Weights.{in_word};
 ghost use Rattle.mq_judge.specs.Watching.{IsWatching, TakesIn, LeavesOut, watchers_weigh};
 
 use mq_books::Watchers;
+use mq_log::{Direction, Event, Header, Place3, Refusal};
 use mq_packet::{Packet, Publish};
 use mq_rules::{Bare, BareFields, Brisk, Faults, Memory, Note, Tested, Watch, is_bare};
-use mq_trace::{Direction, Event, Header, Place3, Refusal, Sink};
+use mq_trace::Sink;
 use std::alloc::Global;
 use std::marker::{Brand, PhantomData};
 use std::mem::replace;
@@ -263,7 +264,7 @@ impl<K> Judging<K> {
 
 impl<K: End> Sink for Judging<K> {
     ghost use Rattle.std.specs.Prelude.{◌≡◌, map};
-    ghost use Rattle.mq_trace.specs.declared.refusal.Refusal.TheVariants as refusals;
+    ghost use Rattle.mq_log.specs.declared.refusal.Refusal.TheVariants as refusals;
     ghost use Rattle.mq_rules.specs.Notes.{seen as seen_of};
     ghost use Rattle.mq_judge.specs.Watching.{IsFound, IsWatching};
 

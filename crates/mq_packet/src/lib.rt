@@ -57,6 +57,3 @@ pub use writing::{
     EncodeFault, encode, what_is_valid_is_spelled, what_is_written_is_cut,
     what_is_written_is_decoded,
 };
-
-#[cfg(test)]
-mod tests;

@@ -3,8 +3,8 @@ ghost use Rattle.std.specs.Prelude.{◌≡◌, OnOk, OnErr};
 ghost use Rattle.mq_rules.specs.FaultKeys.{with_fault};
 ghost use Rattle.mq_plain.specs.Blames.{decided_by};
 
+use mq_log::Place3;
 use mq_rules::{Fault, FaultKey, Faults, Memory, Rule};
-use mq_trace::Place3;
 
 /// Adds the fault of a statement at a place, decided at this position. A pair that already has a
 /// fault keeps it.

@@ -20,8 +20,8 @@ use crate::quota::is_used_up;
 use crate::resting::RestStatement;
 use crate::session::{begins_at, fate_before, is_accepted};
 use crate::table::Table;
+use mq_log::Place3;
 use mq_rules::{Fate, Memory, Note, Role, Rule, Seen};
-use mq_trace::Place3;
 use std::alloc::Global;
 
 // Marks an identifier, if there is one.

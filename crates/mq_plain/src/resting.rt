@@ -8,8 +8,8 @@ ghost use Rattle.mq_plain.specs.Events.{ComesNext};
 
 use crate::adding::add_fault;
 use crate::turn::Turn;
+use mq_log::Place3;
 use mq_rules::{Faults, Memory, Role, Rule, Seen};
-use mq_trace::Place3;
 use std::alloc::Global;
 
 /// A statement that is false at an event if a later binding REST shows it.

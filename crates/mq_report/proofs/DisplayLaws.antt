@@ -2,13 +2,13 @@
 use Rattle.std.proofs.Common.{◌≡◌, ℕ, Bool, true, false, true≢false, ◌⊎◌, inl, inr, List, [], ◌∷◌, ◌++◌, length, Option, Some, None, Result, Ok, Err, OnOk, IfErr, IfSome, refl, sym, ap, subst, MutBor, ◌∙◌, append_assoc, append-nil, length-append, nat_lt, ◌<◌, ◌≤◌, arith}
 use Rattle.std.specs.Prelude.{◌==◌, if◌then◌else◌}
 use Rattle.std.specs.Io.KnownBytes.{Appends}
-use Rattle.mq_trace.specs.declared.refusal.Refusal.{Refusal}
-use Rattle.mq_trace.specs.declared.refusal.Refusal.TheVariants as refusals
-use Rattle.mq_trace.specs.Events.{Placed, events}
-use Rattle.mq_trace.specs.Refusals.{refused, is_cut_short}
-use Rattle.mq_trace.specs.declared.header.Header.{Header}
+use Rattle.mq_log.specs.declared.refusal.Refusal.{Refusal}
+use Rattle.mq_log.specs.declared.refusal.Refusal.TheVariants as refusals
+use Rattle.mq_log.specs.Events.{Placed, events}
+use Rattle.mq_log.specs.Refusals.{refused, is_cut_short}
+use Rattle.mq_log.specs.declared.header.Header.{Header}
 use Rattle.mq_trace.specs.declared.reading.Reading.{Reading}
-use Rattle.mq_trace.specs.Framing.{header_by}
+use Rattle.mq_log.specs.Framing.{header_by}
 use Rattle.mq_trace.specs.Tracing.{Traced, IsTracedTo, Begins, HasReceived, Stops, StopsInHeader, Why}
 use Rattle.mq_report.specs.declared.display.Showing.{Showing}
 use Rattle.mq_report.specs.declared.report.RunFault.{RunFault}
@@ -21,7 +21,8 @@ use Rattle.mq_report.specs.Display.{Shows, WritesBeginning, is_timed}
 use Rattle.mq_report.specs.Views.{IsForeseen, is_timed_if_known}
 use Rattle.mq_report.specs.Tracing.{IsShown, TraceStops, ShowStops}
 use Rattle.mq_report.proofs.HeaderLaws.{header-stays, named_by, named_whole, unnamed_part}
-use Rattle.mq_trace.proofs.Exports.{appends-nothing, events-header, last-written, pieces-are, some-taken, stopped-in-last, whole-taken}
+use Rattle.mq_log.proofs.Exports.{events-header}
+use Rattle.mq_trace.proofs.Exports.{appends-nothing, last-written, pieces-are, some-taken, stopped-in-last, whole-taken}
 use Rattle.mq_trace.specs.Writing.{AppendsBeginning}
 
 -- ---- a log that is timed as was foreseen, or isn't

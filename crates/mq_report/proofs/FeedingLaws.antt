@@ -1,7 +1,7 @@
 -- Feeding that halted, said by the refusal of the log.
 use Rattle.std.proofs.Common.{◌≡◌, ◌∙◌, ℕ, List, Option, inl, inr, ap, subst, sym}
-use Rattle.mq_trace.specs.declared.refusal.Refusal.{Refusal}
-use Rattle.mq_trace.specs.declared.refusal.Refusal.TheVariants as refusals
+use Rattle.mq_log.specs.declared.refusal.Refusal.{Refusal}
+use Rattle.mq_log.specs.declared.refusal.Refusal.TheVariants as refusals
 use Rattle.mq_trace.specs.declared.feeding.Halt.{Halt}
 use Rattle.mq_trace.specs.declared.feeding.Halt.TheVariants as halts
 use Rattle.mq_trace.specs.Feeding.{FedSome, refusal_of}

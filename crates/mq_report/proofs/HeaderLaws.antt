@@ -2,9 +2,9 @@
 use Rattle.std.proofs.Common.{◌≡◌, ℕ, ◌+◌, ◌<◌, ◌≤◌, Bool, true, false, nat_lt, List, [], ◌∷◌, ◌++◌, length, Some, None, refl, sym, ◌∙◌, ap, arith, length-append, append_assoc, append-nil}
 use Rattle.std.specs.Prelude.{if◌then◌else◌}
 use Rattle.std.proofs.lemmas.Bool.{ltb-true, ltb-false}
-use Rattle.mq_trace.specs.declared.header.Header.{Header}
-use Rattle.mq_trace.specs.Framing.{header_by}
-use Rattle.mq_trace.proofs.Exports.{header-unchanged}
+use Rattle.mq_log.specs.declared.header.Header.{Header}
+use Rattle.mq_log.specs.Framing.{header_by}
+use Rattle.mq_log.proofs.Exports.{header-unchanged}
 
 -- a whole header stays, whatever comes after it
 pub header-stays : (log more : List ℕ) → 8 ≤ length log → header_by (log ++ more) ≡ header_by log

@@ -2,7 +2,7 @@
 use Rattle.std.specs.Fmt.{WritesText, WritesInCalls, with_newline}
 use Rattle.std.proofs.lemmas.Fmt.{contents_after_writes}
 use Rattle.std.proofs.Common.{◌≡◌, ℕ, IfSome, OnOk, Result, Ok, Err, List, [], ◌∷◌, ◌++◌, Option, Some, None, ap, ◌∙◌, append_assoc}
-use Rattle.mq_trace.specs.Refusing.{spaced}
+use Rattle.mq_log.specs.Refusing.{spaced}
 use Rattle.mq_report.specs.Report.{line}
 
 -- what was written into a list by calls stands at its end

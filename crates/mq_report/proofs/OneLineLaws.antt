@@ -8,7 +8,7 @@ use Rattle.mq_props.specs.Values.{Value, Property, byte_value, two_bytes_value, 
 use Rattle.mq_props.specs.Listed.{Listed}
 use Rattle.mq_packet.specs.Entries.{Entry, ConnectFields, PublishFields, WillFields, AskedFilter, connect, connack, publish, acknowledgement, request, answer, pingreq, pingresp, disconnect, auth}
 use Rattle.mq_packet.specs.declared.rule.PacketRule.{PacketRule}
-use Rattle.mq_trace.specs.Events.{Event, Item, packet as whole_item, bad as broken_item, lost as lost_item, opened, closed, rested, released, sent, received}
+use Rattle.mq_log.specs.Events.{Event, Item, packet as whole_item, bad as broken_item, lost as lost_item, opened, closed, rested, released, sent, received}
 use Rattle.mq_rules.specs.Notes.{qos_number}
 use Rattle.mq_report.specs.ItemText.{flag_number, with_spaces}
 use Rattle.mq_report.specs.Marking.{between, marked_at}

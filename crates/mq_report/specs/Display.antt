@@ -2,13 +2,13 @@
 use Rattle.std.specs.Prelude.{◌≡◌, ℕ, ◌+◌, Bool, true, false, nat_le, nat_lt, ◌&&◌, List, [], ◌∷◌, ◌++◌, codes, decimal, Option, Some, None, Result, Ok, Err, if◌then◌else◌, ◌==◌}
 use Rattle.std.specs.List.{flat_map, list_any}
 use Rattle.std.specs.Io.KnownBytes.{Appends}
-use Rattle.mq_trace.specs.declared.kind.Direction.{Direction}
-use Rattle.mq_trace.specs.declared.kind.Direction.TheVariants.{Sent, Recv}
-use Rattle.mq_trace.specs.declared.place.Place3.{Place3}
-use Rattle.mq_trace.specs.Framing.{header_by}
-use Rattle.mq_trace.specs.Events.{Event, Placed, opened, closed, rested, released, sent, received, events}
-use Rattle.mq_trace.specs.Refusals.{refused}
-use Rattle.mq_trace.specs.Refusing.{spaced}
+use Rattle.mq_log.specs.declared.kind.Direction.{Direction}
+use Rattle.mq_log.specs.declared.kind.Direction.TheVariants.{Sent, Recv}
+use Rattle.mq_log.specs.declared.place.Place3.{Place3}
+use Rattle.mq_log.specs.Framing.{header_by}
+use Rattle.mq_log.specs.Events.{Event, Placed, opened, closed, rested, released, sent, received, events}
+use Rattle.mq_log.specs.Refusals.{refused}
+use Rattle.mq_log.specs.Refusing.{spaced}
 use Rattle.mq_trace.specs.Writing.{AppendsBeginning}
 use Rattle.mq_rules.specs.declared.role.Role as roles
 use Rattle.mq_rules.specs.declared.rule.Rule.{Rule}

@@ -2,11 +2,11 @@
 use Rattle.std.specs.Prelude.{ℕ, Bool, true, false, List, [], ◌∷◌, ◌++◌, codes, decimal, Option, Some, None}
 use Rattle.mq_packet.specs.declared.rule.PacketRule.{PacketRule}
 use Rattle.mq_packet.specs.declared.rule.PacketRule.TheVariants as packet_rules
-use Rattle.mq_trace.specs.Events.{Item, packet as whole_item, bad as broken_item, lost as lost_item}
+use Rattle.mq_log.specs.Events.{Item, packet as whole_item, bad as broken_item, lost as lost_item}
 use Rattle.mq_report.specs.declared.report.packet_summary.PacketSummary.{PacketSummary}
 use Rattle.mq_report.specs.declared.report.packet_summary.PacketSummary.TheVariants.{Connect, Connack, Publish, Puback, Pubrec, Pubrel, Pubcomp, Subscribe, Suback, Unsubscribe, Unsuback, Pingreq, Pingresp, Disconnect, Auth}
 use Rattle.mq_report.specs.Summaries.{packet_summary}
-use Rattle.mq_trace.specs.Refusing.{spaced}
+use Rattle.mq_log.specs.Refusing.{spaced}
 use Rattle.mq_rules.specs.Notes.{qos_number}
 
 -- the name of a packet's type (MQTT 5.0, section 2.1.2)

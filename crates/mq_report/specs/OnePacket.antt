@@ -12,7 +12,7 @@ use Rattle.mq_report.specs.declared.finding.Finding.{Finding}
 use Rattle.mq_report.specs.declared.finding.Finding.TheVariants.{NeedMore, LeftOver, Packet, Broken, Lost, OtherVersion}
 use Rattle.mq_report.specs.Summaries.{packet_summary}
 use Rattle.mq_report.specs.ItemText.{packet_text, broken_text, lost_text}
-use Rattle.mq_trace.specs.Refusing.{spaced}
+use Rattle.mq_log.specs.Refusing.{spaced}
 use Rattle.mq_report.specs.Report.{line}
 
 -- what one frame is that has this first byte and this size, by the result of reading its body

@@ -8,9 +8,9 @@ use Rattle.mq_report.specs.declared.report.Form.{Form}
 use Rattle.mq_report.specs.declared.report.Form.TheVariants as forms
 use Rattle.mq_report.specs.declared.report.RunFault.{RunFault}
 use Rattle.mq_report.specs.declared.report.RunFault.TheVariants as run_faults
-use Rattle.mq_trace.specs.declared.refusal.Refusal.{Refusal}
-use Rattle.mq_trace.specs.Refusing.{spaced, number_of, name_of, refusal_offset, refused_text}
-use Rattle.mq_trace.specs.Events.{events}
+use Rattle.mq_log.specs.declared.refusal.Refusal.{Refusal}
+use Rattle.mq_log.specs.Refusing.{spaced, number_of, name_of, refusal_offset, refused_text}
+use Rattle.mq_log.specs.Events.{events}
 use Rattle.mq_trace.specs.Writing.{AppendsBeginning}
 use Rattle.mq_rules.specs.declared.role.Role as roles
 use Rattle.mq_rules.specs.declared.rule.Rule.{Rule}

@@ -1,11 +1,11 @@
 -- How far a log is taken in: the bytes in which nothing is refused, and why the byte after them, or the log's end, is refused.
 use Rattle.std.specs.Prelude.{◌≡◌, ℕ, true, false, List, [], ◌∷◌, ◌++◌, length, ◌⊎◌, Option, Some, None, is_some}
 use Rattle.std.specs.Io.KnownBytes.{Consumes}
-use Rattle.mq_trace.specs.declared.refusal.Refusal.{Refusal}
-use Rattle.mq_trace.specs.declared.refusal.Refusal.TheVariants as refusals
+use Rattle.mq_log.specs.declared.refusal.Refusal.{Refusal}
+use Rattle.mq_log.specs.declared.refusal.Refusal.TheVariants as refusals
 use Rattle.mq_trace.specs.Deframing.{NeedsMemory}
-use Rattle.mq_trace.specs.Events.{event_at, packet_at}
-use Rattle.mq_trace.specs.Refusals.{refused, refusal_at, is_cut_short}
+use Rattle.mq_log.specs.Events.{event_at, packet_at}
+use Rattle.mq_log.specs.Refusals.{refused, refusal_at, is_cut_short}
 
 -- the largest packet that is read by default, in bytes
 abbrev pub default_limit : ℕ

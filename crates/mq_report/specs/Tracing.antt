@@ -1,8 +1,8 @@
 -- The result of feeding a tracer and its sink if a byte is refused.
 use Rattle.std.specs.Prelude.{◌≡◌, ℕ, Bool, true, List, ◌∷◌, ◌++◌, ◌⊎◌, None}
-use Rattle.mq_trace.specs.declared.refusal.Refusal.{Refusal}
-use Rattle.mq_trace.specs.Events.{Placed, events}
-use Rattle.mq_trace.specs.Refusals.{refused}
+use Rattle.mq_log.specs.declared.refusal.Refusal.{Refusal}
+use Rattle.mq_log.specs.Events.{Placed, events}
+use Rattle.mq_log.specs.Refusals.{refused}
 use Rattle.mq_trace.specs.Tracing.{Traced, IsTracedTo}
 use Rattle.mq_report.specs.Stopping.{IsRefusedByte}
 use Rattle.mq_report.specs.Views.{IsForeseen}

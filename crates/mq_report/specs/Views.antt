@@ -1,7 +1,7 @@
 -- What is shown of the events of a log, one after another.
 use Rattle.std.specs.Prelude.{◌≡◌, ◌≤◌, ℕ, Bool, false, List, length, ⊤, Option, Some, None}
 use Rattle.std.specs.FinMap as map
-use Rattle.mq_trace.specs.Events.{Placed}
+use Rattle.mq_log.specs.Events.{Placed}
 use Rattle.mq_report.specs.declared.display.annotated.Annotated.{Annotated as AnnotatedView}
 use Rattle.mq_report.specs.declared.display.view.View.{View}
 use Rattle.mq_report.specs.declared.display.view.View.TheVariants.{Brief, Long, Annotated}

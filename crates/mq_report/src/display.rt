@@ -5,9 +5,9 @@ ghost use Rattle.std.specs.FinMap as map;
 ghost use Rattle.mq_report.specs.Stopping.{default_limit};
 ghost use Rattle.mq_report.specs.Display.{Annotation, Shows, annotated, is_timed, short_lines_of, long_lines_of};
 ghost use Rattle.mq_report.specs.Views.{IsStateAfter, is_timed_if_known, text_by};
-ghost use Rattle.mq_trace.specs.Refusals.{is_cut_short};
+ghost use Rattle.mq_log.specs.Refusals.{is_cut_short};
 ghost use Rattle.mq_trace.specs.Tracing.{IsTracedTo};
-ghost use Rattle.mq_trace.specs.declared.refusal.Refusal.TheVariants as refusals;
+ghost use Rattle.mq_log.specs.declared.refusal.Refusal.TheVariants as refusals;
 
 mod annotated;
 mod calendar;
@@ -20,9 +20,10 @@ use self::outgoing::Outgoing;
 use self::view::View;
 use super::feeding::{DEFAULT_LIMIT, feed_log};
 use super::report::RunFault;
+use mq_log::{Direction, Event, Place3, Refusal};
 use mq_packet::Packet;
 use mq_rules::{Faults, Role};
-use mq_trace::{Direction, Event, Feed, Place3, Refusal, Sink, Tracer};
+use mq_trace::{Feed, Sink, Tracer};
 use std::alloc::Global;
 use std::io::{Read, Write};
 use std::marker::{Brand, PhantomData};
@@ -31,7 +32,7 @@ use std::marker::{Brand, PhantomData};
 /// shown, and whether the log is foreseen to be timed. Each call of `show_all` picks them.
 trait Given {
     ghost use Rattle.std.specs.Prelude.{ℕ, Bool, List, Option};
-    ghost use Rattle.mq_trace.specs.Events.{Placed};
+    ghost use Rattle.mq_log.specs.Events.{Placed};
 
     ghost direction: { ℕ };
 
@@ -62,7 +63,7 @@ impl Given for Brand {
 /// may fail between two pieces.
 trait Told: Sink {
     ghost use Rattle.std.specs.Prelude.{◌≡◌, Bool, true, false, List, OnOk, IfErr};
-    ghost use Rattle.mq_trace.specs.Events.{Placed};
+    ghost use Rattle.mq_log.specs.Events.{Placed};
 
     // Whether the log is foreseen to be timed: of any other log nothing is known of the sink.
     ghost foreseen: { Bool };

@@ -3,7 +3,8 @@ ghost use Rattle.std.specs.Prelude.{◌≡◌, ◌*◌, ◌<◌, ◌≤◌, [], 
 ghost use Rattle.mq_trace.specs.Feeding.{FedAll, TakesAtMost};
 ghost use Rattle.mq_report.specs.Stopping.{FedBefore};
 
-use mq_trace::{Feed, Refusal, feed_all};
+use mq_log::Refusal;
+use mq_trace::{Feed, feed_all};
 use std::io::Read;
 
 /// The largest packet that is read by default, in bytes.

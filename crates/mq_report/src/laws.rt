@@ -1,7 +1,7 @@
 //! Laws of what is reported, each proved as the contract of a function that does nothing.
 ghost use Rattle.std.specs.Prelude.{◌≡◌, ◌<◌, ℕ, List, None, codes, false, slice_index};
 ghost use Rattle.mq_trace.specs.Converting.{converted};
-ghost use Rattle.mq_trace.specs.Refusals.{refused, is_cut_short};
+ghost use Rattle.mq_log.specs.Refusals.{refused, is_cut_short};
 ghost use Rattle.mq_report.specs.declared.report.Form.{Form};
 ghost use Rattle.mq_report.specs.Calendar.{IsDate, day_of_month, month_of, utc_text, year_of};
 ghost use Rattle.mq_report.specs.Report.{report};

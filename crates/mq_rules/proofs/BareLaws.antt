@@ -3,10 +3,10 @@ use Rattle.std.proofs.Common.{◌≡◌, ◌&&◌, ℕ, List, [], Bool, false, N
 use Rattle.mq_props.specs.Values.{Property}
 use Rattle.mq_props.specs.First.{first_two_bytes, first_four_bytes, first_varint, first_text, first_pair}
 use Rattle.mq_packet.specs.Entries.{PublishFields, publish, pingreq, pingresp}
-use Rattle.mq_trace.specs.declared.kind.Direction.{Direction}
-use Rattle.mq_trace.specs.declared.kind.Direction.TheVariants.{Sent, Recv}
-use Rattle.mq_trace.specs.Events.{packet}
-use Rattle.mq_trace.specs.Flows.{item_event}
+use Rattle.mq_log.specs.declared.kind.Direction.{Direction}
+use Rattle.mq_log.specs.declared.kind.Direction.TheVariants.{Sent, Recv}
+use Rattle.mq_log.specs.Events.{packet}
+use Rattle.mq_log.specs.Flows.{item_event}
 use Rattle.mq_rules.specs.declared.note.Note.TheVariants as notes
 use Rattle.mq_rules.specs.declared.note.ItemNote.TheVariants as items
 use Rattle.mq_rules.specs.declared.packet_note.PacketNote.{PacketNote}

@@ -25,7 +25,7 @@ use Rattle.mq_rules.specs.contracts.faults.FaultKeyOrd.TheImpl.Laws as laws
 use Rattle.mq_rules.specs.declared.rule.Rule.{Rule}
 use Rattle.mq_rules.specs.declared.faults.FaultKey.{FaultKey}
 use Rattle.mq_rules.specs.declared.fault.Fault.{Fault}
-use Rattle.mq_trace.specs.declared.place.Place3.{Place3}
+use Rattle.mq_log.specs.declared.place.Place3.{Place3}
 use Rattle.mq_rules.specs.Rules.{rule_cmp, same_rule}
 use Rattle.mq_rules.specs.FaultKeys.{key_cmp, FaultMap, fault_at, faults_at, first_from, with_fault, judged}
 

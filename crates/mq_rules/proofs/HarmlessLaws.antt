@@ -7,7 +7,7 @@ use Rattle.std.specs.BTreeSet.{contains, btree_set_len}
 use Rattle.std.specs.Ordering.{nat_cmp}
 use Rattle.mq_packet.specs.Canonical.{type_number}
 use Rattle.mq_packet.specs.declared.packet.PacketType.TheVariants as types
-use Rattle.mq_trace.specs.declared.place.Place3.{Place3}
+use Rattle.mq_log.specs.declared.place.Place3.{Place3}
 use Rattle.mq_rules.specs.declared.role.Role.{Role}
 use Rattle.mq_rules.specs.declared.role.Role.TheVariants.{Client, Server}
 use Rattle.mq_rules.specs.declared.role.Tested.{Tested}

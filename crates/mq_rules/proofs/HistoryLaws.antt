@@ -7,7 +7,7 @@ use Rattle.mq_rules.specs.declared.fate.Fate.{Fate}
 use Rattle.mq_rules.specs.declared.fate.Fate.TheVariants.{Void, Adrift, New, Forgotten, Resumed, Unasked, Unknown}
 use Rattle.mq_rules.specs.declared.note.Note.{Note}
 use Rattle.mq_rules.specs.declared.note.Seen.{Seen}
-use Rattle.mq_trace.specs.declared.kind.Direction.TheVariants as directions
+use Rattle.mq_log.specs.declared.kind.Direction.TheVariants as directions
 use Rattle.mq_rules.specs.declared.bare.Bare.{Bare}
 use Rattle.mq_rules.specs.declared.bare.BareFields.{BareFields}
 use Rattle.mq_rules.specs.declared.bare.BareFields.TheVariants as bares

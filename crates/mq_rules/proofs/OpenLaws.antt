@@ -4,16 +4,16 @@ use Rattle.std.specs.Prelude.{is_some, ◌&&◌, ◌||◌, not, if◌then◌else
 use Rattle.std.proofs.lemmas.Bool.{ltb-true, ltb-false, le-ltb, eqb-true}
 use Rattle.std.specs.Int.{w16, from_be_bytes}
 use Rattle.std.proofs.Common.{drop}
-use Rattle.mq_trace.specs.declared.kind.RecordKind.{RecordKind}
-use Rattle.mq_trace.specs.declared.kind.RecordKind.TheVariants as kinds
-use Rattle.mq_trace.specs.declared.header.Header.{Header}
-use Rattle.mq_trace.specs.Framing.{kind_of, kind_named, head_length, record_size}
-use Rattle.mq_trace.specs.Connections.{begins_connection, ends_connection}
-use Rattle.mq_trace.specs.Events.{Item, Event, event_by, item_at, opened, closed, rested, released, sent, received}
-use Rattle.mq_trace.specs.Refusals.{Situation, conditions, header_refusal, record_refusal, refusal_at, refused, is_first, needs_connection as needs_open}
-use Rattle.mq_trace.specs.Context.{Context, ahead_of, begun_of, context, situated, so_far_for, refusal_for, event_for, after, after_header, after_part, with_completed, fresh}
-use Rattle.mq_trace.proofs.Exports.{refusal-kept, at_context}
-use Rattle.mq_trace.proofs.ContextLaws.{context-grow, context-nothing}
+use Rattle.mq_log.specs.declared.kind.RecordKind.{RecordKind}
+use Rattle.mq_log.specs.declared.kind.RecordKind.TheVariants as kinds
+use Rattle.mq_log.specs.declared.header.Header.{Header}
+use Rattle.mq_log.specs.Framing.{kind_of, kind_named, head_length, record_size}
+use Rattle.mq_log.specs.Connections.{begins_connection, ends_connection}
+use Rattle.mq_log.specs.Events.{Item, Event, event_by, item_at, opened, closed, rested, released, sent, received}
+use Rattle.mq_log.specs.Refusals.{Situation, conditions, header_refusal, record_refusal, refusal_at, refused, is_first, needs_connection as needs_open}
+use Rattle.mq_log.specs.Context.{Context, ahead_of, begun_of, context, situated, so_far_for, refusal_for, event_for, after, after_header, after_part, with_completed, fresh}
+use Rattle.mq_log.proofs.Exports.{refusal-kept, at_context}
+use Rattle.mq_log.proofs.Exports.{context-grow, context-nothing}
 use Rattle.mq_rules.specs.declared.note.Seen.{Seen}
 use Rattle.mq_rules.specs.Notes.{note_of, seen_in}
 use Rattle.mq_rules.specs.Connections.{needs_connection, AreOnConnections}

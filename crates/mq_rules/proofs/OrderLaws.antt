@@ -8,16 +8,16 @@ use Rattle.mq_packet.specs.declared.packet.AcknowledgementKind.TheVariants as ac
 use Rattle.mq_packet.specs.declared.packet.RequestKind.TheVariants as requests
 use Rattle.mq_packet.specs.Entries.{Entry, connect, connack, publish, acknowledgement, request, answer, pingreq, pingresp, disconnect, auth}
 use Rattle.mq_packet.specs.Canonical.{type_of}
-use Rattle.mq_trace.specs.declared.kind.Direction.{Direction}
-use Rattle.mq_trace.specs.declared.kind.Direction.TheVariants as directions
-use Rattle.mq_trace.specs.declared.refusal.Refusal.{Refusal}
-use Rattle.mq_trace.specs.declared.header.Header.{Header}
-use Rattle.mq_trace.specs.Framing.{header_by, ahead_in, head_length, moment_in}
-use Rattle.mq_trace.specs.Events.{Event, Placed, part_at, packet_at, begun_at, event_in, event_at, events, packet, bad, lost, opened, closed, sent, received}
-use Rattle.mq_trace.specs.Connections.{begins_connection, ends_connection, is_connack_type, is_answer, has_open_connection, is_connack_seen as trace_connack_seen, events_on_connection, most_early_events}
-use Rattle.mq_trace.specs.Refusals.{Situation, situation, first_that_applies, conditions, header_refusal, record_refusal, refusal_at, refused, comes_too_early}
-use Rattle.mq_trace.specs.Context.{Context, ahead_of, context, event_for, placed_with, placed_for, put}
-use Rattle.mq_trace.proofs.Exports.{refused-grow, event-kept, events-kept, events-header, header-unchanged}
+use Rattle.mq_log.specs.declared.kind.Direction.{Direction}
+use Rattle.mq_log.specs.declared.kind.Direction.TheVariants as directions
+use Rattle.mq_log.specs.declared.refusal.Refusal.{Refusal}
+use Rattle.mq_log.specs.declared.header.Header.{Header}
+use Rattle.mq_log.specs.Framing.{header_by, ahead_in, head_length, moment_in}
+use Rattle.mq_log.specs.Events.{Event, Placed, part_at, packet_at, begun_at, event_in, event_at, events, packet, bad, lost, opened, closed, sent, received}
+use Rattle.mq_log.specs.Connections.{begins_connection, ends_connection, is_connack_type, is_answer, has_open_connection, is_connack_seen as trace_connack_seen, events_on_connection, most_early_events}
+use Rattle.mq_log.specs.Refusals.{Situation, situation, first_that_applies, conditions, header_refusal, record_refusal, refusal_at, refused, comes_too_early}
+use Rattle.mq_log.specs.Context.{Context, ahead_of, context, event_for, placed_with, placed_for, put}
+use Rattle.mq_log.proofs.Exports.{refused-grow, event-kept, events-kept, events-header, header-unchanged}
 use Rattle.mq_rules.specs.declared.role.Role.{Role}
 use Rattle.mq_rules.specs.declared.fate.Fate.{Fate}
 use Rattle.mq_rules.specs.declared.fate.Fate.TheVariants.{Void}

@@ -4,7 +4,7 @@ use Rattle.std.proofs.lemmas.List.{length-map}
 use denote.Enum.Bare.{sameb}
 use Rattle.mq_packet.specs.declared.rule.PacketRule.{PacketRule}
 use Rattle.mq_packet.specs.contracts.rule.PacketRule.{the_type}
-use Rattle.mq_trace.specs.Events.{Item, Event, Placed, packet, bad, lost, opened, closed, rested, released, sent, received}
+use Rattle.mq_log.specs.Events.{Item, Event, Placed, packet, bad, lost, opened, closed, rested, released, sent, received}
 use Rattle.mq_rules.specs.declared.role.Role.{Role}
 use Rattle.mq_rules.specs.declared.role.Tested.{Tested}
 use Rattle.mq_rules.specs.declared.fate.Fate.{Fate}

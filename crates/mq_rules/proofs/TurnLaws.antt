@@ -4,17 +4,17 @@ use Rattle.std.specs.Prelude.{is_some, ◌&&◌, if◌then◌else◌, option_map
 use Rattle.std.proofs.lemmas.Bool.{ltb-true, ltb-false, le-ltb, eqb-true}
 use Rattle.std.specs.Int.{w16, from_be_bytes}
 use Rattle.std.proofs.Common.{drop}
-use Rattle.mq_trace.specs.declared.kind.RecordKind.{RecordKind}
-use Rattle.mq_trace.specs.declared.kind.RecordKind.TheVariants as kinds
-use Rattle.mq_trace.specs.declared.header.Header.{Header}
-use Rattle.mq_trace.specs.Pieces.{Pieces}
-use Rattle.mq_trace.specs.Framing.{kind_of, kind_named, head_length, record_size}
-use Rattle.mq_trace.specs.Events.{Item, Event, event_by, event_in, item_at, opened, closed, rested, released, sent, received}
-use Rattle.mq_trace.specs.Refusals.{Situation, conditions, header_refusal, record_refusal, refusal_at, refused, is_open_kind, is_first}
-use Rattle.mq_trace.specs.Context.{Context, ahead_of, begun_of, context, situated, so_far_for, refusal_for, event_for, after, after_header, after_part, with_completed, fresh}
-use Rattle.mq_trace.proofs.Exports.{refusal-kept, header-unchanged, at_context}
-use Rattle.mq_trace.proofs.ContextLaws.{context-grow, context-nothing, part_context}
-use Rattle.mq_trace.proofs.FramingLaws.{records-header}
+use Rattle.mq_log.specs.declared.kind.RecordKind.{RecordKind}
+use Rattle.mq_log.specs.declared.kind.RecordKind.TheVariants as kinds
+use Rattle.mq_log.specs.declared.header.Header.{Header}
+use Rattle.mq_log.specs.Pieces.{Pieces}
+use Rattle.mq_log.specs.Framing.{kind_of, kind_named, head_length, record_size}
+use Rattle.mq_log.specs.Events.{Item, Event, event_by, event_in, item_at, opened, closed, rested, released, sent, received}
+use Rattle.mq_log.specs.Refusals.{Situation, conditions, header_refusal, record_refusal, refusal_at, refused, is_open_kind, is_first}
+use Rattle.mq_log.specs.Context.{Context, ahead_of, begun_of, context, situated, so_far_for, refusal_for, event_for, after, after_header, after_part, with_completed, fresh}
+use Rattle.mq_log.proofs.Exports.{refusal-kept, header-unchanged, at_context}
+use Rattle.mq_log.proofs.Exports.{context-grow, context-nothing, part_context}
+use Rattle.mq_log.proofs.Exports.{records-header}
 use Rattle.mq_rules.specs.declared.role.Role.{Role}
 use Rattle.mq_rules.specs.declared.note.Seen.{Seen}
 use Rattle.mq_rules.specs.Notes.{tested_by, note_of, seen_in, is_open}

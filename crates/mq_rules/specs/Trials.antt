@@ -5,7 +5,7 @@ use Rattle.mq_packet.specs.declared.rule.PacketRule.{PacketRule}
 use Rattle.mq_packet.specs.declared.rule.PacketRule.TheVariants as packets
 use Rattle.mq_packet.specs.contracts.rule.PacketRule.{the_type}
 use Rattle.mq_packet.specs.Tries.{tries}
-use Rattle.mq_trace.specs.Events.{Item, Event, Placed, packet, bad, lost, sent}
+use Rattle.mq_log.specs.Events.{Item, Event, Placed, packet, bad, lost, sent}
 use Rattle.mq_rules.specs.declared.role.Tested.{Tested}
 use Rattle.mq_rules.specs.declared.rule.Rule.{Rule}
 use Rattle.mq_rules.specs.Words.{is_some_and}

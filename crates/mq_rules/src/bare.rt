@@ -1,9 +1,9 @@
 //! Notes of packets without properties, most packets of most logs. They take no memory.
 ghost use Rattle.std.specs.Prelude.{◌≡◌, ◌≤◌, ◌&&◌, ℕ, [], false, length, IsTrue, IfSome};
 ghost use Rattle.mq_packet.specs.Reading.{view};
-ghost use Rattle.mq_trace.specs.Events.{packet as packet_item};
-ghost use Rattle.mq_trace.specs.Flows.{item_event};
-ghost use Rattle.mq_trace.specs.declared.kind.Direction.{Direction as TheDirection};
+ghost use Rattle.mq_log.specs.Events.{packet as packet_item};
+ghost use Rattle.mq_log.specs.Flows.{item_event};
+ghost use Rattle.mq_log.specs.declared.kind.Direction.{Direction as TheDirection};
 ghost use Rattle.mq_rules.specs.declared.packet_note.PacketFields.TheVariants as fields_of;
 ghost use Rattle.mq_rules.specs.Notes.{is_acknowledged, bare_fields, bare_note, bare_publish_note, note_of, kept_topic, note_of_bare};
 
@@ -11,8 +11,8 @@ use crate::conversion::{is_retained, nonempty};
 use crate::note::{ItemNote, Note};
 use crate::packet_note::{PacketFields, PacketNote, PublishNote};
 use crate::text::Text;
+use mq_log::Direction;
 use mq_packet::{Packet, Publish, Qos};
-use mq_trace::Direction;
 
 /// Whether a PUBLISH has no properties, and a Topic Name that is short enough to lie in its note.
 /// One with RETAIN 1 and a QoS above 0 counts as one with properties.

@@ -31,7 +31,7 @@ use crate::role::{Role, Tested};
 use crate::rule::Rule;
 use crate::watch::{Brisk, Watch, step_apart};
 pub use harmless::{SendBounds, is_bare_harmless, is_harmless};
-use mq_trace::Place3;
+use mq_log::Place3;
 pub use state::ConnectionState;
 use std::alloc::Global;
 use std::collections::BTreeSet;

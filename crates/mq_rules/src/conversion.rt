@@ -10,9 +10,9 @@ ghost use Rattle.mq_packet.specs.declared.packet.RequestKind.TheVariants as requ
 ghost use Rattle.mq_packet.specs.Reading.{view, connect_view, publish_view};
 ghost use Rattle.mq_packet.specs.Sizes.{size_with, remaining_length};
 ghost use Rattle.mq_packet.specs.Entries.{publish as publish_entry};
-ghost use Rattle.mq_trace.specs.Events.{packet, packet as packet_item};
-ghost use Rattle.mq_trace.specs.Flows.{item_event};
-ghost use Rattle.mq_trace.specs.Reception.{item_of, event_of};
+ghost use Rattle.mq_log.specs.Events.{packet, packet as packet_item};
+ghost use Rattle.mq_log.specs.Flows.{item_event};
+ghost use Rattle.mq_log.specs.Reception.{item_of, event_of};
 ghost use Rattle.mq_rules.specs.Words.{is_some_and};
 ghost use Rattle.mq_rules.specs.declared.packet_note.PacketFields.TheVariants as fields;
 ghost use Rattle.mq_rules.specs.Notes.{only_list, is_sent_direction, is_acknowledged, begins_acknowledged, connect_note, connack_note, publish_note, disconnect_note, packet_fields, properties_of, packet_note, item_note, note_of, request_fields, answer_fields, keeps_text, item_keeps_text, note_keeps_text};
@@ -23,11 +23,11 @@ use crate::packet_note::{
     ConnackNote, ConnectNote, DisconnectNote, PacketFields, PacketNote, PublishNote,
 };
 use crate::text::{CodeList, FilterList, Text};
+use mq_log::{Direction, Event, Item};
 use mq_packet::{
     Answer, Codes, Connack, Connect, Filters, Packet, Publish, Qos, ReasonPacket, Request,
 };
 use mq_props::Props;
-use mq_trace::{Direction, Event, Item};
 use std::alloc::Global;
 
 // Whether there is a text.

@@ -1,7 +1,7 @@
 //! Faults: where a statement is false, and where that was decided.
 ghost use Rattle.std.specs.Prelude.{◌≡◌};
 
-use mq_trace::Place3;
+use mq_log::Place3;
 
 /// What is reported of a position and a statement that is false there.
 #[derive(Clone, Copy, Debug, PartialEq, Eq)]

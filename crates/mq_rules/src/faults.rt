@@ -6,7 +6,7 @@ ghost use Rattle.mq_rules.specs.FaultKeys.{fault_at, faults_at, first_from, deci
 
 use crate::fault::Fault;
 use crate::rule::Rule;
-use mq_trace::Place3;
+use mq_log::Place3;
 use std::alloc::{AllocError, AllocFailed, Global};
 use std::collections::BTreeMap;
 use std::collections::btree_map::{Iter, Range};

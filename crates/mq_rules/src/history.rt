@@ -2,7 +2,7 @@
 ghost use Rattle.std.specs.Prelude.{ℕ, ◌≡◌, ◌&&◌, ◌||◌, [], cond};
 ghost use Rattle.mq_rules.specs.declared.role.Role.{Role as TheRole};
 ghost use Rattle.mq_rules.specs.declared.fate.Fate.TheVariants as fates;
-ghost use Rattle.mq_trace.specs.declared.kind.Direction.TheVariants as directions;
+ghost use Rattle.mq_log.specs.declared.kind.Direction.TheVariants as directions;
 ghost use Rattle.mq_rules.specs.Words.{is_some_and};
 ghost use Rattle.mq_rules.specs.Notes.{is_acknowledged, received_publish, bare_note, bare_fields, note_of_bare};
 ghost use Rattle.mq_rules.specs.Connections as connections;
@@ -14,8 +14,8 @@ use crate::conn::ConnectionState;
 use crate::fate::Fate;
 use crate::note::Note;
 use crate::role::Role;
+use mq_log::Direction;
 use mq_packet::Qos;
-use mq_trace::Direction;
 
 /// What is kept of the connections so far, to give the latest one its fate: whether the server
 /// accepted it, and whether the log tells which session it has.

@@ -11,8 +11,8 @@ use crate::packet_note::{
     ConnackNote, ConnectNote, DisconnectNote, PacketFields, PacketNote, PublishNote,
 };
 use crate::role::Role;
+use mq_log::Place3;
 use mq_packet::{BodyFault, PacketRule, PacketType};
-use mq_trace::Place3;
 
 /// What the statements look at of an item that was sent or received.
 #[derive(Debug)]

@@ -2,7 +2,7 @@
 ghost use Rattle.std.specs.Prelude.{◌≡◌};
 ghost use Rattle.mq_rules.specs.Notes.{tested_as};
 
-use mq_trace::Header;
+use mq_log::Header;
 
 /// An end of an MQTT session.
 #[derive(Clone, Copy, Debug, PartialEq, Eq)]

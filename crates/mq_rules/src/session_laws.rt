@@ -2,7 +2,7 @@
 //! does nothing.
 ghost use Rattle.std.specs.Prelude.{◌≡◌, ◌<◌, ◌≤◌, ◌==◌, ◌∷◌, ◌++◌, ◌↔◌, [], ℕ, List, length, Option, Some, None, cond, is_some, Bool, true, false, ◌&&◌, not};
 ghost use Rattle.std.specs.Option.{option_or};
-ghost use Rattle.mq_trace.specs.Refusals.{refused};
+ghost use Rattle.mq_log.specs.Refusals.{refused};
 ghost use Rattle.mq_rules.specs.declared.role.Role.{Role};
 ghost use Rattle.mq_rules.specs.declared.fate.Fate.{Fate};
 ghost use Rattle.mq_rules.specs.declared.note.Seen.{Seen};

@@ -10,7 +10,7 @@ use crate::note::Note;
 use crate::role::Tested;
 use crate::rule::Rule;
 use crate::watch::{Brisk, Watch};
-use mq_trace::Place3;
+use mq_log::Place3;
 
 /// Watches W01 to W21. Each is false exactly at an event whose bytes break it, so nothing is kept.
 #[derive(Drop)]

@@ -1,7 +1,7 @@
 //! Laws of where statements on a packet's bytes are put to the test. Each is proved as the contract
 //! of a function that does nothing.
 ghost use Rattle.std.specs.Prelude.{◌≡◌, ◌≤◌, ◌+◌, ◌&&◌, [], ◌∷◌, ℕ, List, length, map, cond, true, false};
-ghost use Rattle.mq_trace.specs.Events.{Placed};
+ghost use Rattle.mq_log.specs.Events.{Placed};
 ghost use Rattle.mq_rules.specs.declared.role.Tested.{Tested};
 ghost use Rattle.mq_rules.specs.declared.rule.Rule.{Rule};
 ghost use Rattle.mq_rules.specs.Notes.{seen};

@@ -14,7 +14,7 @@ ghost use Rattle.mq_rules.specs.Weights.{in_word};
 use crate::bare::Bare;
 use crate::faults::{Faults, Memory};
 use crate::note::Note;
-use mq_trace::Place3;
+use mq_log::Place3;
 
 /// A watcher of some statements.
 ///

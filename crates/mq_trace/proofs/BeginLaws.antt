@@ -1,10 +1,10 @@
 -- A piece in two parts, of which the first belongs to the header.
 use Rattle.std.proofs.Common.{◌≡◌, ℕ, ◌+◌, ◌-◌, ◌<◌, ◌≤◌, min, ◌⊎◌, inl, inr, List, [], ◌∷◌, ◌++◌, length, refl, sym, ap, ◌∙◌, arith, length-append, append_assoc, append-nil}
-use Rattle.mq_trace.specs.declared.refusal.Refusal.{Refusal}
+use Rattle.mq_log.specs.declared.refusal.Refusal.{Refusal}
 use Rattle.mq_trace.specs.declared.reading.Reading.{Reading}
-use Rattle.mq_trace.specs.Events.{events}
+use Rattle.mq_log.specs.Events.{events}
 use Rattle.mq_trace.specs.Tracing.{Traced, IsTracedTo, Begins, StopsAt, StopsInHeader}
-use Rattle.mq_trace.proofs.ContextLaws.{events-header}
+use Rattle.mq_log.proofs.Exports.{events-header}
 
 -- so many bytes of a piece belong to the header
 abbrev pub Heads : List ℕ → List ℕ → List ℕ → Type 0

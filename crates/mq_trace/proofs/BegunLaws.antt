@@ -2,11 +2,11 @@
 use Rattle.std.proofs.Common.{◌≡◌, ℕ, Bool, true, false, List, length, drop, Option, Some, None, sym, ◌∙◌, ap}
 use Rattle.std.specs.Prelude.{◌+◌, ◌==◌, nat_lt, if◌then◌else◌, option_map}
 use Rattle.std.specs.Int.{w16, from_be_bytes}
-use Rattle.mq_trace.specs.declared.kind.RecordKind.{RecordKind}
-use Rattle.mq_trace.specs.declared.kind.RecordKind.TheVariants as kinds
-use Rattle.mq_trace.specs.declared.kind.Direction.TheVariants as directions
-use Rattle.mq_trace.specs.Framing.{kind_of, ahead_in, begun_records}
-use Rattle.mq_trace.specs.Events.{Item, opened, closed, rested, released, sent, received, item_at, unfinished_in, first_byte, begun_at, part_at, packet_at, event_by, event_in, event_at}
+use Rattle.mq_log.specs.declared.kind.RecordKind.{RecordKind}
+use Rattle.mq_log.specs.declared.kind.RecordKind.TheVariants as kinds
+use Rattle.mq_log.specs.declared.kind.Direction.TheVariants as directions
+use Rattle.mq_log.specs.Framing.{kind_of, ahead_in, begun_records}
+use Rattle.mq_log.specs.Events.{Item, opened, closed, rested, released, sent, received, item_at, unfinished_in, first_byte, begun_at, part_at, packet_at, event_by, event_in, event_at}
 use Rattle.mq_trace.specs.Joined.{opened_records, joined}
 use Rattle.mq_trace.proofs.JoinedLaws.{newest}
 

@@ -3,25 +3,25 @@ use Rattle.std.proofs.Common.{◌≡◌, ℕ, ◌+◌, ◌-◌, ◌*◌, ◌<◌
 use Rattle.std.specs.Prelude.{◌==◌, if◌then◌else◌}
 use Rattle.std.proofs.lemmas.Bool.{eqb-true, eqb-false, eq-eqb, ne_eqb}
 use Rattle.std.proofs.lemmas.List.{take-append-le, length-take-le}
-use Rattle.mq_trace.specs.declared.kind.Direction.{Direction}
-use Rattle.mq_trace.specs.declared.kind.Direction.TheVariants as directions
-use Rattle.mq_trace.specs.declared.header.Header.{Header}
+use Rattle.mq_log.specs.declared.kind.Direction.{Direction}
+use Rattle.mq_log.specs.declared.kind.Direction.TheVariants as directions
+use Rattle.mq_log.specs.declared.header.Header.{Header}
 use Rattle.mq_trace.specs.declared.stage.Stage.{Stage}
 use Rattle.mq_trace.specs.declared.stage.Stage.TheVariants as stages
-use Rattle.mq_trace.specs.declared.refusal.Refusal.{Refusal}
+use Rattle.mq_log.specs.declared.refusal.Refusal.{Refusal}
 use Rattle.mq_trace.specs.declared.connections.Connections.{Connections}
 use Rattle.mq_trace.specs.declared.deframer.Deframer.{Deframer}
 use Rattle.mq_trace.specs.declared.reading.Reading.{Reading}
-use Rattle.mq_trace.specs.Framing.{kind_of, direction_of, body_length, head_length, longest_record}
-use Rattle.mq_trace.specs.Events.{Event, Placed}
-use Rattle.mq_trace.specs.Context.{so_far_in, so_far_for}
+use Rattle.mq_log.specs.Framing.{kind_of, direction_of, body_length, head_length, longest_record}
+use Rattle.mq_log.specs.Events.{Event, Placed}
+use Rattle.mq_log.specs.Context.{so_far_in, so_far_for}
 use Rattle.mq_trace.specs.Runs.{after_bytes, refused_in, events_by}
-use Rattle.mq_trace.specs.Flows.{BodyContext, Flow, flow_event, flow_with, flow_after, flow_after_bytes, flow_refused, flow_events, context_in, flow_in, flowed}
-use Rattle.mq_trace.specs.Reception.{AreEvents}
+use Rattle.mq_log.specs.Flows.{BodyContext, Flow, flow_event, flow_with, flow_after, flow_after_bytes, flow_refused, flow_events, context_in, flow_in, flowed}
+use Rattle.mq_log.specs.Reception.{AreEvents}
 use Rattle.mq_trace.specs.Deframing.{flow_of, FlowWhy, FlowStops}
 use Rattle.mq_trace.specs.Keeping.{state_in, IsAt, StandsAt, context_of, begun_in, IsWithin, IsUnfinished, IsSound, Advances, Comes, StepStops}
 use Rattle.mq_trace.specs.Stepping.{in_record_of, context_for, deframer_for, flow_for, redirected, leaving, carried_on}
-use Rattle.mq_trace.proofs.FramingLaws.{head_least, body_length-append, kind_of-append}
+use Rattle.mq_log.proofs.Exports.{head_least, body_length-append, kind_of-append}
 use Rattle.mq_trace.proofs.MomentLaws.{moment_stays}
 use Rattle.mq_trace.proofs.EndLaws.{left_sound}
 use Rattle.mq_trace.proofs.LiftLaws.{lifted-so_far, state_flowed, lifted-refused, lifted-events, lifted-after_bytes}

@@ -6,14 +6,14 @@ use Rattle.mq_packet.specs.declared.header.FixedHeader.{FixedHeader}
 use Rattle.mq_packet.specs.declared.header.FixedHeader.TheVariants as headers
 use Rattle.mq_packet.specs.Stream.{fixed_header_of, is_lost}
 use Rattle.mq_packet.proofs.Exports.{whole_stays, header_lost, frame_from_header, ends_header}
-use Rattle.mq_trace.specs.declared.refusal.Refusal.{Refusal}
+use Rattle.mq_log.specs.declared.refusal.Refusal.{Refusal}
 use Rattle.mq_trace.specs.declared.connections.Connections.{Connections}
 use Rattle.mq_trace.specs.declared.deframer.BodyContext.{BodyContext as ContextInMemory}
-use Rattle.mq_trace.specs.Events.{Placed, lost}
-use Rattle.mq_trace.specs.Context.{StreamState, so_far_in, put}
-use Rattle.mq_trace.specs.Reception.{AreEvents}
+use Rattle.mq_log.specs.Events.{Placed, lost}
+use Rattle.mq_log.specs.Context.{StreamState, so_far_in, put}
+use Rattle.mq_log.specs.Reception.{AreEvents}
 use Rattle.mq_trace.specs.Emission.{event_refusal, connections_with, next_placed, RefusedBySink, NotEmitted}
-use Rattle.mq_trace.specs.Flows.{BodyContext, Flow, item_event, flow_after_bytes, flow_refused, flow_events}
+use Rattle.mq_log.specs.Flows.{BodyContext, Flow, item_event, flow_after_bytes, flow_refused, flow_events}
 use Rattle.mq_trace.specs.Deframing.{body_context, flow_of, FlowWhy, FlowStops, FlowComes}
 use Rattle.mq_trace.specs.declared.deframer.ByteStep.TheVariants as byte_steps
 use Rattle.mq_trace.specs.Keeping.{IsShort, IsUnfinished}

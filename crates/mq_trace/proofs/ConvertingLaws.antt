@@ -8,29 +8,29 @@ use Rattle.std.proofs.lemmas.Bool.{ltb-true, ltb-false, le-ltb, lt-ltb, le-leb, 
 use Rattle.std.proofs.lemmas.List.Concat.{flat_map-append}
 use Rattle.std.proofs.lemmas.List.{take-append-drop, take-append-le, drop-append-le, length-take-le, length-drop, reverse-append, reverse-reverse, get_or_append_left, get_or-append_right}
 use Rattle.mq_packet.specs.Stream.{fixed_header_of, frame_size}
-use Rattle.mq_trace.specs.declared.kind.RecordKind.{RecordKind}
-use Rattle.mq_trace.specs.declared.kind.RecordKind.TheVariants as kinds
-use Rattle.mq_trace.specs.declared.kind.Direction.{Direction}
-use Rattle.mq_trace.specs.declared.kind.Direction.TheVariants as directions
-use Rattle.mq_trace.specs.declared.header.Header.{Header}
-use Rattle.mq_trace.specs.declared.refusal.Refusal.{Refusal}
-use Rattle.mq_trace.specs.declared.refusal.Refusal.TheVariants as refusals
-use Rattle.mq_trace.specs.Pieces.{Pieces}
-use Rattle.mq_trace.specs.Framing.{header_by, kind_named, kind_of, body_length, head_length, longest_body, length_end, moment_in, record_size, records, ahead_in, opens, direction_of, begun_with, begun_records, if_direction, carried}
-use Rattle.mq_trace.specs.Events.{Event, opened, closed, rested, released, event_by, event_in, events, read_frame}
-use Rattle.mq_trace.specs.Refusals.{situation, header_refusal, record_refusal, refusal_at, refused, first_that_applies, conditions, allows_length, is_open_kind, needs_connection, is_release_kind, is_too_large, is_other_version, is_cut_short}
-use Rattle.mq_trace.specs.Connections.{is_too_early}
-use Rattle.mq_trace.specs.Context.{StreamState, Context, state_of, fresh, ahead_of, begun_of, emptied, context, so_far_by, so_far_for, situated, refusal_for, event_for, placed_with, placed_for, put, state_by, state_then, with_completed, after_header, after_part, after}
+use Rattle.mq_log.specs.declared.kind.RecordKind.{RecordKind}
+use Rattle.mq_log.specs.declared.kind.RecordKind.TheVariants as kinds
+use Rattle.mq_log.specs.declared.kind.Direction.{Direction}
+use Rattle.mq_log.specs.declared.kind.Direction.TheVariants as directions
+use Rattle.mq_log.specs.declared.header.Header.{Header}
+use Rattle.mq_log.specs.declared.refusal.Refusal.{Refusal}
+use Rattle.mq_log.specs.declared.refusal.Refusal.TheVariants as refusals
+use Rattle.mq_log.specs.Pieces.{Pieces}
+use Rattle.mq_log.specs.Framing.{header_by, kind_named, kind_of, body_length, head_length, longest_body, length_end, moment_in, record_size, records, ahead_in, opens, direction_of, begun_with, begun_records, if_direction, carried}
+use Rattle.mq_log.specs.Events.{Event, opened, closed, rested, released, event_by, event_in, events, read_frame}
+use Rattle.mq_log.specs.Refusals.{situation, header_refusal, record_refusal, refusal_at, refused, first_that_applies, conditions, allows_length, is_open_kind, needs_connection, is_release_kind, is_too_large, is_other_version, is_cut_short}
+use Rattle.mq_log.specs.Connections.{is_too_early}
+use Rattle.mq_log.specs.Context.{StreamState, Context, state_of, fresh, ahead_of, begun_of, emptied, context, so_far_by, so_far_for, situated, refusal_for, event_for, placed_with, placed_for, put, state_by, state_then, with_completed, after_header, after_part, after}
 use Rattle.mq_trace.specs.Runs.{after_bytes, refused_in, events_by}
 use Rattle.mq_trace.specs.Converting.{first_version_refusal, record_conditions, unconverted_at, unconverted_back, unconverted, copied_back, copied, no_moment, with_moment, second_header, timed, converted}
-use Rattle.mq_trace.proofs.PiecesLaws.{grown}
-use Rattle.mq_trace.proofs.FramingLaws.{header-unchanged, records-grow, records-header}
-use Rattle.mq_trace.proofs.ContextLaws.{refused-grow, context-grow, refusal-kept, events-kept, events-header, context-header, header_context, part_context, at_context}
+use Rattle.mq_log.proofs.Exports.{grown}
+use Rattle.mq_log.proofs.Exports.{header-unchanged, records-grow, records-header}
+use Rattle.mq_log.proofs.Exports.{refused-grow, context-grow, refusal-kept, events-kept, events-header, context-header, header_context, part_context, at_context}
 use Rattle.mq_trace.proofs.RunLaws.{context_run, refused_run, events_run, after_bytes_append, refused_append, events_append, put_front}
 use Rattle.mq_trace.proofs.MomentLaws.{head_with, head_without, moment_none}
 use Rattle.mq_trace.proofs.StepLaws.{first_refusal, first_event, first_after, middle_refusal, middle_event, middle_after, middles_after, middles_events, middles_refused, longer_by, both_none, placed_none, AllowedAmong, head_packet, headed_record}
 use Rattle.mq_trace.proofs.WithMomentLaws.{added, with_body, with_drop, with_few, with_grown, with_kind, with_long, with_time}
-use Rattle.mq_trace.proofs.StreamStateLaws.{state-nothing}
+use Rattle.mq_log.proofs.Exports.{state-nothing}
 use Rattle.mq_trace.proofs.JoinedLaws.{along}
 
 -- ---- lists of conditions

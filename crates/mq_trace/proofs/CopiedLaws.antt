@@ -5,8 +5,8 @@ use Rattle.std.specs.Io.KnownBytes.{Appends, Consumes, IsAtEnd}
 use Rattle.std.specs.Option.{option_or}
 use Rattle.std.proofs.lemmas.List.{length-take-le, take-append-drop, reverse-append, reverse-reverse}
 use Rattle.std.proofs.lemmas.Bool.{ltb-true, ltb-false, eqb-true}
-use Rattle.mq_trace.specs.declared.refusal.Refusal.{Refusal}
-use Rattle.mq_trace.specs.declared.refusal.Refusal.TheVariants as refusals
+use Rattle.mq_log.specs.declared.refusal.Refusal.{Refusal}
+use Rattle.mq_log.specs.declared.refusal.Refusal.TheVariants as refusals
 use Rattle.mq_trace.specs.declared.converting.Addition.{Addition}
 use Rattle.mq_trace.specs.declared.feeding.Halt.{Halt}
 use Rattle.mq_trace.specs.declared.feeding.Halt.TheVariants as halts
@@ -15,8 +15,8 @@ use Rattle.mq_trace.specs.declared.converting.ConvertFault.{ConvertFault}
 use Rattle.mq_trace.specs.declared.converting.ConvertFault.TheVariants as convert_faults
 use Rattle.mq_trace.specs.declared.converting.Copying.{Copying}
 use Rattle.mq_trace.specs.declared.converting.Part.TheVariants as parts
-use Rattle.mq_trace.specs.Framing.{longest_record, records}
-use Rattle.mq_trace.specs.Refusals.{is_cut_short}
+use Rattle.mq_log.specs.Framing.{longest_record, records}
+use Rattle.mq_log.specs.Refusals.{is_cut_short}
 use Rattle.mq_trace.specs.Writing.{AppendsBeginning}
 use Rattle.mq_trace.specs.Converting.{Converts, unconverted_at, unconverted_back, unconverted, copied_back, copied, converted, timed}
 use Rattle.mq_trace.specs.Copying.{Adds, IsCopyOf, IsHeld, IsSound, RefusesByte, StopsCopying, StopsIn, WritesLess, WritesMore, added_bytes, IsWithin, begun_in, fault_of, past_body}

@@ -4,27 +4,27 @@ use Rattle.std.specs.Prelude.{◌==◌, ◌||◌, ◌-◌, nat_le, not, if◌the
 use Rattle.std.specs.Int.{w16, from_be_bytes}
 use Rattle.std.specs.List.{flat_map}
 use Rattle.std.proofs.lemmas.Bool.{ltb-true, le-ltb, lt-ltb, le-leb, lt-leb, leb-true, eqb-true, eqb-false, eq-eqb, ne_eqb}
-use Rattle.mq_trace.specs.declared.kind.RecordKind.{RecordKind}
-use Rattle.mq_trace.specs.declared.kind.RecordKind.TheVariants as kinds
-use Rattle.mq_trace.specs.declared.header.Header.{Header}
-use Rattle.mq_trace.specs.declared.refusal.Refusal.{Refusal}
-use Rattle.mq_trace.specs.declared.refusal.Refusal.TheVariants as refusals
+use Rattle.mq_log.specs.declared.kind.RecordKind.{RecordKind}
+use Rattle.mq_log.specs.declared.kind.RecordKind.TheVariants as kinds
+use Rattle.mq_log.specs.declared.header.Header.{Header}
+use Rattle.mq_log.specs.declared.refusal.Refusal.{Refusal}
+use Rattle.mq_log.specs.declared.refusal.Refusal.TheVariants as refusals
 use Rattle.mq_trace.specs.declared.converting.Addition.{Addition}
 use Rattle.mq_trace.specs.declared.converting.Addition.TheVariants as additions
 use Rattle.mq_trace.specs.declared.converting.Copying.{Copying}
 use Rattle.mq_trace.specs.declared.converting.Part.{Part}
 use Rattle.mq_trace.specs.declared.converting.Part.TheVariants as parts
-use Rattle.mq_trace.specs.Pieces.{Pieces}
-use Rattle.mq_trace.specs.Framing.{header_by, kind_named, kind_of, body_length, head_length, longest_body, length_end, spelled_from, record_size, records, ahead_in}
-use Rattle.mq_trace.specs.Events.{Event, Item, sent, received, released, item_at, event_by, event_in, event_of_head, events}
-use Rattle.mq_trace.specs.Refusals.{situation, header_refusal, first_that_applies, allows_length, is_open_kind, needs_connection, is_release_kind, is_cut_short}
-use Rattle.mq_trace.specs.Connections.{has_open_connection}
-use Rattle.mq_trace.specs.Context.{Context, ahead_of, begun_of, context, so_far_for, situated, event_for, with_completed, after_part}
+use Rattle.mq_log.specs.Pieces.{Pieces}
+use Rattle.mq_log.specs.Framing.{header_by, kind_named, kind_of, body_length, head_length, longest_body, length_end, spelled_from, record_size, records, ahead_in}
+use Rattle.mq_log.specs.Events.{Event, Item, sent, received, released, item_at, event_by, event_in, event_of_head, events}
+use Rattle.mq_log.specs.Refusals.{situation, header_refusal, first_that_applies, allows_length, is_open_kind, needs_connection, is_release_kind, is_cut_short}
+use Rattle.mq_log.specs.Connections.{has_open_connection}
+use Rattle.mq_log.specs.Context.{Context, ahead_of, begun_of, context, so_far_for, situated, event_for, with_completed, after_part}
 use Rattle.mq_trace.specs.Writing.{bit_byte, header_bytes}
 use Rattle.mq_trace.specs.Converting.{first_version_refusal, record_conditions, unconverted_at, unconverted, no_moment, with_moment, second_header, timed}
 use Rattle.mq_trace.specs.Copying.{Adds, BeginsCopy, IsCopyOf, IsIn, IsSound, added_bytes, begun_in, connected_after, has_body, header_addition, in_length, is_between, past_body, past_header_byte, past_length, refused_begin}
-use Rattle.mq_trace.proofs.FramingLaws.{header-unchanged, records-header, rest-grow, whole-grow, body_length-append, kind_of-append}
-use Rattle.mq_trace.proofs.ContextLaws.{context-grow, context-after_header, events-header, header_context, part_context, at_context, situation-kept}
+use Rattle.mq_log.proofs.Exports.{header-unchanged, records-header, rest-grow, whole-grow, body_length-append, kind_of-append}
+use Rattle.mq_log.proofs.Exports.{context-grow, context-after_header, events-header, header_context, part_context, at_context, situation-kept}
 use Rattle.mq_trace.proofs.StageLaws.{spelled_more}
 use Rattle.mq_trace.proofs.MomentLaws.{fourth}
 use Rattle.mq_trace.proofs.StepLaws.{header_after, first_event, middle_event, last_event, headed_record, both_none}

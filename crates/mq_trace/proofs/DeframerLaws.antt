@@ -7,22 +7,22 @@ use Rattle.mq_packet.specs.declared.header.FixedHeader.{FixedHeader}
 use Rattle.mq_packet.specs.declared.header.FixedHeader.TheVariants as headers
 use Rattle.mq_packet.specs.Stream.{fixed_header_of, frame_size, is_lost}
 use Rattle.mq_packet.proofs.Exports.{header_from_frame, frame_from_header, whole_stays, lost_stays, frame_bounds, frame_stood, short_few, short_no_frame, no_frame_yet}
-use Rattle.mq_trace.specs.declared.kind.Direction.{Direction}
-use Rattle.mq_trace.specs.declared.kind.Direction.TheVariants as directions
-use Rattle.mq_trace.specs.declared.refusal.Refusal.{Refusal}
-use Rattle.mq_trace.specs.declared.refusal.Refusal.TheVariants as refusals
+use Rattle.mq_log.specs.declared.kind.Direction.{Direction}
+use Rattle.mq_log.specs.declared.kind.Direction.TheVariants as directions
+use Rattle.mq_log.specs.declared.refusal.Refusal.{Refusal}
+use Rattle.mq_log.specs.declared.refusal.Refusal.TheVariants as refusals
 use Rattle.mq_trace.specs.declared.connections.Connections.{Connections}
 use Rattle.mq_trace.specs.declared.deframer.BodyContext.{BodyContext as ContextInMemory}
-use Rattle.mq_trace.specs.Events.{Item, Event, Placed, item_read, read_frame}
+use Rattle.mq_log.specs.Events.{Item, Event, Placed, item_read, read_frame}
 use Rattle.std.specs.Option.{option_or}
-use Rattle.mq_trace.specs.Refusals.{is_too_large, is_other_version}
+use Rattle.mq_log.specs.Refusals.{is_too_large, is_other_version}
 use Rattle.mq_trace.proofs.ItemLaws.{met_other}
-use Rattle.mq_trace.specs.Connections.{is_answer}
-use Rattle.mq_trace.specs.Context.{StreamState, so_far_in, put}
-use Rattle.mq_trace.specs.Reception.{AreEvents}
+use Rattle.mq_log.specs.Connections.{is_answer}
+use Rattle.mq_log.specs.Context.{StreamState, so_far_in, put}
+use Rattle.mq_log.specs.Reception.{AreEvents}
 use Rattle.mq_trace.specs.Keeping.{IsShort, IsUnfinished}
 use Rattle.mq_trace.specs.Emission.{connections_with, RefusedBySink, NotEmitted}
-use Rattle.mq_trace.specs.Flows.{BodyContext, Flow, item_event, flow_refusal, flow_placed_with, flow_with, flow_after_bytes, flow_refused, flow_events}
+use Rattle.mq_log.specs.Flows.{BodyContext, Flow, item_event, flow_refusal, flow_placed_with, flow_with, flow_after_bytes, flow_refused, flow_events}
 use Rattle.mq_trace.specs.Deframing.{body_context, flow_of, frame_event, frame_refusal, connections_then, NeedsMemory, FlowWhy, FlowStops, FlowComes}
 use Rattle.mq_trace.proofs.FlowLaws.{not_lost, lost-after, HasLast, has_last, IsQuiet, until_last, quiet-refused, quiet-events, quiet-after, short-refused, short-events, short-after, complete-refused-within, complete-events-frame, complete-after-frame}
 

@@ -1,9 +1,9 @@
 -- A step that emits an event to a sink, by what came of it.
 use Rattle.std.proofs.Common.{◌≡◌, ℕ, ◌+◌, List, [], ◌∷◌, ◌++◌, length, None, Result, Ok, Err, OnOk, IfErr, sym, subst}
-use Rattle.mq_trace.specs.declared.refusal.Refusal.{Refusal}
+use Rattle.mq_log.specs.declared.refusal.Refusal.{Refusal}
 use Rattle.mq_trace.specs.declared.reading.Reading.{Reading}
-use Rattle.mq_trace.specs.Events.{Event, Placed}
-use Rattle.mq_trace.specs.Reception.{AreEvents}
+use Rattle.mq_log.specs.Events.{Event, Placed}
+use Rattle.mq_log.specs.Reception.{AreEvents}
 use Rattle.mq_trace.specs.Emission.{event_refusal, next_placed, NotEmitted}
 use Rattle.mq_trace.specs.Keeping.{Advances, Comes, StepStops}
 use Rattle.mq_trace.specs.Stepping.{in_record_of, marked}

@@ -4,24 +4,24 @@ use Rattle.std.specs.Prelude.{◌==◌, if◌then◌else◌, nat_le, ◌&&◌, s
 use Rattle.std.specs.Int.{w16, from_be_bytes}
 use Rattle.std.proofs.lemmas.Bool.{eqb-true, eqb-false, leb-true}
 use Rattle.std.proofs.lemmas.List.{get_or-append_right}
-use Rattle.mq_trace.specs.declared.kind.RecordKind.{RecordKind}
-use Rattle.mq_trace.specs.declared.kind.RecordKind.TheVariants as kinds
-use Rattle.mq_trace.specs.declared.kind.Direction.{Direction}
+use Rattle.mq_log.specs.declared.kind.RecordKind.{RecordKind}
+use Rattle.mq_log.specs.declared.kind.RecordKind.TheVariants as kinds
+use Rattle.mq_log.specs.declared.kind.Direction.{Direction}
 use Rattle.mq_trace.specs.declared.stage.Stage.TheVariants as stages
-use Rattle.mq_trace.specs.declared.refusal.Refusal.{Refusal}
-use Rattle.mq_trace.specs.declared.refusal.Refusal.TheVariants as refusals
+use Rattle.mq_log.specs.declared.refusal.Refusal.{Refusal}
+use Rattle.mq_log.specs.declared.refusal.Refusal.TheVariants as refusals
 use Rattle.mq_trace.specs.declared.connections.Connections.{Connections}
 use Rattle.mq_trace.specs.declared.reading.Reading.{Reading}
-use Rattle.mq_trace.specs.Framing.{kind_of, direction_of, body_length, opens, head_length, longest_body, longest_record}
-use Rattle.mq_trace.specs.Events.{Event, released, first_byte, event_of_head}
-use Rattle.mq_trace.specs.Connections.{is_too_early}
-use Rattle.mq_trace.specs.Refusals.{first_that_applies, allows_length}
-use Rattle.mq_trace.specs.Context.{Context, emptied, refusal_for, event_for, placed_for, put, after, with_completed}
+use Rattle.mq_log.specs.Framing.{kind_of, direction_of, body_length, opens, head_length, longest_body, longest_record}
+use Rattle.mq_log.specs.Events.{Event, released, first_byte, event_of_head}
+use Rattle.mq_log.specs.Connections.{is_too_early}
+use Rattle.mq_log.specs.Refusals.{first_that_applies, allows_length}
+use Rattle.mq_log.specs.Context.{Context, emptied, refusal_for, event_for, placed_for, put, after, with_completed}
 use Rattle.mq_trace.specs.Emission.{event_refusal, next_placed}
 use Rattle.mq_trace.specs.Keeping.{state_in, IsAt, StandsAt, context_of, begun_in, IsUnfinished, IsSound, Advances}
 use Rattle.mq_trace.specs.Stepping.{EndsHead, in_record_of, marked, leaving}
 use Rattle.mq_trace.proofs.StepLaws.{placed_none, placed_some, last_event, last_refusal, last_after, release_high_refusal, release_high_event, release_high_after, release_low_refusal, release_low_event, release_low_after}
-use Rattle.mq_trace.proofs.FramingLaws.{head_least, body_length-append, kind_of-append}
+use Rattle.mq_log.proofs.Exports.{head_least, body_length-append, kind_of-append}
 use Rattle.mq_trace.proofs.MomentLaws.{moment_stays}
 use Rattle.mq_trace.proofs.StageLaws.{one_step}
 

@@ -8,12 +8,12 @@ use Rattle.mq_packet.specs.declared.header.FixedHeader.{FixedHeader}
 use Rattle.mq_packet.specs.declared.header.FixedHeader.TheVariants as headers
 use Rattle.mq_packet.specs.Stream.{fixed_header_of, frame_size, is_lost}
 use Rattle.mq_packet.proofs.Exports.{whole_stays, lost_stays, short_before, lost_header, lost_no_frame, short_no_frame, no_frame_yet, frame_from_header, header_from_frame, frame_stood}
-use Rattle.mq_trace.specs.declared.refusal.Refusal.{Refusal}
-use Rattle.mq_trace.specs.declared.refusal.Refusal.TheVariants as refusals
-use Rattle.mq_trace.specs.Events.{lost, Item, Event, item_at, item_read, read_frame}
-use Rattle.mq_trace.specs.Refusals.{first_that_applies, is_too_large, is_other_version}
-use Rattle.mq_trace.specs.Context.{StreamState, so_far_in, state_after, put}
-use Rattle.mq_trace.specs.Flows.{BodyContext, Flow, item_event, flows_too_early, flow_event, flow_refusal, flow_placed, flow_placed_with, flow_with, flow_after, flow_after_bytes, flow_refused, flow_events}
+use Rattle.mq_log.specs.declared.refusal.Refusal.{Refusal}
+use Rattle.mq_log.specs.declared.refusal.Refusal.TheVariants as refusals
+use Rattle.mq_log.specs.Events.{lost, Item, Event, item_at, item_read, read_frame}
+use Rattle.mq_log.specs.Refusals.{first_that_applies, is_too_large, is_other_version}
+use Rattle.mq_log.specs.Context.{StreamState, so_far_in, state_after, put}
+use Rattle.mq_log.specs.Flows.{BodyContext, Flow, item_event, flows_too_early, flow_event, flow_refusal, flow_placed, flow_placed_with, flow_with, flow_after, flow_after_bytes, flow_refused, flow_events}
 
 -- Any two parts of some bytes give what the bytes leave after them, refuse and complete.
 pub flow_after_bytes-append : (context : BodyContext) (f : Flow) (a b : List ℕ) → flow_after_bytes context f (a ++ b) ≡ flow_after_bytes context (flow_after_bytes context f a) b

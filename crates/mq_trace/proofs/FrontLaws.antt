@@ -2,17 +2,17 @@
 use Rattle.std.proofs.Common.{◌≡◌, ℕ, ◌+◌, ◌-◌, ◌≤◌, List, [], ◌++◌, length, min, take, drop, None, refl, sym, ◌∙◌, ap, subst, arith}
 use Rattle.std.proofs.lemmas.Bool.{ne_eqb}
 use Rattle.std.proofs.lemmas.List.{take-append-drop, length-take}
-use Rattle.mq_trace.specs.declared.kind.Direction.{Direction}
-use Rattle.mq_trace.specs.declared.kind.Direction.TheVariants as directions
-use Rattle.mq_trace.specs.declared.refusal.Refusal.{Refusal}
+use Rattle.mq_log.specs.declared.kind.Direction.{Direction}
+use Rattle.mq_log.specs.declared.kind.Direction.TheVariants as directions
+use Rattle.mq_log.specs.declared.refusal.Refusal.{Refusal}
 use Rattle.mq_trace.specs.declared.stage.Stage.TheVariants as stages
 use Rattle.mq_trace.specs.declared.connections.Connections.{Connections}
 use Rattle.mq_trace.specs.declared.reading.Reading.{Reading}
-use Rattle.mq_trace.specs.Framing.{head_length}
-use Rattle.mq_trace.specs.Events.{Placed}
-use Rattle.mq_trace.specs.Context.{StreamState, emptied}
-use Rattle.mq_trace.specs.Flows.{flow_refused, flow_after_bytes, flow_events}
-use Rattle.mq_trace.specs.Reception.{AreEvents}
+use Rattle.mq_log.specs.Framing.{head_length}
+use Rattle.mq_log.specs.Events.{Placed}
+use Rattle.mq_log.specs.Context.{StreamState, emptied}
+use Rattle.mq_log.specs.Flows.{flow_refused, flow_after_bytes, flow_events}
+use Rattle.mq_log.specs.Reception.{AreEvents}
 use Rattle.mq_trace.specs.Deframing.{flow_of, FlowComes, FlowStops}
 use Rattle.mq_trace.specs.Keeping.{state_in, IsUnfinished, IsSound, Advances, Comes, StepStops}
 use Rattle.mq_trace.specs.Stepping.{IsBodyHead, context_for, deframer_for, flow_for, redirected, leaving}

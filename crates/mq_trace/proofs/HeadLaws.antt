@@ -5,20 +5,20 @@ use Rattle.std.specs.Int.{w32, from_be_bytes}
 use Rattle.std.specs.Option.{option_or}
 use Rattle.std.proofs.lemmas.Bool.{le-leb, le-ltb}
 use Rattle.std.proofs.lemmas.List.{take-append-drop, length-take-le}
-use Rattle.mq_trace.specs.declared.kind.Direction.{Direction}
-use Rattle.mq_trace.specs.declared.kind.Direction.TheVariants as directions
-use Rattle.mq_trace.specs.declared.refusal.Refusal.{Refusal}
-use Rattle.mq_trace.specs.declared.refusal.Refusal.TheVariants as refusals
+use Rattle.mq_log.specs.declared.kind.Direction.{Direction}
+use Rattle.mq_log.specs.declared.kind.Direction.TheVariants as directions
+use Rattle.mq_log.specs.declared.refusal.Refusal.{Refusal}
+use Rattle.mq_log.specs.declared.refusal.Refusal.TheVariants as refusals
 use Rattle.mq_trace.specs.declared.stage.Stage.TheVariants as stages
 use Rattle.mq_trace.specs.declared.reading.Reading.{Reading}
-use Rattle.mq_trace.specs.Framing.{kind_named, kind_of, body_length, direction_of, opens, moment_in, length_end, head_length, longest_body}
-use Rattle.mq_trace.specs.Events.{Placed, event_of_head}
-use Rattle.mq_trace.specs.Refusals.{first_that_applies, allows_length}
-use Rattle.mq_trace.specs.Context.{Context, ahead_of, begun_of, emptied, refusal_for, event_for, with_completed, after}
+use Rattle.mq_log.specs.Framing.{kind_named, kind_of, body_length, direction_of, opens, moment_in, length_end, head_length, longest_body}
+use Rattle.mq_log.specs.Events.{Placed, event_of_head}
+use Rattle.mq_log.specs.Refusals.{first_that_applies, allows_length}
+use Rattle.mq_log.specs.Context.{Context, ahead_of, begun_of, emptied, refusal_for, event_for, with_completed, after}
 use Rattle.mq_trace.specs.Runs.{after_bytes, refused_in, events_by}
 use Rattle.mq_trace.specs.Keeping.{IsAt, context_of, begun_in, IsSound, Advances, Comes, StepStops}
 use Rattle.mq_trace.specs.Stepping.{kind_refusal, kind_for, IsBodyHead, leaving}
-use Rattle.mq_trace.proofs.FramingLaws.{head_least, body_length-append}
+use Rattle.mq_log.proofs.Exports.{head_least, body_length-append}
 use Rattle.mq_trace.proofs.MomentLaws.{head_most, moment_stays}
 use Rattle.mq_trace.proofs.RunLaws.{after_bytes_append, refused_append, events_append}
 use Rattle.mq_trace.proofs.ReadingLaws.{comes_after, stops_after}

@@ -12,15 +12,15 @@ use Rattle.mq_packet.specs.Sizes.{size_with, remaining_length}
 use Rattle.mq_packet.specs.Stream.{fixed_header_of, frame_size}
 use Rattle.mq_packet.specs.Decoding.{decoded}
 use Rattle.mq_packet.proofs.Exports.{header_from_frame, frame_from_header, size_above, size_of_frame}
-use Rattle.mq_trace.specs.declared.refusal.Refusal.{Refusal}
-use Rattle.mq_trace.specs.declared.refusal.Refusal.TheVariants as refusals
-use Rattle.mq_trace.specs.declared.kind.Direction.{Direction}
+use Rattle.mq_log.specs.declared.refusal.Refusal.{Refusal}
+use Rattle.mq_log.specs.declared.refusal.Refusal.TheVariants as refusals
+use Rattle.mq_log.specs.declared.kind.Direction.{Direction}
 use Rattle.mq_trace.specs.declared.connections.Connections.{Connections}
-use Rattle.mq_trace.specs.Events.{Item, Placed, packet, item_read, read_frame}
-use Rattle.mq_trace.specs.Refusals.{is_other_version}
-use Rattle.mq_trace.specs.Context.{StreamState, put}
-use Rattle.mq_trace.specs.Flows.{BodyContext, item_event, flow_placed_with}
-use Rattle.mq_trace.specs.Reception.{AreEvents}
+use Rattle.mq_log.specs.Events.{Item, Placed, packet, item_read, read_frame}
+use Rattle.mq_log.specs.Refusals.{is_other_version}
+use Rattle.mq_log.specs.Context.{StreamState, put}
+use Rattle.mq_log.specs.Flows.{BodyContext, item_event, flow_placed_with}
+use Rattle.mq_log.specs.Reception.{AreEvents}
 use Rattle.mq_trace.specs.Emission.{event_refusal, connections_with, next_placed, NotEmitted}
 use Rattle.mq_trace.specs.Deframing.{flow_of, frame_event, frame_refusal, connections_then}
 

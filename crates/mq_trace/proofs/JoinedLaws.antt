@@ -6,20 +6,20 @@ use Rattle.std.proofs.lemmas.List.{append-nil, reverse-append, reverse-reverse, 
 use Rattle.std.proofs.lemmas.Bool.{eq-eqb, ne_eqb, eqb-true, eqb-false, le-ltb, lt-ltb, ltb-true, ltb-false}
 use Rattle.mq_packet.specs.Stream.{frame_size, is_lost}
 use Rattle.mq_packet.proofs.Exports.{is_lost_stays, lost_no_frame}
-use Rattle.mq_trace.specs.declared.kind.RecordKind.{RecordKind}
-use Rattle.mq_trace.specs.declared.kind.RecordKind.TheVariants as kinds
-use Rattle.mq_trace.specs.declared.kind.Direction.{Direction}
-use Rattle.mq_trace.specs.declared.kind.Direction.TheVariants as directions
-use Rattle.mq_trace.specs.Pieces.{Pieces, pieces}
-use Rattle.mq_trace.specs.Framing.{kind_of, direction_of, opens, if_direction, header_by, record_size, records, begun_records, begun_with, carried, stream, ahead_in, length_end, moment_in}
-use Rattle.mq_trace.specs.Events.{Item, Event, Placed, lost, opened, closed, rested, sent, received, released, item_at, packet_with, event_by, event_in, events}
-use Rattle.mq_trace.specs.Connections.{begins_connection}
-use Rattle.mq_trace.specs.Context.{Context, ahead_of, begun_of, context, so_far_by, so_far_for, event_for, placed_with, placed_for, put}
+use Rattle.mq_log.specs.declared.kind.RecordKind.{RecordKind}
+use Rattle.mq_log.specs.declared.kind.RecordKind.TheVariants as kinds
+use Rattle.mq_log.specs.declared.kind.Direction.{Direction}
+use Rattle.mq_log.specs.declared.kind.Direction.TheVariants as directions
+use Rattle.mq_log.specs.Pieces.{Pieces, pieces}
+use Rattle.mq_log.specs.Framing.{kind_of, direction_of, opens, if_direction, header_by, record_size, records, begun_records, begun_with, carried, stream, ahead_in, length_end, moment_in}
+use Rattle.mq_log.specs.Events.{Item, Event, Placed, lost, opened, closed, rested, sent, received, released, item_at, packet_with, event_by, event_in, events}
+use Rattle.mq_log.specs.Connections.{begins_connection}
+use Rattle.mq_log.specs.Context.{Context, ahead_of, begun_of, context, so_far_by, so_far_for, event_for, placed_with, placed_for, put}
 use Rattle.mq_trace.specs.Joined.{opened_records, joined, if_some, frame_item, frame_items, stream_items, opened_events, directed_item, connection_items}
-use Rattle.mq_trace.proofs.PiecesLaws.{grown, pieces-grow, nothing_cut}
-use Rattle.mq_trace.proofs.FramingLaws.{head_least, ahead-unchanged, body_byte, if_direction-nothing, if_direction-append, kind_of-append, begun-grow, begun-header, rest-grow, record_size-is}
-use Rattle.mq_trace.proofs.StreamStateLaws.{frame_settles, nothing_lost}
-use Rattle.mq_trace.proofs.ContextLaws.{part_context, at_context, so_far_kept_by, events-kept, events-header}
+use Rattle.mq_log.proofs.Exports.{grown, pieces-grow, nothing_cut}
+use Rattle.mq_log.proofs.Exports.{head_least, ahead-unchanged, body_byte, if_direction-nothing, if_direction-append, kind_of-append, begun-grow, begun-header, rest-grow, record_size-is}
+use Rattle.mq_log.proofs.Exports.{frame_settles, nothing_lost}
+use Rattle.mq_log.proofs.Exports.{part_context, at_context, so_far_kept_by, events-kept, events-header}
 use Rattle.mq_trace.proofs.FlowLaws.{nothing_item, item_by}
 use Rattle.mq_trace.proofs.LiftLaws.{opens_none}
 

@@ -1,6 +1,5 @@
 pub mod BodyLaws
 pub mod ByteLaws
-pub mod ContextLaws
 pub mod WithMomentLaws
 pub mod ConvertingLaws
 pub mod CopyLaws
@@ -9,13 +8,10 @@ pub mod DeframerLaws
 pub mod EndLaws
 pub mod FeedingLaws
 pub mod FlowLaws
-pub mod FramingLaws
-pub mod StreamStateLaws
 pub mod ItemLaws
 pub mod JoinedLaws
 pub mod LiftLaws
 pub mod MomentLaws
-pub mod PiecesLaws
 pub mod ReadBackLaws
 pub mod ReadingLaws
 pub mod RunLaws

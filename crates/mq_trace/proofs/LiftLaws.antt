@@ -5,19 +5,19 @@ use Rattle.std.proofs.lemmas.List.{append-nil}
 use Rattle.std.proofs.lemmas.Bool.{le-ltb, lt-ltb, le-leb, lt-leb, eqb-true, eqb-false, ne_eqb}
 use Rattle.std.specs.Option.{option_or}
 use Rattle.mq_packet.specs.Stream.{fixed_header_of, frame_size}
-use Rattle.mq_trace.specs.declared.kind.RecordKind.{RecordKind}
-use Rattle.mq_trace.specs.declared.kind.RecordKind.TheVariants as kinds
-use Rattle.mq_trace.specs.declared.kind.Direction.{Direction}
-use Rattle.mq_trace.specs.declared.kind.Direction.TheVariants as directions
-use Rattle.mq_trace.specs.declared.refusal.Refusal.{Refusal}
-use Rattle.mq_trace.specs.declared.refusal.Refusal.TheVariants as refusals
-use Rattle.mq_trace.specs.Framing.{kind_of, body_length, record_size, direction_of, opens, length_end, moment_in}
-use Rattle.mq_trace.specs.Events.{Item, Event, item_at, event_by, event_in, read_frame}
-use Rattle.mq_trace.specs.Refusals.{first_that_applies, allows_length, is_open_kind, needs_connection, is_release_kind, is_too_large, is_other_version, record_refusal, header_refusal}
-use Rattle.mq_trace.specs.Context.{StreamState, Context, ahead_of, begun_of, state_for, so_far_in, so_far_by, so_far_for, situated, state_after, state_by, state_then, with_completed, after_header, after_part, after, put, placed_with, placed_for, refusal_for, event_for}
+use Rattle.mq_log.specs.declared.kind.RecordKind.{RecordKind}
+use Rattle.mq_log.specs.declared.kind.RecordKind.TheVariants as kinds
+use Rattle.mq_log.specs.declared.kind.Direction.{Direction}
+use Rattle.mq_log.specs.declared.kind.Direction.TheVariants as directions
+use Rattle.mq_log.specs.declared.refusal.Refusal.{Refusal}
+use Rattle.mq_log.specs.declared.refusal.Refusal.TheVariants as refusals
+use Rattle.mq_log.specs.Framing.{kind_of, body_length, record_size, direction_of, opens, length_end, moment_in}
+use Rattle.mq_log.specs.Events.{Item, Event, item_at, event_by, event_in, read_frame}
+use Rattle.mq_log.specs.Refusals.{first_that_applies, allows_length, is_open_kind, needs_connection, is_release_kind, is_too_large, is_other_version, record_refusal, header_refusal}
+use Rattle.mq_log.specs.Context.{StreamState, Context, ahead_of, begun_of, state_for, so_far_in, so_far_by, so_far_for, situated, state_after, state_by, state_then, with_completed, after_header, after_part, after, put, placed_with, placed_for, refusal_for, event_for}
 use Rattle.mq_trace.specs.Runs.{after_bytes, refused_in, events_by}
-use Rattle.mq_trace.specs.Flows.{BodyContext, Flow, item_event, flows_too_early, flow_event, flow_refusal, flow_placed, flow_placed_with, flow_with, flow_after, flow_after_bytes, flow_refused, flow_events, context_in, flow_in, state_after_body, flowed}
-use Rattle.mq_trace.proofs.FramingLaws.{head_least}
+use Rattle.mq_log.specs.Flows.{BodyContext, Flow, item_event, flows_too_early, flow_event, flow_refusal, flow_placed, flow_placed_with, flow_with, flow_after, flow_after_bytes, flow_refused, flow_events, context_in, flow_in, state_after_body, flowed}
+use Rattle.mq_log.proofs.Exports.{head_least}
 use Rattle.mq_trace.proofs.MomentLaws.{moment_stays}
 
 -- A record that carries packets opens no connection, and its events are what its packets are.

@@ -3,16 +3,16 @@ use Rattle.std.proofs.Common.{◌≡◌, ℕ, ◌+◌, ◌*◌, ◌<◌, ◌≤�
 use Rattle.std.specs.Prelude.{◌==◌, if◌then◌else◌, slice_index}
 use Rattle.std.specs.Int.{w32, w64, from_be_bytes}
 use Rattle.std.proofs.lemmas.List.{drop_all, drop-append-le, take_all, take-append-le, length-take}
-use Rattle.mq_trace.specs.declared.kind.RecordKind.{RecordKind}
+use Rattle.mq_log.specs.declared.kind.RecordKind.{RecordKind}
 use Rattle.mq_trace.specs.declared.stage.Stage.TheVariants as stages
-use Rattle.mq_trace.specs.declared.refusal.Refusal.TheVariants as refusals
+use Rattle.mq_log.specs.declared.refusal.Refusal.TheVariants as refusals
 use Rattle.mq_trace.specs.declared.reading.Reading.{Reading}
-use Rattle.mq_trace.specs.Framing.{kind_of, body_length, opens, spelled_from, moment_in, length_end, head_length}
-use Rattle.mq_trace.specs.Refusals.{allows_length}
-use Rattle.mq_trace.specs.Context.{emptied, refusal_for, put}
+use Rattle.mq_log.specs.Framing.{kind_of, body_length, opens, spelled_from, moment_in, length_end, head_length}
+use Rattle.mq_log.specs.Refusals.{allows_length}
+use Rattle.mq_log.specs.Context.{emptied, refusal_for, put}
 use Rattle.mq_trace.specs.Keeping.{state_in, IsAt, StandsAt, opens_in, spellings, begun_in, context_of, IsWithin, IsSound, Advances}
 use Rattle.mq_trace.specs.Stepping.{in_moment, EndsHead}
-use Rattle.mq_trace.proofs.FramingLaws.{body_length-append, kind_of-append}
+use Rattle.mq_log.proofs.Exports.{body_length-append, kind_of-append}
 use Rattle.mq_trace.proofs.StepLaws.{placed_none, fifth_length, length_refusal, middle_refusal, middle_event, middle_after}
 use Rattle.mq_trace.proofs.StageLaws.{one_step, spelled_more, opens_moment, begun_some, head_after, head_room, head_opening, head_is, head_long, head_opens}
 

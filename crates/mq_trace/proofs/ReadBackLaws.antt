@@ -5,9 +5,9 @@ use Rattle.std.proofs.lemmas.Bool.{le-ltb, le-leb}
 use Rattle.std.proofs.lemmas.Nat.{from_be_bytes-to_be_bytes_4, from_be_bytes-to_be_bytes_8}
 use Rattle.std.proofs.lemmas.List.{drop_at}
 use Rattle.std.specs.Int.{w32, w64, to_be_bytes}
-use Rattle.mq_trace.specs.Framing.{kind_of, body_length, record_size, spelled_from, moment_in, length_end, head_length}
+use Rattle.mq_log.specs.Framing.{kind_of, body_length, record_size, spelled_from, moment_in, length_end, head_length}
 use Rattle.mq_trace.specs.Writing.{Record, open_record, close_record, rest_record, sent_record, received_record, release_record, bit_byte, record_kind, kind_byte, record_body, record_bytes, moment_bytes, framed}
-use Rattle.mq_trace.proofs.FramingLaws.{head_least}
+use Rattle.mq_log.proofs.Exports.{head_least}
 use Rattle.mq_trace.proofs.MomentLaws.{moment_so_far, moment_stays}
 use Rattle.mq_trace.proofs.SplitLaws.{timed_long}
 

@@ -3,13 +3,13 @@ use Rattle.std.proofs.Common.{◌≡◌, ℕ, ◌+◌, ◌≤◌, List, [], ◌�
 use Rattle.std.specs.Prelude.{slice_index}
 use Rattle.std.proofs.lemmas.List.{append-nil, take-append-drop}
 use Rattle.std.specs.Option.{option_or}
-use Rattle.mq_trace.specs.Framing.{length_end}
-use Rattle.mq_trace.specs.declared.refusal.Refusal.{Refusal}
+use Rattle.mq_log.specs.Framing.{length_end}
+use Rattle.mq_log.specs.declared.refusal.Refusal.{Refusal}
 use Rattle.mq_trace.specs.declared.reading.Reading.{Reading}
-use Rattle.mq_trace.specs.Events.{Placed}
-use Rattle.mq_trace.specs.Context.{so_far_for}
+use Rattle.mq_log.specs.Events.{Placed}
+use Rattle.mq_log.specs.Context.{so_far_for}
 use Rattle.mq_trace.specs.Runs.{after_bytes, refused_in, events_by}
-use Rattle.mq_trace.specs.Reception.{AreEvents}
+use Rattle.mq_log.specs.Reception.{AreEvents}
 use Rattle.mq_trace.specs.Deframing.{FlowWhy}
 use Rattle.mq_trace.specs.Keeping.{context_of, Advances, Comes, StepStops}
 use Rattle.mq_trace.proofs.RunLaws.{after_bytes_append, refused_append, events_append}

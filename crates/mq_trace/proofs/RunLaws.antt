@@ -2,12 +2,12 @@
 use Rattle.std.proofs.Common.{◌≡◌, ℕ, List, [], ◌∷◌, ◌++◌, Option, Some, None, refl, sym, ◌∙◌, ap, append_assoc}
 use Rattle.std.proofs.lemmas.List.{append-nil}
 use Rattle.std.specs.Option.{option_or}
-use Rattle.mq_trace.specs.declared.refusal.Refusal.{Refusal}
-use Rattle.mq_trace.specs.Events.{Placed, events}
-use Rattle.mq_trace.specs.Refusals.{refused}
-use Rattle.mq_trace.specs.Context.{Context, context, refusal_for, placed_for, put, after}
+use Rattle.mq_log.specs.declared.refusal.Refusal.{Refusal}
+use Rattle.mq_log.specs.Events.{Placed, events}
+use Rattle.mq_log.specs.Refusals.{refused}
+use Rattle.mq_log.specs.Context.{Context, context, refusal_for, placed_for, put, after}
 use Rattle.mq_trace.specs.Runs.{after_bytes, refused_in, events_by}
-use Rattle.mq_trace.proofs.ContextLaws.{refused-grow, refusal-kept, events-kept, context-grow}
+use Rattle.mq_log.proofs.Exports.{refused-grow, refusal-kept, events-kept, context-grow}
 
 pub option_or-assoc : {A : Type 0} (a b c : Option A) → option_or (option_or a b) c ≡ option_or a (option_or b c)
 option_or-assoc (Some x) b c = refl

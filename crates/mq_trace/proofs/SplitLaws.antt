@@ -5,18 +5,18 @@ use Rattle.std.specs.Int.{w32, w64, to_be_bytes}
 use Rattle.std.proofs.lemmas.List.{append-nil, map-append}
 use Rattle.std.proofs.lemmas.Bool.{le-ltb, eq-eqb, ne_eqb}
 use Rattle.std.proofs.lemmas.Nat.{from_be_bytes-to_be_bytes_4}
-use Rattle.mq_trace.specs.declared.header.Header.{Header}
-use Rattle.mq_trace.specs.declared.kind.Direction.{Direction}
-use Rattle.mq_trace.specs.declared.kind.Direction.TheVariants as directions
-use Rattle.mq_trace.specs.Framing.{kind_named, kind_of, body_length, record_size, direction_of, records, header_by, spelled_from, moment_in, length_end, head_length}
-use Rattle.mq_trace.specs.Events.{Event, Placed, item_at, event_in, events}
-use Rattle.mq_trace.specs.Context.{Context, ahead_of, begun_of, context, so_far_in, so_far_by, so_far_for, state_after, with_completed, after_header, after_part, after, put, placed_with, placed_for, event_for}
+use Rattle.mq_log.specs.declared.header.Header.{Header}
+use Rattle.mq_log.specs.declared.kind.Direction.{Direction}
+use Rattle.mq_log.specs.declared.kind.Direction.TheVariants as directions
+use Rattle.mq_log.specs.Framing.{kind_named, kind_of, body_length, record_size, direction_of, records, header_by, spelled_from, moment_in, length_end, head_length}
+use Rattle.mq_log.specs.Events.{Event, Placed, item_at, event_in, events}
+use Rattle.mq_log.specs.Context.{Context, ahead_of, begun_of, context, so_far_in, so_far_by, so_far_for, state_after, with_completed, after_header, after_part, after, put, placed_with, placed_for, event_for}
 use Rattle.mq_trace.specs.Runs.{after_bytes, events_by}
-use Rattle.mq_trace.specs.Flows.{BodyContext, Flow, item_event, flow_event, flow_placed, flow_placed_with, flow_with, flow_after, flow_after_bytes, flow_events, context_in, flow_in, flowed}
+use Rattle.mq_log.specs.Flows.{BodyContext, Flow, item_event, flow_event, flow_placed, flow_placed_with, flow_with, flow_after, flow_after_bytes, flow_events, context_in, flow_in, flowed}
 use Rattle.mq_trace.specs.Writing.{sent_record, received_record, record_bytes, moment_bytes, framed}
 use Rattle.mq_trace.specs.Stepping.{kind_for}
 use Rattle.mq_trace.specs.Splitting.{but_record}
-use Rattle.mq_trace.proofs.ContextLaws.{part_context, at_context, header_context}
+use Rattle.mq_log.proofs.Exports.{part_context, at_context, header_context}
 use Rattle.mq_trace.proofs.FlowLaws.{flow_after_bytes-append, events-append}
 use Rattle.mq_trace.proofs.LiftLaws.{lifted-events, lifted-after_bytes}
 use Rattle.mq_trace.proofs.RunLaws.{after_bytes_append, events_append, events_run}

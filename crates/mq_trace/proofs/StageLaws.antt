@@ -4,23 +4,23 @@ use Rattle.std.specs.Prelude.{◌&&◌, not, is_none}
 use Rattle.std.specs.Int.{w32, from_be_bytes}
 use Rattle.std.specs.Option.{option_or}
 use Rattle.mq_packet.specs.Stream.{fixed_header_of}
-use Rattle.mq_trace.specs.declared.kind.RecordKind.{RecordKind}
-use Rattle.mq_trace.specs.declared.kind.RecordKind.TheVariants as kinds
+use Rattle.mq_log.specs.declared.kind.RecordKind.{RecordKind}
+use Rattle.mq_log.specs.declared.kind.RecordKind.TheVariants as kinds
 use Rattle.mq_trace.specs.declared.stage.Stage.TheVariants as stages
-use Rattle.mq_trace.specs.declared.refusal.Refusal.{Refusal}
-use Rattle.mq_trace.specs.declared.refusal.Refusal.TheVariants as refusals
+use Rattle.mq_log.specs.declared.refusal.Refusal.{Refusal}
+use Rattle.mq_log.specs.declared.refusal.Refusal.TheVariants as refusals
 use Rattle.mq_trace.specs.declared.reading.Reading.{Reading}
-use Rattle.mq_trace.specs.Framing.{kind_named, kind_of, opens, head_length, spelled_from}
-use Rattle.mq_trace.specs.Events.{Placed}
-use Rattle.mq_trace.specs.Refusals.{header_refusal, first_that_applies, is_open_kind, needs_connection, is_release_kind}
-use Rattle.mq_trace.specs.Context.{StreamState, Context, emptied, so_far_for, refusal_for, placed_for, put, after}
+use Rattle.mq_log.specs.Framing.{kind_named, kind_of, opens, head_length, spelled_from}
+use Rattle.mq_log.specs.Events.{Placed}
+use Rattle.mq_log.specs.Refusals.{header_refusal, first_that_applies, is_open_kind, needs_connection, is_release_kind}
+use Rattle.mq_log.specs.Context.{StreamState, Context, emptied, so_far_for, refusal_for, placed_for, put, after}
 use Rattle.mq_trace.specs.Runs.{refused_in, events_by}
 use Rattle.mq_trace.specs.Emission.{NotEmitted, RefusedBySink}
 use Rattle.mq_trace.specs.Deframing.{FlowWhy}
 use Rattle.mq_trace.specs.Keeping.{state_in, IsAt, StandsAt, opens_in, context_of, begun_in, IsWithin, IsUnfinished, IsSound, Advances, StepStops}
 use Rattle.mq_trace.specs.Stepping.{after_header_byte, kind_refusal, refused_first, BeginsRecord, in_head}
 use Rattle.mq_trace.proofs.StepLaws.{header_refused, header_after, header_placed, first_refusal, first_event, first_after, middle_refusal, middle_event, middle_after, placed_none}
-use Rattle.mq_trace.proofs.FramingLaws.{head_least, kind_of-append}
+use Rattle.mq_log.proofs.Exports.{head_least, kind_of-append}
 use Rattle.mq_trace.proofs.ReadingLaws.{advanced}
 
 -- One byte's step.

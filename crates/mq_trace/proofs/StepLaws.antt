@@ -6,18 +6,18 @@ use Rattle.std.proofs.lemmas.Bool.{le-ltb, lt-ltb, le-leb, lt-leb, eqb-true, eqb
 use Rattle.std.proofs.lemmas.List.{append-nil, drop_at}
 use Rattle.std.specs.Option.{option_or}
 use Rattle.mq_packet.specs.Stream.{fixed_header_of, frame_size, is_lost}
-use Rattle.mq_trace.specs.declared.kind.RecordKind.{RecordKind}
-use Rattle.mq_trace.specs.declared.kind.RecordKind.TheVariants as kinds
-use Rattle.mq_trace.specs.declared.kind.Direction.TheVariants as directions
-use Rattle.mq_trace.specs.declared.refusal.Refusal.{Refusal}
-use Rattle.mq_trace.specs.declared.refusal.Refusal.TheVariants as refusals
-use Rattle.mq_trace.specs.Framing.{kind_named, kind_of, body_length, record_size, opens, direction_of, length_end, moment_in}
-use Rattle.mq_trace.specs.Events.{Event, opened, closed, rested, released, sent, received, item_at, event_by, event_in, event_of_head}
-use Rattle.mq_trace.specs.Refusals.{Situation, header_refusal, record_refusal, first_that_applies, comes_too_early, allows_length, is_open_kind, is_release_kind, needs_connection}
-use Rattle.mq_trace.specs.Connections.{is_too_early}
-use Rattle.mq_trace.specs.Context.{StreamState, Context, ahead_of, begun_of, emptied, so_far_by, so_far_for, situated, refusal_for, event_for, placed_with, placed_for, state_by, state_then, with_completed, after_header, after_part, after, put}
+use Rattle.mq_log.specs.declared.kind.RecordKind.{RecordKind}
+use Rattle.mq_log.specs.declared.kind.RecordKind.TheVariants as kinds
+use Rattle.mq_log.specs.declared.kind.Direction.TheVariants as directions
+use Rattle.mq_log.specs.declared.refusal.Refusal.{Refusal}
+use Rattle.mq_log.specs.declared.refusal.Refusal.TheVariants as refusals
+use Rattle.mq_log.specs.Framing.{kind_named, kind_of, body_length, record_size, opens, direction_of, length_end, moment_in}
+use Rattle.mq_log.specs.Events.{Event, opened, closed, rested, released, sent, received, item_at, event_by, event_in, event_of_head}
+use Rattle.mq_log.specs.Refusals.{Situation, header_refusal, record_refusal, first_that_applies, comes_too_early, allows_length, is_open_kind, is_release_kind, needs_connection}
+use Rattle.mq_log.specs.Connections.{is_too_early}
+use Rattle.mq_log.specs.Context.{StreamState, Context, ahead_of, begun_of, emptied, so_far_by, so_far_for, situated, refusal_for, event_for, placed_with, placed_for, state_by, state_then, with_completed, after_header, after_part, after, put}
 use Rattle.mq_trace.specs.Runs.{after_bytes, refused_in, events_by}
-use Rattle.mq_trace.proofs.FramingLaws.{head_least, body_length-append, kind_of-append}
+use Rattle.mq_log.proofs.Exports.{head_least, body_length-append, kind_of-append}
 
 -- A byte of the log's header.
 pub header_refused : (limit : ℕ) (c : Context) (b : ℕ) → c.at < 8 → refusal_for limit c b ≡ header_refusal c.at b

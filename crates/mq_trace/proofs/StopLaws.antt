@@ -3,14 +3,14 @@ use Rattle.std.proofs.Common.{◌≡◌, ℕ, ◌+◌, ◌<◌, ◌≤◌, ◌==
 use Rattle.std.specs.Prelude.{slice_index, if◌then◌else◌}
 use Rattle.std.proofs.lemmas.Bool.{ltb-true, ltb-false, le-ltb}
 use Rattle.std.proofs.lemmas.List.{get_or_append_left}
-use Rattle.mq_trace.specs.declared.refusal.Refusal.{Refusal}
-use Rattle.mq_trace.specs.declared.refusal.Refusal.TheVariants as refusals
+use Rattle.mq_log.specs.declared.refusal.Refusal.{Refusal}
+use Rattle.mq_log.specs.declared.refusal.Refusal.TheVariants as refusals
 use Rattle.mq_trace.specs.declared.reading.Reading.{Reading}
-use Rattle.mq_trace.specs.Framing.{header_by, magic, is_version}
-use Rattle.mq_trace.specs.Events.{Placed}
-use Rattle.mq_trace.specs.Refusals.{Situation, situation, first_that_applies, conditions, header_refusal, record_refusal, refusal_at}
-use Rattle.mq_trace.specs.Refusing.{refusal_offset, moved}
-use Rattle.mq_trace.specs.Reception.{Declines}
+use Rattle.mq_log.specs.Framing.{header_by, magic, is_version}
+use Rattle.mq_log.specs.Events.{Placed}
+use Rattle.mq_log.specs.Refusals.{Situation, situation, first_that_applies, conditions, header_refusal, record_refusal, refusal_at}
+use Rattle.mq_log.specs.Refusing.{refusal_offset, moved}
+use Rattle.mq_log.specs.Reception.{Declines}
 use Rattle.mq_trace.specs.Keeping.{StepStops, HoldsHeader}
 use Rattle.mq_trace.specs.Tracing.{HasRead, KeepsHeader, Stops, StopsAt, Why}
 use Rattle.mq_trace.proofs.TracingLaws.{Goes, stops_piece, stops_piece-taken, kept_at, kept_header}

@@ -4,23 +4,23 @@ use Rattle.std.specs.Prelude.{◌==◌, ◌||◌, not, nat_lt}
 use Rattle.std.proofs.lemmas.Bool.{eqb-true, lt-ltb, ltb-true, ltb-false}
 use Rattle.std.proofs.lemmas.List.{append-nil, take-append-drop, length-drop, take_all, nil_from_length}
 use Rattle.std.specs.Option.{option_or}
-use Rattle.mq_trace.specs.declared.refusal.Refusal.{Refusal}
-use Rattle.mq_trace.specs.declared.refusal.Refusal.TheVariants as refusals
+use Rattle.mq_log.specs.declared.refusal.Refusal.{Refusal}
+use Rattle.mq_log.specs.declared.refusal.Refusal.TheVariants as refusals
 use Rattle.mq_trace.specs.declared.stage.Stage.{Stage}
 use Rattle.mq_trace.specs.declared.stage.Stage.TheVariants as stages
 use Rattle.mq_trace.specs.declared.reading.Reading.{Reading}
-use Rattle.mq_trace.specs.Framing.{header_by, length_end, head_length, moment_in, records}
-use Rattle.mq_trace.specs.Events.{Event, Placed, events, event_at, packet_at}
-use Rattle.mq_trace.specs.Refusals.{refused, refusal_at, is_cut_short}
-use Rattle.mq_trace.specs.Refusing.{moved}
-use Rattle.mq_trace.specs.Context.{Context, ahead_of, context, fresh, so_far_for, event_for, placed_for, placed_with, put}
+use Rattle.mq_log.specs.Framing.{header_by, length_end, head_length, moment_in, records}
+use Rattle.mq_log.specs.Events.{Event, Placed, events, event_at, packet_at}
+use Rattle.mq_log.specs.Refusals.{refused, refusal_at, is_cut_short}
+use Rattle.mq_log.specs.Refusing.{moved}
+use Rattle.mq_log.specs.Context.{Context, ahead_of, context, fresh, so_far_for, event_for, placed_for, placed_with, put}
 use Rattle.mq_trace.specs.Runs.{after_bytes, refused_in, events_by}
-use Rattle.mq_trace.specs.Reception.{AreEvents, Declines}
+use Rattle.mq_log.specs.Reception.{AreEvents, Declines}
 use Rattle.mq_trace.specs.Deframing.{NeedsMemory, FlowWhy}
 use Rattle.mq_trace.specs.Keeping.{IsAt, context_of, Comes, StepStops}
 use Rattle.mq_trace.specs.Tracing.{HasRead, HasReceived, Why, Stops, is_between}
-use Rattle.mq_trace.proofs.ContextLaws.{at_context, part_context, context_is, context-nothing, refused-nothing, packet-kept, header-so_far, event-kept, refused-grow}
-use Rattle.mq_trace.proofs.FramingLaws.{head_least}
+use Rattle.mq_log.proofs.Exports.{at_context, part_context, context_is, context-nothing, refused-nothing, packet-kept, header-so_far, event-kept, refused-grow}
+use Rattle.mq_log.proofs.Exports.{head_least}
 use Rattle.mq_trace.proofs.RunLaws.{events_append, context_run, events_run, passes, stops}
 
 -- A reader that keeps a log and comes on with some bytes keeps the log with these bytes after it.

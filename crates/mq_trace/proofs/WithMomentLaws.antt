@@ -3,7 +3,7 @@ use Rattle.std.proofs.Common.{◌≡◌, ℕ, ◌+◌, ◌<◌, ◌≤◌, List,
 use Rattle.std.specs.Prelude.{◌==◌, if◌then◌else◌, slice_index}
 use Rattle.std.proofs.lemmas.Bool.{le-ltb, lt-ltb, ne_eqb}
 use Rattle.std.proofs.lemmas.List.{drop_at, length-take-le, length-drop}
-use Rattle.mq_trace.specs.Framing.{kind_named, kind_of, body_length, length_end, spelled_from, moment_in}
+use Rattle.mq_log.specs.Framing.{kind_named, kind_of, body_length, length_end, spelled_from, moment_in}
 use Rattle.mq_trace.specs.Converting.{no_moment, with_moment}
 
 pub front_five : (q : List ℕ) → length_end ≤ length q → length (take length_end q ++ no_moment) ≡ 13

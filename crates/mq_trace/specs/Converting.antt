@@ -2,14 +2,14 @@
 use Rattle.std.specs.Prelude.{◌≡◌, ◌⊎◌, true, false, Result, Ok, Err, ℕ, ◌==◌, nat_lt, Bool, ◌&&◌, not, cond, if◌then◌else◌, List, [], ◌∷◌, ◌++◌, length, take, drop, reverse, Option, Some, None, is_some, is_none}
 use Rattle.std.specs.List.{flat_map}
 use Rattle.std.specs.Option.{option_or}
-use Rattle.mq_trace.specs.declared.refusal.Refusal.{Refusal}
-use Rattle.mq_trace.specs.declared.refusal.Refusal.TheVariants as refusals
+use Rattle.mq_log.specs.declared.refusal.Refusal.{Refusal}
+use Rattle.mq_log.specs.declared.refusal.Refusal.TheVariants as refusals
 use Rattle.std.specs.Io.KnownBytes.{Appends, Consumes, IsAtEnd}
 use Rattle.mq_trace.specs.declared.converting.ConvertFault.{ConvertFault}
 use Rattle.mq_trace.specs.declared.converting.ConvertFault.TheVariants as convert_faults
 use Rattle.mq_trace.specs.Writing.{AppendsBeginning}
-use Rattle.mq_trace.specs.Framing.{kind_of, body_length, length_end, records}
-use Rattle.mq_trace.specs.Refusals.{Situation, situation, header_refusal, first_that_applies, is_first, ends_length, allows_length, is_cut_short, is_open_kind, needs_connection, is_release_kind}
+use Rattle.mq_log.specs.Framing.{kind_of, body_length, length_end, records}
+use Rattle.mq_log.specs.Refusals.{Situation, situation, header_refusal, first_that_applies, is_first, ends_length, allows_length, is_cut_short, is_open_kind, needs_connection, is_release_kind}
 
 -- the refusal of a byte of a header at this offset, where the version has to be 1
 abbrev pub first_version_refusal : ℕ → ℕ → Option Refusal

@@ -1,10 +1,10 @@
 -- The steps of copying a log of version 1 into version 2: what is kept of the log, and what each byte adds to what is written.
 use Rattle.std.specs.Prelude.{◌≡◌, ℕ, ◌+◌, ◌*◌, ◌<◌, ◌≤◌, ◌==◌, Bool, true, false, ⊤, ◌-◌, if◌then◌else◌, List, [], ◌∷◌, ◌++◌, length, Option, Some, None}
 use Rattle.std.specs.Io.KnownBytes.{Appends}
-use Rattle.mq_trace.specs.declared.kind.RecordKind.{RecordKind}
-use Rattle.mq_trace.specs.declared.kind.RecordKind.TheVariants as kinds
-use Rattle.mq_trace.specs.declared.refusal.Refusal.{Refusal}
-use Rattle.mq_trace.specs.declared.refusal.Refusal.TheVariants as refusals
+use Rattle.mq_log.specs.declared.kind.RecordKind.{RecordKind}
+use Rattle.mq_log.specs.declared.kind.RecordKind.TheVariants as kinds
+use Rattle.mq_log.specs.declared.refusal.Refusal.{Refusal}
+use Rattle.mq_log.specs.declared.refusal.Refusal.TheVariants as refusals
 use Rattle.mq_trace.specs.declared.feeding.Halt.{Halt}
 use Rattle.mq_trace.specs.declared.feeding.Halt.TheVariants as halts
 use Rattle.mq_trace.specs.declared.converting.ConvertFault.{ConvertFault}
@@ -14,10 +14,10 @@ use Rattle.mq_trace.specs.declared.converting.Part.TheVariants as parts
 use Rattle.mq_trace.specs.declared.converting.Addition.{Addition}
 use Rattle.mq_trace.specs.declared.converting.Addition.TheVariants as additions
 use Rattle.mq_trace.specs.declared.converting.Copying.{Copying}
-use Rattle.mq_trace.specs.Framing.{header_by, kind_named, kind_of, body_length, length_end, longest_record, records, spelled_from}
-use Rattle.mq_trace.specs.Events.{events}
-use Rattle.mq_trace.specs.Connections.{has_open_connection}
-use Rattle.mq_trace.specs.Refusals.{first_byte_refusal}
+use Rattle.mq_log.specs.Framing.{header_by, kind_named, kind_of, body_length, length_end, longest_record, records, spelled_from}
+use Rattle.mq_log.specs.Events.{events}
+use Rattle.mq_log.specs.Connections.{has_open_connection}
+use Rattle.mq_log.specs.Refusals.{first_byte_refusal}
 use Rattle.mq_trace.specs.Writing.{AppendsBeginning, header_bytes}
 use Rattle.mq_trace.specs.Converting.{no_moment, timed, unconverted, unconverted_at}
 

@@ -1,16 +1,16 @@
 -- One direction in memory: what a step takes in, and what stops it.
 use Rattle.std.specs.Prelude.{◌≡◌, ℕ, ◌+◌, ◌<◌, ◌⊎◌, nat_le, Bool, false, ◌&&◌, List, [], ◌∷◌, ◌++◌, length, Option, Some, None, option_map, is_some}
 use Rattle.mq_packet.specs.Stream.{frame_size, is_lost}
-use Rattle.mq_trace.specs.declared.kind.Direction.{Direction}
-use Rattle.mq_trace.specs.declared.refusal.Refusal.{Refusal}
-use Rattle.mq_trace.specs.declared.refusal.Refusal.TheVariants as refusals
+use Rattle.mq_log.specs.declared.kind.Direction.{Direction}
+use Rattle.mq_log.specs.declared.refusal.Refusal.{Refusal}
+use Rattle.mq_log.specs.declared.refusal.Refusal.TheVariants as refusals
 use Rattle.mq_trace.specs.declared.connections.Connections.{Connections}
 use Rattle.mq_trace.specs.declared.deframer.BodyContext.{BodyContext as ContextInMemory}
-use Rattle.mq_trace.specs.Events.{Event, Placed, item_read, read_frame}
-use Rattle.mq_trace.specs.Refusals.{first_that_applies, is_other_version}
-use Rattle.mq_trace.specs.Context.{StreamState, emptied, so_far_in}
-use Rattle.mq_trace.specs.Reception.{AreEvents}
-use Rattle.mq_trace.specs.Flows.{BodyContext, Flow, item_event, flow_placed_with, flows_too_early, flow_refused, flow_after_bytes, flow_events}
+use Rattle.mq_log.specs.Events.{Event, Placed, item_read, read_frame}
+use Rattle.mq_log.specs.Refusals.{first_that_applies, is_other_version}
+use Rattle.mq_log.specs.Context.{StreamState, emptied, so_far_in}
+use Rattle.mq_log.specs.Reception.{AreEvents}
+use Rattle.mq_log.specs.Flows.{BodyContext, Flow, item_event, flow_placed_with, flows_too_early, flow_refused, flow_after_bytes, flow_events}
 use Rattle.mq_trace.specs.Emission.{connections_with, RefusedBySink}
 
 abbrev pub body_context : ContextInMemory → BodyContext

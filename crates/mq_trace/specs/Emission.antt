@@ -1,15 +1,15 @@
 -- Emitting an event to a sink: which refusals can apply, and what is kept after it.
 use Rattle.std.specs.Prelude.{◌≡◌, ℕ, ◌+◌, ◌-◌, ◌⊎◌, nat_le, Bool, true, false, ◌&&◌, ◌||◌, not, if◌then◌else◌, List, [], ◌∷◌, Option, Some, None}
-use Rattle.mq_trace.specs.declared.place.InRecord.{InRecord}
-use Rattle.mq_trace.specs.declared.refusal.Refusal.{Refusal}
-use Rattle.mq_trace.specs.declared.refusal.Refusal.TheVariants as refusals
+use Rattle.mq_log.specs.declared.place.InRecord.{InRecord}
+use Rattle.mq_log.specs.declared.refusal.Refusal.{Refusal}
+use Rattle.mq_log.specs.declared.refusal.Refusal.TheVariants as refusals
 use Rattle.mq_trace.specs.declared.connections.Connections.{Connections}
 use Rattle.mq_trace.specs.declared.connections.Effect.{Effect}
 use Rattle.mq_trace.specs.declared.connections.Effect.TheVariants as effects
-use Rattle.mq_trace.specs.Events.{Event, Placed, opened, closed, rested, released, sent, received}
-use Rattle.mq_trace.specs.Connections.{begins_connection, ends_connection, is_answer, is_too_early}
-use Rattle.mq_trace.specs.Refusals.{first_that_applies}
-use Rattle.mq_trace.specs.Refusing.{moved}
+use Rattle.mq_log.specs.Events.{Event, Placed, opened, closed, rested, released, sent, received}
+use Rattle.mq_log.specs.Connections.{begins_connection, ends_connection, is_answer, is_too_early}
+use Rattle.mq_log.specs.Refusals.{first_that_applies}
+use Rattle.mq_log.specs.Refusing.{moved}
 
 -- what an event does to its connection; the flag says whether the tested end is a server
 abbrev pub effect_of : Bool → Event → Effect

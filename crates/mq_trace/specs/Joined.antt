@@ -1,12 +1,12 @@
 -- The events of a log, one connection and one direction at a time: they are the items of that direction's stream of packets.
 use Rattle.std.specs.Prelude.{ℕ, ◌+◌, ◌==◌, cond, List, [], ◌∷◌, ◌++◌, drop, Option, Some, None}
-use Rattle.mq_trace.specs.declared.kind.Direction.{Direction}
-use Rattle.mq_trace.specs.declared.kind.Direction.TheVariants as directions
+use Rattle.mq_log.specs.declared.kind.Direction.{Direction}
+use Rattle.mq_log.specs.declared.kind.Direction.TheVariants as directions
 use Rattle.mq_packet.specs.Stream.{is_lost}
-use Rattle.mq_trace.specs.Pieces.{Pieces}
-use Rattle.mq_trace.specs.Framing.{kind_of, direction_of, opens, if_direction}
-use Rattle.mq_trace.specs.Events.{Item, Event, Placed, lost, sent, received, item_read, read_frame}
-use Rattle.mq_trace.specs.Connections.{begins_connection}
+use Rattle.mq_log.specs.Pieces.{Pieces}
+use Rattle.mq_log.specs.Framing.{kind_of, direction_of, opens, if_direction}
+use Rattle.mq_log.specs.Events.{Item, Event, Placed, lost, sent, received, item_read, read_frame}
+use Rattle.mq_log.specs.Connections.{begins_connection}
 
 -- how many of these records are OPENs; that many connections have begun
 abbrev pub opened_records : List (List ℕ) → ℕ

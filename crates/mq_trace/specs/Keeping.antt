@@ -1,7 +1,7 @@
 -- What a reader of a log keeps in memory, and what that means for the log.
 use Rattle.std.specs.Prelude.{◌≡◌, ℕ, ◌+◌, ◌-◌, ◌*◌, ◌<◌, ◌≤◌, Bool, true, false, zero, suc, List, [], ◌∷◌, ◌++◌, length, drop, slice_index, Some, None}
-use Rattle.mq_trace.specs.declared.kind.RecordKind.{RecordKind}
-use Rattle.mq_trace.specs.declared.kind.RecordKind.TheVariants as kinds
+use Rattle.mq_log.specs.declared.kind.RecordKind.{RecordKind}
+use Rattle.mq_log.specs.declared.kind.RecordKind.TheVariants as kinds
 use Rattle.mq_trace.specs.declared.deframer.Deframer.{Deframer}
 use Rattle.mq_trace.specs.declared.stage.Stage.{Stage}
 use Rattle.mq_trace.specs.declared.stage.Stage.TheVariants as stages
@@ -9,14 +9,14 @@ use Rattle.mq_trace.specs.declared.reading.Reading.{Reading}
 use Rattle.mq_packet.specs.declared.header.FixedHeader.{FixedHeader}
 use Rattle.mq_packet.specs.declared.header.FixedHeader.TheVariants as headers
 use Rattle.mq_packet.specs.Stream.{fixed_header_of}
-use Rattle.mq_trace.specs.Framing.{kind_of, direction_of, body_length, spelled_from, moment_in, length_end, head_length, longest_record}
-use Rattle.mq_trace.specs.Refusals.{allows_length}
-use Rattle.mq_trace.specs.Events.{Placed}
-use Rattle.mq_trace.specs.Context.{StreamState, Context, so_far_for}
+use Rattle.mq_log.specs.Framing.{kind_of, direction_of, body_length, spelled_from, moment_in, length_end, head_length, longest_record}
+use Rattle.mq_log.specs.Refusals.{allows_length}
+use Rattle.mq_log.specs.Events.{Placed}
+use Rattle.mq_log.specs.Context.{StreamState, Context, so_far_for}
 use Rattle.mq_trace.specs.Runs.{after_bytes, refused_in, events_by}
-use Rattle.mq_trace.specs.Reception.{AreEvents}
+use Rattle.mq_log.specs.Reception.{AreEvents}
 use Rattle.mq_trace.specs.Deframing.{FlowWhy}
-use Rattle.mq_trace.specs.declared.refusal.Refusal.{Refusal}
+use Rattle.mq_log.specs.declared.refusal.Refusal.{Refusal}
 
 -- a direction, apart from where its bytes are in memory
 abbrev pub state_in : Deframer → StreamState

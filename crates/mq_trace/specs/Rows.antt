@@ -1,6 +1,6 @@
 -- Pieces of short logs, byte for byte.
 use Rattle.std.specs.Prelude.{ℕ, List, [], ◌∷◌, ◌++◌}
-use Rattle.mq_trace.specs.Framing.{magic}
+use Rattle.mq_log.specs.Framing.{magic}
 
 -- the header of a log of a tested client that records releases
 abbrev pub client_header : List ℕ

@@ -1,9 +1,9 @@
 -- What the next bytes of a log do, as functions of what is kept of the log.
 use Rattle.std.specs.Prelude.{ℕ, List, [], ◌∷◌, ◌++◌, Option, None}
 use Rattle.std.specs.Option.{option_or}
-use Rattle.mq_trace.specs.declared.refusal.Refusal.{Refusal}
-use Rattle.mq_trace.specs.Events.{Placed}
-use Rattle.mq_trace.specs.Context.{Context, refusal_for, placed_for, put, after}
+use Rattle.mq_log.specs.declared.refusal.Refusal.{Refusal}
+use Rattle.mq_log.specs.Events.{Placed}
+use Rattle.mq_log.specs.Context.{Context, refusal_for, placed_for, put, after}
 
 -- what is kept after these bytes
 abbrev pub after_bytes : Context → List ℕ → Context

@@ -7,8 +7,8 @@ use Rattle.mq_trace.specs.declared.deframer.Step.{Step}
 use Rattle.mq_trace.specs.declared.deframer.Step.TheVariants as steps
 use Rattle.mq_trace.specs.declared.deframer.ByteStep.{ByteStep}
 use Rattle.mq_trace.specs.declared.deframer.ByteStep.TheVariants as byte_steps
-use Rattle.mq_trace.specs.Refusals.{is_too_large}
-use Rattle.mq_trace.specs.Context.{StreamState}
+use Rattle.mq_log.specs.Refusals.{is_too_large}
+use Rattle.mq_log.specs.Context.{StreamState}
 use Rattle.mq_trace.specs.Keeping.{IsShort}
 
 -- The bytes are those of a whole packet, and so many of them its fixed header.

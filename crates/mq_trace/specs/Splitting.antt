@@ -1,6 +1,6 @@
 -- What stays the same of a log's events if its records are cut differently.
 use Rattle.std.specs.Prelude.{ℕ}
-use Rattle.mq_trace.specs.Events.{Event, Placed}
+use Rattle.mq_log.specs.Events.{Event, Placed}
 
 -- an event, its position and its moment, without the number of its record
 abbrev pub but_record : Placed → ℕ × ℕ × Event

@@ -1,24 +1,24 @@
 -- The steps of a log's reader: its state after the bytes of one.
 use Rattle.std.specs.Prelude.{◌≡◌, ℕ, ◌+◌, ◌<◌, ◌≤◌, ◌==◌, List, length, slice_index, Bool, true, false, cond, if◌then◌else◌, [], ◌∷◌, ◌++◌, Option, Some, None, Result, Ok, Err}
 use Rattle.std.specs.Int.{w32, from_be_bytes}
-use Rattle.mq_trace.specs.declared.kind.RecordKind.{RecordKind}
-use Rattle.mq_trace.specs.declared.kind.RecordKind.TheVariants as kinds
-use Rattle.mq_trace.specs.declared.kind.Direction.{Direction}
-use Rattle.mq_trace.specs.declared.place.InRecord.{InRecord}
-use Rattle.mq_trace.specs.declared.refusal.Refusal.{Refusal}
-use Rattle.mq_trace.specs.declared.refusal.Refusal.TheVariants as refusals
+use Rattle.mq_log.specs.declared.kind.RecordKind.{RecordKind}
+use Rattle.mq_log.specs.declared.kind.RecordKind.TheVariants as kinds
+use Rattle.mq_log.specs.declared.kind.Direction.{Direction}
+use Rattle.mq_log.specs.declared.place.InRecord.{InRecord}
+use Rattle.mq_log.specs.declared.refusal.Refusal.{Refusal}
+use Rattle.mq_log.specs.declared.refusal.Refusal.TheVariants as refusals
 use Rattle.mq_trace.specs.declared.stage.Stage.{Stage}
 use Rattle.mq_trace.specs.declared.stage.Stage.TheVariants as stages
 use Rattle.mq_trace.specs.declared.reading.Reading.{Reading}
-use Rattle.mq_trace.specs.Framing.{kind_named, kind_of, body_length, opens, moment_in, head_length, longest_body}
-use Rattle.mq_trace.specs.Events.{Event}
-use Rattle.mq_trace.specs.Refusals.{first_byte_refusal, allows_length}
-use Rattle.mq_trace.specs.Context.{emptied}
+use Rattle.mq_log.specs.Framing.{kind_named, kind_of, body_length, opens, moment_in, head_length, longest_body}
+use Rattle.mq_log.specs.Events.{Event}
+use Rattle.mq_log.specs.Refusals.{first_byte_refusal, allows_length}
+use Rattle.mq_log.specs.Context.{emptied}
 use Rattle.mq_trace.specs.declared.connections.Connections.{Connections}
 use Rattle.mq_trace.specs.declared.deframer.Deframer.{Deframer}
-use Rattle.mq_trace.specs.declared.kind.Direction.TheVariants as directions
+use Rattle.mq_log.specs.declared.kind.Direction.TheVariants as directions
 use Rattle.mq_trace.specs.Emission.{connections_with}
-use Rattle.mq_trace.specs.Flows.{BodyContext, Flow}
+use Rattle.mq_log.specs.Flows.{BodyContext, Flow}
 use Rattle.mq_trace.specs.Deframing.{flow_of}
 use Rattle.mq_trace.specs.Keeping.{state_in, StandsAt, begun_in}
 

@@ -1,15 +1,15 @@
 -- The state of a tracer, and what its calls return.
 use Rattle.std.specs.Prelude.{◌≡◌, ℕ, ◌<◌, ◌≤◌, nat_lt, ◌⊎◌, Bool, true, false, List, [], ◌∷◌, ◌++◌, length, Option, Some, None, is_some, Result, Ok, Err}
-use Rattle.mq_trace.specs.declared.refusal.Refusal.{Refusal}
-use Rattle.mq_trace.specs.declared.refusal.Refusal.TheVariants as refusals
+use Rattle.mq_log.specs.declared.refusal.Refusal.{Refusal}
+use Rattle.mq_log.specs.declared.refusal.Refusal.TheVariants as refusals
 use Rattle.mq_trace.specs.declared.stage.Stage.{Stage}
 use Rattle.mq_trace.specs.declared.stage.Stage.TheVariants as stages
 use Rattle.mq_trace.specs.declared.reading.Reading.{Reading}
-use Rattle.mq_trace.specs.Framing.{header_by}
-use Rattle.mq_trace.specs.Events.{Placed, events, event_at, packet_at}
-use Rattle.mq_trace.specs.Refusals.{refused, refusal_at, is_cut_short}
-use Rattle.mq_trace.specs.Refusing.{moved}
-use Rattle.mq_trace.specs.Context.{context}
+use Rattle.mq_log.specs.Framing.{header_by}
+use Rattle.mq_log.specs.Events.{Placed, events, event_at, packet_at}
+use Rattle.mq_log.specs.Refusals.{refused, refusal_at, is_cut_short}
+use Rattle.mq_log.specs.Refusing.{moved}
+use Rattle.mq_log.specs.Context.{context}
 use Rattle.mq_trace.specs.Deframing.{NeedsMemory}
 use Rattle.mq_trace.specs.Keeping.{StandsAt, context_of}
 

@@ -2,10 +2,10 @@
 use Rattle.std.specs.Prelude.{◌≡◌, ℕ, ◌<◌, ◌==◌, if◌then◌else◌, Bool, true, false, List, [], ◌∷◌, ◌++◌, length, Option}
 use Rattle.std.specs.Int.{w16, w32, w64, to_be_bytes}
 use Rattle.std.specs.Io.KnownBytes.{Appends}
-use Rattle.mq_trace.specs.declared.header.Header.{Header}
-use Rattle.mq_trace.specs.declared.kind.RecordKind.{RecordKind}
-use Rattle.mq_trace.specs.Framing.{magic}
-use Rattle.mq_trace.specs.declared.kind.RecordKind.TheVariants as kinds
+use Rattle.mq_log.specs.declared.header.Header.{Header}
+use Rattle.mq_log.specs.declared.kind.RecordKind.{RecordKind}
+use Rattle.mq_log.specs.Framing.{magic}
+use Rattle.mq_log.specs.declared.kind.RecordKind.TheVariants as kinds
 
 -- a bit as a byte
 abbrev pub bit_byte : Bool → ℕ

@@ -7,19 +7,16 @@ ghost use Rattle.std.specs.Prelude.{◌≡◌, ◌+◌, ◌-◌, Bool, [], ◌�
 ghost use Rattle.mq_packet.specs.Reading.{view};
 ghost use Rattle.mq_packet.specs.Sizes.{size_with, remaining_length};
 ghost use Rattle.mq_packet.specs.declared.packet.Packet.TheVariants as packets;
-ghost use Rattle.mq_trace.specs.Events.{Event as Completed, Placed};
-ghost use Rattle.mq_trace.specs.Flows.{item_event};
-ghost use Rattle.mq_trace.specs.declared.event.Item.TheVariants as items;
-ghost use Rattle.mq_trace.specs.Connections.{is_answer, is_connack, most_early_events};
-ghost use Rattle.mq_trace.specs.Reception.{AreEvents, Declines, event_of, item_of};
+ghost use Rattle.mq_log.specs.Events.{Event as Completed, Placed};
+ghost use Rattle.mq_log.specs.Flows.{item_event};
+ghost use Rattle.mq_log.specs.declared.event.Item.TheVariants as items;
+ghost use Rattle.mq_log.specs.Connections.{is_answer, is_connack, most_early_events};
+ghost use Rattle.mq_log.specs.Reception.{AreEvents, Declines, event_of, item_of};
 ghost use Rattle.mq_trace.specs.Emission.{decides, effect_of, event_refusal, connections_with, next_placed, NotEmitted};
 
 use super::deframer::BodyContext;
-use super::event::Event;
-use super::kind::Direction;
-use super::place::{InRecord, Place3};
-use super::refusal::Refusal;
 use super::sink::Sink;
+use mq_log::{Direction, Event, InRecord, Place3, Refusal};
 use mq_packet::{Packet, Publish};
 
 /// How many events a connection may have without its CONNACK, its OPEN counted.

@@ -3,19 +3,19 @@ ghost use Rattle.std.specs.Prelude.{◌≡◌, ◌+◌, ◌*◌, ◌<◌, ◌≤
 ghost use Rattle.std.specs.Io.KnownBytes.{Appends};
 ghost use Rattle.mq_trace.specs.Converting.{Converts, first_version_refusal, unconverted_at};
 ghost use Rattle.mq_trace.specs.Copying.{Adds, BeginsCopy, IsCopyOf, IsSound, StopsCopying, WritesMore, added_bytes, connected_after, fault_of, header_addition, in_length, is_between, is_body, past_body, past_header_byte, past_length, refused_begin};
-ghost use Rattle.mq_trace.specs.Framing.{kind_named};
-ghost use Rattle.mq_trace.specs.Refusals.{allows_length, is_cut_short};
+ghost use Rattle.mq_log.specs.Framing.{kind_named};
+ghost use Rattle.mq_log.specs.Refusals.{allows_length, is_cut_short};
 ghost use Rattle.mq_trace.specs.Writing.{AppendsBeginning};
 ghost use Rattle.mq_trace.specs.declared.converting.Addition.TheVariants as additions;
 ghost use Rattle.mq_trace.specs.declared.converting.ConvertFault.TheVariants as faults;
 ghost use Rattle.mq_trace.specs.declared.converting.Part.TheVariants as parts;
-ghost use Rattle.mq_trace.specs.declared.refusal.Refusal.TheVariants as refusals;
+ghost use Rattle.mq_log.specs.declared.refusal.Refusal.TheVariants as refusals;
 
 use super::feeding::{Feed, Halt, feed_all};
-use super::header::{HEADER_LENGTH, Header, VERSION_AT, header_after, header_refusal};
-use super::kind::RecordKind;
-use super::refusal::Refusal;
 use super::writer::{WriteFault, bytes_of, write_bytes};
+use mq_log::{
+    HEADER_LENGTH, Header, RecordKind, Refusal, VERSION_AT, header_after, header_refusal,
+};
 use std::io::{Read, Write};
 use std::marker::{Brand, Model, PhantomData};
 

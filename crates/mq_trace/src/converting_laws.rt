@@ -1,9 +1,9 @@
 //! A log of version 1 and the same in version 2: a law of the definitions, proved as the contract
 //! of a function that does nothing.
 ghost use Rattle.std.specs.Prelude.{◌≡◌, ℕ, List, None, false, slice_index};
-ghost use Rattle.mq_trace.specs.Events.{events};
-ghost use Rattle.mq_trace.specs.Framing.{header_by};
-ghost use Rattle.mq_trace.specs.Refusals.{refused, is_cut_short};
+ghost use Rattle.mq_log.specs.Events.{events};
+ghost use Rattle.mq_log.specs.Framing.{header_by};
+ghost use Rattle.mq_log.specs.Refusals.{refused, is_cut_short};
 ghost use Rattle.mq_trace.specs.Converting.{converted};
 
 /// A log of version 1 that isn't refused, and isn't cut short, is neither once it is converted. It

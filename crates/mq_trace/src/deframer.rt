@@ -10,23 +10,20 @@ ghost use Rattle.mq_packet.specs.Reading.{view};
 ghost use Rattle.mq_packet.specs.Sizes.{size_with, remaining_length};
 ghost use Rattle.mq_packet.specs.declared.header.FixedHeader.TheVariants as headers;
 ghost use Rattle.mq_packet.specs.declared.packet.Packet.TheVariants as packets;
-ghost use Rattle.mq_trace.specs.Events.{Placed, bad, lost, first_byte, read_frame};
-ghost use Rattle.mq_trace.specs.Context.{put};
-ghost use Rattle.mq_trace.specs.Reception.{AreEvents, Declines};
+ghost use Rattle.mq_log.specs.Events.{Placed, bad, lost, first_byte, read_frame};
+ghost use Rattle.mq_log.specs.Context.{put};
+ghost use Rattle.mq_log.specs.Reception.{AreEvents, Declines};
 ghost use Rattle.mq_trace.specs.Emission.{NotEmitted, event_refusal, connections_with, next_placed};
 ghost use Rattle.mq_trace.specs.Keeping.{state_in, IsUnfinished};
 ghost use Rattle.mq_trace.specs.Settling.{IsByteStep, IsFrame, IsStep, IsWhole};
-ghost use Rattle.mq_trace.specs.Flows.{item_event, flow_refused, flow_events, flow_after_bytes};
+ghost use Rattle.mq_log.specs.Flows.{item_event, flow_refused, flow_events, flow_after_bytes};
 ghost use Rattle.mq_trace.specs.Deframing.{body_context, flow_of, frame_event, refusal_at_frame, placed_frame, connections_then, FlowStops, FlowComes};
 
 use super::connections::{Connections, Effect, emit, emit_packet, emit_publish};
-use super::event::{Item, item_event};
 use super::frame::Frame;
-use super::kind::Direction;
-use super::place::InRecord;
-use super::refusal::Refusal;
 use super::sink::Sink;
 use super::unfinished::Unfinished;
+use mq_log::{Direction, InRecord, Item, Refusal, item_event};
 use mq_packet::{
     DecodeFault, FixedHeader, Packet, PacketRule, Publish, decode, decode_brief_acknowledgement,
     decode_brief_publish, decode_identified_publish, decode_ping, decode_publish, fixed_header,

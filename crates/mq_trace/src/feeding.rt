@@ -2,8 +2,8 @@
 ghost use Rattle.std.specs.Prelude.{◌≡◌, ◌*◌, ◌<◌, ◌≤◌, [], ◌++◌, ℕ, List, OnOk, IfErr, length};
 ghost use Rattle.mq_trace.specs.Feeding.{FedAll, FedSome, RunsOutAt, TakesAtMost, refusal_of};
 
-use super::refusal::Refusal;
 use super::turns::Turns;
+use mq_log::Refusal;
 use std::io::{ErrorKind, Read};
 
 /// Takes in a log, piece by piece, and passes what it finds to a sink. It may stop, for a reason of

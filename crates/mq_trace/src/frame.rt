@@ -6,7 +6,7 @@ ghost use Rattle.mq_packet.specs.declared.header.FixedHeader.TheVariants as head
 ghost use Rattle.mq_packet.specs.Decoding.{decoded};
 ghost use Rattle.mq_packet.specs.Sizes.{size_with, remaining_length};
 ghost use Rattle.mq_packet.specs.declared.packet.Packet.{Packet};
-ghost use Rattle.mq_trace.specs.Events.{read_frame};
+ghost use Rattle.mq_log.specs.Events.{read_frame};
 ghost use Rattle.mq_trace.specs.Settling.{IsFrame};
 
 use mq_packet::{FixedHeader, fixed_header};

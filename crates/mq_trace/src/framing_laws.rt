@@ -2,16 +2,16 @@
 //! nothing.
 ghost use Rattle.std.specs.Prelude.{◌≡◌, ℕ, Bool, true, false, take, drop, List, [], ◌∷◌, ◌++◌, Option, None, Some};
 ghost use Rattle.mq_packet.specs.Stream.{frame_size};
-ghost use Rattle.mq_trace.specs.declared.refusal.Refusal.{Refusal};
-ghost use Rattle.mq_trace.specs.declared.refusal.Refusal.TheVariants.{Version, Length, Nested, NotOpen, ReleaseUnrecorded};
-ghost use Rattle.mq_trace.specs.declared.kind.Direction.{Direction};
-ghost use Rattle.mq_trace.specs.Pieces.{Pieces, AreCut};
-ghost use Rattle.mq_trace.specs.Framing.{record_size, records, ahead_in, stream, kind_of, opens, carried};
-ghost use Rattle.mq_trace.specs.Connections.{events_on_connection, is_answer, is_too_early};
-ghost use Rattle.mq_trace.specs.Events.{Event, opened, closed, released, event_at, events};
-ghost use Rattle.mq_trace.specs.Refusals.{refused, is_cut_short};
+ghost use Rattle.mq_log.specs.declared.refusal.Refusal.{Refusal};
+ghost use Rattle.mq_log.specs.declared.refusal.Refusal.TheVariants.{Version, Length, Nested, NotOpen, ReleaseUnrecorded};
+ghost use Rattle.mq_log.specs.declared.kind.Direction.{Direction};
+ghost use Rattle.mq_log.specs.Pieces.{Pieces, AreCut};
+ghost use Rattle.mq_log.specs.Framing.{record_size, records, ahead_in, stream, kind_of, opens, carried};
+ghost use Rattle.mq_log.specs.Connections.{events_on_connection, is_answer, is_too_early};
+ghost use Rattle.mq_log.specs.Events.{Event, opened, closed, released, event_at, events};
+ghost use Rattle.mq_log.specs.Refusals.{refused, is_cut_short};
 ghost use Rattle.mq_trace.specs.Rows.{client_header, silent_header, open_bytes, close_bytes, close_start, release_bytes, timed_header, timed_open};
-ghost use Rattle.mq_trace.specs.Context.{context, after, put, placed_for};
+ghost use Rattle.mq_log.specs.Context.{context, after, put, placed_for};
 
 /// After its header a log is its records, each a whole one, and a rest that doesn't begin with a
 /// record; there is only one such list of records.

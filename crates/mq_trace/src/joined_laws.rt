@@ -1,10 +1,10 @@
 //! The events of a log and the streams of its connections: laws of the definitions, each proved as
 //! the contract of a function that does nothing.
 ghost use Rattle.std.specs.Prelude.{◌≡◌, ℕ, List, Option, Some};
-ghost use Rattle.mq_trace.specs.declared.kind.Direction.{Direction};
-ghost use Rattle.mq_trace.specs.declared.kind.Direction.TheVariants as directions;
-ghost use Rattle.mq_trace.specs.Framing.{ahead_in, begun_records, stream};
-ghost use Rattle.mq_trace.specs.Events.{closed, unfinished_in, first_byte, event_at, events};
+ghost use Rattle.mq_log.specs.declared.kind.Direction.{Direction};
+ghost use Rattle.mq_log.specs.declared.kind.Direction.TheVariants as directions;
+ghost use Rattle.mq_log.specs.Framing.{ahead_in, begun_records, stream};
+ghost use Rattle.mq_log.specs.Events.{closed, unfinished_in, first_byte, event_at, events};
 ghost use Rattle.mq_trace.specs.Joined.{opened_records, joined, connection_items, stream_items};
 
 /// On each connection of a log and in each direction, the items of the events are, in order, those

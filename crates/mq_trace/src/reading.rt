@@ -2,32 +2,28 @@
 
 ghost use Rattle.std.specs.Prelude.{◌≡◌, ◌≢◌, ◌+◌, ◌*◌, ◌^◌, ◌<◌, ◌≤◌, ◌∷◌, [], Bool, List, true, false, cond, Some, None, OnOk, IfOk, IfErr, IfSome, IsTrue, length, take, OnErr};
 ghost use Rattle.mq_trace.specs.Keeping.{state_in, context_of, IsSound, Comes, StepStops, HoldsHeader};
-ghost use Rattle.mq_trace.specs.Refusals.{header_refusal};
-ghost use Rattle.mq_trace.specs.Refusing.{refusal_offset};
+ghost use Rattle.mq_log.specs.Refusals.{header_refusal};
+ghost use Rattle.mq_log.specs.Refusing.{refusal_offset};
 ghost use Rattle.std.specs.Int.{w32, from_be_bytes};
-ghost use Rattle.mq_trace.specs.declared.kind.RecordKind.TheVariants as kinds;
+ghost use Rattle.mq_log.specs.declared.kind.RecordKind.TheVariants as kinds;
 ghost use Rattle.mq_trace.specs.declared.stage.Stage.TheVariants as stages;
-ghost use Rattle.mq_trace.specs.Framing.{kind_named, opens, moment_in, head_length};
-ghost use Rattle.mq_trace.specs.Events.{Placed};
-ghost use Rattle.mq_trace.specs.Reception.{AreEvents, Declines, event_of};
+ghost use Rattle.mq_log.specs.Framing.{kind_named, opens, moment_in, head_length};
+ghost use Rattle.mq_log.specs.Events.{Placed};
+ghost use Rattle.mq_log.specs.Reception.{AreEvents, Declines, event_of};
 ghost use Rattle.mq_trace.specs.Emission.{effect_of, event_refusal, next_placed, NotEmitted};
-ghost use Rattle.mq_trace.specs.Context.{fresh};
+ghost use Rattle.mq_log.specs.Context.{fresh};
 ghost use Rattle.mq_trace.specs.Stepping.{err_of, after_header_byte, kind_refusal, kind_for, IsBodyHead, BeginsRecord, EndsHead, is_in_body, refused_first, in_head, in_moment, in_record_of, marked, leaving};
 
 mod bodies;
 
 use super::connections::{Connections, Effect, emit};
 use super::deframer::Deframer;
-use super::event::Event;
-use super::header::{
-    HEADER_LENGTH, Header, LENGTH_END, has_moments, head_length, header_after, header_refusal,
-    longest_body,
-};
-use super::kind::{Direction, RecordKind};
-use super::place::InRecord;
-use super::refusal::Refusal;
 use super::sink::Sink;
 use super::stage::Stage;
+use mq_log::{
+    Direction, Event, HEADER_LENGTH, Header, InRecord, LENGTH_END, RecordKind, Refusal,
+    has_moments, head_length, header_after, header_refusal, longest_body,
+};
 use std::alloc::Global;
 
 // The direction of the packets that a record carries, where this byte begins it and it is a SENT or

@@ -3,13 +3,10 @@
 ghost use Rattle.std.specs.Prelude.{List, ◌∷◌, ◌≡◌, OnOk, IfErr, unwrap_or};
 ghost use Rattle.mq_packet.specs.Sizes.{size_with, remaining_length};
 ghost use Rattle.mq_packet.specs.declared.packet.Packet.TheVariants as packets;
-ghost use Rattle.mq_trace.specs.Events.{Placed};
-ghost use Rattle.mq_trace.specs.Reception.{AreEvents, placed_at, packet_event_at};
+ghost use Rattle.mq_log.specs.Events.{Placed};
+ghost use Rattle.mq_log.specs.Reception.{AreEvents, placed_at, packet_event_at};
 
-use super::event::{Event, Item, item_event};
-use super::kind::Direction;
-use super::place::Place3;
-use super::refusal::Refusal;
+use mq_log::{Direction, Event, Item, Place3, Refusal, item_event};
 use mq_packet::{Packet, Publish};
 
 /// Receives the events of a log, one after another.
@@ -41,7 +38,7 @@ use mq_packet::{Packet, Publish};
 /// }
 /// ```
 pub trait Sink {
-    ghost use Rattle.mq_trace.specs.declared.refusal.Refusal.{Refusal};
+    ghost use Rattle.mq_log.specs.declared.refusal.Refusal.{Refusal};
 
     // The sink has received these events, the newest first.
     ghost agrees: { Self → List Placed → Type 0 };

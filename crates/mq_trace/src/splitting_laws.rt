@@ -1,8 +1,8 @@
 //! How bytes are cut into records: laws of the definitions, each proved as the contract of a
 //! function that does nothing.
 ghost use Rattle.std.specs.Prelude.{◌≡◌, ℕ, ◌<◌, ◌≤◌, ◌^◌, List, [], ◌++◌, length, map};
-ghost use Rattle.mq_trace.specs.Framing.{records, header_by};
-ghost use Rattle.mq_trace.specs.Events.{events};
+ghost use Rattle.mq_log.specs.Framing.{records, header_by};
+ghost use Rattle.mq_log.specs.Events.{events};
 ghost use Rattle.mq_trace.specs.Writing.{sent_record, received_record, record_bytes};
 ghost use Rattle.mq_trace.specs.Splitting.{but_record};
 

@@ -3,7 +3,7 @@
 ghost use Rattle.std.specs.Prelude.{◌≡◌};
 ghost use Rattle.mq_trace.specs.Tracing.{is_between};
 
-use super::kind::{Direction, RecordKind};
+use mq_log::{Direction, RecordKind};
 
 /// Where a reader is among the records of a log.
 #[derive(Clone, Copy, Debug, PartialEq, Eq)]

@@ -1,15 +1,14 @@
 //! Reads a log that is fed in pieces, and emits its events to a sink.
 
 ghost use Rattle.std.specs.Prelude.{◌≡◌, ℕ, ◌+◌, ◌-◌, ◌*◌, ◌≤◌, min, List, [], ◌++◌, ◌||◌, not, nat_lt, length, Some, None, Err, IfErr, IfOk, IfSome, OnOk, if◌then◌else◌};
-ghost use Rattle.mq_trace.specs.Framing.{header_by};
+ghost use Rattle.mq_log.specs.Framing.{header_by};
 ghost use Rattle.mq_trace.specs.Keeping.{IsSound};
 ghost use Rattle.mq_trace.specs.Tracing.{IsTracedTo, Begins, TracesPiece, Ends, HasRead, HasReceived, KeepsHeader, StopsAt, StopsInHeader, is_between};
-ghost use Rattle.mq_trace.specs.Refusing.{refusal_offset};
+ghost use Rattle.mq_log.specs.Refusing.{refusal_offset};
 
-use super::header::{HEADER_LENGTH, Header};
 use super::reading::Reading;
-use super::refusal::Refusal;
 use super::sink::Sink;
+use mq_log::{HEADER_LENGTH, Header, Refusal};
 use std::alloc::Global;
 use std::marker::Model;
 

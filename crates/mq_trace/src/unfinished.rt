@@ -2,15 +2,15 @@
 
 ghost use Rattle.std.specs.Prelude.{◌≡◌, ◌==◌, ◌+◌, ◌<◌, ◌≤◌, ◌^◌, ◌++◌, [], Some, OnOk, OnErr, IfErr, length, false};
 ghost use Rattle.mq_packet.specs.Stream.{frame_size};
-ghost use Rattle.mq_trace.specs.Reception.{Declines};
+ghost use Rattle.mq_log.specs.Reception.{Declines};
 ghost use Rattle.mq_trace.specs.Deframing.{body_context, flow_of, FlowStops, FlowComes};
 
 use super::connections::Connections;
 use super::deframer::{BodyContext, emit_frame};
 use super::frame::Frame;
-use super::refusal::Refusal;
 use super::sink::Sink;
 use bytes::BytesMut;
+use mq_log::Refusal;
 use std::alloc::{AllocError, Global};
 use std::marker::Model;
 

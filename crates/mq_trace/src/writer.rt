@@ -2,13 +2,12 @@
 ghost use Rattle.std.specs.Prelude.{◌≡◌, ◌==◌, ◌≤◌, true, false, Some, ◌++◌, ◌∷◌, length, codes, OnOk, OnErr};
 ghost use Rattle.std.specs.Int.{w32, w64, to_be_bytes};
 ghost use Rattle.std.specs.Io.KnownBytes.{Appends};
-ghost use Rattle.mq_trace.specs.Framing.{is_version, longest_body};
+ghost use Rattle.mq_log.specs.Framing.{is_version, longest_body};
 ghost use Rattle.mq_trace.specs.Writing.{header_bytes, kind_byte, framed, open_record, close_record, rest_record, sent_record, received_record, release_record, record_bytes, AppendsBeginning, WritesAll, FailsToWrite};
 
 mod laws;
 
-use super::header::{Header, LENGTH_END, MAGIC, MOMENT_END, has_moments};
-use super::kind::RecordKind;
+use mq_log::{Header, LENGTH_END, MAGIC, MOMENT_END, RecordKind, has_moments};
 use std::error::Error;
 use std::fmt;
 use std::io::Write;

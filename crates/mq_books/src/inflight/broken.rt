@@ -14,8 +14,8 @@ use super::earlier::Earlier;
 use super::entry::Entry;
 use crate::known::{excuse, judge_by};
 use indexmap::{IndexMap, IndexSet};
+use mq_log::Place3;
 use mq_rules::{Fate, Faults, Memory, Note, Role, Rule};
-use mq_trace::Place3;
 
 /// Which statements an event breaks.
 #[derive(Drop)]

@@ -7,9 +7,9 @@ ghost use Rattle.mq_rules.specs.Notes.{is_exactly_once, sent_publish};
 ghost use Rattle.mq_books.specs.Opened.{sends_retained, sent_if, released_if, confirmed_if, closed_if, opened_if, entry_after, entry_next};
 
 use indexmap::IndexMap;
+use mq_log::Place3;
 use mq_packet::Qos;
 use mq_rules::{Fate, Memory, Note};
-use mq_trace::Place3;
 use std::alloc::Global;
 
 /// What is kept of an identifier that is open.

@@ -13,7 +13,7 @@ ghost use Rattle.mq_rules.specs.Connections.{accepts, resumes};
 ghost use Rattle.mq_rules.specs.Under.{seen, Follows, IsKnown};
 ghost use Rattle.mq_rules.specs.Notes.{note_of_bare, refuses, is_acknowledged, is_exactly_once as exactly_once};
 ghost use Rattle.mq_rules.specs.Words.{is_id, is_some_and, only};
-ghost use Rattle.mq_trace.specs.declared.kind.Direction.TheVariants as directions;
+ghost use Rattle.mq_log.specs.declared.kind.Direction.TheVariants as directions;
 ghost use Rattle.mq_books.specs.Moving.{Moves, IsMoved, IsStep, IsWithin, untouched};
 ghost use Rattle.mq_books.specs.Resending.{passed_since};
 ghost use Rattle.mq_books.specs.Using.{is_taken, IsUsing};
@@ -26,9 +26,9 @@ use crate::known::judge_by;
 use crate::messages::is_acknowledged as acknowledges;
 use crate::quota::{flown_by, may_count};
 use indexmap::{IndexMap, IndexSet};
+use mq_log::{Direction, Place3};
 use mq_packet::Qos;
 use mq_rules::{Bare, BareFields, Brisk, Fate, Faults, Memory, Rule, step_apart};
-use mq_trace::{Direction, Place3};
 
 // The identifier that a PUBLISH opens: its QoS is above 0, and DUP is 0.
 #[inline(always)]

@@ -13,9 +13,9 @@ ghost use Rattle.mq_books.specs.Receiving.{Receives, IsReceived, IsStep, IsWithi
 
 use super::{Releases, is_unreleased, lasting, revise, revise_due};
 use crate::known::judge_by;
+use mq_log::{Direction, Place3};
 use mq_packet::Qos;
 use mq_rules::{Bare, BareFields, Brisk, Faults, Memory, Rule};
-use mq_trace::{Direction, Place3};
 
 // The identifier that a PUBLISH brings a message under: its QoS is 2.
 #[inline(always)]

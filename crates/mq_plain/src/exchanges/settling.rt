@@ -9,8 +9,8 @@ use crate::exchanges::slot::Slot;
 use crate::exchanges::unanswered::{is_first, unanswered};
 use crate::resting::RestStatement;
 use crate::table::Table;
+use mq_log::Place3;
 use mq_rules::{Memory, Role, Rule, Seen};
-use mq_trace::Place3;
 use std::alloc::Global;
 use std::marker::PhantomData;
 

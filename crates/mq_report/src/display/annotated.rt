@@ -7,13 +7,13 @@ ghost use Rattle.mq_report.specs.Display.{decided_words, fault_note, fault_notes
 ghost use Rattle.mq_report.specs.Calendar.{time_words};
 ghost use Rattle.mq_report.specs.Views.{annotation_of};
 ghost use Rattle.mq_rules.specs.FaultKeys.{faults_at};
-ghost use Rattle.mq_trace.specs.Reception.{placed_at};
+ghost use Rattle.mq_log.specs.Reception.{placed_at};
 
 use super::calendar::put_time;
 use super::outgoing::Outgoing;
 use super::view::{put_line_with_bytes, put_long_line};
+use mq_log::{Event, Place3};
 use mq_rules::{Fault, FaultKey, Faults, Role, Rule};
-use mq_trace::{Event, Place3};
 use std::io::Write;
 
 /// The line of each event near to a fault, with a line for each fault at it, and a line `..` for

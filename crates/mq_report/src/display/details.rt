@@ -11,7 +11,7 @@ ghost use Rattle.mq_packet.specs.Reading.{view, connect_view, publish_view, will
 ghost use Rattle.mq_report.specs.Details.{detail_text, broken_detail_text, broken_details, item_details, packet_words, connect_words, publish_words, will_words, user_words, password_words, property_words, filter_words, option_words, code_words};
 ghost use Rattle.mq_report.specs.ItemText.{with_spaces};
 ghost use Rattle.mq_report.specs.Outgoing.{Puts};
-ghost use Rattle.mq_trace.specs.Reception.{event_of, item_of};
+ghost use Rattle.mq_log.specs.Reception.{event_of, item_of};
 
 mod broken;
 mod detail;
@@ -23,10 +23,10 @@ mod quoting;
 use super::outgoing::Outgoing;
 pub use broken::put_broken;
 use detail::{Detail, Shown, put_all, put_detail};
+use mq_log::{Event, Item};
 use mq_packet::{Answer, Codes, Connack, Connect, Filter, Filters, Packet, Publish, Request, Will};
 use mq_props::Props;
 use mq_rules::qos_number;
-use mq_trace::{Event, Item};
 use property::put_properties;
 use std::io::Write;
 

@@ -7,7 +7,7 @@ ghost use Rattle.mq_report.specs.Report.{StopsWriting};
 use super::super::lines::Lines;
 use super::super::report::RunFault;
 use super::super::report::line::write_bytes;
-use mq_trace::Refusal;
+use mq_log::Refusal;
 use std::fmt;
 use std::fmt::Write as _;
 use std::io::Write;

@@ -5,8 +5,8 @@ ghost use Rattle.mq_report.specs.Outgoing.{Carries, Puts};
 ghost use Rattle.mq_report.specs.Display.{line_with_bytes, direction_word, event_line, event_text, event_words, long_line, moment_words, packet_line, place_text};
 ghost use Rattle.mq_report.specs.ItemText.{with_spaces};
 ghost use Rattle.mq_report.specs.Views.{IsStateAfter, text_by};
-ghost use Rattle.mq_trace.specs.Events.{Placed};
-ghost use Rattle.mq_trace.specs.Reception.{event_of, packet_event_at, placed_at};
+ghost use Rattle.mq_log.specs.Events.{Placed};
+ghost use Rattle.mq_log.specs.Reception.{event_of, packet_event_at, placed_at};
 
 use super::super::lines::Lines;
 use super::super::report::item::{put_item, put_packet};
@@ -14,8 +14,8 @@ use super::super::report::packet_summary::PacketSummary;
 use super::annotated::Annotated;
 use super::details::{put_broken_details, put_details};
 use super::outgoing::Outgoing;
+use mq_log::{Direction, Event, Item, Place3};
 use mq_packet::Packet;
-use mq_trace::{Direction, Event, Item, Place3};
 use std::fmt;
 use std::io::Write;
 

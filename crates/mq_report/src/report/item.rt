@@ -1,13 +1,13 @@
 //! The text of what is sent or received.
 ghost use Rattle.std.specs.Prelude.{◌≡◌, ◌<◌, ◌≤◌, ◌+◌, ◌++◌, Some, IfErr, OnOk, length};
-ghost use Rattle.mq_trace.specs.Reception.{item_of};
+ghost use Rattle.mq_log.specs.Reception.{item_of};
 ghost use Rattle.mq_report.specs.ItemText.{type_name, identifier_of, qos_and_dup, flag_number, delivery_words, identifier_words, with_spaces, packet_rule_code, packet_text, broken_text, item_text};
 
 use super::super::lines::Lines;
 use super::packet_summary::PacketSummary;
+use mq_log::Item;
 use mq_packet::PacketRule;
 use mq_rules::{Rule, qos_number};
-use mq_trace::Item;
 use std::fmt;
 
 /// The text of a direction that is lost.

@@ -9,8 +9,8 @@ ghost use Rattle.mq_report.specs.Report.{line, fault_data, fault_items, verdict_
 
 use super::line::write_bytes;
 use super::{RunFault, Verdict};
+use mq_log::Refusal;
 use mq_rules::{Fault, FaultKey, Faults, Role};
-use mq_trace::Refusal;
 use serde_json::{Value, json, push};
 use std::alloc::{AllocError, Global};
 use std::io::Write;

@@ -2,8 +2,8 @@
 use crate::display::details::put_details;
 use crate::display::outgoing::Outgoing;
 use crate::report::RunFault;
+use mq_log::{Event, Item};
 use mq_packet::{PacketRule, decode};
-use mq_trace::{Event, Item};
 use std::alloc::Global;
 use std::process::Abort;
 use std::test::Fail;

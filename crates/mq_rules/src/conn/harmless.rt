@@ -7,7 +7,7 @@ ghost use Rattle.mq_rules.specs.Words.{is_some_and};
 ghost use Rattle.mq_rules.specs.Notes.{resumed_by, qos_number as number_of, bare_fields, note_of_bare};
 ghost use Rattle.mq_rules.specs.Keeping.{may_go_on, size_bound, qos_bound, send_bounds, is_harmless as harmless, is_harmless_in as harmless_in};
 ghost use Rattle.mq_rules.specs.declared.role.Role.TheVariants as roles;
-ghost use Rattle.mq_trace.specs.declared.kind.Direction.TheVariants as directions;
+ghost use Rattle.mq_log.specs.declared.kind.Direction.TheVariants as directions;
 
 use super::state::{ConnectionState, is_ordinary};
 use super::verdicts::has_explanation;
@@ -16,7 +16,7 @@ use crate::note::{ItemNote, Note};
 use crate::packet_note::{PacketFields, PublishNote};
 use crate::qos::qos_number;
 use crate::role::Role;
-use mq_trace::Direction;
+use mq_log::Direction;
 
 /// One byte more than the largest packet has.
 const ANY_SIZE: u64 = 0x1_0000_0000;

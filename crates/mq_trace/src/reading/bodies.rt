@@ -3,22 +3,19 @@
 ghost use Rattle.std.specs.Prelude.{◌≡◌, ◌+◌, ◌^◌, ◌<◌, ◌≤◌, ◌++◌, [], List, false, None, OnOk, IfOk, IfErr, IfSome, IsTrue, is_some, length, take, OnErr};
 ghost use Rattle.mq_trace.specs.Keeping.{state_in, IsUnfinished, IsSound, Comes, StepStops, HoldsHeader};
 ghost use Rattle.mq_trace.specs.declared.stage.Stage.TheVariants as stages;
-ghost use Rattle.mq_trace.specs.Events.{Placed};
-ghost use Rattle.mq_trace.specs.Reception.{AreEvents, Declines};
+ghost use Rattle.mq_log.specs.Events.{Placed};
+ghost use Rattle.mq_log.specs.Reception.{AreEvents, Declines};
 ghost use Rattle.mq_trace.specs.Stepping.{IsBodyHead, leaving, in_record_of, context_for, deframer_for, flow_for, redirected};
-ghost use Rattle.mq_trace.specs.Flows.{flow_refused, flow_events, flow_after_bytes};
+ghost use Rattle.mq_log.specs.Flows.{flow_refused, flow_events, flow_after_bytes};
 ghost use Rattle.mq_trace.specs.Deframing.{flow_of, FlowStops};
 ghost use Rattle.mq_trace.specs.Settling.{IsStep, IsWhole};
 
 use super::super::deframer::{BodyContext, Step, consume_whole, whole_packet};
 use super::super::frame::Frame;
-use super::super::header::head_length;
-use super::super::kind::Direction;
-use super::super::place::InRecord;
-use super::super::refusal::Refusal;
 use super::super::sink::Sink;
 use super::super::stage::Stage;
 use super::Reading;
+use mq_log::{Direction, InRecord, Refusal, head_length};
 
 impl Reading {
     /// Takes in the head of a SENT or RECV of this moment that carries `left` bytes in this

@@ -2,8 +2,8 @@
 //! that does nothing.
 ghost use Rattle.std.specs.Prelude.{◌≡◌, ◌==◌, ℕ, ◌<◌, ◌≤◌, ◌^◌, List, ◌++◌, length, drop, slice_index, Some};
 ghost use Rattle.std.specs.Int.{w16, from_be_bytes};
-ghost use Rattle.mq_trace.specs.declared.header.Header.{Header as AnyHeader};
-ghost use Rattle.mq_trace.specs.Framing.{record_size, kind_of, moment_in, head_length};
+ghost use Rattle.mq_log.specs.declared.header.Header.{Header as AnyHeader};
+ghost use Rattle.mq_log.specs.Framing.{record_size, kind_of, moment_in, head_length};
 ghost use Rattle.mq_trace.specs.Writing.{Record, release_record, record_kind, record_body, record_bytes, header_bytes};
 
 /// A record is read back as it was written, whatever follows it, in each version.

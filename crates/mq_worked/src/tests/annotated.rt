@@ -5,7 +5,7 @@ use super::harness::{
     PUBLISH_UNIDENTIFIED, Part, add_record, log_of,
 };
 use mq_judge::{RunFault, judge_reader, show_faults, show_long};
-use mq_trace::Refusal;
+use mq_log::Refusal;
 use std::alloc::{AllocError, Global};
 use std::fmt::Write as _;
 use std::ops::Range;

@@ -4,7 +4,7 @@ use super::harness::{
     Pieces, SERVER, add_record, log_of,
 };
 use mq_judge::{Form, Outcome, RunFault, run, run_bounded, show};
-use mq_trace::Refusal;
+use mq_log::Refusal;
 use std::alloc::Global;
 use std::fmt::Write as _;
 use std::io;

@@ -4,8 +4,8 @@ use super::harness::Pieces;
 use super::plain::{are_same, plain_faults_in};
 use super::statements::{log_of, outcome_of};
 use mq_judge::{Form, Judge, Options, RunFault, run};
+use mq_log::Refusal;
 use mq_rules::Faults;
-use mq_trace::Refusal;
 use std::alloc::Global;
 use std::io::Cursor;
 

@@ -1,7 +1,7 @@
 //! Logs of version 2, whose records have moments, as they are shown.
 use super::harness::Pieces;
 use mq_judge::{RunFault, judge_reader, show, show_faults, show_long};
-use mq_trace::Refusal;
+use mq_log::Refusal;
 use std::alloc::Global;
 use std::fmt::Write as _;
 use std::io::Read;

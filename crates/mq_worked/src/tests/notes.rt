@@ -1,8 +1,8 @@
 //! What no clause can say: that there is memory for the notes of the largest packets.
 
+use mq_log::Direction;
 use mq_packet::decode;
 use mq_rules::{ItemNote, Note, PacketFields};
-use mq_trace::Direction;
 use std::alloc::{AllocError, Global};
 use std::test::Fail;
 

@@ -1,8 +1,8 @@
 //! Reports in each form, and writers that fail.
 use super::harness::Failing;
 use mq_judge::{Form, RunFault, Verdict, write_json, write_refused, write_summary, write_text};
+use mq_log::Refusal;
 use mq_rules::{Fault, FaultKey, Faults, Role, Rule};
-use mq_trace::Refusal;
 use std::io::ErrorKind;
 use std::process::Abort;
 

@@ -6,7 +6,7 @@ use super::harness::{
     log_of,
 };
 use mq_judge::{Form, Outcome, RunFault, run};
-use mq_trace::Refusal;
+use mq_log::Refusal;
 use std::alloc::{AllocError, Global};
 use std::process::Abort;
 

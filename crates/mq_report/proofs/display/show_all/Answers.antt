@@ -1,8 +1,8 @@
 use Rattle.std.proofs.Common.{◌≡◌, ◌∙◌, List, sym, ap, subst}
 use Rattle.std.proofs.lemmas.Result.{err_from_is_err_and}
-use Rattle.mq_trace.specs.Events.{Placed}
-use Rattle.mq_trace.specs.declared.refusal.Refusal.{Refusal}
-use Rattle.mq_trace.proofs.Exports.{events-nothing}
+use Rattle.mq_log.specs.Events.{Placed}
+use Rattle.mq_log.specs.declared.refusal.Refusal.{Refusal}
+use Rattle.mq_log.proofs.Exports.{events-nothing}
 use Rattle.mq_report.specs.Outgoing.{Carries}
 use Rattle.mq_report.specs.declared.display.Display.{Display}
 use Rattle.mq_report.specs.Views.{IsStateAfter, text_by}

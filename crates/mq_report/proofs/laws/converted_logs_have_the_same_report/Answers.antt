@@ -1,5 +1,5 @@
 use Rattle.std.proofs.Common.{◌≡◌, ◌∙◌, List, ℕ, ap, length, map}
-use Rattle.mq_trace.specs.Events.{Placed, events}
+use Rattle.mq_log.specs.Events.{Placed, events}
 use Rattle.mq_trace.specs.Converting.{converted}
 use Rattle.mq_trace.proofs.Exports.{converted_same}
 use Rattle.mq_rules.specs.declared.role.Tested.{Tested}

@@ -1,6 +1,6 @@
 //! Laws of what `show --long` prints, each proved as the contract of a function that does nothing.
 ghost use Rattle.std.specs.Prelude.{◌≡◌, true};
-ghost use Rattle.mq_trace.specs.Events.{Event};
+ghost use Rattle.mq_log.specs.Events.{Event};
 ghost use Rattle.mq_report.specs.Details.{broken_detail_text, detail_text};
 ghost use Rattle.mq_report.specs.OneLine.{is_on_one_line};
 

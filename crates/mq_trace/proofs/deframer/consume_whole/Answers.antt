@@ -2,7 +2,7 @@
 use Rattle.std.proofs.Common.{[], arith}
 use Rattle.mq_trace.proofs.ItemLaws.{frame_by_header}
 use Rattle.mq_trace.proofs.DeframerLaws.{comes_of, stops_of}
-use Rattle.mq_trace.specs.Reception.{Declines}
+use Rattle.mq_log.specs.Reception.{Declines}
 use Rattle.mq_trace.proofs.deframer.consume_whole.Goals as goal
 
 pub returns-clause-comes : goal.returns-clause-comes

@@ -2,10 +2,10 @@
 use Rattle.std.proofs.Common.{ℕ, Option, sym, ap, ◌∙◌}
 use Rattle.std.specs.Prelude.{unwrap_or}
 use Rattle.mq_packet.specs.declared.packet.Packet.TheVariants as packets
-use Rattle.mq_trace.specs.declared.event.Item.TheVariants as items
-use Rattle.mq_trace.specs.Context.{emptied}
+use Rattle.mq_log.specs.declared.event.Item.TheVariants as items
+use Rattle.mq_log.specs.Context.{emptied}
 use Rattle.mq_trace.specs.Deframing.{body_context}
-use Rattle.mq_trace.specs.Reception.{Declines, item_of}
+use Rattle.mq_log.specs.Reception.{Declines, item_of}
 use Rattle.mq_trace.proofs.ItemLaws.{packet_item, emitted_met, emitted_kept, emitted_receives, emitted_err}
 use Rattle.mq_trace.proofs.deframer.emit_decoded_publish.Goals as goal
 

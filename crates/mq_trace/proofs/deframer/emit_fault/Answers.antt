@@ -1,9 +1,9 @@
 -- A whole packet with a fault is emitted as what it is.
 use Rattle.std.proofs.Common.{Err, ap, ◌∙◌}
-use Rattle.mq_trace.specs.Events.{item_read}
-use Rattle.mq_trace.specs.Context.{emptied}
+use Rattle.mq_log.specs.Events.{item_read}
+use Rattle.mq_log.specs.Context.{emptied}
 use Rattle.mq_trace.specs.Deframing.{body_context}
-use Rattle.mq_trace.specs.Reception.{Declines}
+use Rattle.mq_log.specs.Reception.{Declines}
 use Rattle.mq_trace.proofs.ItemLaws.{emitted_met, emitted_kept, emitted_receives, emitted_err, other_met}
 use Rattle.mq_trace.proofs.deframer.emit_fault.Goals as goal
 

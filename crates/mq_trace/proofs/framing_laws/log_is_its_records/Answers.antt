@@ -1,7 +1,7 @@
 use Rattle.std.proofs.Common.{drop}
-use Rattle.mq_trace.specs.Framing.{record_size, records, ahead_in}
-use Rattle.mq_trace.proofs.PiecesLaws.{pieces-cut, pieces-only}
-use Rattle.mq_trace.proofs.FramingLaws.{cuts}
+use Rattle.mq_log.specs.Framing.{record_size, records, ahead_in}
+use Rattle.mq_log.proofs.Exports.{pieces-cut, pieces-only}
+use Rattle.mq_log.proofs.Exports.{cuts}
 use Rattle.mq_trace.proofs.framing_laws.log_is_its_records.Goals as goal
 
 pub returns-clause-cut : goal.returns-clause-cut

@@ -1,4 +1,4 @@
-use Rattle.mq_trace.proofs.ContextLaws.{context-grow, events-kept}
+use Rattle.mq_log.proofs.Exports.{context-grow, events-kept}
 use Rattle.mq_trace.proofs.framing_laws.one_byte_more.Goals as goal
 
 pub returns-clause-kept : goal.returns-clause-kept

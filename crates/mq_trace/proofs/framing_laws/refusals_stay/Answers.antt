@@ -1,4 +1,4 @@
-use Rattle.mq_trace.proofs.ContextLaws.{refused-stays}
+use Rattle.mq_log.proofs.Exports.{refused-stays}
 use Rattle.mq_trace.proofs.framing_laws.refusals_stay.Goals as goal
 
 pub returns : goal.returns

@@ -1,7 +1,7 @@
 use Rattle.mq_packet.specs.Stream.{frame_size}
-use Rattle.mq_trace.specs.Framing.{stream}
-use Rattle.mq_trace.proofs.PiecesLaws.{pieces-cut, pieces-only}
-use Rattle.mq_trace.proofs.StreamStateLaws.{frame_settles}
+use Rattle.mq_log.specs.Framing.{stream}
+use Rattle.mq_log.proofs.Exports.{pieces-cut, pieces-only}
+use Rattle.mq_log.proofs.Exports.{frame_settles}
 use Rattle.mq_trace.proofs.framing_laws.stream_is_its_frames.Goals as goal
 
 pub returns-clause-cut : goal.returns-clause-cut

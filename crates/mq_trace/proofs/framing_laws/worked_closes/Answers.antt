@@ -1,7 +1,7 @@
 use Rattle.std.proofs.Common.{refl}
-use Rattle.mq_trace.specs.Events.{part_at, packet_at, begun_at, event_in, event_at}
-use Rattle.mq_trace.specs.Framing.{kind_of, body_length, head_length, record_size, records, begun_records, carried, stream}
-use Rattle.mq_trace.specs.Pieces.{pieces}
+use Rattle.mq_log.specs.Events.{part_at, packet_at, begun_at, event_in, event_at}
+use Rattle.mq_log.specs.Framing.{kind_of, body_length, head_length, record_size, records, begun_records, carried, stream}
+use Rattle.mq_log.specs.Pieces.{pieces}
 use Rattle.mq_packet.specs.Stream.{fixed_header_of, frame_size, is_lost}
 use Rattle.mq_trace.proofs.framing_laws.worked_closes.Goals as goal
 

@@ -1,8 +1,8 @@
 use Rattle.std.proofs.Common.{refl}
-use Rattle.mq_trace.specs.Events.{read_frame, item_at, part_at, packet_at, moment_at, event_in, event_at, events_back, events}
-use Rattle.mq_trace.specs.Framing.{kind_of, body_length, head_length, longest_body, moment_in, record_size, records, begun_records, carried, stream}
-use Rattle.mq_trace.specs.Pieces.{pieces}
-use Rattle.mq_trace.specs.Refusals.{header_refusal, situation, record_refusal, refusal_at, refused_back, refused, is_cut_short}
+use Rattle.mq_log.specs.Events.{read_frame, item_at, part_at, packet_at, moment_at, event_in, event_at, events_back, events}
+use Rattle.mq_log.specs.Framing.{kind_of, body_length, head_length, longest_body, moment_in, record_size, records, begun_records, carried, stream}
+use Rattle.mq_log.specs.Pieces.{pieces}
+use Rattle.mq_log.specs.Refusals.{header_refusal, situation, record_refusal, refusal_at, refused_back, refused, is_cut_short}
 use Rattle.mq_packet.specs.Stream.{fixed_header_of, frame_size, is_lost}
 use Rattle.mq_trace.proofs.framing_laws.worked_logs.Goals as goal
 

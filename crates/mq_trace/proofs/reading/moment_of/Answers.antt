@@ -1,6 +1,6 @@
 use Rattle.std.proofs.Common.{arith, rules, ◌≡◌, ◌<◌, ◌≤◌, ℕ, true, false, length, sym, ap, ◌∙◌}
 use Rattle.std.specs.Prelude.{◌==◌}
-use Rattle.mq_trace.specs.Framing.{moment_in, head_length}
+use Rattle.mq_log.specs.Framing.{moment_in, head_length}
 use Rattle.mq_trace.proofs.MomentLaws.{head_with, head_without, moment_none, moment_eight}
 use Rattle.mq_trace.proofs.reading.moment_of.Goals as goal
 

@@ -1,5 +1,5 @@
 use Rattle.std.proofs.Common.{refl}
-use Rattle.mq_trace.specs.Reception.{placed_at}
+use Rattle.mq_log.specs.Reception.{placed_at}
 use Rattle.mq_rules.specs.Notes.{note_of}
 use Rattle.mq_judge.proofs.WatchingLaws.{found-still, watched-next}
 use Rattle.mq_judge.proofs.watching.JudgingSink.event.Goals as goal

@@ -1,8 +1,8 @@
 use Rattle.std.proofs.Common.{refl, ap}
 use Rattle.mq_packet.specs.Reading.{view}
-use Rattle.mq_trace.specs.Events.{packet}
-use Rattle.mq_trace.specs.Flows.{item_event}
-use Rattle.mq_trace.specs.Reception.{packet_event_at}
+use Rattle.mq_log.specs.Events.{packet}
+use Rattle.mq_log.specs.Flows.{item_event}
+use Rattle.mq_log.specs.Reception.{packet_event_at}
 use Rattle.mq_rules.specs.Notes.{note_of}
 use Rattle.mq_judge.proofs.WatchingLaws.{found-still, watched-next}
 use Rattle.mq_judge.proofs.watching.JudgingSink.packet.Goals as goal

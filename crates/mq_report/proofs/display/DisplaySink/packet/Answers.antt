@@ -1,6 +1,6 @@
 use Rattle.std.proofs.Common.{◌≡◌, ◌∙◌, ◌∷◌, Bool, List, ℕ, ap, sym, subst}
-use Rattle.mq_trace.specs.Events.{Placed}
-use Rattle.mq_trace.specs.Reception.{packet_event_at}
+use Rattle.mq_log.specs.Events.{Placed}
+use Rattle.mq_log.specs.Reception.{packet_event_at}
 use Rattle.mq_report.specs.Outgoing.{Carries}
 use Rattle.mq_report.specs.Views.{text_by}
 use Rattle.mq_report.proofs.display.DisplaySink.packet.Goals as goal

@@ -1,5 +1,5 @@
 use Rattle.std.proofs.Common.{◌∷◌, [], sym, append_assoc}
-use Rattle.mq_trace.specs.Reception.{placed_at}
+use Rattle.mq_log.specs.Reception.{placed_at}
 use Rattle.mq_report.specs.Details.{broken_detail_text}
 use Rattle.mq_report.specs.Display.{event_words}
 use Rattle.mq_report.proofs.OutgoingLaws.{puts_three}

@@ -1,16 +1,16 @@
 -- The next packet of a direction.
 use Rattle.std.proofs.Common.{◌≡◌, ℕ, List, ◌++◌, length, arith, sym, subst, ap, ◌∙◌, take}
 use Rattle.std.proofs.lemmas.List.{take_all}
-use Rattle.mq_trace.specs.Events.{Placed}
-use Rattle.mq_trace.specs.Context.{StreamState}
+use Rattle.mq_log.specs.Events.{Placed}
+use Rattle.mq_log.specs.Context.{StreamState}
 use Rattle.mq_packet.specs.Stream.{fixed_header_of}
 use Rattle.mq_trace.specs.Keeping.{state_in, IsShort}
 use Rattle.mq_trace.specs.Settling.{IsStep}
 use Rattle.mq_trace.specs.declared.deframer.Step.{Step}
 use Rattle.mq_trace.specs.declared.deframer.Step.TheVariants as steps
-use Rattle.mq_trace.specs.declared.refusal.Refusal.{Refusal}
-use Rattle.mq_trace.specs.Reception.{Declines, AreEvents}
-use Rattle.mq_trace.specs.Flows.{flow_after_bytes, flow_refused, flow_events}
+use Rattle.mq_log.specs.declared.refusal.Refusal.{Refusal}
+use Rattle.mq_log.specs.Reception.{Declines, AreEvents}
+use Rattle.mq_log.specs.Flows.{flow_after_bytes, flow_refused, flow_events}
 use Rattle.mq_trace.specs.Deframing.{body_context, flow_of, FlowStops}
 use Rattle.mq_trace.proofs.FlowLaws.{lost-refused, lost-events}
 use Rattle.mq_trace.proofs.DeframerLaws.{first_front, lost_kept, stops_front, stops_memory, begins_short, stays, stays_unfinished}

@@ -1,13 +1,13 @@
 -- The next byte, by what it is to its packet.
 use Rattle.std.proofs.Common.{◌+◌, true, false, List, [], ◌∷◌, ℕ, arith, sym, subst, OnOk, IfErr}
 use Rattle.std.proofs.lemmas.Result.{on_ok_weaker}
-use Rattle.mq_trace.specs.declared.refusal.Refusal.TheVariants.{Memory}
-use Rattle.mq_trace.specs.Context.{StreamState}
+use Rattle.mq_log.specs.declared.refusal.Refusal.TheVariants.{Memory}
+use Rattle.mq_log.specs.Context.{StreamState}
 use Rattle.mq_trace.specs.Keeping.{state_in, IsUnfinished}
 use Rattle.mq_trace.specs.Deframing.{body_context, flow_of, FlowComes, FlowStops}
 use Rattle.mq_trace.proofs.DeframerLaws.{stays, stops_memory, stops_over, nothing_unfinished}
 use Rattle.mq_trace.proofs.ByteLaws.{lost_comes, lost_stops, sound_nothing, kept_to, always, still_there, if_named}
-use Rattle.mq_trace.specs.Reception.{Declines}
+use Rattle.mq_log.specs.Reception.{Declines}
 use Rattle.mq_trace.proofs.deframer.Deframer.consume_byte.Goals as goal
 
 pub returns-in-GoesOn-clause-comes : goal.returns-in-GoesOn-clause-comes

@@ -1,13 +1,13 @@
 -- More of an unfinished packet.
 use Rattle.std.proofs.Common.{◌≡◌, ◌+◌, ◌-◌, false, ℕ, List, length, arith, sym, subst, take, length-take-le}
 use Rattle.std.proofs.lemmas.List.{take_all}
-use Rattle.mq_trace.specs.declared.refusal.Refusal.{Refusal}
-use Rattle.mq_trace.specs.Context.{StreamState}
+use Rattle.mq_log.specs.declared.refusal.Refusal.{Refusal}
+use Rattle.mq_log.specs.Context.{StreamState}
 use Rattle.mq_trace.specs.Deframing.{body_context, flow_of, FlowStops, FlowComes}
 use Rattle.mq_trace.specs.Keeping.{state_in, IsUnfinished}
 use Rattle.mq_trace.proofs.DeframerLaws.{stays, stays_unfinished, more_short, begun_some, whole_with, stops_front, stops_memory, nothing_unfinished, short_is}
 use Rattle.mq_trace.proofs.ByteLaws.{still_there}
-use Rattle.mq_trace.specs.Reception.{Declines}
+use Rattle.mq_log.specs.Reception.{Declines}
 use Rattle.mq_trace.proofs.deframer.Deframer.go_on.Goals as goal
 
 pub complete-requires-clause-begun : goal.complete-requires-clause-begun

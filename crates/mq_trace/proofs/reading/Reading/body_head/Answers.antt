@@ -1,5 +1,5 @@
 use Rattle.std.proofs.Common.{arith}
-use Rattle.mq_trace.proofs.FramingLaws.{head_least}
+use Rattle.mq_log.proofs.Exports.{head_least}
 use Rattle.mq_trace.proofs.reading.Reading.body_head.Goals as goal
 
 pub bounds-bytes-0 : goal.bounds-bytes-0

@@ -3,7 +3,7 @@ use Rattle.std.proofs.lemmas.List.{take-append-drop, length-take}
 use Rattle.mq_trace.specs.Keeping.{StepStops}
 use Rattle.mq_trace.proofs.ReadingLaws.{stops_longer}
 use Rattle.mq_trace.proofs.BodyLaws.{body_comes, body_stops}
-use Rattle.mq_trace.specs.Reception.{Declines}
+use Rattle.mq_log.specs.Reception.{Declines}
 use Rattle.mq_trace.proofs.reading.Reading.consume_body.Goals as goal
 
 within : (m n left : ℕ) (bytes : List ℕ) → m ≡ min n left → length (take m bytes) ≤ left

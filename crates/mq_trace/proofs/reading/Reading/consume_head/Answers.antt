@@ -1,9 +1,9 @@
 use Rattle.std.proofs.Common.{arith, ◌∷◌, [], refl}
 use Rattle.std.specs.Prelude.{slice_index}
-use Rattle.mq_trace.specs.Framing.{kind_named, length_end}
+use Rattle.mq_log.specs.Framing.{kind_named, length_end}
 use Rattle.mq_trace.proofs.ReadingLaws.{comes_quietly, comes_after, stops_after, first_of, five_of, comes_front, stops_front}
 use Rattle.mq_trace.proofs.StageLaws.{begins_at, first_advances, first_sound, first_refused, stops_refused}
-use Rattle.mq_trace.specs.Reception.{Declines}
+use Rattle.mq_log.specs.Reception.{Declines}
 use Rattle.mq_trace.proofs.reading.Reading.consume_head.Goals as goal
 
 pub returns-then-bytes-lt-LENGTH_END-clause-sound : goal.returns-then-bytes-lt-LENGTH_END-clause-sound

@@ -5,7 +5,7 @@ use Rattle.mq_trace.specs.Keeping.{Advances}
 use Rattle.mq_trace.specs.Stepping.{in_head}
 use Rattle.mq_trace.proofs.StageLaws.{three_advance}
 use Rattle.mq_trace.proofs.EmissionLaws.{result_comes, result_stops}
-use Rattle.mq_trace.specs.Reception.{Declines}
+use Rattle.mq_log.specs.Reception.{Declines}
 use Rattle.mq_trace.proofs.reading.Reading.consume_length.Goals as goal
 
 pub returns-clause-comes : goal.returns-clause-comes

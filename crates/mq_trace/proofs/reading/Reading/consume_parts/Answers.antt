@@ -1,11 +1,11 @@
 use Rattle.std.proofs.Common.{arith, ◌≡◌, ◌+◌, ◌≤◌, ℕ, [], take, length, sym, subst, ◌∙◌, ap}
-use Rattle.mq_trace.specs.Framing.{head_length}
+use Rattle.mq_log.specs.Framing.{head_length}
 use Rattle.mq_trace.specs.declared.reading.Reading.{Reading}
-use Rattle.mq_trace.specs.Reception.{Declines}
+use Rattle.mq_log.specs.Reception.{Declines}
 use Rattle.mq_trace.specs.Keeping.{begun_in, Advances}
 use Rattle.mq_trace.proofs.ReadingLaws.{comes_quietly}
 use Rattle.mq_trace.proofs.TracingLaws.{rest_same}
-use Rattle.mq_trace.proofs.FramingLaws.{head_least}
+use Rattle.mq_log.proofs.Exports.{head_least}
 use Rattle.mq_trace.proofs.MomentLaws.{head_most}
 use Rattle.mq_trace.proofs.HeadLaws.{head_taken, head_sound, comes_after_head, stops_after_head}
 use Rattle.mq_trace.proofs.reading.Reading.consume_parts.Goals as goal

@@ -1,15 +1,15 @@
 -- A record's head and the whole packet that its body begins with.
 use Rattle.std.proofs.Common.{arith, ◌≡◌, ℕ, ◌+◌, ◌-◌, ◌≤◌, List, length, min, take, drop, refl, sym, subst, ap, ◌∙◌}
-use Rattle.mq_trace.specs.Framing.{head_length}
-use Rattle.mq_trace.specs.Context.{emptied}
-use Rattle.mq_trace.specs.Reception.{Declines}
+use Rattle.mq_log.specs.Framing.{head_length}
+use Rattle.mq_log.specs.Context.{emptied}
+use Rattle.mq_log.specs.Reception.{Declines}
 use Rattle.mq_trace.specs.Keeping.{Comes}
 use Rattle.mq_trace.specs.Settling.{IsWhole}
 use Rattle.mq_trace.specs.declared.deframer.BodyContext.{BodyContext as ContextInMemory}
 use Rattle.mq_trace.specs.Deframing.{body_context, flow_of, FlowComes, FlowStops}
 use Rattle.mq_trace.specs.Stepping.{context_for, deframer_for, leaving}
-use Rattle.mq_trace.specs.declared.kind.Direction.{Direction}
-use Rattle.mq_trace.specs.declared.kind.Direction.TheVariants as directions
+use Rattle.mq_log.specs.declared.kind.Direction.{Direction}
+use Rattle.mq_log.specs.declared.kind.Direction.TheVariants as directions
 use Rattle.mq_trace.specs.declared.reading.Reading.{Reading}
 use Rattle.mq_trace.specs.Keeping.{state_in, IsSound, IsUnfinished}
 use Rattle.mq_trace.proofs.DeframerLaws.{frame_front, header_front}

@@ -2,9 +2,9 @@ use Rattle.std.proofs.Common.{rules, ◌≡◌, ◌+◌, ◌∷◌, [], Some, ap
 use Rattle.mq_trace.specs.declared.reading.Reading.{Reading}
 use Rattle.mq_trace.specs.Keeping.{IsSound, Advances}
 use Rattle.mq_trace.specs.Stepping.{leaving}
-use Rattle.mq_trace.specs.declared.kind.Direction.TheVariants as directions
-use Rattle.mq_trace.specs.Framing.{direction_of}
-use Rattle.mq_trace.specs.Events.{event_of_head}
+use Rattle.mq_log.specs.declared.kind.Direction.TheVariants as directions
+use Rattle.mq_log.specs.Framing.{direction_of}
+use Rattle.mq_log.specs.Events.{event_of_head}
 use Rattle.mq_trace.proofs.ReadingLaws.{comes_quietly}
 use Rattle.mq_trace.proofs.EndLaws.{begun_by, body_advances, body_begins_sound}
 use Rattle.mq_trace.proofs.reading.Reading.end_head.Goals as goal

@@ -1,10 +1,10 @@
 use Rattle.std.proofs.Common.{rules, ◌≡◌, ◌+◌, ◌*◌, ◌∷◌, [], true, false, Some, sym, subst}
 use Rattle.std.specs.Prelude.{◌==◌}
 use Rattle.mq_trace.specs.declared.reading.Reading.{Reading}
-use Rattle.mq_trace.specs.declared.refusal.Refusal.TheVariants as refusals
+use Rattle.mq_log.specs.declared.refusal.Refusal.TheVariants as refusals
 use Rattle.mq_trace.specs.Keeping.{IsSound, Advances}
-use Rattle.mq_trace.specs.Refusals.{allows_length}
-use Rattle.mq_trace.specs.Reception.{Declines}
+use Rattle.mq_log.specs.Refusals.{allows_length}
+use Rattle.mq_log.specs.Reception.{Declines}
 use Rattle.mq_trace.specs.Stepping.{in_moment, EndsHead}
 use Rattle.mq_trace.proofs.ReadingLaws.{comes_quietly}
 use Rattle.mq_trace.proofs.StageLaws.{stops_refused}

@@ -2,10 +2,10 @@ use Rattle.std.proofs.Common.{◌≡◌, ◌+◌, ◌∷◌, [], None, Some, ap,
 use Rattle.std.proofs.lemmas.Bool.{eqb-true}
 use Rattle.mq_trace.specs.declared.reading.Reading.{Reading}
 use Rattle.mq_trace.specs.declared.stage.Stage.TheVariants as stages
-use Rattle.mq_trace.specs.Events.{opened, closed, rested, event_of_head}
-use Rattle.mq_trace.specs.Refusals.{allows_length}
+use Rattle.mq_log.specs.Events.{opened, closed, rested, event_of_head}
+use Rattle.mq_log.specs.Refusals.{allows_length}
 use Rattle.mq_trace.specs.Keeping.{IsSound, Advances}
-use Rattle.mq_trace.specs.Reception.{Declines}
+use Rattle.mq_log.specs.Reception.{Declines}
 use Rattle.mq_trace.proofs.ReadingLaws.{comes_quietly}
 use Rattle.mq_trace.proofs.EndLaws.{begun_by, mark_emits, release_advances, release_sound}
 use Rattle.mq_trace.proofs.EmissionLaws.{emitted_comes, emitted_stops}

@@ -1,9 +1,9 @@
 use Rattle.std.proofs.Common.{arith, ◌≡◌, ◌∷◌, [], subst}
 use Rattle.std.specs.Int.{w16, from_be_bytes}
-use Rattle.mq_trace.specs.Events.{released}
+use Rattle.mq_log.specs.Events.{released}
 use Rattle.mq_trace.proofs.EndLaws.{CompletesEvent, release_emits}
 use Rattle.mq_trace.proofs.EmissionLaws.{emitted_comes, emitted_stops}
-use Rattle.mq_trace.specs.Reception.{Declines}
+use Rattle.mq_log.specs.Reception.{Declines}
 use Rattle.mq_trace.proofs.reading.Reading.end_release.Goals as goal
 
 pub returns-clause-comes : goal.returns-clause-comes

@@ -6,7 +6,7 @@ use Rattle.mq_trace.specs.Keeping.{Advances}
 use Rattle.mq_trace.proofs.ReadingLaws.{comes_quietly, first_of, comes_front, stops_front}
 use Rattle.mq_trace.proofs.StageLaws.{header_advances, header_stops, stops_refused}
 use Rattle.mq_trace.proofs.EndLaws.{high_advances}
-use Rattle.mq_trace.specs.Reception.{Declines}
+use Rattle.mq_log.specs.Reception.{Declines}
 use Rattle.mq_trace.proofs.reading.Reading.go_on.Goals as goal
 
 pub returns-in-Ok-clause-comes : goal.returns-in-Ok-clause-comes

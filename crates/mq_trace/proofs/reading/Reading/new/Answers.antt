@@ -1,6 +1,6 @@
 -- What is kept of nothing is sound.
 use Rattle.std.proofs.Common.{refl, sym, subst, arith, false}
-use Rattle.mq_trace.specs.Context.{StreamState}
+use Rattle.mq_log.specs.Context.{StreamState}
 use Rattle.mq_trace.specs.Keeping.{IsUnfinished}
 use Rattle.mq_trace.proofs.DeframerLaws.{nothing_unfinished}
 use Rattle.mq_trace.proofs.reading.Reading.new.Goals as goal

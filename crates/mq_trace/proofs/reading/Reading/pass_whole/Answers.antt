@@ -1,14 +1,14 @@
 -- A whole packet at the front of a body.
 use Rattle.std.proofs.Common.{◌≡◌, ◌+◌, false, ℕ, List, [], length, arith, sym, subst, ap, ◌∙◌, take, refl}
-use Rattle.mq_trace.specs.Context.{StreamState}
-use Rattle.mq_trace.specs.Reception.{Declines}
-use Rattle.mq_trace.specs.Flows.{flow_after_bytes}
+use Rattle.mq_log.specs.Context.{StreamState}
+use Rattle.mq_log.specs.Reception.{Declines}
+use Rattle.mq_log.specs.Flows.{flow_after_bytes}
 use Rattle.mq_trace.specs.Keeping.{state_in, IsUnfinished}
 use Rattle.mq_trace.specs.Deframing.{body_context, flow_of, FlowStops, FlowComes}
 use Rattle.mq_trace.specs.Stepping.{context_for, deframer_for}
 use Rattle.mq_trace.specs.declared.connections.Connections.{Connections}
-use Rattle.mq_trace.specs.declared.kind.Direction.{Direction}
-use Rattle.mq_trace.specs.declared.kind.Direction.TheVariants as directions
+use Rattle.mq_log.specs.declared.kind.Direction.{Direction}
+use Rattle.mq_log.specs.declared.kind.Direction.TheVariants as directions
 use Rattle.mq_trace.specs.declared.deframer.BodyContext.{BodyContext as ContextInMemory}
 use Rattle.mq_trace.specs.declared.reading.Reading.{Reading}
 use Rattle.mq_trace.proofs.DeframerLaws.{frame_front, header_front, stops_front}

@@ -1,7 +1,7 @@
 use Rattle.std.proofs.Common.{sym, ◌∙◌, ap, subst}
-use Rattle.mq_trace.specs.Context.{Context}
+use Rattle.mq_log.specs.Context.{Context}
 use Rattle.mq_trace.specs.Tracing.{Traced, HasRead}
-use Rattle.mq_trace.proofs.ContextLaws.{at_context}
+use Rattle.mq_log.proofs.Exports.{at_context}
 use Rattle.mq_trace.proofs.tracer.Tracer.byte_count.Goals as goal
 
 pub returns-in-None-clause-follows : goal.returns-in-None-clause-follows

@@ -1,6 +1,6 @@
 -- A log ends where no record is unfinished.
 use Rattle.std.proofs.Common.{ℕ, ap, ◌∙◌, sym, subst}
-use Rattle.mq_trace.specs.declared.refusal.Refusal.TheVariants.{Cut}
+use Rattle.mq_log.specs.declared.refusal.Refusal.TheVariants.{Cut}
 use Rattle.mq_trace.specs.declared.reading.Reading.{Reading}
 use Rattle.mq_trace.specs.Tracing.{Traced, HasRead}
 use Rattle.mq_trace.proofs.TracingLaws.{kept_at, kept_cut}

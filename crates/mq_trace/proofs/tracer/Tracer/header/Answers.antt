@@ -1,10 +1,10 @@
 -- What the header says is kept.
 use Rattle.std.proofs.Common.{Bool, Some, None, length, ap, ◌∙◌, sym, subst, arith, if◌then◌else◌}
 use Rattle.std.proofs.lemmas.Bool.{lt-ltb, le-ltb, ltb-false}
-use Rattle.mq_trace.specs.declared.header.Header.{Header}
+use Rattle.mq_log.specs.declared.header.Header.{Header}
 use Rattle.mq_trace.specs.declared.reading.Reading.{Reading}
 use Rattle.mq_trace.specs.Tracing.{Traced, HasRead, KeepsHeader}
-use Rattle.mq_trace.specs.Framing.{header_by}
+use Rattle.mq_log.specs.Framing.{header_by}
 use Rattle.mq_trace.proofs.TracingLaws.{kept_at, kept_header}
 use Rattle.mq_trace.proofs.tracer.Tracer.header.Goals as goal
 

@@ -3,7 +3,7 @@ use Rattle.std.proofs.Common.{◌≡◌, ◌++◌, ◌∙◌, ◌<◌, false, le
 use Rattle.bytes.specs.Filled.{Filled}
 use Rattle.mq_trace.specs.Deframing.{body_context, flow_of}
 use Rattle.mq_trace.proofs.DeframerLaws.{ended, ended_stops, stops_part}
-use Rattle.mq_trace.specs.Reception.{Declines}
+use Rattle.mq_log.specs.Reception.{Declines}
 use Rattle.mq_trace.proofs.unfinished.Unfinished.complete.Goals as goal
 
 pub returns-in-Ok-clause-comes : goal.returns-in-Ok-clause-comes

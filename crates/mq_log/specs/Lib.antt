@@ -1,0 +1,9 @@
+pub mod Connections
+pub mod Context
+pub mod Events
+pub mod Flows
+pub mod Framing
+pub mod Pieces
+pub mod Reception
+pub mod Refusals
+pub mod Refusing

@@ -1,0 +1,163 @@
+use super::harness::MAX_BODY;
+use mq_packet::*;
+use std::test::Fail;
+
+// The payload that the standard shows in its section 3.8.3: the filter `a/b` with Maximum QoS 1,
+// and `c/d` with 2.
+const EXAMPLE: [u8; 12] = [0, 3, b'a', b'/', b'b', 1, 0, 3, b'c', b'/', b'd', 2];
+
+#[test]
+fn bytes_as_filters(rt: HostRuntime) {
+    let rows: [(&[u8], bool, Option<usize>); 24] = [
+        (&[], true, None),
+        (&[], false, None),
+        (&[0, 1, b'a', 0], true, Some(1)),
+        (&[0, 1, b'a'], false, Some(1)),
+        (&EXAMPLE, true, Some(2)),
+        (&[0, 1, b'a', 0, 1, b'b'], false, Some(2)),
+        // the same filter twice
+        (&[0, 1, b'a', 0, 1, b'a'], false, Some(2)),
+        // options that are missing, or too many
+        (&[0, 1, b'a'], true, None),
+        (&[0, 1, b'a', 0, 0, 1, b'b'], true, None),
+        (&[0, 1, b'a', 0], false, None),
+        // misspelled filters
+        (&[0], false, None),
+        (&[0, 2, b'a'], false, None),
+        (&[0, 1, 0xFF], false, None),
+        (&[0, 1, 0], false, None),
+        // invalid filters
+        (&[0, 0], false, None),
+        (&[0, 2, b'a', b'#'], false, None),
+        (&[0, 1, b'a', 0, 2, b'+', b'b'], false, None),
+        (&[0, 1, b'#', 0, 1, b'+'], false, Some(2)),
+        // each bit of the options
+        (&[0, 1, b'a', 0b0010_1110], true, Some(1)),
+        (&[0, 1, b'a', 0b0001_1101], true, Some(1)),
+        (&[0, 1, b'a', 0b0000_0011], true, None),
+        (&[0, 1, b'a', 0b0011_0000], true, None),
+        (&[0, 1, b'a', 0b0100_0000], true, None),
+        (&[0, 1, b'a', 0b1000_0000], true, None),
+    ];
+    for (bytes, options, wanted) in rows {
+        let filters = Filters::of(bytes, options);
+        assert_eq!(rt; filters.map(|f| f.iter().count()), wanted, "{bytes:?}");
+    }
+}
+
+#[test]
+fn filters_in_order(rt: HostRuntime) {
+    let Some(filters) = Filters::of(&EXAMPLE, true) else {
+        assert!(rt; false);
+        return;
+    };
+    assert!(rt; filters.have_options());
+    assert_eq!(rt; filters.as_bytes(), &EXAMPLE[..]);
+    let mut iter = filters.iter();
+    let first = Filter {
+        filter: "a/b",
+        options: Some(1),
+    };
+    let second = Filter {
+        filter: "c/d",
+        options: Some(2),
+    };
+    assert_eq!(rt; iter.next(), Some(first));
+    assert_eq!(rt; iter.next(), Some(second));
+    assert_eq!(rt; iter.next(), None);
+    assert_eq!(rt; iter.next(), None);
+}
+
+#[test]
+fn codes_in_order(rt: HostRuntime) {
+    let codes = Codes::of(&[2, 0x80, 0]);
+    assert_eq!(rt; codes.as_bytes(), &[2u8, 0x80, 0][..]);
+    let mut iter = codes.iter();
+    assert_eq!(rt; iter.next(), Some(2));
+    assert_eq!(rt; iter.next(), Some(0x80));
+    assert_eq!(rt; iter.next(), Some(0));
+    assert_eq!(rt; iter.next(), None);
+}
+
+// The first byte of a SUBSCRIBE, of an UNSUBSCRIBE, and of their answers.
+const SUBSCRIBE: u8 = 0x82;
+
+const UNSUBSCRIBE: u8 = 0xA2;
+
+const SUBACK: u8 = 0x90;
+
+const UNSUBACK: u8 = 0xB0;
+
+// Where a packet breaks a rule, and which.
+fn stopped(read: Result<Packet<'_>, DecodeFault>) -> Option<(u32, PacketRule)> {
+    match read {
+        Err(DecodeFault::Broken(fault)) => Some((fault.at, fault.rule)),
+        _ => None,
+    }
+}
+
+#[test]
+fn requests(rt: HostRuntime) {
+    let rows: [(&[u8], u8, Option<(u32, PacketRule)>); 11] = [
+        (&[0, 10, 0, 0, 1, b'a', 1], SUBSCRIBE, None),
+        (&[0, 10, 0, 0, 1, b'a'], UNSUBSCRIBE, None),
+        (&[0, 10, 2, 0x0B, 5, 0, 1, b'a', 1], SUBSCRIBE, None),
+        (
+            &[0, 0, 0, 0, 1, b'a'],
+            UNSUBSCRIBE,
+            Some((2, PacketRule::W09)),
+        ),
+        (
+            &[0, 10, 2, 0x0B, 5, 0, 1, b'a'],
+            UNSUBSCRIBE,
+            Some((5, PacketRule::W10)),
+        ),
+        (&[0, 10, 0], SUBSCRIBE, Some((5, PacketRule::W16))),
+        (&[0, 10, 0], UNSUBSCRIBE, Some((5, PacketRule::W16))),
+        (
+            &[0, 10, 0, 0, 1, b'a', 1, 0, 1, b'#', 3],
+            SUBSCRIBE,
+            Some((12, PacketRule::W17)),
+        ),
+        (
+            &[0, 10, 0, 0, 1, b'a', 1, 0, 0, 3],
+            SUBSCRIBE,
+            Some((9, PacketRule::W15)),
+        ),
+        (
+            &[0, 10, 0, 0, 1, b'a'],
+            SUBSCRIBE,
+            Some((8, PacketRule::W06)),
+        ),
+        (
+            &[0, 10, 0, 0, 1, b'a', 1],
+            UNSUBSCRIBE,
+            Some((8, PacketRule::W06)),
+        ),
+    ];
+    for (body, first, wanted) in rows {
+        if body.len() > MAX_BODY {
+            return;
+        }
+        assert_eq!(rt; stopped(decode(first, body)), wanted, "{body:?}");
+    }
+}
+
+#[test]
+fn answers(rt: HostRuntime) {
+    let rows: [(&[u8], u8, Option<(u32, PacketRule)>); 7] = [
+        (&[0, 10, 0], SUBACK, None),
+        (&[0, 10, 0], UNSUBACK, None),
+        (&[0, 10, 0, 0, 1, 2, 0x80], SUBACK, None),
+        (&[0, 10, 0, 0, 0x11, 0x8F], UNSUBACK, None),
+        (&[0, 10, 0, 0, 0x11], SUBACK, Some((6, PacketRule::W13))),
+        (&[0, 10, 0, 0, 1], UNSUBACK, Some((6, PacketRule::W13))),
+        (&[0, 10], UNSUBACK, Some((4, PacketRule::W06))),
+    ];
+    for (body, first, wanted) in rows {
+        if body.len() > MAX_BODY {
+            return;
+        }
+        assert_eq!(rt; stopped(decode(first, body)), wanted, "{body:?}");
+    }
+}

@@ -1,0 +1,148 @@
+//! What a tracer emits for a log, as lines.
+
+ghost use Rattle.std.specs.Prelude.{◌≡◌};
+
+use super::logs::{ANSWERED_LINES, Part, log_of};
+use mq_trace::{Event, Item, Place3, Refusal, Sink, Tracer};
+use std::alloc::{AllocError, Global};
+use std::process::Abort;
+use std::test::Fail;
+
+/// The limit of `mqjudge`.
+pub const LIMIT: u32 = 16_777_216;
+
+/// A sink that writes a line for each event, with or without the number of its record, and refuses
+/// an event after a given number.
+#[derive(Drop)]
+pub struct Lines {
+    pub text: String,
+    numbered: bool,
+    room: u32,
+    pub count: u32,
+}
+
+impl Lines {
+    pub fn new(alloc: Global, numbered: bool, room: u32) -> Lines {
+        Lines {
+            text: String::new(alloc),
+            numbered,
+            room,
+            count: 0,
+        }
+    }
+
+    fn write(&mut self, place: Place3, event: &Event<'_>) -> Result<(), AllocError> {
+        let Place3 {
+            position,
+            record_no,
+            moment,
+        } = place;
+        write!(self.text, "{position} ")?;
+        if self.numbered {
+            write!(self.text, "record {record_no} ")?;
+        }
+        if moment != 0 {
+            write!(self.text, "moment {moment} ")?;
+        }
+        match event {
+            Event::Open => self.text.push_str("OPEN\n"),
+            Event::Close { begun } => self.write_close(*begun),
+            Event::Rest => self.text.push_str("REST\n"),
+            Event::Release(identifier) => writeln!(self.text, "RELEASE {identifier}"),
+            Event::Sent(item) => self.write_item("SENT", item),
+            Event::Recv(item) => self.write_item("RECV", item),
+        }
+    }
+
+    fn write_close(&mut self, begun: Option<u8>) -> Result<(), AllocError> {
+        match begun {
+            Some(first) => writeln!(self.text, "CLOSE after {first}"),
+            None => self.text.push_str("CLOSE\n"),
+        }
+    }
+
+    fn write_item(&mut self, direction: &str, item: &Item<'_>) -> Result<(), AllocError> {
+        match item {
+            Item::Packet(packet) => {
+                let kind = packet.kind();
+                let size = packet.size().unwrap_or(0);
+                writeln!(self.text, "{direction} {kind:?} {size}")
+            }
+            Item::Bad { bytes, rule, at } => {
+                writeln!(self.text, "{direction} {rule:?} {at} of {bytes:?}")
+            }
+            Item::Lost => writeln!(self.text, "{direction} LOST"),
+        }
+    }
+}
+
+impl Sink for Lines {
+    ghost use Rattle.std.specs.Prelude.{⊤};
+
+    ghost agrees = { λ _ _. ⊤ };
+
+    ghost refuses = { λ _ _ _. ⊤ };
+
+    fn event(&mut self, place: Place3, event: Event<'_>) -> Result<(), Refusal> {
+        self.count = self.count.saturating_add(1);
+        if self.count > self.room {
+            return Err(Refusal::Memory(0));
+        }
+        self.write(place, &event).map_err(|_| Refusal::Memory(0))
+    }
+}
+
+/// Feeds a log in pieces of this size, and ends it. No more is kept of a direction than a packet
+/// may have.
+pub fn trace(
+    rt: &impl Abort,
+    tracer: &mut Tracer,
+    limit: u32,
+    log: &[u8],
+    size: usize,
+    lines: &mut Lines,
+) -> Result<(), Refusal> {
+    for piece in log.chunks(size.max(1)) {
+        tracer.feed(piece, lines)?;
+        assert!(rt; tracer.pending() as u64 <= 2 * u64::from(limit));
+    }
+    tracer.finish()
+}
+
+/// Asserts that a log, in each cutting, gives these lines and this result.
+pub fn assert_emits(
+    rt: &(impl Abort + AllocGlobal),
+    limit: u32,
+    log: &[u8],
+    numbered: bool,
+    begin: &str,
+    lines: &str,
+    answer: Result<(), Refusal>,
+) {
+    for size in [usize::MAX, 1, 7, 8192] {
+        let mut tracer = Tracer::new(rt.alloc(), limit);
+        let mut emitted = Lines::new(rt.alloc(), numbered, u32::MAX);
+        let ended = trace(rt, &mut tracer, limit, log, size, &mut emitted);
+        assert_eq!(rt; ended, answer, "pieces of {size}: {log:?}");
+        let text = emitted.text.as_str();
+        assert!(rt;
+            text.strip_prefix(begin) == Some(lines),
+            "pieces of {size}: {text}"
+        );
+    }
+}
+
+/// Asserts that the log of these parts, after those of `ANSWERED` or alone, gives in each cutting
+/// these lines on the parts, and this result.
+pub fn assert_log(
+    rt: &(impl Abort + AllocGlobal),
+    connack_seen: bool,
+    parts: &[Part],
+    lines: &str,
+    answer: Result<(), Refusal>,
+) -> Result<(), Fail> {
+    let log = log_of(rt.alloc(), connack_seen, parts, false)?;
+    let begin = if connack_seen { ANSWERED_LINES } else { "" };
+    assert_emits(rt, LIMIT, log.as_slice(), true, begin, lines, answer);
+    Ok(())
+}

@@ -1,0 +1,159 @@
+//! What a tracer keeps: only unfinished packets, none over its limit, and a sink's refusal for
+//! ever.
+
+use super::emission::{LIMIT, Lines, assert_emits, trace};
+use super::logs::Part::{Open, Raw, Recv, Sent};
+use super::logs::{ANSWERED_LINES, CLIENT, CONNACK, LARGEST, PUBLISH, large_log, log_of};
+use super::sessions::SESSIONS;
+use mq_trace::{Refusal, Tracer};
+use std::test::Fail;
+
+// A packet may have as many bytes as the limit, and one more is refused at the last byte of its
+// fixed header.
+#[test]
+fn keeps_to_its_limit(rt: HostRuntime) -> Result<(), Fail> {
+    let largest = log_of(rt.alloc(), true, &[Sent(LARGEST)], false)?;
+    let small = log_of(
+        rt.alloc(),
+        false,
+        &[CLIENT, Open, Recv(CONNACK), Recv(PUBLISH)],
+        false,
+    )?;
+    let mut middle = log_of(
+        rt.alloc(),
+        true,
+        &[Raw(b"\x02\x00\x00\x00\xcb\x30\xc8\x01\x00\x01a\x00")],
+        false,
+    )?;
+    middle.extend_from_slice(&[b'x'; 196])?;
+    let published = "4 record 4 SENT Publish 203\n";
+    let opened = "1 record 1 OPEN\n";
+    let connack_seen = "1 record 1 OPEN\n2 record 2 RECV Connack 5\n";
+    let too_large = |at| Err(Refusal::TooLarge(at));
+    for (limit, log, begin, lines, answer) in [
+        (268_435_460, &largest, ANSWERED_LINES, "", Ok(())),
+        (268_435_459, &largest, ANSWERED_LINES, "", too_large(52)),
+        (15, &largest, ANSWERED_LINES, "", too_large(52)),
+        (14, &largest, opened, "", too_large(19)),
+        (203, &middle, ANSWERED_LINES, published, Ok(())),
+        (202, &middle, ANSWERED_LINES, "", too_large(50)),
+        (
+            9,
+            &small,
+            connack_seen,
+            "3 record 3 RECV Publish 9\n",
+            Ok(()),
+        ),
+        (8, &small, connack_seen, "", too_large(29)),
+        (5, &small, connack_seen, "", too_large(29)),
+    ] {
+        assert_emits(&rt, limit, log.as_slice(), true, begin, lines, answer);
+    }
+    Ok(())
+}
+
+// What a sink refuses is refused for ever, at the byte that completed the event, and the sink isn't
+// called again.
+#[test]
+fn stops_where_its_sink_refuses(rt: HostRuntime) -> Result<(), Fail> {
+    let log = log_of(rt.alloc(), true, SESSIONS[1].parts, false)?;
+    for (room, at) in [
+        (0, 12),
+        (1, 32),
+        (2, 42),
+        (3, 56),
+        (4, 65),
+        (5, 70),
+        (6, 75),
+    ] {
+        for size in [usize::MAX, 1, 7, 8192] {
+            let refused = Err(Refusal::Memory(at));
+            let mut tracer = Tracer::new(rt.alloc(), LIMIT);
+            let mut emitted = Lines::new(rt.alloc(), true, room);
+            let ended = trace(&rt, &mut tracer, LIMIT, log.as_slice(), size, &mut emitted);
+            assert_eq!(rt; ended, refused, "{room} events, pieces of {size}");
+            for _ in 0..3 {
+                assert_eq!(rt; tracer.feed(b"\x04\x00\x00\x00\x00", &mut emitted), refused);
+                assert_eq!(rt; tracer.feed(b"", &mut emitted), refused);
+                assert_eq!(rt; tracer.finish(), refused);
+            }
+            assert_eq!(rt; emitted.count, room + 1);
+        }
+    }
+    Ok(())
+}
+
+#[test]
+fn keeps_unfinished_packets_alone(rt: HostRuntime) -> Result<(), Fail> {
+    let mut tracer = Tracer::new(rt.alloc(), LIMIT);
+    let mut emitted = Lines::new(rt.alloc(), true, u32::MAX);
+    let begin = log_of(rt.alloc(), true, &[], false)?;
+    let pieces: [(&[u8], usize); 9] = [
+        (begin.as_slice(), 0),
+        (b"\x02\x00\x00\x00\x09\x32\x07\x00\x01a", 5),
+        (b"\x00\x01\x00", 8),
+        (b"x\x03\x00\x00\x00\x02\x40", 1),
+        (b"\x02\x02\x00\x00\x00\x05\x32\x07\x00\x01a", 7),
+        (b"\x03\x00\x00\x00\x02\x00\x01", 5),
+        (b"\x05\x00\x00\x00\x00\x02\x00\x00\x00\x04\x00\x01", 7),
+        (b"\x00x", 0),
+        (b"\x03\x00\x00\x00\x08\x30\x80\x00\x30\x07\x00\x00\x00", 0),
+    ];
+    for (piece, pending) in pieces {
+        assert_eq!(rt; tracer.feed(piece, &mut emitted), Ok(()));
+        assert_eq!(rt; tracer.pending(), pending, "after {piece:?}");
+    }
+    assert_eq!(rt; tracer.finish(), Ok(()));
+    assert_eq!(rt; emitted.count, 8);
+    Ok(())
+}
+
+// A packet that is cut over several records is kept until its last byte, and then emitted, up to
+// the limit's size.
+#[test]
+fn keeps_large_packets(rt: HostRuntime) -> Result<(), Fail> {
+    let rows: [(&[u8], usize, &str); 2] = [
+        (
+            b"\x30\x84\x80\x80\x01\x00\x01a\x00",
+            2_097_161,
+            "4 record 6 SENT Publish 2097161\n",
+        ),
+        (
+            b"\x30\xfb\xff\xff\x07\x00\x01a\x00",
+            16_777_216,
+            "4 record 19 SENT Publish 16777216\n",
+        ),
+    ];
+    for (begin, size, line) in rows {
+        let log = large_log(rt.alloc(), begin, size)?;
+        for piece in [usize::MAX, 1000, 8192] {
+            let mut tracer = Tracer::new(rt.alloc(), LIMIT);
+            let mut emitted = Lines::new(rt.alloc(), true, u32::MAX);
+            let ended = trace(&rt, &mut tracer, LIMIT, log.as_slice(), piece, &mut emitted);
+            assert_eq!(rt; ended, Ok(()), "{size} bytes, pieces of {piece}");
+            assert!(rt; emitted.text.as_str().strip_prefix(ANSWERED_LINES) == Some(line));
+        }
+    }
+    Ok(())
+}
+
+// A log with more than 65,536 events isn't refused.
+#[test]
+fn counts_many_events(rt: HostRuntime) -> Result<(), Fail> {
+    let mut log = log_of(rt.alloc(), true, &[], false)?;
+    for _ in 0..70_000 {
+        log.extend_from_slice(b"\x02\x00\x00\x00\x02\xc0\x00")?;
+    }
+    let mut tracer = Tracer::new(rt.alloc(), LIMIT);
+    let mut emitted = Lines::new(rt.alloc(), true, u32::MAX);
+    let ended = trace(&rt, &mut tracer, LIMIT, log.as_slice(), 8192, &mut emitted);
+    assert_eq!(rt; ended, Ok(()));
+    assert_eq!(rt; emitted.count, 70_003);
+    assert!(rt;
+        emitted
+            .text
+            .as_str()
+            .ends_with("\n70003 record 70003 SENT Pingreq 2\n")
+    );
+    Ok(())
+}

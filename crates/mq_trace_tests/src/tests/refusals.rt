@@ -1,0 +1,118 @@
+//! Logs that are refused, and at which byte.
+
+use super::emission::{LIMIT, assert_emits, assert_log};
+use super::logs::Part::{Close, Open, Raw, Recv, Rest, Sent};
+use super::logs::{BEGINNING, CLIENT, CONNACK, CONNECT, END, LARGEST, OLD_CONNECT, Part};
+use mq_trace::Refusal;
+use mq_trace::Refusal::{
+    Cut, Flags, Header, Kind, Length, Nested, NotOpen, OtherVersion, ReleaseUnrecorded, Role,
+    TooLarge, Version,
+};
+use std::test::Fail;
+
+/// The parts of a log, the lines on its events, and why it is refused.
+type Refused = (&'static [Part], &'static str, Refusal);
+
+static REFUSALS: [Refused; 16] = [
+    (&[CLIENT, Raw(b"\x00")], "", Kind(8)),
+    (
+        &[CLIENT, Open, Raw(b"\x07\x00\x00\x00\x00")],
+        "1 record 1 OPEN\n",
+        Kind(13),
+    ),
+    (&[CLIENT, Open, Open], "1 record 1 OPEN\n", Nested(13)),
+    (&[CLIENT, Sent(b"\xc0\x00")], "", NotOpen(8)),
+    (&[CLIENT, Recv(b"")], "", NotOpen(8)),
+    (&[CLIENT, Close], "", NotOpen(8)),
+    (
+        &[CLIENT, Open, Close, Rest],
+        "1 record 1 OPEN\n2 record 2 CLOSE\n",
+        NotOpen(18),
+    ),
+    // Without releases a RELEASE is refused before anything else of it is looked at.
+    (
+        &[Raw(b"MQTR\x01\x00\x00\x00\x06\x00\x00\x00\x03")],
+        "",
+        ReleaseUnrecorded(8),
+    ),
+    (&[CLIENT, Raw(b"\x01\x00\x00\x00\x01\x00")], "", Length(12)),
+    (
+        &[CLIENT, Open, Raw(b"\x05\x01\x00\x00\x00\x00")],
+        "1 record 1 OPEN\n",
+        Length(17),
+    ),
+    (
+        &[CLIENT, Open, Raw(b"\x02\x00\x10\x00\x01")],
+        "1 record 1 OPEN\n",
+        Length(17),
+    ),
+    (&[CLIENT, Raw(b"\x06\x00\x00\x00\x01\x00")], "", Length(12)),
+    (
+        &[CLIENT, Raw(b"\x06\x00\x00\x00\x03\x00\x01\x00")],
+        "",
+        Length(12),
+    ),
+    (
+        &[CLIENT, Open, Sent(OLD_CONNECT)],
+        "1 record 1 OPEN\n",
+        OtherVersion(31),
+    ),
+    // A CONNACK may come within a packet of the other direction.
+    (
+        &[
+            CLIENT,
+            Open,
+            Sent(CONNECT),
+            Sent(BEGINNING),
+            Recv(CONNACK),
+            Sent(END),
+            Open,
+        ],
+        "1 record 1 OPEN\n2 record 2 SENT Connect 15\n3 record 4 RECV Connack 5\n4 record 5 SENT Publish 9\n",
+        Nested(62),
+    ),
+    // A packet that is too large is refused before its body comes.
+    (
+        &[CLIENT, Open, Sent(LARGEST)],
+        "1 record 1 OPEN\n",
+        TooLarge(22),
+    ),
+];
+
+/// Logs that are refused after the parts of `ANSWERED`: what follows these, the lines, and the
+/// refusal.
+static LATER_REFUSALS: [Refused; 2] = [
+    // A log that ends in a RELEASE, between its two bytes.
+    (&[Raw(b"\x06\x00\x00\x00\x02\x00")], "", Cut(49)),
+    (&[Sent(LARGEST)], "", TooLarge(52)),
+];
+
+#[test]
+fn reports_refused_logs(rt: HostRuntime) -> Result<(), Fail> {
+    for (parts, lines, refusal) in REFUSALS {
+        assert_log(&rt, false, parts, lines, Err(refusal))?;
+    }
+    for (parts, lines, refusal) in LATER_REFUSALS {
+        assert_log(&rt, true, parts, lines, Err(refusal))?;
+    }
+    Ok(())
+}
+
+#[test]
+fn refuses_each_wrong_byte_of_a_header(rt: HostRuntime) {
+    let refusals = [
+        Header(0),
+        Header(1),
+        Header(2),
+        Header(3),
+        Version(4),
+        Role(5),
+        Flags(6),
+        Flags(7),
+    ];
+    for (at, refusal) in refusals.iter().enumerate() {
+        let mut header = *b"MQTR\x01\x01\x00\x00";
+        header[at] = 3;
+        assert_emits(&rt, LIMIT, &header, true, "", "", Err(*refusal));
+    }
+}
