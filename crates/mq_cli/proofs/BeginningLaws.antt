@@ -6,8 +6,8 @@ use Rattle.std.specs.List.{list_any}
 use Rattle.std.specs.Str.{bytes_eq}
 use Rattle.std.specs.Io.KnownBytes.{Consumes, IsAtEnd, Keeps, prepend_known}
 use Rattle.std.proofs.lemmas.List.{take-append-le}
-use Rattle.mq_cli.specs.Streams.{IsTold, Stream}
-use Rattle.mq_cli.specs.Troubles.{capture_marks, hint_line}
+use Rattle.mq_host.specs.Streams.{IsTold, Stream}
+use Rattle.mq_host.specs.Troubles.{capture_marks, hint_line}
 use Rattle.mq_cli.specs.Program.{IsHinted}
 
 -- what a reader has that gives these bytes and then what another one gives

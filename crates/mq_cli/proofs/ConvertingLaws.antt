@@ -11,20 +11,20 @@ use Rattle.mq_judge.specs.declared.Refusal.TheVariants as refusals
 use Rattle.mq_report.specs.Report.{refused_line}
 use Rattle.mq_trace.specs.Converting.{Converts, IsUnconverted, converted, copied, copied_back, timed, unconverted, unconverted_at, unconverted_back}
 use Rattle.mq_trace.specs.declared.converting.ConvertFault.TheVariants as faults
-use Rattle.mq_cli.specs.declared.failure.Failure.{Failure}
-use Rattle.mq_cli.specs.declared.failure.Failure.TheVariants as failures
-use Rattle.mq_cli.specs.declared.trouble.Trouble.{Trouble}
+use Rattle.mq_host.specs.declared.failure.Failure.{Failure}
+use Rattle.mq_host.specs.declared.failure.Failure.TheVariants as failures
+use Rattle.mq_host.specs.declared.trouble.Trouble.{Trouble}
 use Rattle.mq_log.specs.Framing.{ahead_in, record_size, records}
 use Rattle.mq_log.specs.Pieces.{pieces}
 use Rattle.mq_log.specs.Refusals.{is_cut_short}
-use Rattle.mq_cli.specs.declared.trouble.Trouble.TheVariants as troubles
+use Rattle.mq_host.specs.declared.trouble.Trouble.TheVariants as troubles
 use Rattle.mq_cli.specs.Converting.{DoesToFiles, FailsConverting, HasHeader, IsConverted, IsConvertible, IsInconvertible, RefusesConverting, StopsConverting}
-use Rattle.mq_cli.specs.Effects.{Doing}
-use Rattle.mq_cli.specs.Given.{Given, bytes_at}
+use Rattle.mq_host.specs.Effects.{Doing}
+use Rattle.mq_host.specs.Given.{Given, bytes_at}
 use Rattle.mq_cli.specs.Messages.{BeginsRefusal, IsOfLog, LacksJsonMemory, failure_of}
 use Rattle.mq_cli.specs.Program.{FailsSource, ForSomeFile, IsHinted, RefusesSource}
-use Rattle.mq_cli.specs.Streams.{AppendsPart, Stream}
-use Rattle.mq_cli.specs.Troubles.{Tells, failure_in, place_of}
+use Rattle.mq_host.specs.Streams.{AppendsPart, Stream}
+use Rattle.mq_host.specs.Troubles.{Tells, failure_in, place_of}
 use Rattle.mq_cli.proofs.BeginningLaws.{hinted_of_kept}
 use Rattle.mq_cli.proofs.MessageLaws.{part-kept}
 use Rattle.mq_cli.proofs.ProgramLemmas.{known_kept}

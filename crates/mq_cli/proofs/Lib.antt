@@ -2,6 +2,5 @@ pub mod ProgramLemmas
 pub mod ReviewingLemmas
 pub mod PacketLaws
 pub mod MessageLaws
-pub mod StreamLaws
 pub mod BeginningLaws
 pub mod ConvertingLaws

@@ -19,15 +19,15 @@ use Rattle.mq_report.specs.Display.{Shows}
 use Rattle.mq_trace.proofs.Exports.{appends-kept, appends-then}
 use Rattle.mq_command.specs.declared.command_line.Task.{Task}
 use Rattle.mq_command.specs.declared.command_line.Task.TheVariants.{Check, Show, Packet, Rules, Explain}
-use Rattle.mq_cli.specs.declared.failure.Obstacle.{Obstacle}
-use Rattle.mq_cli.specs.declared.failure.Obstacle.TheVariants as obstacles
+use Rattle.mq_host.specs.declared.failure.Obstacle.{Obstacle}
+use Rattle.mq_host.specs.declared.failure.Obstacle.TheVariants as obstacles
 use Rattle.mq_cli.proofs.PacketLaws.{packet_lacks}
 use Rattle.mq_explain.specs.Citing.{explained_for}
 use Rattle.mq_explain.specs.Listing.{listed_for}
 use Rattle.mq_cli.specs.Messages.{AppendsAfter, BeginsRefusal, IsOfLog, LacksJsonMemory, IsRefusedBy, RefusesCheck, RefusesShow, StopsCheck, StopsShow, failure_of, FailsMisnamed, IsMisnamed, StopsAttempt, StopsTask, StopsText}
-use Rattle.mq_cli.specs.Streams.{AppendsPart, IsCutOff, IsTold, Stream, failure_line, no_role_line, no_statement_line}
-use Rattle.mq_cli.specs.declared.failure.Failure.{Failure}
-use Rattle.mq_cli.specs.declared.failure.Failure.TheVariants as failures
+use Rattle.mq_host.specs.Streams.{AppendsPart, IsCutOff, IsTold, Stream, failure_line, no_role_line, no_statement_line}
+use Rattle.mq_host.specs.declared.failure.Failure.{Failure}
+use Rattle.mq_host.specs.declared.failure.Failure.TheVariants as failures
 
 -- what holds of a log holds of what a reader has left, where that is known
 for_log : (remaining : Option (List ℕ)) (P Q : List ℕ → Type 0) → ((log : List ℕ) → P log → Q log) → IfSome remaining P → IfSome remaining Q

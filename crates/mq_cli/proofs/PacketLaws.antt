@@ -5,11 +5,11 @@ use Rattle.std.specs.Io.KnownBytes.{Keeps}
 use Rattle.std.specs.declared.alloc.Global.{Global}
 use Rattle.mq_command.specs.Digits.{by_operand, by_test, bytes_of, is_dash, oddity_in, oddity_line}
 use Rattle.mq_cli.specs.Messages.{AppendsReportPart, IsMisread, IsMisspelled, StopsAttempt, StopsGiven, StopsRead, StopsSpelled}
-use Rattle.mq_cli.specs.Streams.{misuse_line}
+use Rattle.mq_host.specs.Streams.{misuse_line}
 use Rattle.mq_command.specs.declared.command_line.Task.TheVariants.{Packet}
-use Rattle.mq_cli.specs.declared.failure.Failure.TheVariants as failures
-use Rattle.mq_cli.specs.declared.failure.Obstacle.{Obstacle}
-use Rattle.mq_cli.specs.declared.failure.Obstacle.TheVariants as obstacles
+use Rattle.mq_host.specs.declared.failure.Failure.TheVariants as failures
+use Rattle.mq_host.specs.declared.failure.Obstacle.{Obstacle}
+use Rattle.mq_host.specs.declared.failure.Obstacle.TheVariants as obstacles
 use Rattle.mq_command.specs.declared.oddity.Oddity.{Oddity}
 
 -- ---- by an operand

@@ -8,20 +8,20 @@ use Rattle.mq_command.specs.declared.command_line.Task.{Task}
 use Rattle.mq_command.specs.declared.command_line.Task.TheVariants.{Check, Show, Packet, Rules, Explain}
 use Rattle.mq_command.specs.declared.command_line.Work.{Work}
 use Rattle.mq_command.specs.declared.command_line.Work.TheVariants.{Once, Twice, Convert}
-use Rattle.mq_cli.specs.declared.failure.Failure.{Failure}
-use Rattle.mq_cli.specs.declared.failure.Failure.TheVariants as failures
-use Rattle.mq_cli.specs.declared.failure.Obstacle.TheVariants as obstacles
-use Rattle.mq_cli.specs.declared.trouble.Trouble.TheVariants as troubles
+use Rattle.mq_host.specs.declared.failure.Failure.{Failure}
+use Rattle.mq_host.specs.declared.failure.Failure.TheVariants as failures
+use Rattle.mq_host.specs.declared.failure.Obstacle.TheVariants as obstacles
+use Rattle.mq_host.specs.declared.trouble.Trouble.TheVariants as troubles
 use Rattle.mq_report.specs.Display.{is_timed}
 use Rattle.mq_command.specs.CommandLine.{path_of, reads_input}
 use Rattle.mq_cli.specs.Converting.{Files, files_of}
-use Rattle.mq_cli.specs.Given.{Given, bytes_at}
+use Rattle.mq_host.specs.Given.{Given, bytes_at}
 use Rattle.mq_cli.specs.Messages.{AppendsReportOf, AppendsReportPart, FailsMisnamed, HasFailed, HasPassed, IsMisnamed, IsMisread, IsMisspelled, IsRefusedOn, IsReportedOn, SpellsNoPacket, SpellsPacket, StopsGiven, StopsCheck, StopsShow, StopsTask, form_of, text_for}
 use Rattle.mq_command.specs.Digits.{OfDigits}
 use Rattle.mq_cli.specs.Program.{FailsLog, FailsRead, FailsTaskOn, IsHinted, MisusesTask, Refuses, RefusesSource, RefusesWork, input_of}
 use Rattle.mq_cli.specs.Reviewing.{Plan, RefusesPlan, plan_of}
-use Rattle.mq_cli.specs.Streams.{IsTold, Stream, failure_line}
-use Rattle.mq_cli.specs.Troubles.{failure_in, place_of}
+use Rattle.mq_host.specs.Streams.{IsTold, Stream, failure_line}
+use Rattle.mq_host.specs.Troubles.{failure_in, place_of}
 use Rattle.mq_cli.proofs.BeginningLaws.{hinted_of_kept}
 use Rattle.mq_cli.proofs.PacketLaws.{of_read}
 

@@ -17,12 +17,12 @@ use Rattle.mq_report.specs.Report.{refused_line, refused_report}
 use Rattle.mq_judge.specs.Runner.{IsVerdictOn}
 use Rattle.mq_report.specs.Stopping.{IsJudged, default_limit, IsRefusedAt}
 use Rattle.mq_report.specs.Display.{annotated, is_timed}
-use Rattle.mq_cli.specs.declared.failure.Failure.{Failure}
-use Rattle.mq_cli.specs.declared.failure.Failure.TheVariants as failures
-use Rattle.mq_cli.specs.declared.trouble.Trouble.{Trouble}
+use Rattle.mq_host.specs.declared.failure.Failure.{Failure}
+use Rattle.mq_host.specs.declared.failure.Failure.TheVariants as failures
+use Rattle.mq_host.specs.declared.trouble.Trouble.{Trouble}
 use Rattle.mq_cli.specs.Program.{FailsReaders, StopsReaders}
-use Rattle.mq_cli.specs.Streams.{Stream}
-use Rattle.mq_cli.specs.Troubles.{Tells, failure_in}
+use Rattle.mq_host.specs.Streams.{Stream}
+use Rattle.mq_host.specs.Troubles.{Tells, failure_in}
 use Rattle.mq_cli.specs.Reviewing.{IfBoth, IsReviewed, Plan, RefusesPlan, StopsJudging, StopsPlan, count_of, is_count, reviewed}
 use Rattle.mq_cli.specs.Messages.{BeginsRefusal, IsOfLog, LacksJsonMemory, RefusesCheck, RefusesShow, StopsShow, failure_of}
 use Rattle.mq_cli.proofs.MessageLaws.{own_refusal, part-kept, refusal_is_printed}

@@ -11,14 +11,14 @@ use Rattle.mq_log.specs.Refusals.{is_cut_short}
 use Rattle.mq_trace.specs.declared.converting.ConvertFault.TheVariants as faults
 use Rattle.mq_command.specs.declared.command_line.Conversion.{Conversion}
 use Rattle.mq_cli.specs.declared.converting.Files.{Files as SourceFiles}
-use Rattle.mq_cli.specs.declared.failure.Failure.{Failure}
-use Rattle.mq_cli.specs.declared.failure.Failure.TheVariants as failures
-use Rattle.mq_cli.specs.declared.trouble.Trouble.{Trouble}
+use Rattle.mq_host.specs.declared.failure.Failure.{Failure}
+use Rattle.mq_host.specs.declared.failure.Failure.TheVariants as failures
+use Rattle.mq_host.specs.declared.trouble.Trouble.{Trouble}
 use Rattle.mq_command.specs.CommandLine.{path_named}
-use Rattle.mq_cli.specs.Effects.{Doing, keeping, opening}
+use Rattle.mq_host.specs.Effects.{Doing, keeping, opening}
 use Rattle.mq_cli.specs.Messages.{IsOfLog}
-use Rattle.mq_cli.specs.Streams.{AppendsPart, Stream, same_file_line}
-use Rattle.mq_cli.specs.Troubles.{Tells, failure_in}
+use Rattle.mq_host.specs.Streams.{AppendsPart, Stream, same_file_line}
+use Rattle.mq_host.specs.Troubles.{Tells, failure_in}
 
 -- ---- what the words ask for
 

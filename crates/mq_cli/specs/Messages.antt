@@ -23,11 +23,11 @@ use Rattle.mq_cli.specs.declared.tasks.EventView.{EventView}
 use Rattle.mq_cli.specs.declared.tasks.EventView.TheVariants.{Lines, Faults}
 use Rattle.mq_command.specs.declared.command_line.EarlyExit.{EarlyExit}
 use Rattle.mq_command.specs.declared.command_line.EarlyExit.TheVariants.{Help, Usage, Memory}
-use Rattle.mq_cli.specs.declared.failure.Failure.{Failure}
-use Rattle.mq_cli.specs.declared.failure.Failure.TheVariants as failures
-use Rattle.mq_cli.specs.declared.failure.Obstacle.{Obstacle}
-use Rattle.mq_cli.specs.declared.failure.Obstacle.TheVariants as obstacles
-use Rattle.mq_cli.specs.Streams.{AppendsPart, IsCutOff, Stream, misuse_line, no_role_line, no_statement_line, too_long_line}
+use Rattle.mq_host.specs.declared.failure.Failure.{Failure}
+use Rattle.mq_host.specs.declared.failure.Failure.TheVariants as failures
+use Rattle.mq_host.specs.declared.failure.Obstacle.{Obstacle}
+use Rattle.mq_host.specs.declared.failure.Obstacle.TheVariants as obstacles
+use Rattle.mq_host.specs.Streams.{AppendsPart, IsCutOff, Stream, misuse_line, no_role_line, no_statement_line, too_long_line}
 
 -- help or the version was asked for, and its text was written
 abbrev pub IsShownOn : EarlyExit → Option (List ℕ) → Option (List ℕ) → Type 0

@@ -9,19 +9,19 @@ use Rattle.mq_command.specs.declared.command_line.Task.{Task}
 use Rattle.mq_command.specs.declared.command_line.Work.{Work}
 use Rattle.mq_command.specs.declared.command_line.Work.TheVariants.{Once, Twice, Convert}
 use Rattle.mq_command.specs.declared.command_line.EarlyExit.TheVariants as exits
-use Rattle.mq_cli.specs.declared.failure.Failure.TheVariants.{Memory}
-use Rattle.mq_cli.specs.declared.host.Unmade.{Unmade}
-use Rattle.mq_cli.specs.declared.host.Unmade.TheVariants.{Exists, IsLog, Failed}
-use Rattle.mq_cli.specs.declared.trouble.Trouble.{Trouble}
-use Rattle.mq_cli.specs.declared.trouble.Trouble.TheVariants as troubles
+use Rattle.mq_host.specs.declared.failure.Failure.TheVariants.{Memory}
+use Rattle.mq_host.specs.declared.host.Unmade.{Unmade}
+use Rattle.mq_host.specs.declared.host.Unmade.TheVariants.{Exists, IsLog, Failed}
+use Rattle.mq_host.specs.declared.trouble.Trouble.{Trouble}
+use Rattle.mq_host.specs.declared.trouble.Trouble.TheVariants as troubles
 use Rattle.mq_command.specs.CommandLine.{ReadsAsAsked, StopsFor, word_faults, path_of, reads_input, request_by, request_of}
 use Rattle.mq_cli.specs.Converting.{DoesToFiles, FailsConverting, Files, IsConvertible, RefusesConverting, files_of}
-use Rattle.mq_cli.specs.Effects.{Doing}
-use Rattle.mq_cli.specs.Given.{Given, bytes_at}
+use Rattle.mq_host.specs.Effects.{Doing}
+use Rattle.mq_host.specs.Given.{Given, bytes_at}
 use Rattle.mq_cli.specs.Reviewing.{IfBoth, IsReviewed, Plan, RefusesPlan, StopsPlan, plan_of}
 use Rattle.mq_cli.specs.Messages.{FailsMisnamed, StopsTask, HasFailed, HasPassed, IsMisnamed, IsRefusedOn, IsReportedOn, IsShownOn, IsPrintedOn}
-use Rattle.mq_cli.specs.Streams.{AppendsPart, IsCutOff, IsTold, Stream, exists_line, failure_line, same_file_line}
-use Rattle.mq_cli.specs.Troubles.{Tells, failure_in, hint_line, place_of, words_place}
+use Rattle.mq_host.specs.Streams.{AppendsPart, IsCutOff, IsTold, Stream, exists_line, failure_line, same_file_line}
+use Rattle.mq_host.specs.Troubles.{Tells, failure_in, hint_line, place_of, words_place}
 
 -- the bytes that a task reads
 abbrev pub input_of : Given → Task → Option Text

@@ -16,11 +16,11 @@ use Rattle.mq_rules.specs.Notes.{tested_by}
 use Rattle.mq_log.specs.Events.{Placed, events}
 use Rattle.mq_command.specs.declared.command_line.Review.{Review}
 use Rattle.mq_cli.specs.declared.reviewing.Plan.{Plan as SourcePlan}
-use Rattle.mq_cli.specs.declared.failure.Failure.{Failure}
-use Rattle.mq_cli.specs.declared.failure.Failure.TheVariants as failures
+use Rattle.mq_host.specs.declared.failure.Failure.{Failure}
+use Rattle.mq_host.specs.declared.failure.Failure.TheVariants as failures
 use Rattle.mq_command.specs.CommandLine.{path_named}
 use Rattle.mq_cli.specs.Messages.{IsRefusedBy, RefusesCheck, RefusesShow, StopsShow}
-use Rattle.mq_cli.specs.Streams.{AppendsPart, no_faults_line, no_file_line, no_number_line}
+use Rattle.mq_host.specs.Streams.{AppendsPart, no_faults_line, no_file_line, no_number_line}
 
 -- ---- what the words ask for
 

@@ -6,24 +6,19 @@ ghost use Rattle.mq_trace.specs.Converting.{converted};
 ghost use Rattle.clap.specs.Words.{Text};
 ghost use Rattle.mq_command.specs.CommandLine.{path_named};
 ghost use Rattle.mq_cli.specs.Converting.{DoesToFiles, FailsConverting, IsConverted, IsConvertible, IsInconvertible, MakesFile, MakesNothing, RefusesConverting, StopsConverting, files_of, files_view};
-ghost use Rattle.mq_cli.specs.Effects.{Effect, keeping, opening};
-ghost use Rattle.mq_cli.specs.Given.{HasOpened, bytes_at};
+ghost use Rattle.mq_host.specs.Effects.{Effect, keeping, opening};
+ghost use Rattle.mq_host.specs.Given.{HasOpened, bytes_at};
 ghost use Rattle.mq_cli.specs.Messages.{BeginsRefusal, IsOfLog, LacksJsonMemory, failure_of};
 ghost use Rattle.mq_cli.specs.Program.{FailsConversion, FailsFiles, FailsSource, FailsUnmade, ForSomeFile, IsMisuseFor, MisusesConversion, MisusesFile, PassesConversion, RefusesConversion, RefusesSource};
-ghost use Rattle.mq_cli.specs.Streams.{IsTold, misuse_line, stream};
-ghost use Rattle.mq_cli.specs.Troubles.{Tells, hint_line};
+ghost use Rattle.mq_host.specs.Streams.{IsTold, misuse_line, stream};
+ghost use Rattle.mq_host.specs.Troubles.{Tells, hint_line};
 
-use crate::beginning::{give_hint, read_start};
-use crate::error_stream::ErrorStream;
-use crate::failure::{FAILED, Failure, MISUSED, PASSED, REFUSED};
-use crate::host::{Host, Identity, STANDARD_INPUT, Unmade};
-use crate::misuse::Misuse;
-use crate::new_file::NewFile;
-use crate::noting::Noting;
-use crate::output::Output;
 use crate::tasks::refuse;
-use crate::trouble::Trouble;
 use mq_command::Conversion;
+use mq_host::{
+    ErrorStream, FAILED, Failure, Host, Identity, MISUSED, Misuse, NewFile, Noting, Output, PASSED,
+    REFUSED, STANDARD_INPUT, Trouble, Unmade, give_hint, read_start,
+};
 use mq_judge::{ConvertFault, Form, Refusal, convert};
 use std::alloc::Global;
 use std::io::{Read, Write, sink};

@@ -1,29 +1,16 @@
 //! `mqjudge` judges the log of one end of an MQTT 5.0 session.
 #![tactic(auto)]
 
-mod beginning;
 mod converting;
-mod error_stream;
-mod failure;
-mod host;
 mod meter;
-mod misuse;
-mod new_file;
-mod noting;
-mod output;
 mod program;
-mod reading;
 mod reviewing;
 mod tasks;
 #[cfg(test)]
 mod tests;
-mod trouble;
-mod writing;
 
-use failure::Failure;
-use host::System;
 use meter::Meter;
-use output::Outlet;
+use mq_host::{Failure, Outlet, System};
 use program::run;
 use std::io::{BufWriter, IsTerminal};
 use std::process::ExitCode;

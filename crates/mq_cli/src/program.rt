@@ -4,20 +4,17 @@ ghost use Rattle.std.specs.Io.KnownBytes.{Keeps, prepend_known};
 ghost use Rattle.mq_cli.specs.Program.{DoesForWords, DoesForWork, FailsLog, FailsWords, FailsRead, FailsTaskOn, FailsWork, FindsFaults, FindsFaultsIn, IsMisuse, WordsUnread};
 ghost use Rattle.mq_cli.specs.Program.{IsHinted, MisusesTask, MisusesWork, Passes, PassesWork, Refuses, RefusesWork, input_of};
 ghost use Rattle.mq_cli.specs.Messages.{HasFailed, HasPassed, IsRefusedOn, IsReportedOn};
-ghost use Rattle.mq_cli.specs.Streams.{IsTold, stream};
-ghost use Rattle.mq_cli.specs.Troubles.{hint_line};
+ghost use Rattle.mq_host.specs.Streams.{IsTold, stream};
+ghost use Rattle.mq_host.specs.Troubles.{hint_line};
 
-use crate::beginning::{give_hint, read_start};
 use crate::converting::convert_file;
-use crate::error_stream::ErrorStream;
-use crate::failure::{Obstacle, REFUSED};
-use crate::host::{Host, STANDARD_INPUT};
-use crate::noting::Noting;
-use crate::output::Output;
 use crate::reviewing::review;
 use crate::tasks::{attempt, stop};
-use crate::trouble::Trouble;
 use mq_command::{Task, Work, parse};
+use mq_host::{
+    ErrorStream, Host, Noting, Obstacle, Output, REFUSED, STANDARD_INPUT, Trouble, give_hint,
+    read_start,
+};
 use mq_judge::Progress;
 use std::alloc::Global;
 use std::convert::AsStr;

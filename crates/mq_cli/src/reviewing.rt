@@ -4,19 +4,15 @@ ghost use Rattle.std.specs.Io.KnownBytes.{Keeps, prepend_known};
 ghost use Rattle.mq_command.specs.CommandLine.{path_named};
 ghost use Rattle.mq_cli.specs.Program.{FailsFile, FailsReaders, FailsReview, IsHinted, MisusesReview, PassesReview, RefusesReview, StopsReaders};
 ghost use Rattle.mq_cli.specs.Reviewing.{IfBoth, IsReviewed, RefusesPlan, StopsPlan, count_of, plan_near, plan_of, plan_on, plan_view};
-ghost use Rattle.mq_cli.specs.Streams.{IsTold, misuse_line, stream};
-ghost use Rattle.mq_cli.specs.Troubles.{hint_line};
+ghost use Rattle.mq_host.specs.Streams.{IsTold, misuse_line, stream};
+ghost use Rattle.mq_host.specs.Troubles.{hint_line};
 
-use crate::beginning::{give_hint, read_start};
-use crate::error_stream::ErrorStream;
-use crate::failure::{FAILED, Failure, MISUSED, PASSED, REFUSED};
-use crate::host::Host;
-use crate::misuse::Misuse;
-use crate::noting::Noting;
-use crate::output::Output;
 use crate::tasks::{EventView, refuse, show_log};
-use crate::trouble::Trouble;
 use mq_command::{Review, path_named};
+use mq_host::{
+    ErrorStream, FAILED, Failure, Host, MISUSED, Misuse, Noting, Output, PASSED, REFUSED, Trouble,
+    give_hint, read_start,
+};
 use mq_judge::{Form, judge_reader};
 use std::alloc::Global;
 use std::io::{Read, Write};

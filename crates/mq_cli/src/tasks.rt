@@ -8,7 +8,7 @@ ghost use Rattle.mq_cli.specs.Messages.{AppendsReportOf, BeginsRefusal, HasFaile
 ghost use Rattle.mq_cli.specs.Messages.{IsShownOn, LacksJsonMemory, Prints, RefusesCheck, RefusesShow, SpellsNoPacket, SpellsPacket};
 ghost use Rattle.mq_cli.specs.Messages.{StopsAttempt, StopsCheck, StopsGiven, StopsRead, StopsShow, StopsSpelled, StopsText, failure_of, form_of, report_of_packet, text_in_view};
 ghost use Rattle.mq_cli.specs.Program.{FailsStop};
-ghost use Rattle.mq_cli.specs.Streams.{AppendsPart, no_role_line, no_statement_line, stream};
+ghost use Rattle.mq_host.specs.Streams.{AppendsPart, no_role_line, no_statement_line, stream};
 ghost use Rattle.mq_report.specs.OnePacket.{IsOnePacket};
 ghost use Rattle.mq_report.specs.Report.{refused_report, report};
 ghost use Rattle.mq_judge.specs.Runner.{IsFaultless};
@@ -17,16 +17,13 @@ ghost use Rattle.mq_report.specs.Display.{Shows, is_timed};
 ghost use Rattle.mq_log.specs.Events.{events};
 ghost use Rattle.mq_trace.specs.Writing.{AppendsBeginning};
 
-use crate::error_stream::ErrorStream;
-use crate::failure::{FAILED, FAULTY, Failure, MISUSED, Obstacle, PASSED, REFUSED};
-use crate::misuse::Misuse;
-use crate::output::Output;
-use crate::reading::{MOST_TEXT, NoText, read_text};
-use crate::trouble::Trouble;
-use crate::writing::{flush, write_out};
 use hex::{FromHexError, decode};
 use mq_command::{EarlyExit, Task, first_oddity, is_dash, packed};
 use mq_explain::{explanation, explanations_cited, role_named, statement_list};
+use mq_host::{
+    ErrorStream, FAILED, FAULTY, Failure, MISUSED, MOST_TEXT, Misuse, NoText, Obstacle, Output,
+    PASSED, REFUSED, Trouble, flush, read_text, write_out,
+};
 use mq_judge::{
     Faults, Form, Outcome, Progress, Refusal, RunFault, run_watched, show, show_faults, show_long,
     write_long_packet, write_packet, write_refused,

@@ -2,10 +2,9 @@
 use super::harness::{
     Narrow, Trickle, WHOLE_LOG, is_failed_write, is_written, printed_by, status_by,
 };
-use crate::failure::{FAILED, FAULTY, MISUSED, PASSED, REFUSED};
-use crate::output::Outlet;
 use crate::tasks::stop;
 use mq_command::EarlyExit;
+use mq_host::{FAILED, FAULTY, MISUSED, Outlet, PASSED, REFUSED};
 use std::alloc::{AllocError, Global};
 use std::io::Cursor;
 use std::test::Fail;

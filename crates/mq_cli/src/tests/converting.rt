@@ -1,8 +1,8 @@
 //! `convert`: what it writes, and its status where a read, a write or a save fails.
-use super::desk::{Desk, GOOD, does};
+use super::desk::{Desk, GOOD, Held, does};
 use super::harness::NESTED;
 use crate::converting::perform_convert;
-use crate::output::Outlet;
+use mq_host::Outlet;
 
 /// A session of four events, `GOOD` in version 2.
 const SECOND: &[u8] = b"MQTR\x02\x00\x01\x00\
@@ -174,7 +174,9 @@ fn says_what_failed_while_it_converted(rt: HostRuntime) {
 #[test]
 fn writes_a_log_of_version_2(rt: HostRuntime) {
     let (start, rest) = GOOD.split_at(4);
-    let mut made = Vec::new(rt.alloc());
+    let mut made = Held {
+        bytes: Vec::new(rt.alloc()),
+    };
     let mut output = Outlet::new(Vec::new(rt.alloc()));
     let mut error = Vec::new(rt.alloc());
     let status = perform_convert(
@@ -186,6 +188,6 @@ fn writes_a_log_of_version_2(rt: HostRuntime) {
         &mut output,
         &mut error,
     );
-    assert!(rt; status == 0 && made.as_slice() == SECOND);
+    assert!(rt; status == 0 && made.bytes.as_slice() == SECOND);
     assert!(rt; output.get_ref().is_empty() && error.is_empty());
 }

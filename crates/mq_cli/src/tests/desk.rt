@@ -1,12 +1,9 @@
 //! A host for tests.
 use super::harness::{Narrow, Trickle};
-use crate::failure::Failure;
-use crate::host::{Host, Identity, Unmade};
-use crate::new_file::NewFile;
-use crate::output::Outlet;
 use crate::program::run;
-use crate::trouble::{Reason, Trouble};
+use mq_host::{Failure, Host, Identity, NewFile, Outlet, Reason, Trouble, Unmade};
 use std::alloc::Global;
+use std::io;
 use std::io::{ErrorKind, Write};
 
 /// A session of four events.
@@ -23,7 +20,24 @@ pub const FAULTY: &[u8] = b"MQTR\x01\x00\x01\x00\
     \x03\x00\x00\x00\x05\x20\x03\x00\x00\x00\
     \x02\x00\x00\x00\x09\x32\x07\x00\x01a\x00\x00\x00x";
 
-impl NewFile for Vec<u8> {
+/// A file that is held in memory.
+#[derive(Drop)]
+pub struct Held {
+    pub bytes: Vec<u8>,
+}
+
+impl Write for Held {
+    fn write(&mut self, buf: &[u8]) -> io::Result<usize> {
+        self.bytes.extend_from_slice(buf)?;
+        Ok(buf.len())
+    }
+
+    fn flush(&mut self) -> io::Result<()> {
+        Ok(())
+    }
+}
+
+impl NewFile for Held {
     ghost use Rattle.std.specs.Prelude.{⊤};
 
     ghost is_saved = { λ _. ⊤ };

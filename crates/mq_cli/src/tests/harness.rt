@@ -1,10 +1,8 @@
 //! What the tests share: the bytes of logs, a reader and a writer that fail, and what the words of
 //! a task do.
-use crate::error_stream::ErrorStream;
-use crate::failure::{FAILED, Obstacle};
-use crate::output::Outlet;
 use crate::tasks::{attempt, stop};
 use mq_command::{EarlyExit, Task, Work, parse};
+use mq_host::{ErrorStream, FAILED, Obstacle, Outlet};
 use std::alloc::{AllocError, Global};
 use std::io;
 use std::io::{Cursor, ErrorKind, Read, Write};

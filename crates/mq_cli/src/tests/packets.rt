@@ -2,10 +2,8 @@
 use super::harness::{
     Narrow, Printed, Trickle, is_failed_write, is_written, printed_by, status_by,
 };
-use crate::failure::{FAILED, FAULTY, MISUSED, PASSED};
-use crate::misuse::Misuse;
-use crate::reading::{NoText, read_text};
 use mq_command::EarlyExit;
+use mq_host::{FAILED, FAULTY, MISUSED, Misuse, NoText, PASSED, read_text};
 use std::alloc::Global;
 use std::io;
 use std::io::Cursor;

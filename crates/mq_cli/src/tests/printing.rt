@@ -1,8 +1,8 @@
 //! `rules` and `explain`.
 use super::harness::printed_by;
-use crate::failure::{MISUSED, PASSED};
 use mq_command::EarlyExit;
 use mq_explain::explanation;
+use mq_host::{MISUSED, PASSED};
 use mq_rules::Rule;
 use std::alloc::{AllocError, Global};
 use std::io;

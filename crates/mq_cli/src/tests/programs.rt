@@ -1,9 +1,8 @@
 //! The whole program, with files, outputs and a clock of its own.
 use super::desk::{Desk, FAULTY, GOOD};
 use super::harness::NESTED;
-use crate::output::Outlet;
 use crate::program::run;
-use crate::trouble::Trouble;
+use mq_host::{Outlet, Trouble};
 use std::alloc::Global;
 
 const PASS: &str = "pass 4 events\n";

@@ -1,7 +1,7 @@
 //! `show --faults`.
 use super::harness::{CONNECTED, CONNECTED_LINES, NESTED, Narrow, Trickle, add_record};
-use crate::failure::{Failure, PASSED, REFUSED};
 use crate::reviewing::{Plan, show_twice};
+use mq_host::{Failure, PASSED, REFUSED};
 use std::alloc::{AllocError, Global};
 use std::fmt::Write as _;
 use std::io::Cursor;

@@ -2,8 +2,8 @@
 use super::harness::{
     NESTED, Narrow, Trickle, WHOLE_LOG, is_failed_write, is_written, printed_by, status_by,
 };
-use crate::failure::{FAILED, PASSED, REFUSED};
 use mq_command::EarlyExit;
+use mq_host::{FAILED, PASSED, REFUSED};
 use std::alloc::Global;
 use std::io::Cursor;
 use std::test::Fail;

@@ -1,11 +1,8 @@
 //! Files that can't be read, and what is said of them.
 use super::desk::{Desk, FAULTY, GOOD, does};
 use super::harness::{Narrow, Trickle};
-use crate::beginning::read_start;
-use crate::noting::Noting;
-use crate::output::Outlet;
 use crate::program::run;
-use crate::trouble::{Reason, Trouble};
+use mq_host::{Noting, Outlet, Reason, Trouble, read_start};
 use std::alloc::Global;
 use std::io::{self, ErrorKind, Read};
 use std::test::Fail;

@@ -1,6 +1,6 @@
 use Rattle.std.proofs.Common.{None, Some, inr}
-use Rattle.mq_cli.specs.Given.{bytes_at}
-use Rattle.mq_cli.specs.Streams.{stream}
+use Rattle.mq_host.specs.Given.{bytes_at}
+use Rattle.mq_host.specs.Streams.{stream}
 use Rattle.mq_cli.proofs.ConvertingLaws.{done_kept, named_fails, named_is_refused}
 use Rattle.mq_cli.proofs.converting.convert_files.Goals as goal
 

@@ -1,5 +1,5 @@
 use Rattle.std.proofs.Common.{arith, inl, inr}
-use Rattle.mq_cli.specs.Streams.{stream}
+use Rattle.mq_host.specs.Streams.{stream}
 use Rattle.mq_cli.proofs.ConvertingLaws.{has_header, has_none, header_fails, header_is_refused}
 use Rattle.mq_cli.proofs.converting.convert_from.Goals as goal
 

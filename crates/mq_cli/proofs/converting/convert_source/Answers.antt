@@ -1,6 +1,6 @@
 use Rattle.std.specs.Io.KnownBytes.{prepend_known}
 use Rattle.mq_cli.specs.Converting.{IsConvertible}
-use Rattle.mq_cli.specs.Streams.{stream}
+use Rattle.mq_host.specs.Streams.{stream}
 use Rattle.mq_cli.proofs.BeginningLaws.{hinted_by_start, rejoined}
 use Rattle.mq_cli.proofs.ConvertingLaws.{done_kept, fails_kept, source_is_refused}
 use Rattle.mq_cli.proofs.ProgramLemmas.{known_kept}

@@ -1,6 +1,6 @@
 use Rattle.std.proofs.Common.{None, ◌∙◌}
 use Rattle.std.specs.Io.KnownBytes.{prepend_known}
-use Rattle.mq_cli.specs.Streams.{misuse_line, stream}
+use Rattle.mq_host.specs.Streams.{misuse_line, stream}
 use Rattle.mq_cli.proofs.BeginningLaws.{joined}
 use Rattle.mq_cli.proofs.MessageLaws.{misuse_fails}
 use Rattle.mq_cli.proofs.ProgramLemmas.{misnamed_in, misuse_stops}

@@ -1,6 +1,6 @@
 use Rattle.std.proofs.Common.{inr}
 use Rattle.std.specs.Io.KnownBytes.{prepend_known}
-use Rattle.mq_cli.specs.Streams.{stream}
+use Rattle.mq_host.specs.Streams.{stream}
 use Rattle.mq_cli.proofs.BeginningLaws.{hinted_by_start, rejoined}
 use Rattle.mq_cli.proofs.ProgramLemmas.{failed_kept, fails_kept, misused_kept, passed_kept, refused_kept, reported_kept}
 use Rattle.mq_cli.proofs.program.do_on.Goals as goal

@@ -1,7 +1,7 @@
 use Rattle.std.proofs.Common.{List, Option, sym, ℕ}
 use Rattle.mq_cli.specs.Messages.{HasFailed, HasPassed, IsRefusedOn, IsReportedOn}
 use Rattle.mq_cli.specs.Program.{IsHinted, MisusesTask}
-use Rattle.mq_cli.specs.Streams.{stream}
+use Rattle.mq_host.specs.Streams.{stream}
 use Rattle.mq_cli.proofs.BeginningLaws.{hinted_of_kept}
 use Rattle.mq_cli.proofs.ProgramLemmas.{failed_kept, file_fails, file_hinted, file_keeps, input_fails, input_keeps, misused_kept, passed_kept, refused_kept, reported_kept, unread_fails}
 use Rattle.mq_cli.proofs.program.read_and_do.Goals as goal

@@ -2,7 +2,7 @@ use Rattle.std.proofs.Common.{List, inr, map}
 use Rattle.std.specs.Prelude.{string_bytes}
 use Rattle.clap.specs.Words.{Text}
 use Rattle.mq_cli.specs.Program.{DoesForWords, FailsWords, FindsFaults, IsMisuse, Passes, Refuses}
-use Rattle.mq_cli.specs.Streams.{stream}
+use Rattle.mq_host.specs.Streams.{stream}
 use Rattle.mq_cli.proofs.ProgramLemmas.{known_words, refusal_hint}
 use Rattle.mq_cli.proofs.program.run.Goals as goal
 

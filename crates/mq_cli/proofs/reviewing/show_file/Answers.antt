@@ -1,6 +1,6 @@
 use Rattle.std.proofs.Common.{inr}
 use Rattle.mq_cli.specs.Reviewing.{IsReviewed, RefusesPlan, plan_view}
-use Rattle.mq_cli.specs.Streams.{stream}
+use Rattle.mq_host.specs.Streams.{stream}
 use Rattle.mq_cli.proofs.BeginningLaws.{hinted_of_kept}
 use Rattle.mq_cli.proofs.ReviewingLemmas.{file_stops, for_file}
 use Rattle.mq_cli.proofs.reviewing.show_file.Goals as goal

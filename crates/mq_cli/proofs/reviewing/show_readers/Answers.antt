@@ -1,7 +1,7 @@
 use Rattle.std.proofs.Common.{inr}
 use Rattle.std.specs.Io.KnownBytes.{prepend_known}
 use Rattle.mq_cli.specs.Reviewing.{IsReviewed, RefusesPlan, plan_view}
-use Rattle.mq_cli.specs.Streams.{stream}
+use Rattle.mq_host.specs.Streams.{stream}
 use Rattle.mq_cli.proofs.BeginningLaws.{hinted_by_start, rejoined}
 use Rattle.mq_cli.proofs.ReviewingLemmas.{rejoin_both, stops_rejoined}
 use Rattle.mq_cli.proofs.reviewing.show_readers.Goals as goal

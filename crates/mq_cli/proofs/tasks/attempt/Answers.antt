@@ -2,12 +2,12 @@ use Rattle.std.proofs.Common.{rules, sym, subst, ◌≡◌, List, ℕ, IfErr, If
 use Rattle.std.specs.Prelude.{string_bytes}
 use Rattle.mq_command.specs.declared.command_line.Task.{Task}
 use Rattle.mq_command.specs.declared.command_line.Task.TheVariants.{Show, Packet, Rules, Explain}
-use Rattle.mq_cli.specs.declared.failure.TheConstants.{FAULTY}
+use Rattle.mq_host.specs.declared.failure.TheConstants.{FAULTY}
 use Rattle.mq_explain.specs.Citing.{explained_for}
 use Rattle.mq_command.specs.Digits.{OfDigits}
 use Rattle.mq_explain.specs.Listing.{listed_for}
 use Rattle.mq_cli.specs.Messages.{HasFailed, IsRefusedOn, SpellsNoPacket, StopsAttempt, StopsGiven, StopsText}
-use Rattle.mq_cli.specs.Streams.{no_role_line, no_statement_line}
+use Rattle.mq_host.specs.Streams.{no_role_line, no_statement_line}
 use Rattle.mq_cli.proofs.MessageLaws.{explanation_stops, rules_stop}
 use Rattle.mq_cli.proofs.PacketLaws.{packet_stops}
 use Rattle.mq_cli.proofs.tasks.attempt.Goals as goal

@@ -1,7 +1,7 @@
 use Rattle.std.proofs.Common.{rules, sym, subst, ◌≡◌, List, ℕ, IfErr, Option, Some}
 use Rattle.mq_explain.specs.Citing.{explained_for}
 use Rattle.mq_cli.specs.Messages.{StopsText}
-use Rattle.mq_cli.specs.Streams.{no_statement_line}
+use Rattle.mq_host.specs.Streams.{no_statement_line}
 use Rattle.mq_cli.proofs.tasks.explain.Goals as goal
 
 pub returns-in-Some-clause-stops : goal.returns-in-Some-clause-stops

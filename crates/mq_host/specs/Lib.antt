@@ -1,0 +1,4 @@
+pub mod Effects
+pub mod Given
+pub mod Streams
+pub mod Troubles
