@@ -1,11 +1,11 @@
 //! Logs that end anywhere, bytes that are no packets, a reader without an end, and as many messages
 //! in flight as can be.
-use super::harness::Part::{Close, Open, Recv, Rest, Sent};
-use super::harness::{
+use super::plain::are_faults_alike;
+use mq_harness::Part::{Close, Open, Recv, Rest, Sent};
+use mq_harness::{
     CLIENT, CONNACK, CONNECT, FAULTY, PASSED, PUBACK, PUBLISH_ONCE, Part, REFUSED, add_record,
     is_reported, log_of, reports, weight_of,
 };
-use super::plain::are_faults_alike;
 use mq_judge::Form;
 use std::alloc::{AllocError, Global};
 use std::io;

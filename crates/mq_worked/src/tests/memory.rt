@@ -1,8 +1,8 @@
 //! What the judge answers and keeps for want of memory. `bench/refusing.py` runs these tests with
 //! each allocation refused in turn; without it none is.
-use super::harness::Pieces;
 use super::plain::{are_same, plain_faults_in};
 use super::statements::{log_of, outcome_of};
+use mq_harness::Pieces;
 use mq_judge::{Form, Judge, Options, RunFault, run};
 use mq_log::Refusal;
 use mq_rules::Faults;

@@ -28,8 +28,8 @@ mod unseen;
 mod untold;
 mod worked;
 
-use super::harness::{FAULTY, PASSED, REFUSED, add_timed_record, is_reported, weight_of};
 use super::plain::are_faults_alike;
+use mq_harness::{FAULTY, PASSED, REFUSED, add_timed_record, is_reported, weight_of};
 use mq_judge::Outcome;
 use packets::PACKETS;
 use std::alloc::{AllocError, Global};

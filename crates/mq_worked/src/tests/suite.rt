@@ -1,8 +1,8 @@
 //! The conformance suite: each of its logs whole and in pieces, in both versions, with its report
 //! as text and as JSON, and the faults that the plain evaluators find.
-use super::harness::{Pieces, reports};
 use super::plain::are_faults_alike;
 use super::statements::{add_word, log_of, outcome_of, parts_of, report_of, suite};
+use mq_harness::{Pieces, reports};
 use mq_judge::{Form, Outcome};
 use std::alloc::{AllocError, Global};
 use std::test::Fail;

@@ -1,7 +1,7 @@
 //! Logs that are judged from a reader, in turns of several sizes, and readers and writers that
 //! fail.
-use super::harness::Part::{Close, Open, Recv, Rest, Sent};
-use super::harness::{
+use mq_harness::Part::{Close, Open, Recv, Rest, Sent};
+use mq_harness::{
     CLIENT, CONNACK, CONNECT, Failing, HEADER, PUBACK, PUBLISH_ONCE, PUBLISH_UNIDENTIFIED, Pieces,
     log_of,
 };

@@ -1,6 +1,6 @@
 //! Logs with the expected report on each, read at once and byte by byte.
-use super::harness::Part::{Close, Open, Recv, Release, Rest, Sent};
-use super::harness::{
+use mq_harness::Part::{Close, Open, Recv, Release, Rest, Sent};
+use mq_harness::{
     AUTH, CLIENT, CONNACK, CONNACK_RESUMED, CONNECT, CONNECT_AGAIN, CONNECT_ANEW, CONNECT_OF_C,
     DISCONNECT, FAULTY, PASSED, PINGREQ, PINGRESP, PUBACK, PUBCOMP, PUBLISH_ONCE, PUBLISH_TWICE,
     PUBLISH_UNIDENTIFIED, PUBREC, PUBREC_WITHOUT_READERS, PUBREL, Part, REFUSING_CONNACK,

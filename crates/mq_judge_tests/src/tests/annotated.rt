@@ -1,6 +1,6 @@
 //! Logs that are shown with the faults at their events.
-use super::harness::Part::{Open, Recv, Rest, Sent};
-use super::harness::{
+use mq_harness::Part::{Open, Recv, Rest, Sent};
+use mq_harness::{
     CLIENT, CONNACK, CONNECT, HEADER, PINGREQ, PINGRESP, PUBACK, PUBLISH_ONCE,
     PUBLISH_UNIDENTIFIED, Part, add_record, log_of,
 };

@@ -1,5 +1,5 @@
 //! Reports in each form, and writers that fail.
-use super::harness::Failing;
+use mq_harness::Failing;
 use mq_judge::{Form, RunFault, Verdict, write_json, write_refused, write_summary, write_text};
 use mq_log::Refusal;
 use mq_rules::{Fault, FaultKey, Faults, Role, Rule};

@@ -1,4 +1,7 @@
-//! What the tests share: logs, a reader that gives a log in pieces, and a writer that fails.
+//! What the tests of the judge share: logs made of parts, a reader that gives a log in pieces, and a
+//! writer that fails. It is for tests alone.
+#![tactic(auto)]
+
 use mq_judge::{Form, Judge, Options, Outcome, RunFault, run, write_refused};
 use std::alloc::{AllocError, Global};
 use std::io;

@@ -1,5 +1,5 @@
 //! Logs that are longer than a buffer, a count or a number of turns at which something might stop.
-use super::harness::{
+use mq_harness::{
     CLIENT, CONNACK, CONNECT, CONNECT_OF_C, Failing, HEADER, PINGREQ, PUBLISH_UNIDENTIFIED, Part,
     Pieces, SERVER, add_record, log_of,
 };

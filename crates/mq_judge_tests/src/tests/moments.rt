@@ -1,5 +1,5 @@
 //! Logs of version 2, whose records have moments, as they are shown.
-use super::harness::Pieces;
+use mq_harness::Pieces;
 use mq_judge::{RunFault, judge_reader, show, show_faults, show_long};
 use mq_log::Refusal;
 use std::alloc::Global;
