@@ -49,7 +49,9 @@ fn texts_of(alloc: Global, codes: &[&str]) -> Result<String, AllocError> {
         if !texts.is_empty() {
             texts.push('\n')?;
         }
-        texts.push_str(Rule::of_code(code).map_or("", explanation))?;
+        if let Some(rule) = Rule::of_code(code) {
+            texts.push_str(explanation(rule))?;
+        }
     }
     Ok(texts)
 }
