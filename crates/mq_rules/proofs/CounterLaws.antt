@@ -9,7 +9,7 @@ use Rattle.mq_rules.specs.Notes.{delivery_of, closer_of}
 use Rattle.mq_rules.specs.Moments.{Moment, note, those, count, some_stretch}
 use Rattle.mq_rules.specs.Connections.{connection}
 use Rattle.mq_rules.specs.Pasts.{peer_receive_maximum}
-use Rattle.mq_rules.specs.Identifiers.{is_delivery, is_closer, counts, passes, breaks_S07, is_used_up}
+use Rattle.mq_rules.specs.Identifiers.{is_delivery, is_closer, counts, passes, applies_S07, breaks_S07, is_used_up}
 use Rattle.mq_rules.specs.Counter.{in_flight, in_flight_before, quota, keeps_quota}
 use Rattle.mq_rules.proofs.BoolLaws.{both_true, same_test, or_parts, or_left, or_right}
 
@@ -102,6 +102,16 @@ S07-before role k = S07-counted role k ∙ go (is_delivery k) (in_flight_before 
     go : (d : Bool) (old : ℕ) → (d && (counts role k && nat_lt (peer_receive_maximum role k) (cond d (old + 1) (cond (is_closer k) (old - 1) old))))
         ≡ (d && (counts role k && nat_le (peer_receive_maximum role k) old))
     go true old = ap (λ b. counts role k && b) (sym (strict (peer_receive_maximum role k) old (peer_receive_maximum role k) (old + 1) (omega arith)))
+    go false old = refl
+
+-- where it is put to the test
+pub S07-tried : (role : Role) (k : Moment) → applies_S07 role k ≡ (is_delivery k && (counts role k && nat_le (peer_receive_maximum role k) (in_flight_before role k + 1)))
+unfolding applies_S07
+S07-tried role k = ap (λ b. is_delivery k && (counts role k && b)) (full-counted (peer_receive_maximum role k) (k ∷ those (counts role) (connection k.past))) ∙ go (is_delivery k) (in_flight_before role k)
+  where
+    go : (d : Bool) (old : ℕ) → (d && (counts role k && nat_le (peer_receive_maximum role k) (cond d (old + 1) (cond (is_closer k) (old - 1) old))))
+        ≡ (d && (counts role k && nat_le (peer_receive_maximum role k) (old + 1)))
+    go true old = refl
     go false old = refl
 
 pub used_up-counted : (role : Role) (t : Moment) → is_used_up role t ≡ nat_le (peer_receive_maximum role t) (in_flight_before role t)

@@ -2,7 +2,7 @@
 pub use Rattle.mq_rules.proofs.BareLaws.{bare-closed, bare_publish}
 pub use Rattle.mq_rules.proofs.BoolLaws.{and-over, and-past, and_false, and_true, both_true, differ, not_true, option_or-none, or-turn, or_false, or_left, or_parts, or_right, same_test, there}
 pub use Rattle.mq_rules.proofs.ConnLaws.{connection-next as connection-newest, first_found-next, some-next}
-pub use Rattle.mq_rules.proofs.CounterLaws.{S07-before, used_up-counted}
+pub use Rattle.mq_rules.proofs.CounterLaws.{S07-before, S07-tried, used_up-counted}
 pub use Rattle.mq_rules.proofs.DecidedLaws.{fault_in-start, fault_in-step}
 pub use Rattle.mq_rules.proofs.DropLaws.{fault_in-dropped}
 pub use Rattle.mq_rules.proofs.FateLaws.{accepted-gives, begins-gives, begun-least, begun-open, begun-same, connection-next, fate-elsewhere, fate-outcome, gives-decides, latest_fate-next, latest_fate-open, latest_fate-same, open-decides}
@@ -17,10 +17,13 @@ pub use Rattle.mq_rules.proofs.OnOpenLaws.{has_item, on_open-connected, on_open-
 pub use Rattle.mq_rules.proofs.OpenLaws.{on_connections}
 pub use Rattle.mq_rules.proofs.OrderLaws.{orderly}
 pub use Rattle.mq_rules.proofs.PassedLaws.{earlier_over, passed-none, passed-opens, passed-stays, passed_over-back, passed_over-is}
+pub use Rattle.mq_rules.proofs.PlacesLaws.{from-zero, places-most, places-once, places-unbound}
 pub use Rattle.mq_rules.proofs.PlainLaws.{beginning, grows-next, newest-first, within-next}
 pub use Rattle.mq_rules.proofs.PositionLaws.{among-moment, among-some, among-within, earliest_since-is, earliest_since-there, latest-is, moment-among, moment-beginning, moment-newest, moment-older, moment-placed, moments-descend, none-first_found, session-descend, since-stands, some-among, stands-since, those-among, those-descend}
 pub use Rattle.mq_rules.proofs.SessionLaws.{session-members}
 pub use Rattle.mq_rules.proofs.StepLaws.{fails-step, fate-step, moment-newest as moment-newest-of-step, moment-next, moment-stays, moment-within}
 pub use Rattle.mq_rules.proofs.SubjectLaws.{in_order-releases, in_order-turns, release-needs, resend-needs, taken-needs}
 pub use Rattle.mq_rules.proofs.TurnLaws.{turned, turned_for}
+pub use Rattle.mq_rules.proofs.UnderPlacesLaws.{places-known, places-release, places-session, places-under-most, places-under-start}
+pub use Rattle.mq_rules.proofs.WaitingLaws.{places-at-rest, places-awake, places-rest, waiting-most, waiting-next}
 pub use Rattle.mq_rules.proofs.HistoryLaws.{begins-is, gives-is, history-left, history-next, session-gives, session-opens}

@@ -96,7 +96,7 @@ deciding-fates role c f e past undecided h =
         ∙ option_or-none (fate role c past)
 
 -- with another event on the latest connection, and with an OPEN, each earlier connection has the fate that it had
-going-fates : (role : Role) (c : ℕ) (f : Fate) (e : Seen) (past : List Seen) → is_open e.note ≡ false → fate_under role (Some f) (e ∷ past) c ≡ fate_under role (Some f) past c
+pub going-fates : (role : Role) (c : ℕ) (f : Fate) (e : Seen) (past : List Seen) → is_open e.note ≡ false → fate_under role (Some f) (e ∷ past) c ≡ fate_under role (Some f) past c
 going-fates role c f e past closed =
     ap (λ n. cond (c == n) (Some f) (fate role c (e ∷ past))) number-is
     ∙ go (c == begun past) refl
@@ -112,7 +112,7 @@ going-fates role c f e past closed =
         ∙ ap (λ b. option_or (fate role c past) (cond b (gives_fate role (newest e past)) None)) (differ (begun past) c (λ is. let same : (c == begun past) ≡ true = eq-eqb c (begun past) (sym is) in absurd (cc)))
         ∙ option_or-none (fate role c past)
 
-opened-fates : (role : Role) (c : ℕ) (f : Fate) (e : Seen) (past : List Seen) → is_open e.note ≡ true → c ≤ begun past → fate_under role (Some f) (e ∷ past) c ≡ fate role c past
+pub opened-fates : (role : Role) (c : ℕ) (f : Fate) (e : Seen) (past : List Seen) → is_open e.note ≡ true → c ≤ begun past → fate_under role (Some f) (e ∷ past) c ≡ fate role c past
 opened-fates role c f e past opens le =
     let more : begun (e ∷ past) ≡ 1 + begun past = begun-open e past opens in
     ap (λ b. cond b (Some f) (fate role c (e ∷ past))) (differ c (begun (e ∷ past)) (λ is. omega arith))

@@ -39,5 +39,7 @@ pub mod DropLaws
 pub mod WiderLaws
 pub mod OccasionLaws
 pub mod PlacesLaws
+pub mod UnderPlacesLaws
+pub mod WaitingLaws
 pub mod TrialLaws
 pub mod HistoryLaws

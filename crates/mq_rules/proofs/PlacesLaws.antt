@@ -34,7 +34,7 @@ applies-step tested e past k rule =
 pub applies-kept : (tested : Tested) (past : List Seen) (e : Seen) (k : ℕ) (rule : Rule) → applies tested past k rule ≡ true → applies tested (e ∷ past) k rule ≡ true
 applies-kept tested past e k rule h = applies-step tested e past k rule ∙ or_left (applies tested past k rule) (adds_place tested e past k rule) h
 
-occurs-nowhere : (role : Role) (fates : ℕ → Option Fate) (o : Option Statement) (log : List Seen) (k : ℕ) → moment log k ≡ None → occurs role fates o log k ≡ false
+pub occurs-nowhere : (role : Role) (fates : ℕ → Option Fate) (o : Option Statement) (log : List Seen) (k : ℕ) → moment log k ≡ None → occurs role fates o log k ≡ false
 occurs-nowhere role fates None log k none = refl
 occurs-nowhere role fates (Some s) log k none = false-nowhere role fates s log k none
 
@@ -50,7 +50,7 @@ unmet tested past rule = applies-nowhere tested past (length past + 1) rule (mom
 
 -- ---- counting moments
 
-count-most : (test : Moment → Bool) (log : List Seen) → count test (moments log) ≤ length log
+pub count-most : (test : Moment → Bool) (log : List Seen) → count test (moments log) ≤ length log
 count-most test [] = omega arith
 count-most test (e ∷ past) = go (test (newest e past)) (count-most test past)
   where
@@ -81,17 +81,17 @@ count-one test (n ∷ ms) m (inr h) passes = go (test n) (count-one test ms m h 
     go true h = omega arith
     go false h = omega arith
 
-count-none : (test : Moment → Bool) (ms : List Moment) → ((m : Moment) → test m ≡ false) → count test ms ≡ 0
+pub count-none : (test : Moment → Bool) (ms : List Moment) → ((m : Moment) → test m ≡ false) → count test ms ≡ 0
 count-none test [] none = refl
 count-none test (m ∷ ms) none = ap (λ b. cond b 1 0 + count test ms) (none m) ∙ ap (λ n. 0 + n) (count-none test ms none)
 
-count-same : (a b : Moment → Bool) (log : List Seen) → ((m : Moment) → position m ≤ length log → a m ≡ b m) → count a (moments log) ≡ count b (moments log)
+pub count-same : (a b : Moment → Bool) (log : List Seen) → ((m : Moment) → position m ≤ length log → a m ≡ b m) → count a (moments log) ≡ count b (moments log)
 count-same a b [] same = refl
 count-same a b (e ∷ past) same =
     ap (λ t. cond t 1 0 + count a (moments past)) (same (newest e past) (omega arith))
     ∙ ap (λ n. cond (b (newest e past)) 1 0 + n) (count-same a b past (λ m le. same m (omega arith)))
 
-count-either : (a b : Moment → Bool) (ms : List Moment) → count (λ m. a m || b m) ms ≡ count a ms + count (λ m. b m && not (a m)) ms
+pub count-either : (a b : Moment → Bool) (ms : List Moment) → count (λ m. a m || b m) ms ≡ count a ms + count (λ m. b m && not (a m)) ms
 count-either a b [] = refl
 count-either a b (m ∷ ms) = go (a m) (b m) (count-either a b ms)
   where
@@ -102,7 +102,7 @@ count-either a b (m ∷ ms) = go (a m) (b m) (count-either a b ms)
     go false true h = omega arith
     go false false h = omega arith
 
-from-zero : (n : ℕ) → 0 + n ≡ n
+pub from-zero : (n : ℕ) → 0 + n ≡ n
 from-zero n = omega arith
 
 -- ---- places

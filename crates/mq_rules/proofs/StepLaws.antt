@@ -108,7 +108,7 @@ none-after m test (e ∷ past) h =
     ∙ none-after m test past (omega arith)
 
 -- a later REST shows what it shows of an earlier moment
-rest-step : (role : Role) (test : Moment → Moment → Bool) (e : Seen) (past : List Seen) (k : ℕ)
+pub rest-step : (role : Role) (test : Moment → Moment → Bool) (e : Seen) (past : List Seen) (k : ℕ)
     → is_some_and (λ m. some (λ t. is_after t m && (is_binding role t && test t m)) (moments (e ∷ past))) (moment (e ∷ past) k)
     ≡ (is_some_and (λ m. some (λ t. is_after t m && (is_binding role t && test t m)) (moments past)) (moment past k) || (is_binding role (newest e past) && is_some_and (test (newest e past)) (moment past k)))
 rest-step role test e past k = go (is_next past k) refl (moment past k) refl

@@ -1,21 +1,23 @@
 -- Where each statement is put to the test in a log: its places. A statement without faults is worth the more, the more places it has.
-use Rattle.std.specs.Prelude.{ℕ, Bool, false, ◌&&◌, List, Option, Some, None}
+use Rattle.std.specs.Prelude.{ℕ, Bool, false, ◌&&◌, not, List, Option, Some, None, is_some}
 use Rattle.mq_rules.specs.declared.role.Role.{Role}
 use Rattle.mq_rules.specs.declared.role.Tested.{Tested}
 use Rattle.mq_rules.specs.declared.fate.Fate.{Fate}
 use Rattle.mq_rules.specs.declared.rule.Rule.{Rule}
 use Rattle.mq_rules.specs.declared.rule.Rule.TheVariants.{W01, W02, W03, W04, W05, W06, W07, W08, W09, W10, W11, W12, W13, W14, W15, W16, W17, W18, W19, W20, W21, C01, C02, C03, C04, C05, C06, C07, C08, C09, C10, C11, C12, C13, C14, C15, C16, C17, C18, C19, C20, C21, C22, C23, S01, S02, S03, S04, S05, S06, S07, E1A, E1R, E1O, E2A, E2R, E2O, E3A, E3R, E3O, E4A, E4R, E5A, E5R, E6A, E6R, E7R, L1, L2, L3, B01, B02, B03, B04}
 use Rattle.mq_rules.specs.declared.note.Seen.{Seen}
-use Rattle.mq_rules.specs.Moments.{position, moments, count}
-use Rattle.mq_rules.specs.Connections.{fate}
+use Rattle.mq_rules.specs.Words.{is_some_and}
+use Rattle.mq_rules.specs.Moments.{Moment, position, note, moments, moment, is_same, some, count}
+use Rattle.mq_rules.specs.Connections.{fate, fate_under, connection}
 use Rattle.mq_rules.specs.Pasts.{applies_C01, applies_C02, applies_C03, applies_C04, applies_C05, applies_C06, applies_C07, applies_C08, applies_C09, applies_C10, applies_C11, applies_C12, applies_C13, applies_C14, applies_C15, applies_C16, applies_C17, applies_C18, applies_C19, applies_C20, applies_C21, applies_C22, applies_C23}
 use Rattle.mq_rules.specs.Identifiers.{applies_S01, applies_S02, applies_S03, applies_S04, applies_S05, applies_S06, applies_S07}
-use Rattle.mq_rules.specs.Exchanges.{publish_puback, publish_pubrec, pubrec_pubrel, pubrel_pubcomp, subscribe_suback, unsubscribe_unsuback, applies_A, applies_O, applies_R, applies_E7R}
+use Rattle.mq_rules.specs.Exchanges.{Exchange, first_unanswered, publish_puback, publish_pubrec, pubrec_pubrel, pubrel_pubcomp, subscribe_suback, unsubscribe_unsuback, applies_A, applies_O, applies_R, applies_E7R}
 use Rattle.mq_rules.specs.Releases.{applies_L1, applies_L2, applies_L3}
 use Rattle.mq_rules.specs.Subscriptions.{applies_B01, applies_B02, applies_B03, applies_B04}
 use Rattle.mq_rules.specs.Rules.{binds}
 use Rattle.mq_rules.specs.Statements.{Statement, on_past, in_session, at_release, at_rest, knowing, knowing_resumed, where_placed, is_so}
 use Rattle.mq_rules.specs.Steps.{shows}
+use Rattle.mq_rules.specs.Under.{shows_with}
 
 -- The occasion of each statement: when it is put to the test. It has the shape of the statement, and is judged at the same moments: where a statement isn't judged, since
 -- the end couldn't know, or a RELEASE isn't placed, it isn't put to the test. Those on a packet's bytes (W) have none here, since a note doesn't keep the whole packet.
@@ -118,3 +120,36 @@ comes role (Some s) e past k = shows role s e past k
 -- With this event position k turns out to be a place of the statement.
 unfoldable pub adds_place : Tested → Seen → List Seen → ℕ → Rule → Bool
 adds_place tested e past k rule = binds rule tested && comes tested.role (occasion tested.role rule) e past k
+
+-- ---- where the latest connection is taken to have a fate
+
+-- The statement binds the tested end, and is put to the test at position k of the log, if the latest connection is taken to have this fate, or none yet.
+unfoldable pub applies_under : Tested → Option Fate → List Seen → ℕ → Rule → Bool
+applies_under tested f log k rule = binds rule tested && occurs tested.role (fate_under tested.role f log) (occasion tested.role rule) log k
+
+-- How many places it then has.
+unfoldable pub places_under : Tested → Option Fate → List Seen → Rule → ℕ
+places_under tested f log rule = count (λ m. applies_under tested f log (position m) rule) (moments log)
+
+-- With this event, whose connection has this fate, an occasion on a session turns out to be so at position k.
+abbrev pub comes_with : Role → Fate → Option Statement → Seen → List Seen → ℕ → Bool
+comes_with role f None e past k = false
+comes_with role f (Some s) e past k = shows_with role f s e past k
+
+-- With this event, whose connection has this fate, position k turns out to be a place of the statement.
+unfoldable pub adds_place_with : Tested → Fate → Seen → List Seen → ℕ → Rule → Bool
+adds_place_with tested f e past k rule = binds rule tested && comes_with tested.role f (occasion tested.role rule) e past k
+
+-- ---- causes that wait for a REST
+
+-- the moment is a cause before which none under its identifier is unanswered
+abbrev pub is_first : Exchange → Moment → Bool
+is_first x m = is_some_and (λ i. not (is_some (first_unanswered x i m))) (x.cause (note m))
+
+-- at position k of the log is such a cause, on the latest connection
+abbrev pub is_first_here : Exchange → List Seen → ℕ → Bool
+is_first_here x log k = is_some_and (λ m. is_first x m && some (is_same m) (connection log)) (moment log k)
+
+-- How many of these there are which no REST has put to the test yet, for the statement that each cause is answered before a REST.
+unfoldable pub waiting : Tested → Rule → Exchange → List Seen → ℕ
+waiting tested rule x log = count (λ m. is_first_here x log (position m) && not (applies tested log (position m) rule)) (moments log)

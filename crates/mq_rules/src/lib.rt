@@ -55,6 +55,7 @@ pub use naming::each_statement_is_named;
 pub use note::{ItemNote, Note, Seen};
 pub use occasion_laws::{
     applying_stays, applying_turns, failing_applies, places_by_one, places_grow, places_of_faults,
+    places_under_a_fate, rests_put_to_the_test,
 };
 pub use one_pass::plain_connections;
 pub use packet_note::{
