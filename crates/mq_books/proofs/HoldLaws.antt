@@ -45,7 +45,7 @@ unbound-open role e past h =
     ap (λ b. b && (accepted (latest_fate role past) && not (some ends_binding (connection past))))
     (not_true (is_rest e.note) (λ t. let closed : is_open e.note ≡ false = rest-opens-nothing e.note t in absurd (cc)))
 
-unbound-after : (role : Role) (e : Seen) (past : List Seen) → latest_fate role (e ∷ past) ≡ None → is_binding role (newest e past) ≡ false
+pub unbound-after : (role : Role) (e : Seen) (past : List Seen) → latest_fate role (e ∷ past) ≡ None → is_binding role (newest e past) ≡ false
 unbound-after role e past none = go (is_open e.note) refl
   where
     before : (o : Option Fate) → latest_fate role past ≡ o → option_or o (gives_fate role (newest e past)) ≡ None → o ≡ None
@@ -56,7 +56,7 @@ unbound-after role e past none = go (is_open e.note) refl
     go true h = unbound-open role e past h
     go false h = unbound-undecided role e past (before (latest_fate role past) refl (sym (latest_fate-same role e past h) ∙ none))
 
-shows-nothing : (role : Role) (breaks : Fate → Moment → Bool) (e : Seen) (past : List Seen) (k : ℕ) → latest_fate role (e ∷ past) ≡ None → shows_under role breaks e past k ≡ false
+pub shows-nothing : (role : Role) (breaks : Fate → Moment → Bool) (e : Seen) (past : List Seen) (k : ℕ) → latest_fate role (e ∷ past) ≡ None → shows_under role breaks e past k ≡ false
 shows-nothing role breaks e past k none =
     ap (λ o. (is_next past k && is_so_under breaks (newest e past) o) || is_some_and (λ m. is_so_under breaks m (given role e past (number m))) (moment past k)) none
     ∙ ap (λ b. b || is_some_and (λ m. is_so_under breaks m (given role e past (number m))) (moment past k)) (and_false (is_next past k))

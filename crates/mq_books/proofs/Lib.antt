@@ -52,3 +52,5 @@ pub mod AskingSizeLaws
 pub mod BurdenLaws
 pub mod KnowingLaws
 pub mod PassingLaws
+pub mod CountingLaws
+pub mod EarlyPlacesLaws

@@ -50,7 +50,7 @@ binding-under tested f at e past under = go (is_rest e.note) refl
         ap (λ b. b && not (some ends_binding (connection past))) (decided (latest_fate tested.role past) refl now)
         ∙ and-last (at == e.place.position) (accepts f) (not (some ends_binding (connection past)))
 
-binds-E7R : (role : Role) (releases : Bool) → binds E7R (record { role = role; releases = releases }) ≡ is_server role
+pub binds-E7R : (role : Role) (releases : Bool) → binds E7R (record { role = role; releases = releases }) ≡ is_server role
 unfolding line_of found_line lines
 binds-E7R Client releases = refl
 binds-E7R Server releases = refl

@@ -34,7 +34,7 @@ use Rattle.mq_rules.specs.Growing.{Gains}
 use Rattle.mq_books.specs.Quotas.{connect_room, connack_room, announced, peer_room, may_count, flown, exceeds, judged_by, IsQuota}
 use Rattle.mq_books.proofs.JudgeLaws.{session-turns_with, gains_judged}
 
-binds-S07 : (role : Role) (releases : Bool) → binds S07 (record { role = role; releases = releases }) ≡ true
+pub binds-S07 : (role : Role) (releases : Bool) → binds S07 (record { role = role; releases = releases }) ≡ true
 unfolding line_of found_line lines
 binds-S07 Client releases = refl
 binds-S07 Server releases = refl
@@ -43,7 +43,7 @@ no_offset-S07 : (tested : Tested) (m : Option Moment) → offset_of (statement t
 no_offset-S07 tested m = refl
 
 -- what is kept says whether the next event counts, and up to how many
-counts-kept : (role : Role) (e : Seen) (past : List Seen) → counts role (newest e past) ≡ may_count role (peer_room role past)
+pub counts-kept : (role : Role) (e : Seen) (past : List Seen) → counts role (newest e past) ≡ may_count role (peer_room role past)
 counts-kept Client e past = go (first_connack Client (connection past))
   where
     go : (o : Option ConnackNote) → is_some o ≡ is_some (connack_room o)

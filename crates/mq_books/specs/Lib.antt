@@ -2,6 +2,7 @@ pub mod Quotas
 pub mod Knowing
 pub mod Holding
 pub mod Pingings
+pub mod Placings
 pub mod Judging
 pub mod Owings
 pub mod Orderings

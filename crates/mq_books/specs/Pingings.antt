@@ -29,6 +29,10 @@ counted passes opens old = cond passes 1 0 + cond opens 0 old
 abbrev pub unanswered : Role → Fate → Bool → Bool → Note → ℕ → ℕ → Bool
 unanswered role f known ended n asked answered = is_server role && (accepts f && ((is_rest n && (known && (accepts f && not ended))) && nat_lt answered asked))
 
+-- a REST that binds, after a ping; its connection is decided, or not yet
+abbrev pub pinged : Role → Fate → Bool → Bool → Note → ℕ → Bool
+pinged role f known ended n asked = is_server role && (accepts f && ((is_rest n && (known && (accepts f && not ended))) && nat_lt 0 asked))
+
 -- These events lead to what is kept.
 pub record IsPings (p : Pings) (tested : Tested) (taken : Option Fate) (past : List Seen) : Type 0 where
   pub same_role : p.role ≡ tested.role

@@ -47,6 +47,10 @@ flown counted n old = cond (is_open n) 0 (cond counted (cond (is_some (delivery_
 abbrev pub exceeds : Fate → Note → Role → Option ℕ → ℕ → Bool
 exceeds f n role peer old = accepts f && (is_some (delivery_of n) && (may_count role peer && nat_le (unwrap_or peer 65535) old))
 
+-- a PUBLISH is sent that uses up the quota, or passes it
+abbrev pub uses_up : Fate → Note → Role → Option ℕ → ℕ → Bool
+uses_up f n role peer old = accepts f && (is_some (delivery_of n) && (may_count role peer && nat_le (unwrap_or peer 65535) (old + 1)))
+
 -- the faults with that of a statement that is broken at this place, decided at this position
 abbrev pub judged_by : Bool → Rule → Place3 → ℕ → FaultMap → FaultMap
 judged_by broken rule place at faults =

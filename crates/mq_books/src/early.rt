@@ -1,9 +1,11 @@
 //! Events of a connection are held until its fate is decided: a client may send packets before its
 //! CONNACK (MQTT 5.0, section 3.1.4).
-ghost use Rattle.std.specs.Prelude.{◌≡◌, ◌∷◌, ◌++◌, ◌&&◌, ◌||◌, ◌+◌, [], ℕ, List, Option, Some, None, is_some, not, reverse, length, cond, OnOk, OnErr, IfOk};
+ghost use Rattle.std.specs.Prelude.{true, ◌≡◌, ◌∷◌, ◌++◌, ◌&&◌, ◌||◌, ◌+◌, [], ℕ, List, Option, Some, None, is_some, not, reverse, length, cond, OnOk, OnErr, IfOk};
 ghost use Rattle.std.specs.Option.{option_or};
 ghost use Rattle.mq_rules.specs.declared.role.Tested.{Tested as TheTested};
+ghost use Rattle.mq_rules.specs.declared.fate.Fate.{Fate as TheFate};
 ghost use Rattle.mq_rules.specs.declared.fate.Fate.TheVariants as fates;
+ghost use Rattle.mq_rules.specs.Occasions.{places};
 ghost use Rattle.mq_rules.specs.declared.note.Seen.{Seen as TheSeen};
 ghost use Rattle.mq_rules.specs.Notes.{is_open, note_of_bare, received_subscription, sent_grant};
 ghost use Rattle.mq_rules.specs.Connections.{latest_fate};
@@ -14,11 +16,12 @@ ghost use Rattle.mq_books.specs.Holding.{is_nothing, CanHand, CanPass, fate_afte
 ghost use Rattle.mq_rules.specs.Weights.{in_word};
 ghost use Rattle.mq_books.specs.Weights.{held_weigh};
 
+use crate::counting::{Asks, Counting};
 use crate::fated::Fated;
 use mq_log::Place3;
 use mq_rules::{
-    Bare, Brisk, Fate, Faults, History, Memory, Note, PacketFields, Role, Seen, Tested, Watch,
-    step_apart,
+    Bare, Brisk, Fate, Faults, History, Memory, Note, PacketFields, Role, Rule, Seen, Tested,
+    Watch, step_apart,
 };
 use std::alloc::Global;
 
@@ -193,5 +196,15 @@ impl<W: Fated + Brisk> Brisk for Early<W> {
         }
         self.watcher.step_bare(at, bare, faults)?;
         Ok(())
+    }
+}
+
+impl<W: Asks> Early<Counting<W>> {
+    /// How many places a statement has in the log so far. On an undecided connection nothing was
+    /// put to the test yet.
+    pub fn places(&self, rule: Rule) -> u32
+        ensures { (tested : TheTested) (taken : Option TheFate) (past : List TheSeen) → ⟦<Early<Counting<W>> as Watch>⟧.agrees self.now tested taken past → W.judges rule ≡ true → result ≡ places tested past rule }
+    {
+        self.watcher.places(rule)
     }
 }

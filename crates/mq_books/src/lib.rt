@@ -9,6 +9,7 @@
 mod asked;
 mod awaited;
 mod ceilings;
+mod counting;
 mod counts;
 mod debts;
 mod early;
@@ -35,6 +36,7 @@ mod subs_all;
 mod watchers;
 
 pub use asked::Asked;
+pub use counting::{Asks, Counting};
 pub use counts::{Counted, Counts, Replies, Subacks, Unsubacks};
 pub use debts::Debts;
 pub use early::Early;

@@ -8,10 +8,13 @@ ghost use Rattle.mq_rules.specs.Notes.{is_open, is_received_pingreq, is_sent_pin
 ghost use Rattle.mq_rules.specs.Under.{IsKnown, turns_known};
 ghost use Rattle.mq_books.specs.Pingings as keeping;
 ghost use Rattle.mq_books.specs.Pingings.{IsPings};
+ghost use Rattle.mq_books.specs.Placings.{on_one};
+ghost use Rattle.mq_rules.specs.Occasions.{places_under};
 ghost use Rattle.mq_books.specs.Concerns.{concerns_pings};
 ghost use Rattle.mq_rules.specs.Notes.{note_of_bare};
 ghost use Rattle.mq_books.specs.Selecting as selecting;
 
+use crate::counting::{Asks, places_after};
 use crate::fated::Fated;
 use crate::known::judge_by;
 use crate::quota::more;
@@ -237,5 +240,50 @@ fn bare_may_concern_pings(bare: Bare<'_>) -> bool
     match bare.direction {
         Direction::Sent => matches!(bare.fields, BareFields::Pingresp),
         Direction::Recv => matches!(bare.fields, BareFields::Pingreq),
+    }
+}
+
+// Whether this is a REST that binds, on a connection on which a PINGREQ came.
+fn is_put_to_test(role: Role, fate: Fate, known: bool, ended: bool, note: &Note, asked: u64) -> bool
+    ensures { result ≡ keeping.pinged role fate known ended note.now asked }
+{
+    matches!(role, Role::Server)
+        && (fate.accepts()
+            && ((note.is_rest() && (known && (fate.accepts() && !ended))) && 0 < asked))
+}
+
+impl Asks for Pings {
+    type Places = u32;
+
+    ghost counts = { λ n tested taken past. n ≡ places_under tested taken past E7R };
+
+    ghost on_sessions = { λ role rule judged. on_one role E7R rule refl judged };
+
+    fn tests(rule: Rule) -> bool {
+        rule == Rule::E7R
+    }
+
+    fn fate(&self) -> Fate {
+        self.fate
+    }
+
+    fn no_places() -> u32 {
+        0
+    }
+
+    fn count(&self, places: &mut u32, at: Place3, decided: u32, fate: Fate, note: &Note) {
+        let here = is_put_to_test(
+            self.role,
+            fate,
+            decided == at.position,
+            self.ended,
+            note,
+            self.asked,
+        );
+        *places = places_after(here, *places, at.position);
+    }
+
+    fn places_of(places: &u32, _: Rule) -> u32 {
+        *places
     }
 }

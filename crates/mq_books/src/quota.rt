@@ -12,10 +12,13 @@ ghost use Rattle.std.specs.Prelude.{cond};
 ghost use Rattle.mq_rules.specs.Under.{IsKnown, turns_known};
 ghost use Rattle.mq_books.specs.Quotas as keeping;
 ghost use Rattle.mq_books.specs.Quotas.{IsQuota};
+ghost use Rattle.mq_books.specs.Placings.{on_one};
+ghost use Rattle.mq_rules.specs.Occasions.{places_under};
 ghost use Rattle.mq_books.specs.Concerns.{concerns_quota};
 ghost use Rattle.mq_rules.specs.Notes.{note_of_bare};
 ghost use Rattle.mq_books.specs.Selecting as selecting;
 
+use crate::counting::{Asks, places_after};
 use crate::fated::Fated;
 use crate::known::judge_by;
 use crate::messages::is_acknowledged;
@@ -335,5 +338,51 @@ fn bare_may_concern_quota(bare: Bare<'_>) -> bool
                 true,
             _ => false,
         },
+    }
+}
+
+// Whether a PUBLISH is sent that uses up the quota, or passes it.
+fn uses_up(fate: Fate, note: &Note, role: Role, peer: Option<u16>, old: u64, position: u32) -> bool
+    ensures { old < position → result ≡ keeping.uses_up fate note.now role peer old }
+{
+    fate.accepts()
+        && (note.delivery().is_some()
+            && (may_count(role, peer)
+                && u64::from(peer.unwrap_or(RECEIVE_MAXIMUM)) <= more(old, position)))
+}
+
+impl Asks for Quota {
+    type Places = u32;
+
+    ghost counts = { λ n tested taken past. n ≡ places_under tested taken past S07 };
+
+    ghost on_sessions = { λ role rule judged. on_one role S07 rule refl judged };
+
+    fn tests(rule: Rule) -> bool {
+        rule == Rule::S07
+    }
+
+    fn fate(&self) -> Fate {
+        self.fate
+    }
+
+    fn no_places() -> u32 {
+        0
+    }
+
+    fn count(&self, places: &mut u32, at: Place3, _: u32, fate: Fate, note: &Note) {
+        let here = uses_up(
+            fate,
+            note,
+            self.role,
+            self.peer,
+            self.in_flight,
+            at.position,
+        );
+        *places = places_after(here, *places, at.position);
+    }
+
+    fn places_of(places: &u32, _: Rule) -> u32 {
+        *places
     }
 }

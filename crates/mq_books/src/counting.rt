@@ -1,0 +1,179 @@
+//! Watchers that count how often their statements are put to the test.
+ghost use Rattle.std.specs.Prelude.{◌≡◌, ◌∷◌, ◌+◌, ◌<◌, [], true, cond, List, Option, Some};
+ghost use Rattle.mq_rules.specs.declared.role.Tested.{Tested as TheTested};
+ghost use Rattle.mq_rules.specs.declared.fate.Fate.{Fate as TheFate};
+ghost use Rattle.mq_rules.specs.declared.fate.Fate.TheVariants.{Void};
+ghost use Rattle.mq_rules.specs.declared.note.Seen.{Seen as TheSeen};
+ghost use Rattle.mq_rules.specs.Under.{seen, IsUnder, IsKnown, fate_before, turns_known};
+ghost use Rattle.mq_rules.specs.declared.role.Role.{Role as TheRole};
+ghost use Rattle.mq_rules.specs.declared.rule.Rule.{Rule as TheRule};
+ghost use Rattle.mq_rules.specs.Occasions.{occasion, places_under};
+ghost use Rattle.mq_books.specs.Placings.{is_on_sessions, on_either};
+ghost use Rattle.std.specs.Prelude.{◌&&◌, refl};
+
+use crate::fated::Fated;
+use mq_log::Place3;
+use mq_rules::{Bare, Both, Brisk, Fate, Faults, Memory, Note, Rule, Watch, step_noted};
+
+/// A watcher that can tell, before it takes in an event, which of its statements the event puts to
+/// the test.
+pub trait Asks: Fated {
+    /// What is kept to count the places of its statements.
+    type Places: Drop;
+
+    /// The counts are those of these events, the newest first, where their latest connection is
+    /// taken to have this fate.
+    ghost counts: { Self.Places → TheTested → Option TheFate → List TheSeen → Type 0 };
+
+    /// Whether a statement is one of its own.
+    fn tests(rule: Rule) -> bool
+        ensures { result ≡ Self.judges rule };
+
+    /// The fate that the latest connection is taken to have.
+    fn fate(&self) -> Fate
+        ensures { (tested : TheTested) (taken : Option TheFate) (past : List TheSeen) → Self.agrees self.now tested taken past → taken ≡ Some result };
+
+    /// The counts before any event.
+    fn no_places() -> Self::Places
+        ensures { (tested : TheTested) → counts result tested (Some Void) [] };
+
+    /// Counts the places that turn out with an event of a connection that has this fate. The
+    /// watcher takes in the event after that.
+    fn count(&self, places: &mut Self::Places, at: Place3, decided: u32, fate: Fate, note: &Note)
+        ensures { (tested : TheTested) (past : List TheSeen) → IsUnder tested fate decided (seen at note.now) past → Self.agrees self.now tested (fate_before tested fate (seen at note.now) past) past → counts places.old tested (fate_before tested fate (seen at note.now) past) past → counts places.new tested (Some fate) (seen at note.now ∷ past) };
+
+    /// How many places one of its statements has.
+    fn places_of(places: &Self::Places, rule: Rule) -> u32
+        ensures { (tested : TheTested) (taken : Option TheFate) (past : List TheSeen) → counts places.now tested taken past → Self.judges rule ≡ true → result ≡ places_under tested taken past rule };
+
+    /// Its statements are put to the test on sessions.
+    ghost on_sessions: { (role : TheRole) (rule : TheRule) → Self.Fated.judges rule ≡ true → is_on_sessions (occasion role rule) ≡ true };
+}
+
+/// A watcher, and how often each of its statements was put to the test.
+#[derive(Drop)]
+pub struct Counting<W: Asks> {
+    watcher: W,
+    places: W::Places,
+}
+
+/// One place more, or none: there are fewer than events.
+pub fn places_after(here: bool, old: u32, position: u32) -> u32
+    ensures { old < position → result ≡ cond here 1 0 + old }
+{
+    if here && old < position {
+        return old + 1;
+    }
+    old
+}
+
+/// One of two numbers.
+pub fn pick(first: bool, a: u32, b: u32) -> u32
+    ensures { result ≡ cond first a b }
+{
+    if first { a } else { b }
+}
+
+impl<W: Asks> Counting<W> {
+    /// Around this watcher, before any event.
+    pub fn new(watcher: W) -> Self
+        ensures { (tested : TheTested) → W.agrees watcher tested (Some Void) [] → ⟦<Counting<W> as Watch>⟧.agrees result tested (Some Void) [] }
+    {
+        Counting {
+            watcher,
+            places: W::no_places(),
+        }
+    }
+
+    /// How many places one of its statements has, where the latest connection is taken to have the
+    /// fate that the watcher took in with its events.
+    pub fn places(&self, rule: Rule) -> u32
+        ensures { (tested : TheTested) (taken : Option TheFate) (past : List TheSeen) → ⟦<Counting<W> as Watch>⟧.agrees self.now tested taken past → W.judges rule ≡ true → result ≡ places_under tested taken past rule }
+    {
+        W::places_of(&self.places, rule)
+    }
+}
+
+impl<W: Asks> Watch for Counting<W> {
+    ghost agrees = { λ s tested taken past. W.agrees s.watcher tested taken past × W.counts s.places tested taken past };
+
+    ghost takes = { IsKnown };
+
+    ghost adds = { λ tested e past k r. W.judges r && turns_known tested e past k r };
+
+    ghost weighs = { λ s. W.weighs s.watcher };
+
+    ghost bound = { W.bound };
+
+    fn step(&mut self, at: Place3, note: &Note, faults: &mut Faults) -> Result<(), Memory> {
+        let fate = self.watcher.fate();
+        self.fated(at, at.position, fate, note, faults)?;
+        Ok(())
+    }
+
+    fn weight(&self) -> usize {
+        self.watcher.weight()
+    }
+}
+
+impl<W: Asks> Fated for Counting<W> {
+    ghost judges = { W.judges };
+
+    fn fated(
+        &mut self,
+        at: Place3,
+        decided: u32,
+        fate: Fate,
+        note: &Note,
+        faults: &mut Faults,
+    ) -> Result<(), Memory> {
+        self.watcher
+            .count(&mut self.places, at, decided, fate, note);
+        self.watcher.fated(at, decided, fate, note, faults)?;
+        Ok(())
+    }
+
+    ghost known_taken = { λ tested taken e past known. known };
+
+    ghost known_adds = { λ tested e past k r. refl };
+}
+
+impl<W: Asks> Brisk for Counting<W> {
+    fn step_bare(&mut self, at: Place3, bare: Bare<'_>, faults: &mut Faults) -> Result<(), Memory> {
+        step_noted(self, at, bare, faults)?;
+        Ok(())
+    }
+}
+
+impl<A: Asks, B: Asks> Asks for Both<A, B> {
+    type Places = Both<A::Places, B::Places>;
+
+    ghost counts = { λ n tested taken past. A.counts n.a tested taken past × B.counts n.b tested taken past };
+
+    ghost on_sessions = { λ role rule judged. on_either (A.judges rule) (B.judges rule) (is_on_sessions (occasion role rule)) (A.on_sessions role rule) (B.on_sessions role rule) judged };
+
+    fn tests(rule: Rule) -> bool {
+        A::tests(rule) || B::tests(rule)
+    }
+
+    fn fate(&self) -> Fate {
+        self.a.fate()
+    }
+
+    fn no_places() -> Self::Places {
+        Both::new(A::no_places(), B::no_places())
+    }
+
+    fn count(&self, places: &mut Self::Places, at: Place3, decided: u32, fate: Fate, note: &Note) {
+        self.a.count(&mut places.a, at, decided, fate, note);
+        self.b.count(&mut places.b, at, decided, fate, note);
+    }
+
+    fn places_of(places: &Self::Places, rule: Rule) -> u32 {
+        pick(
+            A::tests(rule),
+            A::places_of(&places.a, rule),
+            B::places_of(&places.b, rule),
+        )
+    }
+}
