@@ -53,4 +53,5 @@ pub mod BurdenLaws
 pub mod KnowingLaws
 pub mod PassingLaws
 pub mod CountingLaws
+pub mod AskedPlacesLaws
 pub mod EarlyPlacesLaws

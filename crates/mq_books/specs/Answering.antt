@@ -10,7 +10,8 @@ use Rattle.mq_rules.specs.declared.packet_note.PacketFields.{PacketFields}
 use Rattle.mq_rules.specs.declared.packet_note.PacketFields.TheVariants.{Puback, Pubrec, Pubrel, Pubcomp, Suback, Unsuback}
 use Rattle.mq_rules.specs.Words.{is_id}
 use Rattle.mq_rules.specs.Notes.{is_open, is_release, sent_as, received_as, puback_in, pubrec_in, pubrel_in, pubcomp_in, suback_in, unsuback_in, is_session_packet, needs_session}
-use Rattle.mq_rules.specs.Exchanges.{Exchange, publish_puback, publish_pubrec, breaks_O}
+use Rattle.mq_rules.specs.Exchanges.{Exchange, publish_puback, publish_pubrec, applies_O, breaks_O}
+use Rattle.mq_rules.specs.Occasions.{occasion}
 use Rattle.mq_rules.specs.Statements.{statement, in_session}
 
 -- Neither an OPEN nor a RELEASE is a cause or an answer, no event is both under one identifier, and an answer needs a session.
@@ -92,3 +93,10 @@ ordered_says x o says role rule h = let same : o ≡ rule = cc in subst (λ r. s
 
 pub no_order : (x : Exchange) (role : Role) (rule : Rule) → None ≡ Some rule → statement role rule ≡ in_session (λ f. breaks_O x)
 no_order x role rule h = absurd (cc)
+
+-- the same of where it is put to the test
+pub ordered_tries : (x : Exchange) (o : Rule) → ((role : Role) → occasion role o ≡ Some (in_session (λ f. applies_O x))) → (role : Role) (rule : Rule) → Some o ≡ Some rule → occasion role rule ≡ Some (in_session (λ f. applies_O x))
+ordered_tries x o tries role rule h = let same : o ≡ rule = cc in subst (λ r. occasion role r ≡ Some (in_session (λ f. applies_O x))) same (tries role)
+
+pub no_tries : (x : Exchange) (role : Role) (rule : Rule) → None ≡ Some rule → occasion role rule ≡ Some (in_session (λ f. applies_O x))
+no_tries x role rule h = absurd (cc)

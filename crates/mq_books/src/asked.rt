@@ -1,17 +1,22 @@
 //! Each answer was asked for (MQTT 5.0, sections 3.8.4, 3.10.4 and 4.3).
-ghost use Rattle.std.specs.Prelude.{◌≡◌, ◌&&◌, ℕ, OnOk, cond, nat_eq, [], Some, refl};
+ghost use Rattle.std.specs.Prelude.{◌≡◌, ◌&&◌, ℕ, OnOk, cond, nat_eq, [], Some, is_some, refl};
 ghost use Rattle.indexmap.specs.IndexMap.{get};
 ghost use Rattle.mq_rules.specs.declared.fate.Fate.TheVariants.{Void};
 ghost use Rattle.mq_rules.specs.Notes.{is_open};
-ghost use Rattle.mq_rules.specs.Connections.{surprises as surprising};
+ghost use Rattle.mq_rules.specs.Connections.{accepts, surprises as surprising};
 ghost use Rattle.mq_rules.specs.Rules.{same_rule, binds as is_bound};
 ghost use Rattle.mq_rules.specs.Under.{IsKnown, turns_known};
+ghost use Rattle.mq_rules.specs.Occasions.{places_under};
+ghost use Rattle.mq_rules.specs.Statements.{if_early};
+ghost use Rattle.mq_rules.specs.Exchanges.{applies_A};
+ghost use Rattle.mq_books.specs.Placings.{on_session};
 ghost use Rattle.mq_books.specs.Burden.{caused_ids};
 ghost use Rattle.mq_books.specs.Weights.{asked_weighs};
 ghost use Rattle.mq_books.specs.Askings as keeping;
 ghost use Rattle.mq_books.specs.Askings.{IsAsked, answered_by};
 ghost use Rattle.mq_books.specs.Concerns.{concerns_asked};
 
+use crate::counting::{Asks, places_after};
 use crate::exchange::Exchange;
 use crate::fated::Fated;
 use crate::known::{excuse, judge_by};
@@ -19,7 +24,7 @@ use crate::selective::Selective;
 use crate::sizes::map_size;
 use indexmap::IndexMap;
 use mq_log::Place3;
-use mq_rules::{Bare, Brisk, Fate, Faults, Memory, Note, Tested, Watch};
+use mq_rules::{Bare, Brisk, Fate, Faults, Memory, Note, Rule, Tested, Watch};
 use std::alloc::Global;
 use std::marker::PhantomData;
 
@@ -206,4 +211,41 @@ impl<X: Exchange> Selective for Asked<X> {
     ghost concerns = { λ tested. concerns_asked X.exchange };
 
     fn passes(&self) {}
+}
+
+// Whether the statement is judged, and an answer is sent on an accepted connection.
+fn is_answered(binds: bool, fate: Fate, answer: Option<u16>) -> bool
+    ensures { result ≡ (binds && (accepts fate && is_some answer)) }
+{
+    binds && (fate.accepts() && answer.is_some())
+}
+
+impl<X: Exchange> Asks for Asked<X> {
+    type Places = u32;
+
+    ghost counts = { λ n tested taken past. n ≡ places_under tested taken past X.asked };
+
+    ghost on_sessions = { λ role rule judged. on_session role X.asked rule (if_early X.early role (λ f. applies_A X.exchange)) (X.tries_asked role) judged };
+
+    fn tests(rule: Rule) -> bool {
+        rule == X::asked_rule()
+    }
+
+    fn fate(&self) -> Fate {
+        self.fate
+    }
+
+    fn no_places() -> u32 {
+        0
+    }
+
+    fn count(&self, places: &mut u32, at: Place3, decided: u32, fate: Fate, note: &Note) {
+        let answered = is_answered(self.binds, fate, X::answer(note));
+        let here = excuse(surprises::<X>(fate), decided == at.position, answered);
+        *places = places_after(here, *places, at.position);
+    }
+
+    fn places_of(places: &u32, _: Rule) -> u32 {
+        *places
+    }
 }

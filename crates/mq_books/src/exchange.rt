@@ -17,6 +17,7 @@ pub trait Exchange {
     ghost use Rattle.mq_rules.specs.declared.rule.Rule.{Rule};
     ghost use Rattle.mq_rules.specs.Exchanges as exchanges;
     ghost use Rattle.mq_rules.specs.Statements.{statement, in_session, at_rest, if_early};
+    ghost use Rattle.mq_rules.specs.Occasions.{occasion};
     ghost use Rattle.mq_rules.specs.Notes.{note_of_bare};
     ghost use Rattle.mq_books.specs.Answering.{IsApart};
 
@@ -69,8 +70,14 @@ pub trait Exchange {
     // A cause is received, and an answer is sent.
     ghost apart: { IsApart exchange };
 
-    // They are the statements of these rules.
+    // They are the statements of these rules, and their occasions.
     ghost says_asked: { (role : Role) → statement role asked ≡ in_session (if_early early role (exchanges.breaks_A exchange role)) };
+
+    ghost tries_asked: { (role : Role) → occasion role asked ≡ Some (in_session (if_early early role (λ f. exchanges.applies_A exchange))) };
+
+    ghost tries_settled: { (role : Role) → occasion role settled ≡ Some (at_rest (exchanges.applies_R exchange)) };
+
+    ghost tries_ordered: { (role : Role) (rule : Rule) → ordered ≡ Some rule → occasion role rule ≡ Some (in_session (λ f. exchanges.applies_O exchange)) };
 
     ghost says_settled: { (role : Role) → statement role settled ≡ at_rest (exchanges.shows_R exchange) };
 
@@ -118,7 +125,7 @@ impl Exchange for E1 {
     ghost use Rattle.std.specs.Prelude.{refl, Some, None, true};
     ghost use Rattle.mq_rules.specs.declared.rule.Rule.TheVariants.{E1A, E1R, E1O};
     ghost use Rattle.mq_rules.specs.Exchanges.{publish_puback};
-    ghost use Rattle.mq_books.specs.Answering.{puback_apart, ordered_says};
+    ghost use Rattle.mq_books.specs.Answering.{puback_apart, ordered_says, ordered_tries};
 
     ghost exchange = { publish_puback };
 
@@ -186,9 +193,15 @@ impl Exchange for E1 {
 
     ghost says_asked = { λ role. refl };
 
+    ghost tries_asked = { λ role. refl };
+
     ghost says_settled = { λ role. refl };
 
     ghost says_ordered = { ordered_says publish_puback E1O (λ role. refl) };
+
+    ghost tries_settled = { λ role. refl };
+
+    ghost tries_ordered = { ordered_tries publish_puback E1O (λ role. refl) };
 }
 
 /// A PUBLISH of QoS 2 that is received, and its PUBREC.
@@ -199,7 +212,7 @@ impl Exchange for E2 {
     ghost use Rattle.std.specs.Prelude.{refl, Some, None, true};
     ghost use Rattle.mq_rules.specs.declared.rule.Rule.TheVariants.{E2A, E2R, E2O};
     ghost use Rattle.mq_rules.specs.Exchanges.{publish_pubrec};
-    ghost use Rattle.mq_books.specs.Answering.{pubrec_apart, ordered_says};
+    ghost use Rattle.mq_books.specs.Answering.{pubrec_apart, ordered_says, ordered_tries};
 
     ghost exchange = { publish_pubrec };
 
@@ -267,9 +280,15 @@ impl Exchange for E2 {
 
     ghost says_asked = { λ role. refl };
 
+    ghost tries_asked = { λ role. refl };
+
     ghost says_settled = { λ role. refl };
 
     ghost says_ordered = { ordered_says publish_pubrec E2O (λ role. refl) };
+
+    ghost tries_settled = { λ role. refl };
+
+    ghost tries_ordered = { ordered_tries publish_pubrec E2O (λ role. refl) };
 }
 
 /// A PUBREC below 0x80 that is received, and its PUBREL.
@@ -281,7 +300,7 @@ impl Exchange for E3 {
     ghost use Rattle.mq_rules.specs.declared.rule.Rule.TheVariants.{E3A, E3R, E3O};
     ghost use Rattle.mq_rules.specs.Exchanges.{pubrec_pubrel};
     ghost use Rattle.mq_rules.specs.Notes.{accepting_pubrec_in, pubrel_in};
-    ghost use Rattle.mq_books.specs.Answering.{packets_apart, ordered_says, pubrel_session};
+    ghost use Rattle.mq_books.specs.Answering.{packets_apart, ordered_says, ordered_tries, pubrel_session};
 
     ghost exchange = { pubrec_pubrel };
 
@@ -345,9 +364,15 @@ impl Exchange for E3 {
 
     ghost says_asked = { λ role. refl };
 
+    ghost tries_asked = { λ role. refl };
+
     ghost says_settled = { λ role. refl };
 
     ghost says_ordered = { ordered_says pubrec_pubrel E3O (λ role. refl) };
+
+    ghost tries_settled = { λ role. refl };
+
+    ghost tries_ordered = { ordered_tries pubrec_pubrel E3O (λ role. refl) };
 }
 
 /// A PUBREL that is received, and its PUBCOMP.
@@ -359,7 +384,7 @@ impl Exchange for E4 {
     ghost use Rattle.mq_rules.specs.declared.rule.Rule.TheVariants.{E4A, E4R};
     ghost use Rattle.mq_rules.specs.Exchanges.{pubrel_pubcomp};
     ghost use Rattle.mq_rules.specs.Notes.{pubrel_in, pubcomp_in};
-    ghost use Rattle.mq_books.specs.Answering.{packets_apart, no_order, pubcomp_session};
+    ghost use Rattle.mq_books.specs.Answering.{packets_apart, no_order, no_tries, pubcomp_session};
 
     ghost exchange = { pubrel_pubcomp };
 
@@ -423,9 +448,15 @@ impl Exchange for E4 {
 
     ghost says_asked = { λ role. refl };
 
+    ghost tries_asked = { λ role. refl };
+
     ghost says_settled = { λ role. refl };
 
     ghost says_ordered = { no_order pubrel_pubcomp };
+
+    ghost tries_settled = { λ role. refl };
+
+    ghost tries_ordered = { no_tries pubrel_pubcomp };
 }
 
 /// A SUBSCRIBE that is received, and its SUBACK.
@@ -437,7 +468,7 @@ impl Exchange for E5 {
     ghost use Rattle.mq_rules.specs.declared.rule.Rule.TheVariants.{E5A, E5R};
     ghost use Rattle.mq_rules.specs.Exchanges.{subscribe_suback};
     ghost use Rattle.mq_rules.specs.Notes.{subscribe_in, suback_in};
-    ghost use Rattle.mq_books.specs.Answering.{packets_apart, no_order, suback_session};
+    ghost use Rattle.mq_books.specs.Answering.{packets_apart, no_order, no_tries, suback_session};
 
     ghost exchange = { subscribe_suback };
 
@@ -489,9 +520,15 @@ impl Exchange for E5 {
 
     ghost says_asked = { λ role. refl };
 
+    ghost tries_asked = { λ role. refl };
+
     ghost says_settled = { λ role. refl };
 
     ghost says_ordered = { no_order subscribe_suback };
+
+    ghost tries_settled = { λ role. refl };
+
+    ghost tries_ordered = { no_tries subscribe_suback };
 }
 
 /// An UNSUBSCRIBE that is received, and its UNSUBACK.
@@ -503,7 +540,7 @@ impl Exchange for E6 {
     ghost use Rattle.mq_rules.specs.declared.rule.Rule.TheVariants.{E6A, E6R};
     ghost use Rattle.mq_rules.specs.Exchanges.{unsubscribe_unsuback};
     ghost use Rattle.mq_rules.specs.Notes.{unsubscribe_in, unsuback_in};
-    ghost use Rattle.mq_books.specs.Answering.{packets_apart, no_order, unsuback_session};
+    ghost use Rattle.mq_books.specs.Answering.{packets_apart, no_order, no_tries, unsuback_session};
 
     ghost exchange = { unsubscribe_unsuback };
 
@@ -555,7 +592,13 @@ impl Exchange for E6 {
 
     ghost says_asked = { λ role. refl };
 
+    ghost tries_asked = { λ role. refl };
+
     ghost says_settled = { λ role. refl };
 
     ghost says_ordered = { no_order unsubscribe_unsuback };
+
+    ghost tries_settled = { λ role. refl };
+
+    ghost tries_ordered = { no_tries unsubscribe_unsuback };
 }
