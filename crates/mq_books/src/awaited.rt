@@ -218,6 +218,7 @@ impl Request {
     }
 }
 
+// The greatest ceiling of the filters that match a topic, of these SUBSCRIBEs.
 fn ceiling_of_all(requests: &[Request], topic: &str) -> Option<u8>
     ensures { (qos : ℕ) → is_some_and (nat_le qos) result ≡ list_any (λ filters. list_any (λ s. is_match s.filter topic.now && nat_le qos s.ceiling) filters) requests.now }
 {
@@ -245,6 +246,7 @@ fn settle_each(
     Ok(())
 }
 
+// How much these SUBSCRIBEs count together, each with its filters.
 fn sizes_of(requests: &[Request]) -> usize
     ensures { result ≡ in_word (sum_by (λ filters. 1 + length filters) requests.now) }
 {
@@ -331,6 +333,7 @@ fn take(requests: &mut IndexMap<u16, Requests>, identifier: u16) -> Option<Reque
 
 // ---- those of a map
 
+// Settles the filters of all SUBSCRIBEs that wait, for which no SUBACK comes any more.
 fn settle_values(
     alloc: Global,
     settled: &mut StandingFilters,
@@ -344,6 +347,7 @@ fn settle_values(
     Ok(())
 }
 
+// The greatest ceiling of the filters that match a topic, of all SUBSCRIBEs that wait.
 fn ceiling_of_values(all: &IndexMap<u16, Requests>, topic: &str) -> Option<u8>
     ensures { (qos : ℕ) → is_some_and (nat_le qos) result ≡ list_any (λ requests. list_any (λ filters. list_any (λ s. is_match s.filter topic.now && nat_le qos s.ceiling) filters) requests) (values all.now) }
 {
@@ -354,6 +358,7 @@ fn ceiling_of_values(all: &IndexMap<u16, Requests>, topic: &str) -> Option<u8>
     best
 }
 
+// How much all SUBSCRIBEs that wait count together, each with its filters.
 fn values_size(all: &IndexMap<u16, Requests>) -> usize
     ensures { result ≡ in_word (sum_by (λ requests. sum_by (λ filters. 1 + length filters) requests) (values all.now)) }
 {

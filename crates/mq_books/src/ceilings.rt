@@ -112,6 +112,8 @@ fn is_alike(filter: &[u8], topic: &[u8]) -> bool
     topic.len() <= filter.len()
 }
 
+// Whether they are alike from where they first differ, by a `+`. It is a function of its own, so
+// that the loop over their common bytes is inlined without it.
 #[inline(never)]
 fn is_alike_by_levels(filter: &[u8], topic: &[u8]) -> bool
     ensures { result ≡ is_near filter.now topic.now }

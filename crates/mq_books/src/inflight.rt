@@ -472,6 +472,8 @@ fn may_concern_identifiers(note: &Note) -> bool
     }
 }
 
+// Whether a packet that is sent may take an identifier or go on under one, or is a DISCONNECT,
+// after which no REST binds.
 #[inline(always)]
 fn uses_identifier(fields: &PacketFields) -> bool
     ensures { result ≡ selecting.uses_identifier fields.now }
@@ -486,6 +488,8 @@ fn uses_identifier(fields: &PacketFields) -> bool
     }
 }
 
+// Whether a packet that is received may answer what was sent under an identifier, or announce what
+// may be sent, or is a DISCONNECT, after which no REST binds.
 #[inline(always)]
 fn frees_identifier(fields: &PacketFields) -> bool
     ensures { result ≡ selecting.frees_identifier fields.now }

@@ -129,6 +129,8 @@ fn may_concern_messages(note: &Note) -> bool
     }
 }
 
+// Whether a packet that is sent answers a PUBLISH, PUBREC or PUBREL, or is a DISCONNECT, after
+// which no REST binds.
 #[inline(always)]
 fn answers_message(fields: &PacketFields) -> bool
     ensures { result ≡ selecting.answers_message fields.now }
@@ -143,6 +145,7 @@ fn answers_message(fields: &PacketFields) -> bool
     )
 }
 
+// Whether a packet that is received may call for one of these answers, or is a DISCONNECT.
 #[inline(always)]
 fn asks_by_message(fields: &PacketFields) -> bool
     ensures { result ≡ selecting.asks_by_message fields.now }

@@ -30,6 +30,7 @@ fn is_still_due(due: &IndexMap<u16, Place3>, debt: Debt) -> bool
     }
 }
 
+// The debt at the front, if there is one. It may have been answered.
 fn first_of(queue: &VecDeque<Debt>) -> Option<Debt>
     ensures { result ≡ first_debt queue.now.items }
 {

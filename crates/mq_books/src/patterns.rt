@@ -125,6 +125,8 @@ fn fill(filter: &mut String, pattern: u64, topic: &str) -> Result<(), Memory>
 
 // ---- filters that match
 
+// Whether a topic begins with `$`: no filter that begins with a wildcard matches it (MQTT 5.0,
+// section 4.7.2).
 fn begins_dollar(topic: &str) -> bool
     ensures { result ≡ is_dollar topic.now }
 {
@@ -231,6 +233,7 @@ impl Patterns {
         }
     }
 
+    // Keeps a pattern, unless it is kept already. If it is one too many, none is known any more.
     fn add_pattern(&mut self, pattern: u64)
         ensures added { knows self.new pattern ≡ true }
         ensures kept { (other : ℕ) → knows self.old other ≡ true → knows self.new other ≡ true }

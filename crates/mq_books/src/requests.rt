@@ -148,6 +148,8 @@ fn may_concern_requests(note: &Note) -> bool
     }
 }
 
+// Whether a packet that is sent answers a SUBSCRIBE or an UNSUBSCRIBE, or is a DISCONNECT, after
+// which no REST binds.
 #[inline(always)]
 fn answers_request(fields: &PacketFields) -> bool
     ensures { result ≡ selecting.answers_request fields.now }
@@ -158,6 +160,7 @@ fn answers_request(fields: &PacketFields) -> bool
     )
 }
 
+// Whether a packet that is received calls for one of these answers, or is a DISCONNECT.
 #[inline(always)]
 fn asks_by_request(fields: &PacketFields) -> bool
     ensures { result ≡ selecting.asks_by_request fields.now }

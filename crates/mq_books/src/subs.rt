@@ -47,6 +47,7 @@ fn is_shared(filter: &NotedFilter) -> bool
     filter.filter.as_str().starts_with("$share/")
 }
 
+// Whether one of the filters asks for a shared subscription.
 fn any_shared(filters: &[NotedFilter]) -> bool
     ensures { result ≡ list_any begins_shared filters.now }
 {

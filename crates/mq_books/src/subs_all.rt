@@ -132,6 +132,8 @@ fn may_concern_subscriptions(bound: bool, note: &Note) -> bool
     }
 }
 
+// Whether a packet that is sent delivers a message where that is judged, has a Topic Alias, or
+// answers a SUBSCRIBE or an UNSUBSCRIBE.
 #[inline(always)]
 fn delivers_or_grants(bound: bool, fields: &PacketFields) -> bool
     ensures { result ≡ selecting.delivers_or_grants bound fields.now }

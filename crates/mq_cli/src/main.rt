@@ -15,6 +15,8 @@ use program::run;
 use std::io::{BufWriter, IsTerminal};
 use std::process::ExitCode;
 
+// Gives the program the system, its streams and a meter. Without memory for the output's buffer it
+// only says so, and fails.
 fn main(rt: HostRuntime) -> ExitCode {
     let alloc = rt.alloc();
     let mut system = System { rt: &rt };

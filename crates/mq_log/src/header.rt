@@ -100,6 +100,7 @@ pub fn longest_body(version: u8) -> u32
     }
 }
 
+// The refusal of a byte, unless it may be where it is.
 fn refused_unless(fits: bool, refusal: Refusal) -> Option<Refusal>
     ensures { result ≡ (if fits then None else Some refusal) }
 {

@@ -46,12 +46,14 @@ impl Model for PropsBuf {
     ghost invariant = { λ b. HoldsList b.place b.facts b.bytes.items };
 }
 
+// Whether there are more bytes than a length of two bytes can say (MQTT 5.0, 1.5.4 and 1.5.6).
 fn is_over(bytes: &[u8]) -> bool
     ensures { result ≡ nat_lt max_two_bytes (length bytes.now) }
 {
     bytes.len() > MAX_LEN
 }
 
+// Whether a text of the value has U+0000, as none may (MQTT 5.0, 1.5.4).
 fn has_nul_in(value: &Value) -> bool
     ensures { result ≡ nul_in (value_view value.now) }
 {
@@ -66,6 +68,7 @@ fn has_nul_in(value: &Value) -> bool
     }
 }
 
+// Whether a text of the value, or its Binary Data, has more than 65,535 bytes.
 fn is_long_value(value: &Value) -> bool
     ensures { result ≡ is_long (value_view value.now) }
 {
@@ -80,6 +83,7 @@ fn is_long_value(value: &Value) -> bool
     }
 }
 
+// Whether the value is a Variable Byte Integer above 268,435,455 (MQTT 5.0, 1.5.5).
 fn is_large_value(value: &Value) -> bool
     ensures { result ≡ is_large (value_view value.now) }
 {
@@ -94,6 +98,7 @@ fn is_large_value(value: &Value) -> bool
     }
 }
 
+// Whether the property may not have the value there for another reason than its length.
 fn is_bad_value(place: Place, row: Row, value: &Value) -> bool
     ensures { result ≡ is_bad place (row_view row.entry) (value_view value.now) }
 {
@@ -141,6 +146,7 @@ fn is_over_list(bytes: &[u8], id: u8, value: &Value) -> bool
     is_over_all(bytes.len(), value)
 }
 
+// Whether a field of the value is too long, or the list would be with the property.
 fn is_too_long(bytes: &[u8], id: u8, value: &Value) -> bool
     requires spelled { bytes.now ≡ body (items_of bytes.now) }
     requires bound { length bytes.now ≤ max_varint }
@@ -175,6 +181,8 @@ fn fault_with(place: Place, seen: Seen, bytes: &[u8], row: Row, value: &Value) -
     None
 }
 
+// Why the property can't be appended to the list of these bytes, if so: one that isn't in the table
+// is allowed nowhere. `seen` has the list's identifiers.
 fn fault_in(place: Place, seen: Seen, bytes: &[u8], item: &Item) -> Option<PushFault>
     requires sees { Sees seen (items_of bytes.now) }
     requires spelled { bytes.now ≡ body (items_of bytes.now) }
@@ -187,6 +195,7 @@ fn fault_in(place: Place, seen: Seen, bytes: &[u8], item: &Item) -> Option<PushF
     }
 }
 
+// Appends a Byte, or nothing if there is no memory.
 #[tactic(auto, using(mq_wire::proofs::Exports::number_room))]
 fn put_byte(out: &mut Vec<u8>, number: u8) -> Result<(), PushFault>
     ensures { AppendsValue (byte_value number) result out.old out.new }
@@ -194,6 +203,7 @@ fn put_byte(out: &mut Vec<u8>, number: u8) -> Result<(), PushFault>
     put_u8(out, number).map_err(|_| PushFault::Memory)
 }
 
+// Appends a Two Byte Integer (MQTT 5.0, 1.5.2), or nothing if there is no memory.
 #[tactic(auto, using(mq_wire::proofs::Exports::number_room))]
 fn put_two_bytes(out: &mut Vec<u8>, number: u16) -> Result<(), PushFault>
     ensures { AppendsValue (two_bytes_value number) result out.old out.new }
@@ -201,6 +211,7 @@ fn put_two_bytes(out: &mut Vec<u8>, number: u16) -> Result<(), PushFault>
     put_u16(out, number).map_err(|_| PushFault::Memory)
 }
 
+// Appends a Four Byte Integer (MQTT 5.0, 1.5.3), or nothing if there is no memory.
 #[tactic(auto, using(mq_wire::proofs::Exports::number_room))]
 fn put_four_bytes(out: &mut Vec<u8>, number: u32) -> Result<(), PushFault>
     ensures { AppendsValue (four_bytes_value number) result out.old out.new }
@@ -208,6 +219,7 @@ fn put_four_bytes(out: &mut Vec<u8>, number: u32) -> Result<(), PushFault>
     put_u32(out, number).map_err(|_| PushFault::Memory)
 }
 
+// Appends a Variable Byte Integer (MQTT 5.0, 1.5.5), or nothing if there is no memory.
 #[tactic(auto, using(mq_wire::proofs::Exports::counted_room))]
 fn put_number(out: &mut Vec<u8>, number: u32) -> Result<(), PushFault>
     requires { number ≤ max_varint }
@@ -216,6 +228,7 @@ fn put_number(out: &mut Vec<u8>, number: u32) -> Result<(), PushFault>
     put_varint(out, number).map_err(|_| PushFault::Memory)
 }
 
+// Appends a UTF-8 Encoded String (MQTT 5.0, 1.5.4), or nothing if there is no memory.
 #[tactic(auto, using(mq_wire::proofs::Exports::text_room))]
 fn put_string(out: &mut Vec<u8>, string: &str) -> Result<(), PushFault>
     requires short { length string.now ≤ max_two_bytes }
@@ -225,6 +238,7 @@ fn put_string(out: &mut Vec<u8>, string: &str) -> Result<(), PushFault>
     put_text(out, string).map_err(|_| PushFault::Memory)
 }
 
+// Appends a UTF-8 String Pair (MQTT 5.0, 1.5.7), or nothing if there is no memory.
 #[tactic(auto, using(mq_wire::proofs::Exports::pair_room))]
 fn put_strings(out: &mut Vec<u8>, name: &str, value: &str) -> Result<(), PushFault>
     requires name_short { length name.now ≤ max_two_bytes }
@@ -236,6 +250,7 @@ fn put_strings(out: &mut Vec<u8>, name: &str, value: &str) -> Result<(), PushFau
     put_pair(out, name, value).map_err(|_| PushFault::Memory)
 }
 
+// Appends Binary Data (MQTT 5.0, 1.5.6), or nothing if there is no memory.
 #[tactic(auto, using(mq_wire::proofs::Exports::counted_room))]
 fn put_bytes(out: &mut Vec<u8>, bytes: &[u8]) -> Result<(), PushFault>
     requires { length bytes.now ≤ max_two_bytes }
@@ -244,6 +259,7 @@ fn put_bytes(out: &mut Vec<u8>, bytes: &[u8]) -> Result<(), PushFault>
     put_binary(out, bytes).map_err(|_| PushFault::Memory)
 }
 
+// Appends a value of any type, or nothing if there is no memory.
 fn put_value(out: &mut Vec<u8>, value: &Value) -> Result<(), PushFault>
     requires long { is_long (value_view value.now) ≡ false }
     requires nul { nul_in (value_view value.now) ≡ false }

@@ -23,6 +23,7 @@ use crate::table::id::{
 use crate::value::Value;
 
 impl<'a> Value<'a> {
+    // The number, if the value is a Byte.
     fn byte(self) -> Option<u8>
         ensures { result ≡ as_byte (value_view self.entry) }
     {
@@ -32,6 +33,7 @@ impl<'a> Value<'a> {
         }
     }
 
+    // The number, if the value is a Two Byte Integer.
     pub(crate) fn two_bytes(self) -> Option<u16>
         ensures { result ≡ as_two_bytes (value_view self.entry) }
     {
@@ -41,6 +43,7 @@ impl<'a> Value<'a> {
         }
     }
 
+    // The number, if the value is a Four Byte Integer.
     fn four_bytes(self) -> Option<u32>
         ensures { result ≡ as_four_bytes (value_view self.entry) }
     {
@@ -50,6 +53,7 @@ impl<'a> Value<'a> {
         }
     }
 
+    // The number, if the value is a Variable Byte Integer.
     fn varint(self) -> Option<u32>
         ensures { result ≡ as_varint (value_view self.entry) }
     {
@@ -59,6 +63,7 @@ impl<'a> Value<'a> {
         }
     }
 
+    // The text, if the value is a UTF-8 Encoded String.
     fn text(self) -> Option<&'a str>
         ensures { option_map (λ text. text.now) result ≡ as_text (value_view self.entry) }
     {
@@ -68,6 +73,7 @@ impl<'a> Value<'a> {
         }
     }
 
+    // The name and the value of the pair, if the value is a UTF-8 String Pair.
     fn pair(self) -> Option<(&'a str, &'a str)>
         ensures { option_map (λ texts. (texts.0.now, texts.1.now)) result ≡ as_pair (value_view self.entry) }
     {
@@ -77,6 +83,7 @@ impl<'a> Value<'a> {
         }
     }
 
+    // The bytes, if the value is Binary Data.
     fn binary(self) -> Option<&'a [u8]>
         ensures { option_map (λ bytes. bytes.now) result ≡ as_binary (value_view self.entry) }
     {
@@ -87,9 +94,9 @@ impl<'a> Value<'a> {
     }
 }
 
-// The value of the first property with the identifier among those that the bytes spell, by its
-// type.
+// ---- the first property with the identifier among those that the bytes spell
 
+// Its number, if it is a Two Byte Integer.
 #[inline(never)]
 fn two_bytes_in<'a>(bytes: &'a [u8], id: u8) -> Option<u16>
     ensures { result ≡ first_two_bytes id (items_of bytes.entry.now) }
@@ -97,6 +104,7 @@ fn two_bytes_in<'a>(bytes: &'a [u8], id: u8) -> Option<u16>
     first_in(bytes, id)?.two_bytes()
 }
 
+// Its number, if it is a Four Byte Integer.
 #[inline(never)]
 fn four_bytes_in<'a>(bytes: &'a [u8], id: u8) -> Option<u32>
     ensures { result ≡ first_four_bytes id (items_of bytes.entry.now) }
@@ -104,6 +112,7 @@ fn four_bytes_in<'a>(bytes: &'a [u8], id: u8) -> Option<u32>
     first_in(bytes, id)?.four_bytes()
 }
 
+// Its number, if it is a Variable Byte Integer.
 #[inline(never)]
 fn varint_in<'a>(bytes: &'a [u8], id: u8) -> Option<u32>
     ensures { result ≡ first_varint id (items_of bytes.entry.now) }
@@ -111,6 +120,7 @@ fn varint_in<'a>(bytes: &'a [u8], id: u8) -> Option<u32>
     first_in(bytes, id)?.varint()
 }
 
+// Its text, if it is a UTF-8 Encoded String.
 #[inline(never)]
 fn text_in<'a>(bytes: &'a [u8], id: u8) -> Option<&'a str>
     ensures { option_map (λ text. text.now) result ≡ first_text id (items_of bytes.entry.now) }
@@ -118,6 +128,7 @@ fn text_in<'a>(bytes: &'a [u8], id: u8) -> Option<&'a str>
     first_in(bytes, id)?.text()
 }
 
+// Its name and its value, if it is a UTF-8 String Pair.
 #[inline(never)]
 fn pair_in<'a>(bytes: &'a [u8], id: u8) -> Option<(&'a str, &'a str)>
     ensures { option_map (λ texts. (texts.0.now, texts.1.now)) result ≡ first_pair id (items_of bytes.entry.now) }
@@ -126,6 +137,8 @@ fn pair_in<'a>(bytes: &'a [u8], id: u8) -> Option<(&'a str, &'a str)>
 }
 
 impl<'a> Props<'a> {
+    // The value of the first property with the identifier, if it is a Byte. The list isn't read
+    // if it has no such property.
     fn first_byte(&self, id: u8) -> Option<u8>
         requires { id < 43 }
         ensures { result ≡ first_byte id self.now.items }
@@ -136,6 +149,7 @@ impl<'a> Props<'a> {
         self.first(id)?.byte()
     }
 
+    // The value of the first property with the identifier, if it is a Two Byte Integer.
     #[inline(always)]
     fn first_two_bytes(&self, id: u8) -> Option<u16>
         requires { id < 43 }
@@ -147,6 +161,7 @@ impl<'a> Props<'a> {
         two_bytes_in(self.bytes, id)
     }
 
+    // The value of the first property with the identifier, if it is a Four Byte Integer.
     #[inline(always)]
     fn first_four_bytes(&self, id: u8) -> Option<u32>
         requires { id < 43 }
@@ -158,6 +173,7 @@ impl<'a> Props<'a> {
         four_bytes_in(self.bytes, id)
     }
 
+    // The value of the first property with the identifier, if it is a Variable Byte Integer.
     #[inline(always)]
     fn first_varint(&self, id: u8) -> Option<u32>
         requires { id < 43 }
@@ -169,6 +185,7 @@ impl<'a> Props<'a> {
         varint_in(self.bytes, id)
     }
 
+    // The value of the first property with the identifier, if it is a UTF-8 Encoded String.
     #[inline(always)]
     fn first_text(&self, id: u8) -> Option<&'a str>
         requires { id < 43 }
@@ -180,6 +197,7 @@ impl<'a> Props<'a> {
         text_in(self.bytes, id)
     }
 
+    // The value of the first property with the identifier, if it is a UTF-8 String Pair.
     #[inline(always)]
     fn first_pair(&self, id: u8) -> Option<(&'a str, &'a str)>
         requires { id < 43 }
@@ -191,6 +209,7 @@ impl<'a> Props<'a> {
         pair_in(self.bytes, id)
     }
 
+    // The value of the first property with the identifier, if it is Binary Data.
     fn first_binary(&self, id: u8) -> Option<&'a [u8]>
         requires { id < 43 }
         ensures { option_map (λ bytes. bytes.now) result ≡ first_binary id self.now.items }

@@ -161,6 +161,7 @@ pub const TABLE: [Row; 27] = [
     (id::SHARED_SUBSCRIPTION_AVAILABLE, Byte, ZeroOrOne, &[Connack]),
 ];
 
+// The first line of the table that has the identifier.
 fn found(table: &[Row], id: u32) -> Option<Row>
     ensures { result ≡ find (λ row. row.0 == id) table.now }
 {
@@ -170,6 +171,7 @@ fn found(table: &[Row], id: u32) -> Option<Row>
         .find(|(identifier, _, _, _)| u32::from(*identifier) == id)
 }
 
+// That line, which the contract compares with the lines of the definitions.
 fn found_in(table: &[Row], id: u32) -> Option<Row>
     ensures { option_map row_view result ≡ find (λ row. row.id == id) (rows_of table.now) }
 {
@@ -185,6 +187,7 @@ pub fn find_row(id: u32) -> Option<Row>
     found_in(&TABLE, id)
 }
 
+// The number of a place, by which the definitions compare places.
 fn number(place: Place) -> u8
     ensures { result ≡ place_number place }
 {

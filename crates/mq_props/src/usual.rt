@@ -14,6 +14,7 @@ use crate::seen::Seen;
 use crate::table::{Place, id, may_repeat_in};
 use mq_wire::Cursor;
 
+// Whether a Payload Format Indicator is next; the table allows each value.
 #[inline(always)]
 fn is_payload_format(cursor: &mut Cursor) -> bool
     ensures { IsTrue result → HasValue payload_format_indicator cursor.old cursor.new }
@@ -21,6 +22,7 @@ fn is_payload_format(cursor: &mut Cursor) -> bool
     cursor.u8().is_ok()
 }
 
+// Whether a Message Expiry Interval is next, which any four bytes can be (MQTT 5.0, 3.3.2.3.3).
 #[inline(always)]
 fn is_message_expiry(cursor: &mut Cursor) -> bool
     ensures { IsTrue result → HasValue message_expiry_interval cursor.old cursor.new }
@@ -28,6 +30,7 @@ fn is_message_expiry(cursor: &mut Cursor) -> bool
     cursor.u32().is_ok()
 }
 
+// Whether a Content Type is next, and is plain (MQTT 5.0, 3.3.2.3.9).
 #[inline(always)]
 fn is_content_type(cursor: &mut Cursor) -> bool
     ensures { IsTrue result → HasValue content_type cursor.old cursor.new }
@@ -43,6 +46,7 @@ fn is_response_topic(cursor: &mut Cursor) -> bool
     cursor.plain_text().is_some()
 }
 
+// Whether Correlation Data is next, which any Binary Data can be (MQTT 5.0, 3.3.2.3.6).
 #[inline(always)]
 fn is_correlation_data(cursor: &mut Cursor) -> bool
     ensures { IsTrue result → HasValue correlation_data cursor.old cursor.new }
@@ -58,6 +62,7 @@ fn is_subscription_identifier(cursor: &mut Cursor) -> bool
     matches!(cursor.u8(), Ok(1..128))
 }
 
+// Whether a User Property is next, and its name and value are plain (MQTT 5.0, 3.3.2.3.7).
 #[inline(always)]
 fn is_user_property(cursor: &mut Cursor) -> bool
     ensures { IsTrue result → HasValue user_property cursor.old cursor.new }

@@ -65,6 +65,7 @@ pub fn read_value<'a>(kind: ValueType, cursor: &mut Cursor<'a>) -> Result<Value<
     }
 }
 
+// Whether a number that the property's type allows is in its range too.
 fn is_number_in_range(range: Range, number: u32) -> bool
     ensures { result ≡ number_in_range range number }
 {
@@ -90,6 +91,7 @@ pub fn is_in_range(range: Range, value: &Value) -> bool
     }
 }
 
+// Whether the value is a UTF-8 Encoded String with a wildcard. A String Pair may have wildcards.
 fn has_wildcard_in(value: &Value) -> bool
     ensures { result ≡ has_wildcard (value_view value.now) }
 {

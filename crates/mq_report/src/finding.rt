@@ -71,6 +71,7 @@ impl Finding {
         }
     }
 
+    // Whether the bytes are one packet, and no byte is left over.
     fn is_packet(&self) -> bool
         ensures { result ≡ finds_packet self.now }
     {

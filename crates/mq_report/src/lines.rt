@@ -230,6 +230,7 @@ fn long_digit_count(number: u64) -> usize
     }
 }
 
+// Fills the bytes with the decimal digits of a number that may be above 32 bits, one by one.
 fn write_long_digits(digits: &mut [u8], number: u64)
     requires { length digits.old ≡ length (decimal number) }
     ensures { digits.new ≡ decimal number }

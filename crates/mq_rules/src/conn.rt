@@ -192,6 +192,8 @@ fn alias_set_by(note: &Note) -> Option<u16>
     }
 }
 
+// The Topic Alias that comes with a Topic Name, for which it stands from then on (MQTT 5.0, section
+// 3.3.2.3.4).
 #[inline]
 fn named_alias(publish: &PublishNote) -> Option<u16>
     ensures { result ≡ only (not (length publish.now.topic == 0)) publish.now.topic_alias }
@@ -279,6 +281,7 @@ impl Conn {
         }
     }
 
+    // The statements on a PUBLISH that a client sends. For C18 nothing needs to be kept.
     #[inline]
     fn client_publish(&self, publish: &PublishNote) -> [Verdict; 4]
         ensures { result ≡ keeping.publish_verdicts roles.Client self.now.state (contains nat_cmp self.now.aliases) (Some publish.now) }
@@ -291,6 +294,7 @@ impl Conn {
         ]
     }
 
+    // The statements on a PUBLISH that a server sends: C17 and C18 don't bind it.
     #[inline]
     fn server_publish(&self, publish: &PublishNote) -> [Verdict; 2]
         ensures { result ≡ keeping.publish_verdicts roles.Server self.now.state (contains nat_cmp self.now.aliases) (Some publish.now) }
@@ -301,6 +305,7 @@ impl Conn {
         ]
     }
 
+    // C16: a Topic Alias stands for a Topic Name, and wasn't set on the connection.
     #[inline]
     fn breaks_c16(&self, publish: &PublishNote) -> bool
         ensures { result ≡ keeping.finds_C16 (contains nat_cmp self.now.aliases) (Some publish.now) }

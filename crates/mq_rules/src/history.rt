@@ -90,6 +90,7 @@ impl History {
         }
     }
 
+    // The fate of one that isn't accepted. The log may not tell what became of the session.
     fn unaccepted(&self, role: Role, note: &Note) -> Fate
         ensures { result ≡ cond (histories.adrift_next role self.now note.now) fates.Adrift fates.Void }
     {
@@ -100,6 +101,7 @@ impl History {
         }
     }
 
+    // The fate of one that begins a session. The client may have asked for the one that it had.
     fn begun(&self, role: Role) -> Fate
         ensures { result ≡ cond (histories.asks_to_resume_now role self.now) fates.Forgotten fates.New }
     {
@@ -110,6 +112,8 @@ impl History {
         }
     }
 
+    // The fate of one that resumes a session. The log may not tell which, and the client may have
+    // asked for a new one, or had none.
     fn resumed(&self, role: Role, note: &Note) -> Fate
         ensures { result ≡ cond (histories.resumes_unknown_now role self.now note.now) fates.Unknown (cond (histories.has_none_now role self.now) fates.Unasked fates.Resumed) }
     {
@@ -233,6 +237,7 @@ impl History {
             && (note.sent_item().is_some() && !note.sent_disconnect().is_some())
     }
 
+    // What `unsettled` is after the event: it lasts until a session begins.
     fn is_unsettled_after(&self, role: Role, note: &Note) -> bool
         ensures { result ≡ histories.unsettled_next role self.now note.now }
     {
@@ -240,6 +245,7 @@ impl History {
             || (!self.begins(role, note) && self.unsettled)
     }
 
+    // What `adrift` is after the event: it lasts until a session begins.
     fn is_adrift_after(&self, role: Role, note: &Note) -> bool
         ensures { result ≡ histories.adrift_next role self.now note.now }
     {
@@ -265,6 +271,7 @@ impl History {
     }
 }
 
+// Whether there is an answer, and by it the server accepts the connection.
 fn is_accepted(fate: Option<Fate>) -> bool
     ensures { result ≡ connections.accepted fate }
 {
@@ -274,6 +281,7 @@ fn is_accepted(fate: Option<Fate>) -> bool
     }
 }
 
+// Whether there is an answer, and by it the server resumes a session.
 fn is_resumed(fate: Option<Fate>) -> bool
     ensures { result ≡ connections.resumed fate }
 {
@@ -283,6 +291,7 @@ fn is_resumed(fate: Option<Fate>) -> bool
     }
 }
 
+// Whether there is an answer, and by it the server begins a session.
 fn is_new(fate: Option<Fate>) -> bool
     ensures { result ≡ connections.begins fate }
 {

@@ -15,6 +15,7 @@ pub enum FilterFault {
     PlusNotAlone = 4,
 }
 
+// Whether a wildcard is in the level, alone or with other characters (MQTT 5.0, 4.7.1).
 fn has_byte(level: &str, wildcard: u8) -> bool
     ensures { result ≡ list_any (λ b. b == wildcard) level.now }
 {

@@ -31,18 +31,22 @@ pub fn matches(filter: &str, name: &str) -> bool
         && !(begins_with_wildcard(filter) && begins_with_dollar(name))
 }
 
+// Whether it isn't empty, and its wildcards are where they may be (MQTT 5.0, 4.7.1 and 4.7.3).
 fn is_valid_filter(filter: &str) -> bool
     ensures { result ≡ is_none (filter_fault filter.now) }
 {
     check_filter(filter).is_ok()
 }
 
+// Whether a filter begins with `#` or `+`, so that no name with `$` in front matches (MQTT 5.0,
+// 4.7.2).
 fn begins_with_wildcard(filter: &str) -> bool
     ensures { result ≡ begins_wild filter.now }
 {
     matches!(filter.as_bytes().first(), Some(b'#' | b'+'))
 }
 
+// Whether a name begins with `$`, as a server's own names may (MQTT 5.0, 4.7.2).
 fn begins_with_dollar(name: &str) -> bool
     ensures { result ≡ begins_dollar name.now }
 {

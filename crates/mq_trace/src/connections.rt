@@ -255,6 +255,7 @@ fn is_answer(server: bool, direction: Direction, packet: &Packet<'_>) -> bool
     }
 }
 
+// Whether it is a CONNACK, whichever end sent it.
 #[inline(always)]
 fn is_connack(packet: &Packet<'_>) -> bool
     ensures { result ≡ is_connack (view packet.now) }

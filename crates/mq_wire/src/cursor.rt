@@ -78,6 +78,7 @@ impl<'a> Cursor<'a> {
         self.at += len;
     }
 
+    // A fault for this reason, at the offset of the next byte.
     fn fault(&self, reason: Reason) -> WireFault
         ensures { result ≡ record { at = self.now.at; reason = reason } }
     {
@@ -251,6 +252,7 @@ impl<'a> Cursor<'a> {
         self.take_plain()
     }
 
+    // Does the work of `plain_text`, whose clause `text` follows from this contract.
     #[inline(always)]
     #[tactic(auto, unfolding(crate::specs::Fields::binary_at))]
     fn take_plain(&mut self) -> Option<&'a str>

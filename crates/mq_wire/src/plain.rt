@@ -58,6 +58,7 @@ fn is_run_plain(bytes: &[u8]) -> bool
     is_plain
 }
 
+// Whether it is an ASCII character other than U+0000, `#` and `+`, found out without a branch.
 #[inline(always)]
 fn is_plain_byte(byte: u8) -> bool
     ensures { result ≡ is_plain_byte byte }

@@ -41,6 +41,7 @@ fn opened_by(identifier: Option<u16>, qos: Qos, duplicate: bool) -> Option<u16>
     identifier
 }
 
+// Whether a PUBREC answers a PUBLISH of this QoS, and not a PUBACK (MQTT 5.0, section 4.3).
 #[inline(always)]
 fn is_exactly_once(qos: Qos) -> bool
     ensures { result ≡ exactly_once qos }
@@ -71,6 +72,7 @@ fn is_awaited(subscribing: &IndexSet<u16>, unsubscribing: &IndexSet<u16>, i: u16
     is_in(subscribing, i) || is_in(unsubscribing, i)
 }
 
+// Whether one of two holds, which are both found out in any case.
 #[inline(always)]
 fn either(a: bool, b: bool) -> bool
     ensures { result ≡ (a || b) }
@@ -132,6 +134,7 @@ impl Inflight {
         }
     }
 
+    // Whether what was kept is in use. It is a function of its own, since mostly nothing was kept.
     #[inline(never)]
     fn is_still_taken(&self, entry: Entry) -> bool
         ensures { result ≡ is_taken (passed_since self.now.fate self.now.bounds self.now.opened self.now.bounded) entry }

@@ -86,12 +86,14 @@ impl ConnectionState {
         }
     }
 
+    // Whether a client may go on: C02, C11 and C13 then hold of whatever it sends.
     fn client_may_go_on(&self) -> bool
         ensures { result ≡ may_go_on roles.Client self.now }
     {
         self.has_sent && !self.has_sent_disconnect && !self.is_resumed_wrongly()
     }
 
+    // Whether a server may go on: C05, C11 and C12 then hold of whatever it sends.
     fn server_may_go_on(&self) -> bool
         ensures { result ≡ may_go_on roles.Server self.now }
     {

@@ -48,42 +48,49 @@ impl ConnectionState {
         ]
     }
 
+    // C02: a client begins with something other than a CONNECT.
     fn breaks_c02(&self, item: &ItemNote) -> bool
         ensures { result ≡ keeping.finds_C02 self.now (Some item.now) }
     {
         item.is_typed() && !item.is_of_type(PacketType::Connect) && !self.has_sent
     }
 
+    // C03: a CONNECT is sent after another one.
     fn breaks_c03(&self, item: &ItemNote) -> bool
         ensures { result ≡ keeping.finds_C03 self.now (Some item.now) }
     {
         item.is_of_type(PacketType::Connect) && self.has_sent_connect
     }
 
+    // C04: a CONNACK is sent, and no CONNECT was received.
     fn breaks_c04(&self, item: &ItemNote) -> bool
         ensures { result ≡ keeping.finds_C04 self.now (Some item.now) }
     {
         item.is_of_type(PacketType::Connack) && !self.has_received_connect
     }
 
+    // C05: something other than an AUTH is sent before the CONNACK.
     fn breaks_c05(&self, item: &ItemNote) -> bool
         ensures { result ≡ keeping.finds_C05 self.now (Some item.now) }
     {
         item.is_typed() && !may_be_first(item) && !self.has_sent_connack
     }
 
+    // C06: a CONNACK is sent after another one.
     fn breaks_c06(&self, item: &ItemNote) -> bool
         ensures { result ≡ keeping.finds_C06 self.now (Some item.now) }
     {
         item.is_of_type(PacketType::Connack) && self.has_sent_connack
     }
 
+    // C11: something is sent after a DISCONNECT.
     fn breaks_c11(&self, item: &ItemNote) -> bool
         ensures { result ≡ keeping.finds_C11 self.now (Some item.now) }
     {
         item.is_typed() && self.has_sent_disconnect
     }
 
+    // C12: something is sent after a CONNACK that refuses.
     fn breaks_c12(&self, item: &ItemNote) -> bool
         ensures { result ≡ keeping.finds_C12 self.now (Some item.now) }
     {
@@ -142,6 +149,7 @@ impl ConnectionState {
         ]
     }
 
+    // C13: the client goes on with a session that should not have been resumed.
     fn breaks_c13(&self, packet: &PacketNote) -> bool
         ensures { result ≡ keeping.finds_C13 self.now (Some packet.now) }
     {
@@ -176,6 +184,7 @@ impl ConnectionState {
         }
     }
 
+    // C14: a packet is larger than the peer's Maximum Packet Size.
     fn breaks_c14(&self, role: Role, packet: &PacketNote) -> bool
         ensures { result ≡ keeping.finds_C14 role self.now (Some packet.now) }
     {
@@ -195,6 +204,7 @@ impl ConnectionState {
         }
     }
 
+    // C21: a Reason String or a User Property is sent that the client asked not to get.
     fn breaks_c21(&self, packet: &PacketNote) -> bool
         ensures { result ≡ keeping.finds_C21 self.now (Some packet.now) }
     {
@@ -292,18 +302,21 @@ impl ConnectionState {
         ]
     }
 
+    // C07: Session Present is 1, and the CONNECT had Clean Start 1.
     fn breaks_c07(&self, connack: &ConnackNote) -> bool
         ensures { result ≡ keeping.finds_C07 self.now (Some connack.now) }
     {
         connack.session_present && self.has_clean_start()
     }
 
+    // C08: a session is resumed, and none was alive.
     fn breaks_c08(&self, connack: &ConnackNote) -> bool
         ensures { result ≡ keeping.finds_C08 self.now (Some connack.now) }
     {
         connack.session_present && connack.code == 0 && !self.was_alive
     }
 
+    // C10: a client without a Client Identifier is accepted, and isn't assigned one.
     fn breaks_c10(&self, connack: &ConnackNote) -> bool
         ensures { result ≡ keeping.finds_C10 self.now (Some connack.now) }
     {
@@ -320,6 +333,7 @@ impl ConnectionState {
         }
     }
 
+    // C22: Response Information is sent that the client didn't ask for.
     fn breaks_c22(&self, connack: &ConnackNote) -> bool
         ensures { result ≡ keeping.finds_C22 self.now (Some connack.now) }
     {
@@ -337,6 +351,7 @@ impl ConnectionState {
     }
 }
 
+// C09: a CONNACK that refuses has Session Present 1.
 fn breaks_c09(connack: &ConnackNote) -> bool
     ensures { result ≡ keeping.finds_C09 (Some connack.now) }
 {

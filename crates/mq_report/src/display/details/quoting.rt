@@ -36,6 +36,7 @@ fn put_escaped<W: Write>(out: &mut Outgoing<'_, W>, bytes: &[u8])
     }
 }
 
+// Appends one of them, escaped if it can't be in double quotes as it is.
 fn put_escaped_byte<W: Write>(out: &mut Outgoing<'_, W>, byte: u8)
     ensures { Puts W.contents out.old (escaped byte) out.new }
 {
