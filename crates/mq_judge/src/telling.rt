@@ -21,6 +21,9 @@ impl Before for Brand {
 }
 
 /// A judge that tells after each piece of its log how far it is.
+///
+/// No code uses `K`. It is there for the proofs: by it `follows` can say what had been told before
+/// the first piece.
 #[derive(Drop)]
 pub struct Telling<K> {
     judge: Judge,

@@ -243,6 +243,9 @@ impl End for Brand {
 }
 
 /// A sink that judges the events that it receives.
+///
+/// No code uses `K`. It is there for the proofs: by it `agrees` can say which end is judged, which
+/// is known before the first event, and is the same after each.
 #[derive(Drop)]
 pub struct Judging<K> {
     /// What is kept of them.

@@ -91,6 +91,9 @@ trait Told: Sink {
 
 /// A sink that writes what is shown of each event. It refuses none: after a failed write it writes
 /// nothing more.
+///
+/// No code uses `K`. It is there for the proofs: by it `agrees` can say to which writer is written,
+/// what that held before the first event, and by what text events are shown.
 struct Display<'a, 'b, 'f, W, K> {
     out: &'b mut Outgoing<'a, W>,
     view: View<'f>,

@@ -409,6 +409,9 @@ fn write_addition<W: Write>(addition: Addition, writer: &mut W) -> Result<(), Co
 }
 
 /// Copies a log to a writer that held something before.
+///
+/// No code uses `K`. It is there for the proofs: by it `follows` can say what the writer held
+/// before the first piece.
 #[derive(Drop)]
 struct Converter<K> {
     copying: Copying,
