@@ -1,5 +1,6 @@
 -- How many filters an unanswered packet has.
-use Rattle.std.proofs.Common.{◌≡◌, ℕ, ◌==◌, Bool, true, false, cond, ◌&&◌, ◌||◌, not, List, [], ◌∷◌, Option, Some, None, refl, ap, sym, ◌∙◌}
+use Rattle.std.proofs.Common.{◌≡◌, ℕ, ◌+◌, ◌<◌, ◌==◌, Bool, true, false, cond, ◌&&◌, ◌||◌, not, List, [], ◌∷◌, Option, Some, None, refl, ap, sym, ◌∙◌}
+use Rattle.std.specs.Prelude.{is_some}
 use Rattle.std.specs.Option.{option_or, option_and_then}
 use Rattle.mq_rules.specs.declared.role.Role.{Role}
 use Rattle.mq_rules.specs.declared.role.Tested.{Tested}
@@ -19,10 +20,12 @@ use Rattle.mq_rules.specs.Faults.{offset_of}
 use Rattle.mq_rules.specs.FaultKeys.{FaultMap}
 use Rattle.mq_rules.proofs.Exports.{has_item, not_true, on_open-connected, on_open-fold}
 use Rattle.mq_books.specs.declared.counts.Counted.{Counted}
-use Rattle.mq_rules.specs.Under.{IsUnder, turns_with}
+use Rattle.mq_rules.specs.Under.{IsUnder, fate_before, turns_with}
+use Rattle.mq_rules.specs.Occasions.{occasion, places_under}
 use Rattle.mq_rules.specs.Growing.{Gains}
 use Rattle.mq_books.specs.Quotas.{judged_by}
-use Rattle.mq_books.specs.Countings.{names, count_in, Counting, IsCounting, miscounts, first_count, counted_next, differs, IsCounted}
+use Rattle.mq_books.specs.Countings.{names, count_in, Counting, IsCounting, miscounts, answers_one, first_count, counted_next, answers_kept, differs, IsCounted}
+use Rattle.mq_books.proofs.CountingLaws.{counted-session}
 use Rattle.mq_books.proofs.JudgeLaws.{session-turns_with, gains_judged}
 
 -- what is found earliest passes the first test
@@ -136,6 +139,47 @@ differs-is c breaks is counts e past on are = by_connection (is_connected past) 
         let closed : needs_connection e.note ≡ false = not_true (needs_connection e.note) (λ t. let there : is_connected past ≡ true = on t in absurd (cc)) in
         let none : c.reply e.note ≡ None = is.is_sent e.note (none-sent e.note closed) in
         ap (differs counts) none ∙ sym (ap given none)
+
+-- and whether an answer has an unanswered cause
+asked-is : (c : Counting) (breaks : Moment → Bool) → IsCounting c breaks → (counts : ℕ → Option ℕ) (e : Seen) (past : List Seen) → IsOnConnection e past → ((i : ℕ) → counts i ≡ first_count c i past) → answers_kept counts (c.reply e.note) ≡ answers_one c (newest e past)
+asked-is c breaks is counts e past on are = by_connection (is_connected past) refl
+  where
+    first : ℕ → List Moment → Option Moment
+    first i ms = earliest_since (causes c.exchange i) (answers c.exchange i) ms
+
+    at : (i : ℕ) (o : Option Moment) → first i (on_open past) ≡ o → is_some (option_and_then (λ m. count_in (c.request (note m))) o) ≡ is_some o
+    at i None h = refl
+    at i (Some j) h =
+        let there = named-counted i (c.request (note j)) (sym (is.causes_are (note j) i) ∙ found-passes (causes c.exchange i) (answers c.exchange i) (on_open past) j h) in
+        ap (λ (o : Option ℕ). is_some o) there.1
+
+    given : Option Counted → Bool
+    given o = is_some_and (λ r. is_some (first_unanswered c.exchange r.identifier (newest e past))) o
+
+    go : is_connected past ≡ true → (o : Option Counted) → answers_kept counts o ≡ given o
+    go k None = refl
+    go k (Some r) =
+        ap (λ (o : Option ℕ). is_some o) (are r.identifier)
+        ∙ at r.identifier (first r.identifier (on_open past)) refl
+        ∙ ap (λ ms. is_some (first r.identifier ms)) (on_open-connected past k)
+
+    -- where none is open, nothing is sent
+    by_connection : (b : Bool) → is_connected past ≡ b → answers_kept counts (c.reply e.note) ≡ given (c.reply e.note)
+    by_connection true k = go k (c.reply e.note)
+    by_connection false k =
+        let closed : needs_connection e.note ≡ false = not_true (needs_connection e.note) (λ t. let there : is_connected past ≡ true = on t in absurd (cc)) in
+        let none : c.reply e.note ≡ None = is.is_sent e.note (none-sent e.note closed) in
+        ap (answers_kept counts) none ∙ sym (ap given none)
+
+-- the event is a place where it answers what is kept
+pub counts-places : (tested : Tested) (rule : Rule) (c : Counting) (breaks applies : Moment → Bool) → IsCounting c breaks → ((m : Moment) → applies m ≡ answers_one c m) → ((role : Role) → occasion role rule ≡ Some (in_session (λ f. applies)))
+    → (fate f : Fate) (counts : ℕ → Option ℕ) (taken : Option Fate) (at : ℕ) (e : Seen) (past : List Seen) (bound here : Bool) (old new : ℕ) → IsUnder tested f at e past → IsCounted c fate counts taken past → bound ≡ binds rule tested
+    → old ≡ places_under tested (fate_before tested f e past) past rule → here ≡ (bound && (accepts f && answers_kept counts (c.reply e.note)))
+    → (old < e.place.position → new ≡ cond here 1 0 + old) → new ≡ places_under tested (Some f) (e ∷ past) rule
+counts-places tested rule c breaks applies is asks says fate f counts taken at e past bound here old new under o judged was placed more =
+    counted-session tested rule (λ f. applies) (says tested.role) f at e past here old new under was
+    (placed ∙ ap (λ b. b && (accepts f && answers_kept counts (c.reply e.note))) judged
+    ∙ ap (λ t. binds rule tested && (accepts f && t)) (asked-is c breaks is counts e past under.follows.on_connections.0 o.counts_are ∙ sym (asks (newest e past)))) more
 
 pub counted-gains : (tested : Tested) (rule : Rule) (c : Counting) (breaks : Moment → Bool) → IsCounting c breaks → ((role : Role) → statement role rule ≡ in_session (λ f. breaks)) → ((role : Role) (m : Option Moment) → offset_of (statement role rule) m ≡ None)
     → (fate f : Fate) (counts : ℕ → Option ℕ) (taken : Option Fate) (at : ℕ) (e : Seen) (past : List Seen) (m : FaultMap) (bound b : Bool) → IsUnder tested f at e past → IsCounted c fate counts taken past

@@ -1,5 +1,5 @@
 -- What the books of SUBACKs and UNSUBACKs keep: how many filters the first packet of an identifier has that isn't answered.
-use Rattle.std.specs.Prelude.{ℕ, ◌≡◌, ◌==◌, Bool, not, cond, List, length, Option, Some, None, option_map, refl}
+use Rattle.std.specs.Prelude.{ℕ, ◌≡◌, ◌==◌, Bool, not, cond, List, length, Option, Some, None, option_map, is_some, refl}
 use Rattle.std.specs.Option.{option_or, option_and_then}
 use Rattle.std.proofs.Common.{ap, ◌∙◌}
 use Rattle.mq_rules.specs.declared.fate.Fate.{Fate}
@@ -12,7 +12,7 @@ use Rattle.mq_rules.specs.Notes.{Subscription, Grant, Number, received_fields, s
 use Rattle.mq_rules.specs.Moments.{Moment, note, earliest_since}
 use Rattle.mq_rules.specs.Connections.{on_open}
 use Rattle.mq_rules.specs.Exchanges.{Exchange, causes, answers, first_unanswered, subscribe_suback, unsubscribe_unsuback}
-use Rattle.mq_rules.specs.Subscriptions.{breaks_B03, breaks_B04}
+use Rattle.mq_rules.specs.Subscriptions.{applies_B03, applies_B04, breaks_B03, breaks_B04}
 use Rattle.mq_books.specs.declared.counts.Counted.{Counted}
 
 -- ---- counts
@@ -33,6 +33,10 @@ pub record Counting : Type 0 where
 -- an answer whose count isn't that of its first unanswered cause
 abbrev pub miscounts : Counting → Moment → Bool
 miscounts c k = is_some_and (λ r. is_some_and (λ j. is_some_and (λ q. not (q.count == r.count)) (c.request (note j))) (first_unanswered c.exchange r.identifier k)) (c.reply (note k))
+
+-- an answer that has an unanswered cause
+abbrev pub answers_one : Counting → Moment → Bool
+answers_one c k = is_some_and (λ r. is_some (first_unanswered c.exchange r.identifier k)) (c.reply (note k))
 
 -- The counts are of the causes, which are received, and of the answers, which are sent, and this says that they differ.
 pub record IsCounting (c : Counting) (breaks : Moment → Bool) : Type 0 where
@@ -55,6 +59,10 @@ counted_next boundary request reply i old = option_or (cond (names i reply) None
 -- an answer whose count isn't the one that is kept
 abbrev pub differs : (ℕ → Option ℕ) → Option Counted → Bool
 differs counts reply = is_some_and (λ r. is_some_and (λ count. not (count == r.count)) (counts r.identifier)) reply
+
+-- an answer under whose identifier a count is kept
+abbrev pub answers_kept : (ℕ → Option ℕ) → Option Counted → Bool
+answers_kept counts reply = is_some_and (λ r. is_some (counts r.identifier)) reply
 
 -- These events lead to what is kept.
 pub record IsCounted (c : Counting) (fate : Fate) (counts : ℕ → Option ℕ) (taken : Option Fate) (past : List Seen) : Type 0 where
@@ -145,3 +153,11 @@ subscribes_so = record { is_received = λ n h. ap (λ o. option_map subscription
 
 pub unsubscribes_so : IsCounting unsubscribes breaks_B04
 unsubscribes_so = record { is_received = λ n h. ap (λ o. option_map number_count (option_and_then unsubscription_in o)) h; is_sent = λ n h. ap (λ o. option_map number_count (option_and_then unsuback_count_in o)) h; causes_are = λ n i. unsubscribe-names (received_fields n) i; answers_are = λ n i. unsuback-names (sent_fields n) i; breaks_are = B04-says }
+
+pub B03_asks : (k : Moment) → applies_B03 k ≡ answers_one subscribes k
+unfolding applies_B03
+B03_asks k = mapped grant_count (λ a. is_some (first_unanswered subscribe_suback a.identifier k)) (λ r. is_some (first_unanswered subscribe_suback r.identifier k)) (sent_grant (note k)) (λ a. refl)
+
+pub B04_asks : (k : Moment) → applies_B04 k ≡ answers_one unsubscribes k
+unfolding applies_B04
+B04_asks k = mapped number_count (λ a. is_some (first_unanswered unsubscribe_unsuback a.identifier k)) (λ r. is_some (first_unanswered unsubscribe_unsuback r.identifier k)) (sent_unsuback (note k)) (λ a. refl)

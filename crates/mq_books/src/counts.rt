@@ -9,7 +9,8 @@ ghost use Rattle.mq_rules.specs.declared.fate.Fate.TheVariants.{Void};
 ghost use Rattle.mq_rules.specs.Moments.{Moment};
 ghost use Rattle.mq_rules.specs.Connections.{accepts};
 ghost use Rattle.mq_rules.specs.Statements.{statement, in_session};
-ghost use Rattle.mq_rules.specs.Subscriptions.{breaks_B03, breaks_B04};
+ghost use Rattle.mq_rules.specs.Subscriptions.{applies_B03, applies_B04, breaks_B03, breaks_B04};
+ghost use Rattle.mq_rules.specs.Occasions.{occasion, places_under};
 ghost use Rattle.mq_rules.specs.Rules.{same_rule, binds as is_bound};
 ghost use Rattle.mq_rules.specs.Faults.{offset_of};
 ghost use Rattle.std.specs.Prelude.{Option, None};
@@ -17,8 +18,10 @@ ghost use Rattle.mq_rules.specs.Under.{IsKnown, turns_known};
 ghost use Rattle.mq_books.specs.Concerns.{concerns_count};
 ghost use Rattle.mq_books.specs.Burden.{unanswered_ids};
 ghost use Rattle.mq_books.specs.Weights.{counts_weighs};
-ghost use Rattle.mq_books.specs.Countings.{Counting, IsCounting, IsCounted, counted_next, differs, subscribes, unsubscribes, subscribe_request as the_subscribe, suback_reply as the_suback, unsubscribe_request as the_unsubscribe, unsuback_reply as the_unsuback, subscribes_so, unsubscribes_so};
+ghost use Rattle.mq_books.specs.Placings.{on_session};
+ghost use Rattle.mq_books.specs.Countings.{Counting, IsCounting, IsCounted, counted_next, differs, answers_one, answers_kept, B03_asks, B04_asks, subscribes, unsubscribes, subscribe_request as the_subscribe, suback_reply as the_suback, unsubscribe_request as the_unsubscribe, unsuback_reply as the_unsuback, subscribes_so, unsubscribes_so};
 
+use crate::counting::{Asks, places_after};
 use crate::fated::Fated;
 use crate::known::judge_by;
 use crate::selective::Selective;
@@ -46,6 +49,8 @@ pub trait Replies {
     ghost judged: { TheRule };
     /// Where that is false.
     ghost breaks: { Moment → Bool };
+    /// Where it is put to the test.
+    ghost applies: { Moment → Bool };
 
     /// A packet with filters that is received.
     fn request(note: &Note) -> Option<Counted>
@@ -63,6 +68,10 @@ pub trait Replies {
     ghost says: { (role : TheRole) → statement role judged ≡ in_session (λ f. breaks) };
     /// A fault has no offset.
     ghost no_offset: { (role : TheRole) (m : Option Moment) → offset_of (statement role judged) m ≡ None };
+    /// The table of occasions says the same.
+    ghost tries: { (role : TheRole) → occasion role judged ≡ Some (in_session (λ f. applies)) };
+    /// It is where what answers has something to answer.
+    ghost asks: { (m : Moment) → applies m ≡ answers_one counting m };
     /// The statement compares the two counts.
     ghost compares: { IsCounting counting breaks };
 }
@@ -199,6 +208,57 @@ impl<R: Replies> Selective for Counts<R> {
     fn passes(&self) {}
 }
 
+// Whether a packet answers one whose count is kept.
+fn is_asked_for(counts: &IndexMap<u16, usize>, reply: Option<Counted>) -> bool
+    ensures { result ≡ answers_kept (get nat_eq counts.now) reply }
+{
+    match reply {
+        Some(given) => counts.contains_key(&given.identifier),
+        None => false,
+    }
+}
+
+// Whether the statement is judged, and an answer of an accepted connection has something to answer.
+fn is_put_to_test(
+    bound: bool,
+    fate: Fate,
+    counts: &IndexMap<u16, usize>,
+    reply: Option<Counted>,
+) -> bool
+    ensures { result ≡ (bound && (accepts fate && answers_kept (get nat_eq counts.now) reply)) }
+{
+    bound && (fate.accepts() && is_asked_for(counts, reply))
+}
+
+impl<R: Replies> Asks for Counts<R> {
+    type Places = u32;
+
+    ghost counts = { λ n tested taken past. n ≡ places_under tested taken past R.judged };
+
+    ghost on_sessions = { λ role rule judged. on_session role R.judged rule (λ f. R.applies) (R.tries role) judged };
+
+    fn tests(rule: Rule) -> bool {
+        rule == R::judged()
+    }
+
+    fn fate(&self) -> Fate {
+        self.fate
+    }
+
+    fn no_places() -> u32 {
+        0
+    }
+
+    fn count(&self, places: &mut u32, at: Place3, _: u32, fate: Fate, note: &Note) {
+        let here = is_put_to_test(self.bound, fate, &self.counts, R::reply(note));
+        *places = places_after(here, *places, at.position);
+    }
+
+    fn places_of(places: &u32, _: Rule) -> u32 {
+        *places
+    }
+}
+
 /// SUBSCRIBE and SUBACK: B03.
 #[derive(Drop)]
 pub struct Subacks;
@@ -241,6 +301,8 @@ impl Replies for Subacks {
 
     ghost breaks = { breaks_B03 };
 
+    ghost applies = { applies_B03 };
+
     fn request(note: &Note) -> Option<Counted> {
         subscribe_request(note)
     }
@@ -256,6 +318,10 @@ impl Replies for Subacks {
     ghost says = { λ role. refl };
 
     ghost no_offset = { λ role m. refl };
+
+    ghost tries = { λ role. refl };
+
+    ghost asks = { B03_asks };
 
     ghost compares = { subscribes_so };
 }
@@ -302,6 +368,8 @@ impl Replies for Unsubacks {
 
     ghost breaks = { breaks_B04 };
 
+    ghost applies = { applies_B04 };
+
     fn request(note: &Note) -> Option<Counted> {
         unsubscribe_request(note)
     }
@@ -317,6 +385,10 @@ impl Replies for Unsubacks {
     ghost says = { λ role. refl };
 
     ghost no_offset = { λ role m. refl };
+
+    ghost tries = { λ role. refl };
+
+    ghost asks = { B04_asks };
 
     ghost compares = { unsubscribes_so };
 }
