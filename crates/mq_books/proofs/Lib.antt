@@ -54,4 +54,6 @@ pub mod KnowingLaws
 pub mod PassingLaws
 pub mod CountingLaws
 pub mod AskedPlacesLaws
+pub mod ChoosingLaws
+pub mod SettlingLaws
 pub mod EarlyPlacesLaws

@@ -29,16 +29,16 @@ use Rattle.mq_books.proofs.QueueLaws.{passed-earlier, earlier-passed}
 
 -- ---- the first cause without an answer
 
-connection-descends : (past : List Seen) → IsDescending (connection past)
+pub connection-descends : (past : List Seen) → IsDescending (connection past)
 connection-descends past = those-descend (λ m. number m == begun past) (moments past) (moments-descend past)
 
 -- A first moment that stands no later than this one.
-record HasFirst (starts ends : Moment → Bool) (ms : List Moment) (j : Moment) : Type 0 where
-  first : Moment
-  is : earliest_since starts ends ms ≡ Some first
-  within : position first ≤ position j
+pub record HasFirst (starts ends : Moment → Bool) (ms : List Moment) (j : Moment) : Type 0 where
+  pub first : Moment
+  pub is : earliest_since starts ends ms ≡ Some first
+  pub within : position first ≤ position j
 
-first-before : (starts ends : Moment → Bool) (ms : List Moment) (j : Moment) → IsDescending ms → Among j ms → starts j ≡ true → since (is_same j) ends ms ≡ true → HasFirst starts ends ms j
+pub first-before : (starts ends : Moment → Bool) (ms : List Moment) (j : Moment) → IsDescending ms → Among j ms → starts j ≡ true → since (is_same j) ends ms ≡ true → HasFirst starts ends ms j
 first-before starts ends ms j d among passes kept =
     let s = since-stands (is_same j) ends ms d kept in
     let same : position j ≡ position s.at = eqb-true (position j) (position s.at) s.passes in
@@ -56,11 +56,11 @@ first-before starts ends ms j d among passes kept =
         cc)
 
 -- what is under an identifier
-held : (test : ℕ → Bool) (o : Option ℕ) → is_some_and test o ≡ true → (i : ℕ) × (o ≡ Some i) × (test i ≡ true)
+pub held : (test : ℕ → Bool) (o : Option ℕ) → is_some_and test o ≡ true → (i : ℕ) × (o ≡ Some i) × (test i ≡ true)
 held test None h = absurd (cc)
 held test (Some i) h = (i, refl, h)
 
-named : (i : ℕ) (o : Option ℕ) → is_id i o ≡ true → o ≡ Some i
+pub named : (i : ℕ) (o : Option ℕ) → is_id i o ≡ true → o ≡ Some i
 named i None h = absurd (cc)
 named i (Some j) h = ap Some (sym (eqb-true i j h))
 

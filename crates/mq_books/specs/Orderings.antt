@@ -1,5 +1,6 @@
 -- A queue of what fell due on the latest connection, the earliest first.
 use Rattle.std.specs.Prelude.{ℕ, ◌≡◌, ◌<◌, ◌≤◌, ◌==◌, ◌⊎◌, Bool, ◌&&◌, not, cond, List, [], ◌∷◌, ◌++◌, filter, Option, Some, None, is_some}
+use Rattle.std.specs.List.{list_any}
 use Rattle.mq_log.specs.declared.place.Place3.{Place3}
 use Rattle.mq_rules.specs.declared.rule.Rule.{Rule}
 use Rattle.mq_rules.specs.declared.note.Note.{Note}
@@ -32,6 +33,10 @@ is_passed i queue = is_some_and (λ d. not (d.identifier == i)) (first_debt queu
 
 abbrev pub passes_over : (ℕ → Option Place3) → Option ℕ → List Debt → Bool
 passes_over due answer queue = is_some_and (λ i. is_some (due i) && is_passed i queue) answer
+
+-- an answer to what is due, while something is due under another identifier; these are the identifiers under which something is
+abbrev pub chooses : (ℕ → Option Place3) → List ℕ → Option ℕ → Bool
+chooses due identifiers answer = is_some_and (λ i. is_some (due i) && list_any (λ other. not (other == i)) identifiers) answer
 
 -- the debt of a cause under which nothing is due
 abbrev pub fallen : (ℕ → Option Place3) → ℕ → Option ℕ → List Debt

@@ -10,9 +10,10 @@ use Rattle.mq_rules.specs.declared.note.Seen.{Seen}
 use Rattle.mq_rules.specs.Words.{is_id, is_some_and}
 use Rattle.mq_rules.specs.Notes.{is_open, is_rest}
 use Rattle.mq_rules.specs.Moments.{Moment, some, earliest_since}
-use Rattle.mq_rules.specs.Connections.{connection, accepts, ends_binding, session}
+use Rattle.mq_rules.specs.Connections.{connection, accepts, accepted, ends_binding, session}
 use Rattle.mq_rules.specs.Exchanges.{Exchange, causes, answers}
 use Rattle.mq_rules.specs.Rules.{binds}
+use Rattle.mq_rules.specs.Occasions.{places, waiting}
 use Rattle.mq_rules.specs.FaultKeys.{FaultMap, fault_at, with_fault}
 use Rattle.mq_books.specs.declared.ordering.Debt.{Debt}
 use Rattle.mq_books.specs.Orderings.{IsQueue}
@@ -48,6 +49,12 @@ pub record IsOwing (x : Exchange) (settled : Rule) (ordered : Option Rule) (bind
   pub unordered : is_some ordered ≡ false → queue ≡ []
   pub due_caused : (i : ℕ) → is_some (due i) ≡ true → some (causes x i) (session tested.role taken past) ≡ true
   pub queue_within : length queue ≤ 2 * caused_ids x tested.role taken past
+
+-- These events lead to the counts: how often a REST put the statement to the test, and how many first causes on the connection wait for one. What waits is known
+-- where the statement is judged and the connection accepted.
+pub record IsSettling (x : Exchange) (settled : Rule) (pending number : ℕ) (tested : Tested) (taken : Option Fate) (past : List Seen) : Type 0 where
+  pub places_are : number ≡ places tested past settled
+  pub waiting_are : binds settled tested ≡ true → accepted taken ≡ true → pending ≡ waiting tested settled x past
 
 -- the faults of the moments of these places, decided there
 abbrev pub blamed : Rule → ℕ → List Place3 → FaultMap → FaultMap

@@ -47,7 +47,7 @@ pub use judging::{watch_all, watch_sessions};
 pub use known::judge_by;
 pub use messages::Messages;
 pub use mq_rules::Fate;
-pub use owed::Owed;
+pub use owed::{Owed, OwedPlaces};
 pub use pings::Pings;
 pub use quota::Quota;
 pub use releases::Releases;

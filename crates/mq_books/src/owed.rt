@@ -1,7 +1,13 @@
 //! Each cause is answered before a REST, and answers are sent in the order of their causes (MQTT
 //! 5.0, sections 3.8.4, 3.10.4, 4.3 and 4.6).
-ghost use Rattle.std.specs.Prelude.{◌≡◌, ◌*◌, ℕ, ◌||◌, ◌&&◌, true, false, OnOk, OnErr, nat_eq, [], Some, cond, refl};
-ghost use Rattle.indexmap.specs.IndexMap.{get, values, IsUnique};
+ghost use Rattle.std.specs.Prelude.{◌≡◌, ◌*◌, ◌+◌, ◌<◌, ◌==◌, ℕ, ◌||◌, ◌&&◌, not, is_some, true, false, OnOk, OnErr, nat_eq, [], Some, cond, refl};
+ghost use Rattle.std.specs.List.{list_any};
+ghost use Rattle.indexmap.specs.IndexMap.{get, keys, values, IsUnique};
+ghost use Rattle.mq_rules.specs.declared.rule.Rule.{Rule as TheRule};
+ghost use Rattle.mq_rules.specs.Exchanges.{applies_O, applies_R};
+ghost use Rattle.mq_rules.specs.Occasions.{places_under};
+ghost use Rattle.mq_books.specs.Placings.{on_any, on_either, on_rest, is_on_sessions};
+ghost use Rattle.mq_rules.specs.Occasions.{occasion};
 ghost use Rattle.mq_rules.specs.declared.fate.Fate.TheVariants.{Void};
 ghost use Rattle.mq_rules.specs.Words.{is_some_and};
 ghost use Rattle.mq_rules.specs.Connections.{accepts};
@@ -9,11 +15,12 @@ ghost use Rattle.mq_rules.specs.Rules.{same_rule, binds as is_bound};
 ghost use Rattle.mq_rules.specs.Under.{IsKnown, turns_known};
 ghost use Rattle.mq_books.specs.Burden.{caused_ids};
 ghost use Rattle.mq_books.specs.Weights.{owed_weighs};
-ghost use Rattle.mq_books.specs.Owings.{IsOwing, due_by, blamed, Keeps, binds_by};
+ghost use Rattle.mq_books.specs.Owings.{IsOwing, IsSettling, due_by, blamed, Keeps, binds_by};
 ghost use Rattle.mq_books.specs.Orderings as passing;
-ghost use Rattle.mq_books.specs.Orderings.{looked_at};
+ghost use Rattle.mq_books.specs.Orderings.{looked_at, chooses};
 ghost use Rattle.mq_books.specs.Concerns.{concerns_owed};
 
+use crate::counting::{Asks, pick, places_after};
 use crate::exchange::Exchange;
 use crate::fated::Fated;
 use crate::ordering::{Debt, judge_order, passes_over, take_queue, tidy};
@@ -266,4 +273,136 @@ impl<X: Exchange> Selective for Owed<X> {
     ghost concerns = { λ tested. concerns_owed X.exchange };
 
     fn passes(&self) {}
+}
+
+// Whether one of these is another identifier.
+fn any_other(identifiers: &[u16], identifier: u16) -> bool
+    ensures { result ≡ list_any (λ other. not (other == identifier)) identifiers.now }
+{
+    identifiers.iter().any(|other| *other != identifier)
+}
+
+// Whether something is due under another identifier.
+fn is_other_due(due: &IndexMap<u16, Place3>, identifier: u16) -> bool
+    ensures { result ≡ list_any (λ other. not (other == identifier)) (keys due.now) }
+{
+    any_other(due.keys().as_slice(), identifier)
+}
+
+// Whether an answer is to what is due, while something is due under another identifier.
+fn has_choice(due: &IndexMap<u16, Place3>, answer: Option<u16>) -> bool
+    ensures { result ≡ chooses (get nat_eq due.now) (keys due.now) answer }
+{
+    match answer {
+        Some(identifier) => { due.contains_key(&identifier) && is_other_due(due, identifier) }
+        None => false,
+    }
+}
+
+// Whether a statement is this one, if there is one.
+fn is_rule(one: Option<Rule>, rule: Rule) -> bool
+    ensures { result ≡ is_some_and (same_rule rule) one }
+{
+    match one {
+        Some(one) => rule == one,
+        None => false,
+    }
+}
+
+// The sum of two numbers, if it is one.
+fn sum(a: u32, b: u32) -> u32
+    ensures { a + b < 4294967296 → result ≡ a + b }
+{
+    a.saturating_add(b)
+}
+
+// How often a REST put the statement to the test, after an event.
+fn settled_after(rests: bool, settled: u32, pending: u32) -> u32
+    ensures { (rests ≡ true → settled + pending < 4294967296) → result ≡ cond rests (settled + pending) settled }
+{
+    if rests {
+        sum(settled, pending)
+    } else {
+        settled
+    }
+}
+
+// How many causes wait for a REST after an event.
+fn pending_after(begins: bool, opens: bool, rests: bool, pending: u32) -> u32
+    ensures { ((opens || rests) ≡ false → pending < 4294967295) → result ≡ cond begins 1 0 + cond (opens || rests) 0 pending }
+{
+    let pending = if opens || rests { 0 } else { pending };
+    if begins { sum(pending, 1) } else { pending }
+}
+
+impl<X: Exchange> Owed<X> {
+    // Whether the statement on RESTs is judged, and this is one that binds.
+    fn rests(&self, fate: Fate, is_decided: bool, note: &Note) -> bool
+        ensures { result ≡ (self.now.binds && binds_by fate is_decided self.now.ended note.now) }
+    {
+        rests_now(self.binds, fate, is_decided, self.ended, note)
+    }
+
+    // Whether the event is a cause, and nothing is due under its identifier.
+    fn begins(&self, note: &Note) -> bool
+        ensures { result ≡ is_some_and (λ i. not (is_some (get nat_eq self.now.due i))) (X.exchange.cause note.now) }
+    {
+        match X::cause(note) {
+            Some(i) => !self.due.contains_key(&i),
+            None => false,
+        }
+    }
+
+    // Whether the statement on the order is judged, and put to the test.
+    fn orders(&self, fate: Fate, note: &Note) -> bool
+        ensures { result ≡ (self.now.order_binds && (accepts fate && chooses (get nat_eq self.now.due) (keys self.now.due) (X.exchange.answer note.now))) }
+    {
+        self.order_binds && (fate.accepts() && has_choice(&self.due, X::answer(note)))
+    }
+}
+
+/// How often the statements of an exchange were put to the test, and how many causes wait for it.
+#[derive(Drop)]
+pub struct OwedPlaces {
+    // First causes on the connection that no REST has put to the test yet.
+    pending: u32,
+    settled: u32,
+    ordered: u32,
+}
+
+impl<X: Exchange> Asks for Owed<X> {
+    type Places = OwedPlaces;
+
+    ghost counts = { λ n tested taken past. IsSettling X.exchange X.settled n.pending n.settled tested taken past × ((rule : TheRule) → X.ordered ≡ Some rule → n.ordered ≡ places_under tested taken past rule) };
+
+    ghost on_sessions = { λ role rule judged. on_either (same_rule rule X.settled) (is_some_and (same_rule rule) X.ordered) (is_on_sessions (occasion role rule)) (on_rest role X.settled rule (applies_R X.exchange) (X.tries_settled role)) (on_any role X.ordered rule (λ f. applies_O X.exchange) (X.tries_ordered role)) judged };
+
+    fn tests(rule: Rule) -> bool {
+        rule == X::settled_rule() || is_rule(X::ordered_rule(), rule)
+    }
+
+    fn fate(&self) -> Fate {
+        self.fate
+    }
+
+    fn no_places() -> OwedPlaces {
+        OwedPlaces {
+            pending: 0,
+            settled: 0,
+            ordered: 0,
+        }
+    }
+
+    fn count(&self, places: &mut OwedPlaces, at: Place3, decided: u32, fate: Fate, note: &Note) {
+        let rests = self.rests(fate, decided == at.position, note);
+        let begins = self.begins(note);
+        let orders = self.orders(fate, note);
+        places.settled = settled_after(rests, places.settled, places.pending);
+        places.pending = pending_after(begins, note.is_open(), rests, places.pending);
+        places.ordered = places_after(orders, places.ordered, at.position);
+    }
+
+    fn places_of(places: &OwedPlaces, rule: Rule) -> u32 {
+        pick(rule == X::settled_rule(), places.settled, places.ordered)
+    }
 }
