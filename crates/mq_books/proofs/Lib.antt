@@ -56,4 +56,5 @@ pub mod CountingLaws
 pub mod AskedPlacesLaws
 pub mod ChoosingLaws
 pub mod SettlingLaws
+pub mod ReleasePlacesLaws
 pub mod EarlyPlacesLaws

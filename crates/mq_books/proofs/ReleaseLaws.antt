@@ -32,17 +32,17 @@ use Rattle.mq_books.proofs.JudgeLaws.{session-turns_with, release-turns_with, ga
 
 -- ---- the statements
 
-binds-L1 : (role : Role) (releases : Bool) → binds L1 (record { role = role; releases = releases }) ≡ releases
+pub binds-L1 : (role : Role) (releases : Bool) → binds L1 (record { role = role; releases = releases }) ≡ releases
 unfolding line_of found_line lines
 binds-L1 Client releases = refl
 binds-L1 Server releases = refl
 
-binds-L2 : (role : Role) (releases : Bool) → binds L2 (record { role = role; releases = releases }) ≡ releases
+pub binds-L2 : (role : Role) (releases : Bool) → binds L2 (record { role = role; releases = releases }) ≡ releases
 unfolding line_of found_line lines
 binds-L2 Client releases = refl
 binds-L2 Server releases = refl
 
-binds-L3 : (role : Role) (releases : Bool) → binds L3 (record { role = role; releases = releases }) ≡ releases
+pub binds-L3 : (role : Role) (releases : Bool) → binds L3 (record { role = role; releases = releases }) ≡ releases
 unfolding line_of found_line lines
 binds-L3 Client releases = refl
 binds-L3 Server releases = refl
@@ -59,7 +59,7 @@ no_offset-L3 tested m = refl
 -- ---- the events
 
 -- an OPEN is none of what is looked at
-open-unseen : (n : Note) → is_open n ≡ true → (received_exactly_once n ≡ None) × (released_id n ≡ None) × (sent_as success_pubcomp_in n ≡ None) × (is_release n ≡ false)
+pub open-unseen : (n : Note) → is_open n ≡ true → (received_exactly_once n ≡ None) × (released_id n ≡ None) × (sent_as success_pubcomp_in n ≡ None) × (is_release n ≡ false)
 open-unseen notes.Open h = (refl, refl, refl, refl)
 open-unseen (notes.Close cuts) h = absurd (cc)
 open-unseen notes.Rest h = absurd (cc)
@@ -305,7 +305,7 @@ releasing-next tested role releases fate f any brought released due inside over 
         go false is t = absurd (cc)
 
 -- what is found at an event is tested by what is kept: at an OPEN nothing is found
-same-found : (tested : Tested) (f : Fate) (e : Seen) (past : List Seen) (p : ℕ → Bool) (q : ℕ → List Moment → Bool) (o : Option ℕ) → (is_open e.note ≡ true → o ≡ None)
+pub same-found : (tested : Tested) (f : Fate) (e : Seen) (past : List Seen) (p : ℕ → Bool) (q : ℕ → List Moment → Bool) (o : Option ℕ) → (is_open e.note ≡ true → o ≡ None)
     → ((i : ℕ) → p i ≡ q i (session tested.role (fate_before tested f e past) past)) → is_some_and p o ≡ is_some_and (λ i. q i (session tested.role (Some f) past)) o
 same-found tested f e past p q o none are = go (is_open e.note) refl o none are
   where

@@ -50,7 +50,7 @@ pub use mq_rules::Fate;
 pub use owed::{Owed, OwedPlaces};
 pub use pings::Pings;
 pub use quota::Quota;
-pub use releases::Releases;
+pub use releases::{ReleasePlaces, Releases};
 pub use requests::Requests;
 pub use selective::{Selecting, Selective};
 pub use sessions::Sessions;

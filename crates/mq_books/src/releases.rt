@@ -16,6 +16,7 @@ ghost use Rattle.mq_books.specs.Concerns.{concerns_releases};
 ghost use Rattle.mq_rules.specs.Notes.{note_of_bare};
 ghost use Rattle.mq_books.specs.Selecting as selecting;
 
+mod asking;
 mod receiving;
 
 use crate::fated::Fated;
@@ -23,6 +24,7 @@ use crate::known::{is_placed, judge_by, place};
 use crate::messages::is_acknowledged;
 use crate::selective::Selective;
 use crate::sizes::set_size;
+pub use asking::ReleasePlaces;
 use indexmap::IndexSet;
 use mq_log::{Direction, Place3};
 use mq_rules::{
