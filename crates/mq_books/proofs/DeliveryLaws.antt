@@ -29,7 +29,7 @@ use Rattle.mq_books.specs.Standings.{Waits, IsStanding, any_kept, topic_kept, ju
 use Rattle.mq_books.proofs.JudgeLaws.{session-turns_with, gains_judged}
 use Rattle.mq_books.proofs.StandingLaws.{standing-kept, standing-named}
 
-binds-B02 : (role : Role) (releases : Bool) → binds B02 (record { role = role; releases = releases }) ≡ binds B01 (record { role = role; releases = releases })
+pub binds-B02 : (role : Role) (releases : Bool) → binds B02 (record { role = role; releases = releases }) ≡ binds B01 (record { role = role; releases = releases })
 unfolding line_of found_line lines
 binds-B02 Client releases = refl
 binds-B02 Server releases = refl
@@ -51,7 +51,7 @@ publish-needs (notes.Sent item) p h = refl
 publish-needs _ p h = absurd (cc)
 
 -- a delivery, judged by what is kept
-delivered : (tested : Tested) (fate f : Fate) (settled : List Standing) (waiting : List Waits) (sharing : Bool) (topics : ℕ → Option (List ℕ)) (e : Seen) (past : List Seen) (t u : PublishNote → List ℕ → Bool)
+pub delivered : (tested : Tested) (fate f : Fate) (settled : List Standing) (waiting : List Waits) (sharing : Bool) (topics : ℕ → Option (List ℕ)) (e : Seen) (past : List Seen) (t u : PublishNote → List ℕ → Bool)
     → IsOnConnection e past → IsStanding fate settled waiting sharing topics tested (fate_before tested f e past) past
     → (IsStanding fate settled waiting sharing topics tested (Some f) past → (p : PublishNote) (topic : List ℕ) → t p topic ≡ u p topic)
     → is_delivered_so tested.role f (newest e past) t ≡ delivers_so e.note sharing topics u

@@ -57,4 +57,5 @@ pub mod AskedPlacesLaws
 pub mod ChoosingLaws
 pub mod SettlingLaws
 pub mod ReleasePlacesLaws
+pub mod DeliveryPlacesLaws
 pub mod EarlyPlacesLaws

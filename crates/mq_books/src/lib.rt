@@ -54,6 +54,6 @@ pub use releases::{ReleasePlaces, Releases};
 pub use requests::Requests;
 pub use selective::{Selecting, Selective};
 pub use sessions::Sessions;
-pub use subs::Deliveries;
+pub use subs::{Deliveries, DeliveryPlaces};
 pub use subs_all::Subs;
 pub use watchers::Watchers;

@@ -23,12 +23,15 @@ ghost use Rattle.mq_books.specs.Weights.{deliveries_weigh};
 ghost use Rattle.mq_books.specs.Standings.{sharing_next, topic_next, IsStanding, topic_kept, delivers_so, judged_topic as topic_judged, named_topic as topic_named, IsDelivery, is_unasked as unasked, is_above as above, said_by};
 ghost use Rattle.mq_books.specs.Concerns.{concerns_deliveries};
 
+mod asking;
+
 use crate::ceilings::is_within;
 use crate::fated::Fated;
 use crate::filters::{Filters, goes_on};
 use crate::known::judge_by;
 use crate::selective::Selective;
 use crate::sizes::map_size;
+pub use asking::DeliveryPlaces;
 use indexmap::IndexMap;
 use mq_log::{Direction, Place3};
 use mq_packet::Qos;

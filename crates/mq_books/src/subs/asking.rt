@@ -1,0 +1,102 @@
+//! How often B01 and B02 are put to the test.
+ghost use Rattle.std.specs.Prelude.{◌≡◌, ◌&&◌, ◌||◌, nat_eq, true, refl, Some};
+ghost use Rattle.indexmap.specs.IndexMap.{get};
+ghost use Rattle.mq_rules.specs.declared.rule.Rule.TheVariants.{B01, B02};
+ghost use Rattle.mq_rules.specs.Notes.{is_acknowledged as waits};
+ghost use Rattle.mq_rules.specs.Connections.{accepts};
+ghost use Rattle.mq_rules.specs.Rules.{same_rule};
+ghost use Rattle.mq_rules.specs.Occasions.{occasion, places_under};
+ghost use Rattle.mq_books.specs.Standings.{delivers_so};
+ghost use Rattle.mq_books.specs.Placings.{is_on_sessions, on_either, on_one};
+
+use super::{Deliveries, judged_topic};
+use crate::counting::{Asks, pick, places_after};
+use crate::messages::is_acknowledged;
+use indexmap::IndexMap;
+use mq_log::Place3;
+use mq_rules::{Fate, Note, Rule, Text};
+
+/// How often the statements on deliveries were put to the test.
+#[derive(Drop)]
+pub struct DeliveryPlaces {
+    // B01.
+    delivered: u32,
+    // B02.
+    acknowledged: u32,
+}
+
+// Whether a PUBLISH is sent of which B01 looks at a topic.
+fn has_topic(sharing: bool, topics: &IndexMap<u16, Text>, note: &Note) -> bool
+    ensures { result ≡ delivers_so note.now sharing (get nat_eq topics.now) (λ p topic. true) }
+{
+    match note.sent_publish() {
+        Some(publish) => match judged_topic(publish, sharing, topics) {
+            Some(_) => true,
+            None => false,
+        },
+        None => false,
+    }
+}
+
+// Whether a PUBLISH of QoS above 0 is sent of which B02 looks at a topic.
+fn has_acknowledged_topic(sharing: bool, topics: &IndexMap<u16, Text>, note: &Note) -> bool
+    ensures { result ≡ delivers_so note.now sharing (get nat_eq topics.now) (λ p topic. waits p.qos) }
+{
+    match note.sent_publish() {
+        Some(publish) => match judged_topic(publish, sharing, topics) {
+            Some(_) => is_acknowledged(publish.qos),
+            None => false,
+        },
+        None => false,
+    }
+}
+
+impl Deliveries {
+    // Whether deliveries are judged, and the event puts B01 to the test.
+    fn is_delivered(&self, fate: Fate, note: &Note) -> bool
+        ensures { result ≡ (self.now.bound && (accepts fate && delivers_so note.now self.now.sharing (get nat_eq self.now.topics) (λ p topic. true))) }
+    {
+        self.bound && (fate.accepts() && has_topic(self.sharing, &self.topics, note))
+    }
+
+    // The same of B02.
+    fn is_granted(&self, fate: Fate, note: &Note) -> bool
+        ensures { result ≡ (self.now.bound && (accepts fate && delivers_so note.now self.now.sharing (get nat_eq self.now.topics) (λ p topic. waits p.qos))) }
+    {
+        self.bound && (fate.accepts() && has_acknowledged_topic(self.sharing, &self.topics, note))
+    }
+}
+
+impl Asks for Deliveries {
+    type Places = DeliveryPlaces;
+
+    ghost counts = { λ n tested taken past. (n.delivered ≡ places_under tested taken past B01) × (n.acknowledged ≡ places_under tested taken past B02) };
+
+    fn tests(rule: Rule) -> bool {
+        rule == Rule::B01 || rule == Rule::B02
+    }
+
+    fn fate(&self) -> Fate {
+        self.fate
+    }
+
+    fn no_places() -> DeliveryPlaces {
+        DeliveryPlaces {
+            delivered: 0,
+            acknowledged: 0,
+        }
+    }
+
+    fn count(&self, places: &mut DeliveryPlaces, at: Place3, _: u32, fate: Fate, note: &Note) {
+        let delivered = self.is_delivered(fate, note);
+        let granted = self.is_granted(fate, note);
+        places.delivered = places_after(delivered, places.delivered, at.position);
+        places.acknowledged = places_after(granted, places.acknowledged, at.position);
+    }
+
+    fn places_of(places: &DeliveryPlaces, rule: Rule) -> u32 {
+        pick(rule == Rule::B01, places.delivered, places.acknowledged)
+    }
+
+    ghost on_sessions = { λ role rule judged. on_either (same_rule rule B01) (same_rule rule B02) (is_on_sessions (occasion role rule)) (on_one role B01 rule refl) (on_one role B02 rule refl) judged };
+}
