@@ -4,10 +4,10 @@
 usage: bench/check_forms.py PROGRAM [LOG ..]
 
 The text report of each log is made into the other forms here, in Python: each of the worked logs of check_rows.py, a log of
-3,000 faults, one of long packets that break a rule, one of texts that do, refused logs, some of all these in version 2, one with moments of a century, and
-the logs that are named. JSON is also read back by Python's json module. What `show --faults` is to print is made from the text report,
-from what `show` prints, and from Python's dates. The bytes of packets that break a rule are those that reading.py finds in the log.
-Each line of `show` is that of showing.py, and each of `show --long` begins with it.
+3,000 faults, one of long packets that break a rule, one of texts that do, refused logs, some of all these in version 2, one with
+moments of a century, and the logs that are named. JSON is also read back by Python's json module. What `show --faults` is to print is
+made from the text report, from what `show` prints, and from Python's dates. The bytes of packets that break a rule are those that
+reading.py finds in the log. Each line of `show` is that of showing.py, and each of `show --long` begins with it.
 """
 import json
 import os

@@ -137,8 +137,8 @@ class Texts(Case):
             subscribe(b"a/b+/c"): "SUBSCRIBE at 10 bytes 82 0C 00 01 00 00 06 61 2F 62 [2B] 2F 63 00",
             subscribe(b"+/#/c"): "SUBSCRIBE at 9 bytes 82 0B 00 01 00 00 05 2B 2F [23] 2F 63 00",
             packet(0xA2, b"\0\1\0\0\1a\0\3#/b"): "UNSUBSCRIBE at 10 bytes A2 0B 00 01 00 00 01 61 00 03 [23] 2F 62",
-            packet(0x30, b"\0\1a\x08&\0\1n\0\2v\xff"):  # in the second text of a User Property
-                "PUBLISH at 13 bytes 30 0C 00 01 61 08 26 00 01 6E 00 02 76 [FF]",
+            packet(0x30, b"\0\1a\x09&\0\1n\0\3v\xe2\x82"):  # in the second text of a User Property
+                "PUBLISH at 13 bytes 30 0D 00 01 61 09 26 00 01 6E 00 03 76 [E2 82]",
             subscribe(b""): "SUBSCRIBE bytes 82 06 00 01 00 [00] 00 00",  # here the length is what is wrong
         }
         for one, words in wanted.items():
