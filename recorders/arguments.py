@@ -38,8 +38,13 @@ def seconds(text: str) -> float:
     return number
 
 
-def why(error: OSError, place: str = "") -> str:
-    """What failed in words, after the file that the error names or else a place: `a.xml: No space left on device`."""
+def why(error: Exception, place: str = "") -> str:
+    """What failed in words, after the file that the error names or else a place: `a.xml: No space left on device`.
+
+    An error that isn't the system's says all itself.
+    """
+    if not isinstance(error, OSError):
+        return str(error) or type(error).__name__
     name = place if error.filename is None else str(error.filename)
     reason = error.strerror or str(error)
     return f"{name}: {reason}" if name else reason

@@ -25,7 +25,7 @@ from collections.abc import Callable, Iterable, Iterator
 from dataclasses import dataclass, field
 from pathlib import Path
 
-from arguments import Parser, counted, seconds
+from arguments import Parser, counted, seconds, why
 from log_format import NEWEST
 from recording import CONNECT, End, Framer, Recorder, read_connect, write_to_standard_error
 
@@ -92,7 +92,7 @@ def parse_server(text: str) -> Server:
     try:
         found = socket.getaddrinfo(host, None, type=socket.SOCK_STREAM)
     except (OSError, UnicodeError) as error:
-        raise argparse.ArgumentTypeError(f"{host!r} has no address: {error}") from None
+        raise argparse.ArgumentTypeError(f"{host!r} has no address: {why(error)}") from None
     return Server(frozenset(str(address[0]) for *_, address in found), int(port_text))
 
 

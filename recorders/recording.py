@@ -23,6 +23,7 @@ from enum import Enum, IntEnum
 from pathlib import Path
 from typing import Concatenate, NamedTuple, ParamSpec
 
+from arguments import why
 from log_format import NEWEST, VERSIONS, Version
 
 KEPT_MOST = 1_048_576  # bytes of a connection that are kept until it is known whose they are
@@ -397,7 +398,7 @@ def guarded(
         try:
             method(self, *args, **kwargs)
         except Exception as error:  # whatever it is: what is recorded has to go on
-            self.stop(f"recording stopped: {error}")
+            self.stop(f"recording stopped: {why(error)}")
 
     return call
 
@@ -576,7 +577,7 @@ class Recorder:
             try:
                 log.pause()
             except OSError as error:
-                line = line or f"a log can't be closed: {error}"
+                line = line or f"a log can't be closed: {why(error)}"
         if line:
             self._warn(line)
 

@@ -313,6 +313,12 @@ class Listing(Called):
         self.assertEqual((status, printed.splitlines()[-1]), (0, f"{len(client_table())} scenarios"))
 
 
+    def test_output_that_cannot_be_written(self) -> None:
+        with open("/dev/full", "w") as full:
+            answer = subprocess.run([sys.executable, COMMAND, "list"], stdout=full, stderr=subprocess.PIPE, text=True,
+                                    timeout=PATIENCE)
+        self.assertEqual((answer.returncode, answer.stderr), (4, "exercise: standard output: No space left on device\n"))
+
     def test_situations_each_with_a_scenario(self) -> None:
         for words, is_server in ((["--for", "s06"], True), (["--client"], False)):
             status, printed, _ = self.called("list", "--situations", *words)

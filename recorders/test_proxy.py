@@ -189,9 +189,17 @@ class Failures(Case):
         self.assertEqual(len(receive(client, 3 * len(LARGE))), 3 * len(LARGE))
         sender.join(PATIENCE)
         self.pair(b"later")
-        self.assertEqual(self.errors.read_text().count("recording stopped"), 1)
+        stopped = f"client logs: recording stopped: {self.folder / 'full.1.client.log'}: File too large\n"
+        self.assertEqual(self.errors.read_text().partition("\n")[2], stopped)
         self.assertEqual(self.log("full.1.client.log")[0], "OPEN")
         self.assertEqual(self.stop(), 0)
+
+    def test_a_port_that_is_taken(self) -> None:
+        taken = f"127.0.0.1:{self.broker.getsockname()[1]}"
+        words = [sys.executable, PROXY, "--listen", taken, "--broker", taken, "--out", self.folder]
+        answer = subprocess.run(words, capture_output=True, text=True, timeout=PATIENCE)
+        self.assertEqual(answer.returncode, 1)
+        self.assertRegex(answer.stderr, r"\Aproxy: [^[\]]*address already in use\n\Z")
 
     def test_a_killed_proxy_leaves_whole_records(self) -> None:
         self.start()
