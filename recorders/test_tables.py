@@ -14,6 +14,7 @@ import shlex
 import subprocess
 import sys
 import unittest
+from collections.abc import Collection
 from pathlib import Path
 
 sys.dont_write_bytecode = True  # the repository stays as it is
@@ -23,6 +24,7 @@ from exercising.client_verbs import HOSTS, NEEDS
 from exercising.evidence import BINDING, FOREIGN
 from exercising.table import read_scenarios
 from test_exercise import own_faults
+from test_situations import second_opinion
 from testing import HOST, PAHO, InFolder, find, free_port, judge_program, missing, python_with
 
 COMMAND = HERE / "exercise"
@@ -34,11 +36,20 @@ BROKER, CLIENT = BINDING[True] - FOREIGN[True], BINDING[False] - FOREIGN[False]
 # What each can't be made to do, so that the statement isn't tested.
 MOSQUITTO_LACKS = frozenset("C15 C16 C22 W21".split())
 DRIVER_LACKS = frozenset("C15 C16 C20 W21".split())
+PAHO_PYTHON_LACKS = LIBMOSQUITTO_LACKS = DRIVER_LACKS | {"W13"}
+PAHO_C_LACKS = DRIVER_LACKS | {"W12"}
 MQTT_JS_LACKS = DRIVER_LACKS | frozenset("S02 S03 S05".split())  # what it sends again has DUP 0
 PUB_LACKS = frozenset("C15 C16 C20 E1A E1O E1R E2A E2O E2R E3O E4A E4R S01 S02 S03 S04 S05 S06 W13 W15 W16 W17 W21"
                       .split())
 SUB_LACKS = frozenset("C15 C16 C17 C18 C20 E3A E3O E3R S01 S02 S03 S04 S05 S06 S07 W07 W08 W14 W21".split())
-MOSQUITTO_BREAKS = {"C14", "S01", "S06", "S07", "W13", "W14"}
+# What each is known to break.
+MOSQUITTO_BREAKS = frozenset("C14 S01 S06 S07 W13 W14".split())
+PAHO_PYTHON_BREAKS = frozenset("C01 C14 C17 E3A S02 S07 W09".split())
+PAHO_C_BREAKS = frozenset("C14 C17 W09".split())
+LIBMOSQUITTO_BREAKS = frozenset("C01 E3A S02".split())
+MQTT_JS_BREAKS = frozenset("C14 C17 S01 S07".split())
+PUB_BREAKS = frozenset(("C13",))
+SUB_BREAKS = frozenset(("C01", "C13"))
 LEAST_SITUATIONS = 220  # of a broker
 SETTINGS = """listener {port} 127.0.0.1
 allow_anonymous true
@@ -91,6 +102,18 @@ class Tables(InFolder):
         return driver
 
 
+class Page(unittest.TestCase):
+    def test_what_is_reached(self) -> None:
+        """EXERCISE.md has what is asked for here."""
+        wanted = [(len(BROKER - MOSQUITTO_LACKS), len(BROKER), MOSQUITTO_BREAKS)]
+        wanted += [(len(CLIENT - lacks), len(CLIENT), breaks) for lacks, breaks in (
+            (PAHO_PYTHON_LACKS, PAHO_PYTHON_BREAKS), (PAHO_C_LACKS, PAHO_C_BREAKS),
+            (LIBMOSQUITTO_LACKS, LIBMOSQUITTO_BREAKS), (MQTT_JS_LACKS, MQTT_JS_BREAKS), (SUB_LACKS, SUB_BREAKS),
+            (PUB_LACKS, PUB_BREAKS))]
+        rows = re.findall(r"^\| .* \| (\d+) of (\d+) \| (.*) \|$", (HERE / "EXERCISE.md").read_text(), re.MULTILINE)
+        self.assertEqual([(int(tested), int(every), frozenset(codes.split())) for tested, every, codes in rows], wanted)
+
+
 class Brokers(Tables):
     @unittest.skipIf(missing("mosquitto"), missing("mosquitto"))
     def test_mosquitto(self) -> None:
@@ -112,8 +135,8 @@ class Brokers(Tables):
 class Clients(Tables):
     @unittest.skipIf(python_with(PAHO) is None, missing(PAHO))
     def test_paho_for_python(self) -> None:
-        broken = self.client(DRIVER_LACKS | {"W13"}, python_with(PAHO), DRIVERS / "paho_python.py", "{port}", "{id}")
-        self.assertEqual({"C14", "C17", "S02", "S07", "E3A"} - broken, set())
+        broken = self.client(PAHO_PYTHON_LACKS, python_with(PAHO), DRIVERS / "paho_python.py", "{port}", "{id}")
+        self.assertEqual(PAHO_PYTHON_BREAKS - broken, set())
         table = read_scenarios(HERE / "exercising/client.scenarios", HOSTS.shapes, NEEDS)
         right = {scenario.name for scenario in table if not scenario.breaks_rules}
         own = {path.parent.name: own_faults(path) for path in self.logs.rglob("*.log") if path.parent.name in right}
@@ -121,11 +144,11 @@ class Clients(Tables):
 
     def test_libmosquitto(self) -> None:
         driver = self.driver_in_c("mosquitto", "mosquitto.h", "mosquitto")
-        self.assertEqual({"S02", "E3A"} - self.client(DRIVER_LACKS | {"W13"}, driver, "{port}", "{id}"), set())
+        self.assertEqual(LIBMOSQUITTO_BREAKS - self.client(LIBMOSQUITTO_LACKS, driver, "{port}", "{id}"), set())
 
     def test_paho_for_c(self) -> None:
         driver = self.driver_in_c("paho_c", "MQTTAsync.h", "paho-mqtt3a")
-        self.assertEqual({"C14", "C17"} - self.client(DRIVER_LACKS | {"W12"}, driver, "{port}", "{id}"), set())
+        self.assertEqual(PAHO_C_BREAKS - self.client(PAHO_C_LACKS, driver, "{port}", "{id}"), set())
 
     @unittest.skipIf(missing("node"), missing("node"))
     def test_mqtt_js(self) -> None:
@@ -134,17 +157,31 @@ class Clients(Tables):
         if looking.returncode:
             self.skipTest("MQTT.js isn't installed")
         broken = self.client(MQTT_JS_LACKS, "node", DRIVERS / "mqtt_js.js", "{port}", "{id}", variables=variables)
-        self.assertEqual({"C14", "C17", "S01", "S07"} - broken, set())
+        self.assertEqual(MQTT_JS_BREAKS - broken, set())
 
     @unittest.skipIf(missing("mosquitto_pub"), missing("mosquitto_pub"))
     def test_mosquitto_pub(self) -> None:
-        self.client(PUB_LACKS, "mosquitto_pub", "-V", "5", "-p", "{port}", "-i", "{id}", "-c", "-x", "300",
-                    "-q", "{qos}", "-t", "echo/t", "-m", "hello", "--repeat", "{n}", does="publish")
+        broken = self.client(PUB_LACKS, "mosquitto_pub", "-V", "5", "-p", "{port}", "-i", "{id}", "-c", "-x", "300",
+                             "-q", "{qos}", "-t", "echo/t", "-m", "hello", "--repeat", "{n}", does="publish")
+        self.assertEqual(PUB_BREAKS - broken, set())
 
     @unittest.skipIf(missing("mosquitto_sub"), missing("mosquitto_sub"))
     def test_mosquitto_sub(self) -> None:
-        self.client(SUB_LACKS, "mosquitto_sub", "-V", "5", "-p", "{port}", "-i", "{id}", "-c", "-x", "300", "-q", "2",
-                    "-k", "5", "-t", "do/#", does="subscribe")
+        broken = self.client(SUB_LACKS, "mosquitto_sub", "-V", "5", "-p", "{port}", "-i", "{id}", "-c", "-x", "300",
+                             "-q", "2", "-k", "5", "-t", "do/#", does="subscribe")
+        self.assertEqual(SUB_BREAKS - broken, set())
+        self.assert_no_right_broker_tests(("E3A", "E3R"))
+
+    def assert_no_right_broker_tests(self, codes: Collection[str]) -> None:
+        """A client that publishes nothing comes to these only by a PUBREC that answers nothing, which breaks E2A."""
+        places, reading = second_opinion()
+        found = set()
+        for path in self.logs.rglob("*.log"):
+            log = path.read_bytes()
+            if not reading.Recording(log).refusal:
+                tested = places.all_places(places.log_of(reading.Recording(log)))
+                found |= {(path.parent.name, code, *own_faults(path)) for code in codes if tested.get(code)}
+        self.assertEqual(found, {("bad-pubrec-unknown", code, "E2A") for code in codes})
 
 
 if __name__ == "__main__":
