@@ -96,7 +96,7 @@ class Opened(InBrowser):
                 self.assertIn("and what to change:", said)  # without a word of the standard
                 self.assertIn("Fields", said)
         self.assertEqual(self.browser.value("document.querySelectorAll('.logs tbody tr').length"), 16)
-        self.assertNotIn("rule", self.browser.value("document.body.innerText").replace("rules of", ""))
+        self.assertNotIn("rule", self.browser.value("document.body.innerText").lower().replace("rules of", ""))
 
     def test_a_hostile_log(self) -> None:
         (self.logs / "hostile <script>window.hit = 4<script>.log").write_bytes(hostile_log())

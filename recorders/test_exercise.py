@@ -12,6 +12,7 @@ import asyncio
 import contextlib
 import io
 import os
+import re
 import shutil
 import signal
 import socket
@@ -37,7 +38,7 @@ from exercising.client_verbs import NEEDS as CLIENT_NEEDS
 from exercising.evidence import BINDING, FOREIGN
 from exercising.notation import NotationError, bytes_of
 from exercising.packets import Cutter, Packet, Prop, Type, connack, connect, packet, publish, reply, subscribe
-from exercising.running import Fate, Result, Runner, in_turn
+from exercising.running import CONNECTIONS_MOST, Fate, Result, Runner, death_of, in_turn
 from exercising.situations import situations
 from exercising.stage import Silence, Target
 from exercising.table import Scenario, TableError, parse, read_scenarios
@@ -275,6 +276,12 @@ class Called(InFolder):
     def exercised(self, port: int, *words: object) -> tuple[int, str, str]:
         return self.called("broker", f"{HOST}:{port}", "--out", self.logs, "--program", judge_program(), *words)
 
+    def runner(self, port: int, jobs: int = 1) -> Runner:
+        """Plays scenarios without a command line."""
+        fairness = Fairness()
+        fairness.judge = judge = Judge(judge_program(), 20, fairness.weigh, keeps=True)
+        return Runner(Target(HOST, port), "ab12", self.logs, Silence(0.1), jobs, judge, fairness)
+
     @contextlib.contextmanager
     def plain(self) -> Iterator[int]:
         """The plain broker: its port."""
@@ -312,12 +319,12 @@ class Listing(Called):
         status, printed, _ = self.called("list", "--client")
         self.assertEqual((status, printed.splitlines()[-1]), (0, f"{len(client_table())} scenarios"))
 
-
     def test_output_that_cannot_be_written(self) -> None:
         with open("/dev/full", "w") as full:
             answer = subprocess.run([sys.executable, COMMAND, "list"], stdout=full, stderr=subprocess.PIPE, text=True,
                                     timeout=PATIENCE)
-        self.assertEqual((answer.returncode, answer.stderr), (4, "exercise: standard output: No space left on device\n"))
+        line = "exercise: standard output: No space left on device\n"
+        self.assertEqual((answer.returncode, answer.stderr), (4, line))
 
     def test_situations_each_with_a_scenario(self) -> None:
         for words, is_server in ((["--for", "s06"], True), (["--client"], False)):
@@ -485,10 +492,54 @@ class Interrupted(Called):
         self.assertEqual({status for status in statuses.values() if status not in (0, 1)}, set(), statuses)
 
 
-class DryRun(Called):
-    maxDiff = None
+class Counted(socket.socket):
+    """A connection that counts how many of its kind are open, and how many were at most."""
 
+    now = most = 0
+    lock = threading.Lock()
+
+    @classmethod
+    def create(cls, address: tuple[str, int], seconds: float) -> Counted:
+        connection = cls(socket.AF_INET)
+        connection.settimeout(seconds)
+        connection.connect(address)
+        with cls.lock:
+            cls.now += 1
+            cls.most = max(cls.most, cls.now)
+        return connection
+
+    def close(self) -> None:
+        with self.lock:
+            Counted.now -= self.fileno() >= 0
+        super().close()
+
+
+class Bounds(Called):
+    MOST = 8
+
+    def test_connections(self) -> None:
+        chosen = [one for one in table() if one.name.startswith(("takeover", "outbound-takeover-q1", "inbound-q"))]
+        self.assertGreater(sum(one.connections for one in chosen), 3 * self.MOST)
+        with (self.plain() as port, mock.patch("exercising.running.CONNECTIONS_MOST", self.MOST),
+              mock.patch("exercising.stage.socket.create_connection", Counted.create)):
+            self.runner(port, jobs=100).play_all(chosen, None)
+        self.assertTrue(self.MOST / 2 < Counted.most <= self.MOST, Counted.most)
+        page = " ".join((HERE / "EXERCISE.md").read_text().split())
+        self.assertIn(f"No more than {CONNECTIONS_MOST} connections are open at a time", page)
+
+    def test_who_is_there_when_the_broker_dies(self) -> None:
+        """They are all there at once, so there may be no more of them."""
+        deaths: Counter[tuple[str, ...]] = Counter()
+        for scenario in table():
+            if scenario.has_verb("kill"):
+                deaths[death_of(scenario)] += scenario.connections
+        self.assertLessEqual(max(deaths.values()), CONNECTIONS_MOST)
+
+
+class DryRun(Called):
     """The whole table against the plain broker."""
+
+    maxDiff = None
 
     def test_nothing_is_found_and_the_exerciser_keeps_the_rules(self) -> None:
         port = free_port()
@@ -506,6 +557,7 @@ class DryRun(Called):
         self.assertIn("not tested           0", printed)
         self.assertEqual(ElementTree.parse(junit).getroot().attrib["failures"], "0")
         self.assert_own_rules_kept(slow)
+        self.assert_names_of_its_own()
         self.assertFalse(accepts(port))
 
     def assert_own_rules_kept(self, slow: list[str]) -> None:
@@ -517,6 +569,19 @@ class DryRun(Called):
             faults = {path: codes for path, codes in zip(paths, pool.map(own_faults, paths)) if codes}
         self.assertEqual({f"{path.parent.name}/{path.name}": codes for path, codes in faults.items()}, {})
 
+    def assert_names_of_its_own(self) -> None:
+        """Each topic and filter has the run's name for a level, except where only a broker of its own hears of it."""
+        started = {scenario.name for scenario in table() if "start" in scenario.needs}
+        paths = sorted(path for path in self.logs.rglob("*.log") if path.parent.name not in started)
+        words = ([judge_program(), "show", "--long", path] for path in paths)
+        with ThreadPoolExecutor() as pool:
+            shown = pool.map(lambda one: subprocess.run(one, capture_output=True, text=True).stdout, words)
+        lines = [line for text in shown for line in text.splitlines() if " RECV " in line]
+        (run,) = {name for line in lines for name in re.findall(r' client "(x[0-9a-f]+)-', line)}
+        names = {name for line in lines for name in re.findall(r' (?:will-)?(?:filter|topic) "([^"]*)"', line)}
+        self.assertGreater(len(names), 300)
+        self.assertEqual({name for name in names if run not in name.split("/")}, {"", "denied/x", "$share/g"})
+
     def test_what_is_required_and_not_tested(self) -> None:
         with self.plain() as port:
             status, printed, _ = self.exercised(port, "--only", "connect-plain", "--require", "E7R,S07")
@@ -525,15 +590,36 @@ class DryRun(Called):
 
     def test_sessions_and_retained_messages_are_gone_afterwards(self) -> None:
         with self.plain() as port:
-            self.exercised(port, "--only", "subscribe-options-00,outbound-drop-q1-none-1,wills-retained")
-            with socket.create_connection((HOST, port), PATIENCE) as connection:
-                connection.settimeout(1)
-                connection.sendall(connect("look", True) + subscribe(1, [("#", 0)]))
-                came = b""
-                with contextlib.suppress(TimeoutError):
-                    while data := connection.recv(4096):
-                        came += data
+            status, _, _ = self.exercised(port, "--only", "subscribe-options-00,outbound-drop-q1-none-1,wills-retained")
+            self.assertEqual(status, 0)
+            self.assert_nothing_is_left(port)
+
+    def test_so_is_what_a_scenario_leaves(self) -> None:
+        text = "one | aims B01\n  a connect clean expiry=300 ; a publish T qos=1 retain ; a rest\n"
+        with self.plain() as port:
+            self.runner(port).play_all(parse(text, "x.scenarios", CLIENTS.shapes, NEEDS), None)
+            self.assert_nothing_is_left(port)
+
+    def assert_nothing_is_left(self, port: int) -> None:
+        """No message is retained, and none of the logs' clients has a session."""
+        with socket.create_connection((HOST, port), PATIENCE) as connection:
+            connection.settimeout(1)
+            connection.sendall(connect("look", True) + subscribe(1, [("#", 0)]))
+            came = b""
+            with contextlib.suppress(TimeoutError):
+                while data := connection.recv(4096):
+                    came += data
         self.assertEqual([got.name for got in Cutter().feed(came)], ["CONNACK", "SUBACK"])
+        logs = [*self.logs.rglob("*.log")]
+        self.assertTrue(logs)
+        for path in logs:
+            words = [judge_program(), "show", "--long", path]
+            shown = subprocess.run(words, capture_output=True, text=True, timeout=PATIENCE).stdout
+            for name in set(re.findall(r' RECV CONNECT .* client "([^"]+)"', shown)):
+                with socket.create_connection((HOST, port), PATIENCE) as connection:
+                    connection.sendall(connect(name, False))
+                    (greeting,) = Cutter().feed(connection.recv(4096))
+                self.assertEqual((greeting.code, greeting.session_present), (0, False), name)
 
     def test_a_time_after_which_nothing_begins(self) -> None:
         with self.plain() as port:
@@ -562,12 +648,17 @@ class Once(Called):
         self.assertIn("not seen again       1  E7R 1", printed)
         self.assertIn("ignored: 1 fault by once", printed)
 
+    def test_the_silence_is_ten_times_as_long(self) -> None:
+        runner = self.runner(free_port())
+        with mock.patch.object(runner, "play_one") as played:
+            for scenario, rest in zip(table(), (0.0, 0.2)):
+                runner.play_again(Result(scenario, Fate.COMPLETED, rest=rest))
+        self.assertEqual([call.args[0].silence.now for call in played.call_args_list], [1.0, 2.0])
+
     def test_a_scenario_that_fails_by_a_mistake(self) -> None:
         text = "one | aims E7R\n  a connect ; a publish T qos=x\ntwo | aims E7R\n  a connect ; a rest ; a bye\n"
-        fairness = Fairness()
-        fairness.judge = judge = Judge(judge_program(), 20, fairness.weigh, keeps=True)
         with self.plain() as port:
-            runner = Runner(Target(HOST, port), "ab12", self.logs, Silence(0.1), 2, judge, fairness)
+            runner = self.runner(port, jobs=2)
             runner.play_all(parse(text, "x.scenarios", CLIENTS.shapes, NEEDS), None)
         fates = {result.scenario.name: (result.fate, result.why) for result in runner.results}
         self.assertEqual(fates["two"], (Fate.COMPLETED, ""))
@@ -612,6 +703,19 @@ class Mosquitto(Called):
             self.assertEqual(status, 0, printed)
             self.assertIn("receive-maximum-2-q1", page.read_text())
             self.assertIn('"S07"', sarif.read_text())
+
+    def test_a_user_and_a_password(self) -> None:
+        asked = self.folder / "passwd"
+        asked.touch()
+        subprocess.run([find("mosquitto_passwd") or "mosquitto_passwd", "-b", asked, "me", "right"], check=True)
+        asked.chmod(0o644)  # mosquitto goes on as another user
+        self.folder.chmod(0o755)
+        with mosquitto_broker(self.folder, f"allow_anonymous false\npassword_file {asked}\n") as (port, _):
+            words = ["--only", "connect-plain,refused-password", "--wrong-password", "wrong", "--require", "C09"]
+            status, _, errors = self.exercised(port, *words)
+            self.assertEqual((status, "name a user with --user and --password" in errors), (4, True))
+            status, printed, errors = self.exercised(port, *words, "--user", "me", "--password", "right")
+            self.assertEqual(status, 0, f"{printed}\n{errors}")
 
     @unittest.skipIf(missing("cc"), missing("cc"))
     def test_what_is_seen_outside_is_seen_inside_too(self) -> None:

@@ -79,7 +79,7 @@ class Stopped(Gone):
 
 
 class Places:
-    """The connections that may be open at a time. A scenario takes as many as it has players, or waits."""
+    """The connections that may be open at a time. A scenario takes as many as it may have open, or waits."""
 
     def __init__(self, most: int) -> None:
         self._left = self._most = most
@@ -216,7 +216,7 @@ class Runner:
                 stage = self._stage(scenario, folder, self.silence, self.run)
                 stage.meet = stage.kill = bed.meet
                 return self.play_one(stage)
-            with self._places.taken(len(scenario.actors)):
+            with self._places.taken(scenario.connections):
                 return self.play_one(self._stage(scenario, folder, self.silence, self.run))
         finally:
             if bed is not None:

@@ -88,6 +88,11 @@ class Scenario:
         """Who acts in it, in the order of appearance."""
         return tuple(dict.fromkeys(step.actor for line in self.lines for step in line.steps))
 
+    @property
+    def connections(self) -> int:
+        """How many it has open at most: one for each who acts, and the old one during a takeover."""
+        return len(self.actors) + self.has_verb("takeover")
+
     def has_verb(self, verb: str) -> bool:
         return any(step.verb == verb for line in self.lines for step in line.steps)
 
