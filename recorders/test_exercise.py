@@ -555,6 +555,7 @@ class DryRun(Called):
         self.assertIn(f" ({played} completed), ", printed)
         self.assertIn("broken               0", printed)
         self.assertIn("not tested           0", printed)
+        self.assertRegex(errors, rf"\n\d+ of {played} scenarios, \d+ s\n")
         self.assertEqual(ElementTree.parse(junit).getroot().attrib["failures"], "0")
         self.assert_own_rules_kept(slow)
         self.assert_names_of_its_own()
@@ -667,6 +668,12 @@ class Once(Called):
 
 
 class Clients(Called):
+    def test_how_long_drivers_are(self) -> None:
+        sizes = sorted(len(path.read_text().splitlines()) for path in (HERE / "exercising/drivers").iterdir())
+        self.assertTrue(30 <= sizes[0] and sizes[-1] <= 65, sizes)
+        for page in (HERE / "EXERCISE.md", HERE.parent / "README.md"):
+            self.assertRegex(" ".join(page.read_text().split()), r"driver\*?:? (?:of )?30 to 65 lines in")
+
     def test_one_that_never_connects(self) -> None:
         words = ("client", "--out", self.logs, "--program", judge_program(), "--only", "plain-q0", "--")
         status, printed, _ = self.called(*words, "sh", "-c", "sleep 60 # {port}")

@@ -103,6 +103,12 @@ class Pages(unittest.TestCase):
         self.assertEqual([*blocks()], ["A proxy", "A preloaded library", "A capture", "In a client"])
         self.assertLessEqual({text.count("\n") for text in blocks().values()}, {3, 4})
 
+    def test_the_exerciser_is_the_first_way(self) -> None:
+        titles = re.findall("^## (.*)$", README.read_text(), re.MULTILINE)
+        first = titles.index("Test your broker in two minutes")
+        self.assertEqual(titles[first + 1], "Record your own session")
+        self.assertTrue(exercising())
+
     def test_each_way_has_a_folder_of_its_own_and_says_how_many_logs_it_makes(self) -> None:
         self.assertEqual([count for _, count in judged()], ["2", "1", "2", "1"])
         folders = [folder for folder, _ in judged()]
