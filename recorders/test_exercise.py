@@ -66,6 +66,7 @@ PLAIN = HERE / "plain_broker.py"
 TABLE = HERE / "exercising/broker.scenarios"
 CLIENT_TABLE = HERE / "exercising/client.scenarios"
 RUN_SECONDS = 400
+MOST_EVENTS = 3_000  # of a log, without --slow
 OPEN, SENT, RECV, CLOSE, REST = 1, 2, 3, 4, 5
 ACCEPTED = connack()
 
@@ -527,6 +528,14 @@ class Bounds(Called):
         page = " ".join((HERE / "EXERCISE.md").read_text().split())
         self.assertIn(f"No more than {CONNECTIONS_MOST} connections are open at a time", page)
 
+    def test_time(self) -> None:
+        text = "one | aims E7R\n  a connect\n  x1000 a quiet 0.05\n"
+        with self.plain() as port, mock.patch("exercising.running.SCENARIO_SECONDS", 1.0):
+            runner = self.runner(port)
+            runner.play_all(parse(text, "x.scenarios", CLIENTS.shapes, NEEDS), None)
+        (result,) = runner.results
+        self.assertEqual((result.fate, result.why), (Fate.ENDED, "it took more than 1 s"))
+
     def test_who_is_there_when_the_broker_dies(self) -> None:
         """They are all there at once, so there may be no more of them."""
         deaths: Counter[tuple[str, ...]] = Counter()
@@ -576,7 +585,8 @@ class DryRun(Called):
         paths = sorted(path for path in self.logs.rglob("*.log") if path.parent.name not in started)
         words = ([judge_program(), "show", "--long", path] for path in paths)
         with ThreadPoolExecutor() as pool:
-            shown = pool.map(lambda one: subprocess.run(one, capture_output=True, text=True).stdout, words)
+            shown = [*pool.map(lambda one: subprocess.run(one, capture_output=True, text=True).stdout, words)]
+        self.assertLess(max(text.count("\n") for text in shown), MOST_EVENTS)
         lines = [line for text in shown for line in text.splitlines() if " RECV " in line]
         (run,) = {name for line in lines for name in re.findall(r' client "(x[0-9a-f]+)-', line)}
         names = {name for line in lines for name in re.findall(r' (?:will-)?(?:filter|topic) "([^"]*)"', line)}
