@@ -1,10 +1,11 @@
 #!/usr/bin/env python3
-"""Checks that what PROVED.md, ARCHITECTURE.md, WRONG_BODIES.md, DECISIONS.md and GLOSSARY.md in docs/ name is there.
+"""Checks that what PROVED.md, ARCHITECTURE.md, WRONG_BODIES.md, DECISIONS.md and GLOSSARY.md in docs/ name is there, and all links.
 
 Each word in backticks has to be a word of the sources, or the name of a file. In the tables of PROVED.md each function in the column
 Call has to be one, and each clause one in the contract of a function of its row; if none of these has a name, a field of a definition. In
 those tables of ARCHITECTURE.md that are about the inside of a crate, each module, each name of definitions and each name of laws has to
-be that of a file. Only names are compared: that a row says what its clauses say is for its reader.
+be that of a file. Only names are compared: that a row says what its clauses say is for its reader. In all pages each link to a file
+of the repository, or to a heading, has to lead there, and the list at the beginning of DECISIONS.md has to have all its sections.
 
 usage: bench/check_docs.py
 """
@@ -15,7 +16,7 @@ from pathlib import Path
 
 TOP = Path(__file__).resolve().parent.parent
 DOCS = [TOP / "docs" / name for name in ("PROVED.md", "ARCHITECTURE.md", "WRONG_BODIES.md", "DECISIONS.md", "GLOSSARY.md")]
-PROVED, MAP, *_ = DOCS
+PROVED, MAP, _, DECISIONS, _ = DOCS
 CRATES = TOP / "crates"
 PARTS = ("src", "specs", "proofs", "must-fail")
 FOLDERS = [crate / part for crate in CRATES.iterdir() for part in PARTS]
@@ -29,6 +30,9 @@ CLAUSE = re.compile(r"\bensures (\w*) ?\{")
 FIELD = re.compile(r"^ +pub (\w+) :", re.MULTILINE)
 NO_NAME = re.compile(r"(^| )--?(?=\w)|[\w.]*\*[\w.]*")  # an option's first bytes; a pattern of names
 CELL = re.compile(r" *(?<!\\)\| *")
+LINK = re.compile(r"\]\(([^)\s]+)\)")
+HEADING = re.compile(r"^(#+) (.*)$", re.MULTILINE)
+NOT_IN_ANCHOR = re.compile(r"[^\w -]")
 UNNAMED = ""  # the only clause of a contract has no name
 
 Contracts = dict[str, set[str]]  # the clauses of each function
@@ -139,8 +143,33 @@ def wrong_files() -> Iterator[str]:
                 yield from (f"ARCHITECTURE.md: {crate}/{part} has no {name}" for name in names_in(cell) if name not in stems)
 
 
+def pages() -> Iterator[Path]:
+    yield from TOP.glob("*.md")
+    for name in ("docs", "recorders", "examples"):
+        yield from (TOP / name).rglob("*.md")
+
+
+def anchors(page: Path, least: str = "#") -> set[str]:
+    """What links to the headings of a page are called: those of this level, or of any level below it."""
+    heads = (head for marks, head in HEADING.findall(page.read_text()) if marks.startswith(least))
+    return {NOT_IN_ANCHOR.sub("", head.lower()).replace(" ", "-") for head in heads}
+
+
+def wrong_links() -> Iterator[str]:
+    for page in pages():
+        for link in LINK.findall(page.read_text()):
+            name, _, anchor = link.partition("#")
+            there = page.parent / name if name else page
+            if "://" in link:
+                continue
+            if not there.exists() or (anchor and anchor not in anchors(there)):
+                yield f"{page.name}: {link} leads nowhere"
+    listed = {link[1:] for link in LINK.findall(DECISIONS.read_text().partition("\n## ")[0]) if link.startswith("#")}
+    yield from (f"DECISIONS.md: its list has no {name}" for name in sorted(anchors(DECISIONS, "##") - listed))
+
+
 def main() -> int:
-    wrong = [*wrong_words(words()), *wrong_clauses(), *wrong_files()]
+    wrong = [*wrong_words(words()), *wrong_clauses(), *wrong_files(), *wrong_links()]
     for line in wrong:
         print(line)
     print(f"documents: {len(wrong)} names wrong")
