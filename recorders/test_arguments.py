@@ -14,7 +14,7 @@ HERE = Path(__file__).resolve().parent
 sys.dont_write_bytecode = True  # the repository stays as it is
 sys.path.insert(0, str(HERE))
 from test_capture import Conversation, Wire
-from testing import PATIENCE, InFolder, missing
+from testing import PATIENCE, InFolder, free_port, missing
 
 MISUSE = 3
 PROXY = ("proxy", "--listen", "127.0.0.1:1", "--broker", "127.0.0.1:2", "--out")
@@ -60,6 +60,15 @@ class Misuse(Case):
                 status, line = self.called(script, *words)
                 self.assertEqual(status, MISUSE, script)
                 self.assertIn("argument --log-version: invalid", line)
+        self.assertEqual([*self.folder.iterdir()], [])
+
+    def test_a_proxy_before_itself(self) -> None:
+        port = free_port()
+        for broker in (f"127.0.0.1:{port}", f"ws://127.0.0.1:{port}/mqtt"):
+            words = ("--listen", f"127.0.0.1:{port}", "--broker", broker, "--out", self.logs)
+            status, line = self.called("proxy", *words)
+            self.assertEqual((status, line), (MISUSE, "proxy: --broker is the proxy's own address: it would connect to"
+                                                      " itself"))
         self.assertEqual([*self.folder.iterdir()], [])
 
     def test_the_dashes_before_a_program(self) -> None:

@@ -196,7 +196,7 @@ class Failures(Case):
 
     def test_a_port_that_is_taken(self) -> None:
         taken = f"127.0.0.1:{self.broker.getsockname()[1]}"
-        words = [sys.executable, PROXY, "--listen", taken, "--broker", taken, "--out", self.folder]
+        words = [sys.executable, PROXY, "--listen", taken, "--broker", "127.0.0.1:1", "--out", self.folder]
         answer = subprocess.run(words, capture_output=True, text=True, timeout=PATIENCE)
         self.assertEqual(answer.returncode, 1)
         self.assertRegex(answer.stderr, r"\Aproxy: [^[\]]*address already in use\n\Z")
