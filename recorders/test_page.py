@@ -155,7 +155,7 @@ class Texts(Case):
             f"PUBLISH at {before + 5} bytes .. {'7A ' * 32}[00] {'79 ' * 31}.." for before in (200, 80)])
         page = self.page()
         self.assertIn("   205  <mark>00</mark> 79 79 79", page)
-        self.assertIn("At offset 205 U+0000 is marked; the text's length is at offset 3.", page)
+        self.assertIn("At offset 205 U+0000 is marked; its field begins at offset 3, with a length.", page)
         self.assertIn("record 6, connection 1", page)
 
 
@@ -212,7 +212,10 @@ class Written(Case):
         (self.logs / "a.log").write_bytes(log(record(2, broken), record(4)))
         page = self.page()
         self.assertIn("     0  32 07 00 01 <mark>C3</mark> 00 01 00  2·······\n     8  78", page)
-        self.assertIn("At offset 4 what isn't UTF-8 is marked; the text's length is at offset 2.", page)
+        self.assertIn("At offset 4 what isn't UTF-8 is marked; its field begins at offset 2, with a length.", page)
+        user = packet(0x30, b"\0\1a\x08&\0\1n\0\2v\xff")  # the offset is that of the pair
+        (self.logs / "a.log").write_bytes(log(record(2, user), record(4)))
+        self.assertIn("At offset 13 what isn't UTF-8 is marked; its field begins at offset 7, with a length.", self.page())
         (self.logs / "a.log").write_bytes(log(record(2, bytes.fromhex("4100")), record(4)))
         page = self.page()
         self.assertIn("     0  <mark>41</mark> 00", page)

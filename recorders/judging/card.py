@@ -287,5 +287,5 @@ def what_is_marked(event: Event, offset: int | None) -> str:
     at = f"offset {offset}" if offset is not None else "the offset"
     broken, found = event.broken, event.bytes
     if broken and broken["at"]:
-        return f"At offset {broken['at']} {WRONG[broken['code']]} is marked; the text's length is at {at}."
+        return f"At offset {broken['at']} {WRONG[broken['code']]} is marked; its field begins at {at}, with a length."
     return f"The byte at {at} is marked." if found and found.marked else f"The packet ends before {at}."
