@@ -536,6 +536,15 @@ class Bounds(Called):
         (result,) = runner.results
         self.assertEqual((result.fate, result.why), (Fate.ENDED, "it took more than 1 s"))
 
+    def test_a_flood_that_takes_too_long_tests_nothing(self) -> None:
+        text = "one | aims S01\n  b connect ; a connect ; a subscribe T\n  a flood T from=b count=60000 window=1 seconds=1\n"
+        with self.plain() as port:
+            runner = self.runner(port)
+            runner.play_all(parse(text, "x.scenarios", CLIENTS.shapes, NEEDS), None)
+        (result,) = runner.results
+        self.assertEqual(result.fate, Fate.ENDED)
+        self.assertRegex(result.why, r"\Aonly \d+ of 60000 messages came in 1 s\Z")
+
     def test_who_is_there_when_the_broker_dies(self) -> None:
         """They are all there at once, so there may be no more of them."""
         deaths: Counter[tuple[str, ...]] = Counter()

@@ -28,7 +28,7 @@ from planting import Plant
 from plants import all_plants
 from testing import HOST, accepts, free_port, judge_program, process, wait_until
 
-RUN_SECONDS = 300
+RUN_SECONDS = 400
 OPTIONS = ("--rest", "0.05", "--jobs", "8", "--wrong-password", "wrong", "--denied", "denied/x")
 QUICK, PATIENT = 0.4, 2.0  # seconds that an answer is waited for
 AT_ONCE = 1 + (os.cpu_count() or 2)

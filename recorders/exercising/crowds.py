@@ -4,6 +4,7 @@ from __future__ import annotations
 import time
 from dataclasses import dataclass
 
+from exercising.links import Gone
 from exercising.packets import LARGEST_IDENTIFIER, Packet, Prop, Type, publish, reply
 from exercising.players import Player
 from exercising.stage import Unfit
@@ -74,16 +75,21 @@ def take_all(player: Player) -> list[Packet]:
 
 
 def flood(sender: Player, receiver: Player, wanted: Flood) -> int:
-    """Publishes a flood, and answers it at the receiver. It gives how many messages came there."""
+    """Publishes a flood, and answers it at the receiver. It gives how many messages came there.
+
+    Fewer come if the broker drops some. If they still came when the time was up, it raises Gone.
+    """
     side, came = Sender(sender, wanted), 0
     until = time.monotonic() + wanted.seconds
     stall = time.monotonic() + STALL_SECONDS
-    while (came < wanted.count or side.done < wanted.count) and time.monotonic() < until:
+    while came < wanted.count or side.done < wanted.count:
         taken = take_all(receiver)
         came += sum(got.kind == Type.PUBLISH for got in taken)
         if answers := b"".join(data for got in taken if (data := reply(got)) is not None):
             receiver.link.send(answers)
         now = time.monotonic()
+        if now > until:
+            raise Gone(f"only {came} of {wanted.count} messages came in {wanted.seconds:.0f} s")
         if side.step() or taken:
             stall = now + STALL_SECONDS
         elif now > stall or sender.is_over or receiver.is_over:
