@@ -582,7 +582,7 @@ class Safety(Case):
         recorder.closed(1)
         recorder.finish()
         self.assertEqual(len(self.warnings), 1, self.warnings)
-        self.assertRegex(self.warnings[0], r"^recording stopped: .*No space left on device: .*a\.1\.client\.log")
+        self.assertRegex(self.warnings[0], r"\Arecording stopped: /.*/a\.1\.client\.log: No space left on device\Z")
         self.assertEqual(self.recorded(), {"a.1.client.log": opening(b"a"), "b.1.client.log": opening(b"b")})
 
     def test_a_folder_that_is_not_there_stops_recording(self) -> None:
