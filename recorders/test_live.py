@@ -24,7 +24,8 @@ sys.dont_write_bytecode = True  # the repository stays as it is
 HERE = Path(__file__).resolve().parent
 sys.path.insert(0, str(HERE))
 from exercising import live
-from exercising.both_ends import Fairness
+from exercising.both_ends import Fairness, other_end
+from exercising.evidence import SERVER_AT
 from exercising.live import LIBRARY_VARIABLE, Ends, Live, LiveJudge, find_library
 from exercising.packets import connack, connect
 from exercising.running import Result, Runner
@@ -34,7 +35,7 @@ from exercising.verbs import CLIENTS, NEEDS
 from judging.program import Judge
 from judging.verdict import FAULT, FAULTS, PASSED, fault_of
 from log_format import VERSIONS
-from testing import HOST, InFolder, accepts, free_port, judge_program, process, wait_until
+from testing import HOST, TOP, InFolder, accepts, free_port, judge_program, process, wait_until
 
 OPEN, SENT, RECV, CLOSE, REST = 1, 2, 3, 4, 5
 PLANTED = "E1A-twice"
@@ -115,6 +116,19 @@ class Growing(InFolder):
             seen = ([fault.code for fault in ends.faults], [fault.code for fault in ends.own_faults])
             self.assertEqual(seen, wanted, size)
         self.assertEqual(ends.finish(), 7)
+
+    def test_the_sessions_have_the_programs_faults_word_by_word(self) -> None:
+        """Of both ends; the citation of a fault depends on the end."""
+        logs = sorted((TOP / "examples/sessions").glob("*.log"))
+        self.assertTrue({log.read_bytes()[SERVER_AT] for log in logs} == {0, 1})
+        for path in logs:
+            ends = Ends(library(), path)
+            self.addCleanup(ends.free)
+            ends.finish()
+            for data, seen in ((path.read_bytes(), ends.faults), (other_end(path.read_bytes()), ends.own_faults)):
+                answer = subprocess.run([judge_program(), "check"], input=data, capture_output=True)
+                lines = [FAULT.fullmatch(line) for line in answer.stdout.decode().splitlines()]
+                self.assertEqual(sorted(seen), sorted(map(fault_of, filter(None, lines))), path.name)
 
     def test_what_can_not_be_judged_is_left_to_the_program(self) -> None:
         fairness = Fairness()

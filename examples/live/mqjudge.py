@@ -15,6 +15,7 @@ from typing import NamedTuple
 
 VERSION = 2  # of include/mqjudge.h
 CLIENT, SERVER = 0, 1
+END_AT = 5  # the byte of a log's header that says which end is tested
 STATUS = ("ok", "null", "no judge", "held", "value", "memory", "refused", "order", "length", "absent", "room")
 REFUSED, ABSENT = STATUS.index("refused"), STATUS.index("absent")
 ARCHIVE = Path(__file__).resolve().parents[2] / "crates/mq_ffi/out/libmq_ffi.a"
@@ -73,7 +74,7 @@ class Judge:
     """A judge of the bytes of a log; with `of`, of the events of a client or a server."""
 
     def __init__(self, limit: int = 0) -> None:
-        self.library, self.handle, self.end = loaded(), Handle(), CLIENT
+        self.library, self.handle, self.end, self.fed = loaded(), Handle(), CLIENT, 0
         self.call("new", ctypes.c_uint32(limit))
 
     @classmethod
@@ -97,6 +98,9 @@ class Judge:
         return status == 0
 
     def feed(self, log: bytes) -> None:
+        if self.fed <= END_AT < self.fed + len(log) and log[END_AT - self.fed] == SERVER:
+            self.end = SERVER
+        self.fed += len(log)
         self.call("feed", log, ctypes.c_size_t(len(log)))
 
     def open(self) -> None:

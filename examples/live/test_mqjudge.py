@@ -70,7 +70,6 @@ class Reports(unittest.TestCase):
         for path in logs:
             log, wanted = path.read_bytes(), path.with_suffix(".report").read_text()
             with self.subTest(path.name), Judge() as fed, Judge.of(log[5], log[6] == 1) as told:
-                fed.end = log[5]
                 fed.feed(log)
                 self.assertEqual(report(fed), wanted)
                 tell(told, log)
@@ -84,6 +83,17 @@ class Logs(unittest.TestCase):
             with self.subTest(path.name):
                 whole = judged(log, len(log))
                 self.assertEqual(whole, judged(log, 1 if len(log) < 100_000 else 4099))
+
+    def test_citations_are_those_of_the_tested_end(self) -> None:
+        """S01 has one for each end. A log says in its header which end it is about, also if that comes in pieces."""
+        for name, citation in (("identifier-in-use", "MQTT-2.2.1-3"), ("sessions/server-killed", "MQTT-2.2.1-4")):
+            for size in (1, 4, 6, 1000):
+                log = (EXAMPLES / f"{name}.log").read_bytes()
+                with Judge() as judge:
+                    for at in range(0, len(log), size):
+                        judge.feed(log[at : at + size])
+                    judge.finish()
+                    self.assertEqual([fault.citation for fault in judge.faults() if fault.code == "S01"][:1], [citation])
 
     def test_a_worked_log(self) -> None:
         faults, events = judged((EXAMPLES / "identifier-in-use.log").read_bytes(), 64)

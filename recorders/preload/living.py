@@ -63,10 +63,8 @@ class Watch:
 
     def _say(self, log: Path) -> None:
         with self._judge() as judge:
-            data = log.read_bytes()
-            judge.end = int(data[5:6] == b"\x01")
             try:
-                judge.feed(data)
+                judge.feed(log.read_bytes())
             except self._trouble as trouble:
                 self._line(log, 0, str(trouble), str(trouble))
             for fault in judge.faults():
