@@ -33,6 +33,7 @@ OPTIONS = ("--rest", "0.05", "--jobs", "8", "--wrong-password", "wrong", "--deni
 QUICK, PATIENT = 0.4, 2.0  # seconds that an answer is waited for
 AT_ONCE = 1 + (os.cpu_count() or 2)
 LEAST = 150
+AGAIN = 3  # times that a situation is looked for once more, with nothing beside
 BROKEN_IN = re.compile(r"^(\w+) in .*\n    in \d+ of \d+ situations: (.*)$", re.MULTILINE)
 
 
@@ -76,7 +77,11 @@ class Planted(unittest.TestCase):
                 seen[plant.name] = broken_by(plant, PATIENT)
         missed = {plant.name: sorted(seen[plant.name][0]) for plant in plants if plant.code not in seen[plant.name][0]}
         reported = {one for plant in plants for one in seen[plant.name][1] if one.code == plant.code}
-        empty = sorted(f"{one.code} {one.text}" for one in set(situations(True)) - reported)
+        left = set(situations(True)) - reported
+        for plant in plants * AGAIN:  # how much comes at once depends on how busy the machine is
+            if plant.code in {one.code for one in left}:
+                left -= broken_by(plant, PATIENT)[1]
+        empty = sorted(f"{one.code} {one.text}" for one in left)
         self.assertEqual(missed, {}, "planted, and not reported; beside each what was reported")
         self.assertEqual(empty, [], "situations in which no planted fault was reported")
 
