@@ -41,5 +41,6 @@ pub mod OccasionLaws
 pub mod PlacesLaws
 pub mod UnderPlacesLaws
 pub mod WaitingLaws
+pub mod TallyLaws
 pub mod TrialLaws
 pub mod HistoryLaws

@@ -25,6 +25,7 @@ pub mod Folds
 pub mod Burden
 pub mod Weights
 pub mod Keeping
+pub mod Trying
 pub mod Worked
 pub mod Counter
 pub mod FirstRests

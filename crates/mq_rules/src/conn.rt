@@ -21,6 +21,8 @@ ghost use Rattle.mq_rules.specs.Keeping.{Agrees, IsConn, is_among, is_another};
 
 mod harmless;
 mod state;
+mod tally;
+mod trying;
 mod verdicts;
 
 use crate::bare::Bare;
@@ -35,6 +37,8 @@ use mq_log::Place3;
 pub use state::ConnectionState;
 use std::alloc::Global;
 use std::collections::BTreeSet;
+pub use tally::{ConnTally, CountingConn, One, Tally, conn_places};
+pub use trying::Tried;
 use verdicts::{Verdict, breaks_c19};
 
 /// Watches C01 to C23, the statements on the past of a connection. It takes in each event of a log

@@ -40,7 +40,7 @@ mod worked;
 mod worked_places;
 
 pub use bare::{Bare, BareFields, is_bare};
-pub use conn::Conn;
+pub use conn::{Conn, ConnTally, CountingConn, One, Tally, Tried, conn_places};
 pub use fate::Fate;
 pub use fault::Fault;
 pub use faults::{FaultKey, Faults, Memory};

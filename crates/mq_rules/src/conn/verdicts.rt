@@ -175,7 +175,7 @@ impl ConnectionState {
     }
 
     // Whether the CONNECT had Clean Start 1.
-    fn has_clean_start(&self) -> bool
+    pub(super) fn has_clean_start(&self) -> bool
         ensures { result ≡ is_some_and (λ c. c.clean_start) self.now.connect }
     {
         match self.connect {
@@ -212,7 +212,7 @@ impl ConnectionState {
     }
 
     // Whether the CONNECT had a Request Problem Information of 0.
-    fn wants_no_problem_information(&self) -> bool
+    pub(super) fn wants_no_problem_information(&self) -> bool
         ensures { result ≡ is_some_and (λ c. is_id 0 c.request_problem_information) self.now.connect }
     {
         match self.connect {
@@ -251,7 +251,7 @@ impl ConnectionState {
 
     // Whether the end may look at what the peer announced: a client after its CONNACK, a server at
     // once.
-    fn may_look(&self, role: Role) -> bool
+    pub(super) fn may_look(&self, role: Role) -> bool
         ensures { result ≡ keeping.may_look role self.now }
     {
         match role {
@@ -324,7 +324,7 @@ impl ConnectionState {
     }
 
     // Whether the CONNECT had an empty Client Identifier.
-    fn is_unnamed(&self) -> bool
+    pub(super) fn is_unnamed(&self) -> bool
         ensures { result ≡ is_some_and (λ c. c.is_unnamed) self.now.connect }
     {
         match self.connect {
@@ -393,7 +393,7 @@ impl ConnectionState {
 
     // Whether the end sent something after which it must close the connection: a DISCONNECT, or as
     // a server a CONNACK that refuses.
-    fn has_left(&self, role: Role) -> bool
+    pub(super) fn has_left(&self, role: Role) -> bool
         ensures { result ≡ keeping.has_left role self.now }
     {
         match role {

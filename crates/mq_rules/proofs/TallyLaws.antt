@@ -1,0 +1,65 @@
+-- How often the statements on the past of a connection are put to the test, by what is kept of it.
+use Rattle.std.proofs.Common.{◌≡◌, ℕ, ◌+◌, ◌<◌, ◌==◌, arith, Bool, true, cond, ◌||◌, not, List, [], ◌∷◌, length, Some, refl, ap, sym, ◌∙◌}
+use denote.Enum.Bare.{same_true}
+use Rattle.mq_packet.specs.Canonical.{type_number}
+use Rattle.mq_rules.specs.contracts.rule.Rule.{the_type}
+use Rattle.mq_rules.specs.declared.role.Role.{Role}
+use Rattle.mq_rules.specs.declared.role.Tested.{Tested}
+use Rattle.mq_rules.specs.declared.rule.Rule.{Rule}
+use Rattle.mq_rules.specs.declared.rule.Rule.TheVariants.{W01, C01, C02, C03, C04, C05, C06, C07, C08, C09, C10, C11, C12, C13, C14, C15, C16, C17, C18, C19, C20, C21, C22, C23}
+use Rattle.mq_rules.specs.declared.note.Note.{Note}
+use Rattle.mq_rules.specs.declared.note.Seen.{Seen}
+use Rattle.mq_rules.specs.declared.packet_note.PacketFields.{PacketFields}
+use Rattle.mq_rules.specs.declared.packet_note.PacketFields.TheVariants.{Connect, Connack, Publish, Puback, Pubrec, Pubrel, Pubcomp, Subscribe, Suback, Unsubscribe, Unsuback, Pingreq, Pingresp, Disconnect, Auth}
+use Rattle.mq_rules.specs.declared.conn.state.ConnectionState.{ConnectionState}
+use Rattle.mq_rules.specs.Notes.{fields_type}
+use Rattle.mq_rules.specs.Moments.{Moment}
+use Rattle.mq_rules.specs.Rules.{same_rule}
+use Rattle.mq_rules.specs.Statements.{on_past, is_by_past, statement}
+use Rattle.mq_rules.specs.Occasions.{occasion, places}
+use Rattle.mq_rules.specs.Keeping.{kept}
+use Rattle.mq_rules.specs.Trying.{Tries}
+use Rattle.mq_rules.proofs.PlacesLaws.{places-start, places-most, places-past}
+
+-- no event has put anything to the test
+pub none_yet : (tested : Tested) (rule : Rule) → 0 ≡ places tested [] rule
+none_yet tested rule = sym (places-start tested rule)
+
+-- what is counted of a statement, and asked of the same one
+pub tally-same : (tested : Tested) (log : List Seen) (one rule : Rule) (n : ℕ) → n ≡ places tested log one → same_rule rule one ≡ true → n ≡ places tested log rule
+tally-same tested log one rule n is same = is ∙ ap (places tested log) (sym (same_true the_type tt rule one same))
+
+-- one event more
+pub tally-next : (rule : Rule) (test : Role → Moment → Bool) (found : Role → ConnectionState → Note → Bool) → ((role : Role) → occasion role rule ≡ Some (on_past (test role))) → Tries rule test found
+    → (tested : Tested) (role : Role) (s : ConnectionState) (e : Seen) (past : List Seen) (here : Bool) (old new at : ℕ) → role ≡ tested.role → s ≡ kept tested.role past → at ≡ length past + 1 → here ≡ found role s e.note
+    → old ≡ places tested past rule → (old < at → new ≡ cond here 1 0 + old) → new ≡ places tested (e ∷ past) rule
+tally-next rule test found says finds tested role s e past here old new at end state placed is was more =
+    let most = places-most tested past rule in
+    more (omega arith)
+    ∙ ap (λ n. cond here 1 0 + n) was
+    ∙ ap (λ b. cond b 1 0 + places tested past rule)
+    (is ∙ ap (λ r. found r s e.note) end ∙ ap (λ t. found tested.role t e.note) state ∙ sym (finds tested.role tested.releases e past))
+    ∙ sym (places-past tested rule (test tested.role) e past (says tested.role))
+
+-- a packet has a type from 1 to 15
+pub has_type : (fields : PacketFields) → true ≡ not (type_number (fields_type fields) == 0)
+has_type (Connect c) = refl
+has_type (Connack c) = refl
+has_type (Publish p) = refl
+has_type (Puback identifier code) = refl
+has_type (Pubrec identifier code) = refl
+has_type (Pubrel identifier code) = refl
+has_type (Pubcomp identifier code) = refl
+has_type (Subscribe identifier filters) = refl
+has_type (Suback identifier codes) = refl
+has_type (Unsubscribe identifier filters) = refl
+has_type (Unsuback identifier codes) = refl
+has_type Pingreq = refl
+has_type Pingresp = refl
+has_type (Disconnect d) = refl
+has_type Auth = refl
+
+-- C01 to C23 are the statements on the past of a connection
+pub is_whole : (role : Role) (rule : Rule) → is_by_past (statement role rule) ≡ ((((same_rule rule C01 || same_rule rule C02) || (same_rule rule C03 || same_rule rule C04)) || ((same_rule rule C05 || same_rule rule C06) || (same_rule rule C07 || same_rule rule C08))) || ((((same_rule rule C09 || same_rule rule C10) || (same_rule rule C11 || same_rule rule C12)) || ((same_rule rule C13 || same_rule rule C14) || (same_rule rule C15 || same_rule rule C16))) || (((same_rule rule C17 || same_rule rule C18) || (same_rule rule C19 || same_rule rule C20)) || ((same_rule rule C21 || same_rule rule C22) || same_rule rule C23))))
+is_whole role W01 = refl
+is_whole role _ = refl

@@ -1,0 +1,205 @@
+//! How often C01 to C23 are put to the test, counted in one pass.
+ghost use Rattle.std.specs.Prelude.{Option, ◌≡◌, ◌∷◌, ◌+◌, ◌<◌, ◌&&◌, ◌||◌, [], Bool, true, cond, length, List, Some};
+ghost use Rattle.mq_rules.specs.declared.rule.Rule.{Rule as TheRule};
+ghost use Rattle.mq_rules.specs.declared.role.Tested.{Tested as TheTested};
+ghost use Rattle.mq_rules.specs.declared.fate.Fate.{Fate as TheFate};
+ghost use Rattle.mq_rules.specs.declared.fate.Fate.TheVariants.{Void};
+ghost use Rattle.mq_rules.specs.declared.note.Seen.{Seen as TheSeen};
+ghost use Rattle.mq_rules.specs.Connections.{IsOnConnection};
+ghost use Rattle.mq_rules.specs.Rules.{same_rule};
+ghost use Rattle.mq_rules.specs.Statements.{is_on_past};
+ghost use Rattle.mq_rules.specs.Steps.{turns};
+ghost use Rattle.mq_rules.specs.Under.{seen};
+ghost use Rattle.mq_rules.specs.Occasions.{places};
+ghost use Rattle.mq_rules.specs.Burden.{aliases_sent};
+ghost use Rattle.mq_rules.specs.Weights.{conn_weighs};
+ghost use Rattle.mq_rules.specs.Keeping.{kept, IsConn};
+
+use super::Conn;
+use super::state::ConnectionState;
+use super::trying::{
+    C01, C02, C03, C04, C05, C06, C07, C08, C09, C10, C11, C12, C13, C14, C15, C16, C17, C18, C19,
+    C20, C21, C22, C23, Tried,
+};
+use crate::bare::Bare;
+use crate::faults::{Faults, Memory};
+use crate::note::Note;
+use crate::role::{Role, Tested};
+use crate::rule::Rule;
+use crate::watch::{Both, Brisk, Watch, step_noted};
+use mq_log::Place3;
+use std::alloc::Global;
+use std::marker::PhantomData;
+
+/// The counts of some statements on the past of a connection.
+pub trait Tally: Drop {
+    /// The statements.
+    ghost judges: { TheRule → Bool };
+
+    /// The counts are those of these events, the newest first.
+    ghost counts: { Self → TheTested → List TheSeen → Type 0 };
+
+    /// The counts before any event.
+    fn zero() -> Self
+        ensures { (tested : TheTested) → counts result tested [] };
+
+    /// Counts the statements that an event puts to the test, by what is kept of those before it.
+    fn count(&mut self, role: Role, state: &ConnectionState, at: Place3, note: &Note)
+        ensures { (tested : TheTested) (past : List TheSeen) → role ≡ tested.role → state.now ≡ kept tested.role past → at.position ≡ length past + 1 → counts self.old tested past → counts self.new tested (seen at note.now ∷ past) };
+
+    /// Whether a statement is one of them.
+    fn tests(rule: Rule) -> bool
+        ensures { result ≡ judges rule };
+
+    /// How many places one of them has.
+    fn places_of(&self, rule: Rule) -> u32
+        ensures { (tested : TheTested) (past : List TheSeen) → counts self.now tested past → judges rule ≡ true → result ≡ places tested past rule };
+}
+
+/// The count of one statement.
+#[derive(Drop)]
+pub struct One<T> {
+    places: u32,
+    of: PhantomData<T>,
+}
+
+/// One place more, or none: there are fewer than events.
+pub fn places_after(here: bool, old: u32, position: u32) -> u32
+    ensures { old < position → result ≡ cond here 1 0 + old }
+{
+    if here && old < position {
+        return old + 1;
+    }
+    old
+}
+
+impl<T: Tried> Tally for One<T> {
+    ghost judges = { λ r. same_rule r T.rule };
+
+    ghost counts = { λ s tested past. s.places ≡ places tested past T.rule };
+
+    #[tactic(auto, using(crate::proofs::TallyLaws::none_yet))]
+    fn zero() -> Self {
+        One {
+            places: 0,
+            of: PhantomData,
+        }
+    }
+
+    fn tests(rule: Rule) -> bool {
+        rule == T::rule()
+    }
+
+    fn count(&mut self, role: Role, state: &ConnectionState, at: Place3, note: &Note) {
+        let here = T::is_tried(role, state, note);
+        self.places = places_after(here, self.places, at.position);
+    }
+
+    fn places_of(&self, _: Rule) -> u32 {
+        self.places
+    }
+}
+
+impl<A: Tally, B: Tally> Tally for Both<A, B> {
+    ghost judges = { λ r. A.judges r || B.judges r };
+
+    ghost counts = { λ s tested past. A.counts s.a tested past × B.counts s.b tested past };
+
+    fn zero() -> Self {
+        Both::new(A::zero(), B::zero())
+    }
+
+    fn tests(rule: Rule) -> bool {
+        A::tests(rule) || B::tests(rule)
+    }
+
+    fn count(&mut self, role: Role, state: &ConnectionState, at: Place3, note: &Note) {
+        self.a.count(role, state, at, note);
+        self.b.count(role, state, at, note);
+    }
+
+    fn places_of(&self, rule: Rule) -> u32 {
+        if A::tests(rule) {
+            return self.a.places_of(rule);
+        }
+        self.b.places_of(rule)
+    }
+}
+
+type Two<A, B> = Both<One<A>, One<B>>;
+
+type Four<A, B, C, D> = Both<Two<A, B>, Two<C, D>>;
+
+type Eight<A, B, C, D, E, F, G, H> = Both<Four<A, B, C, D>, Four<E, F, G, H>>;
+
+/// The counts of C01 to C23.
+pub type ConnTally = Both<
+    Eight<C01, C02, C03, C04, C05, C06, C07, C08>,
+    Both<
+        Eight<C09, C10, C11, C12, C13, C14, C15, C16>,
+        Both<Four<C17, C18, C19, C20>, Both<Two<C21, C22>, One<C23>>>,
+    >,
+>;
+
+/// The watcher of C01 to C23, and how often each of them was put to the test.
+#[derive(Drop)]
+pub struct CountingConn<T: Tally> {
+    conn: Conn,
+    places: T,
+}
+
+impl<T: Tally> CountingConn<T> {
+    /// The watcher before the first event, for this tested end.
+    pub fn new(alloc: Global, tested: Tested) -> Self
+        ensures { ⟦<CountingConn<T> as Watch>⟧.agrees result tested (Some Void) [] }
+    {
+        CountingConn {
+            conn: Conn::new(alloc, tested),
+            places: T::zero(),
+        }
+    }
+
+    /// How many places one of its statements has.
+    pub fn places(&self, rule: Rule) -> u32
+        ensures { (tested : TheTested) (taken : Option TheFate) (past : List TheSeen) → ⟦<CountingConn<T> as Watch>⟧.agrees self.now tested taken past → T.judges rule ≡ true → result ≡ places tested past rule }
+    {
+        self.places.places_of(rule)
+    }
+}
+
+impl<T: Tally> Watch for CountingConn<T> {
+    ghost agrees = { λ s tested taken past. IsConn s.conn tested taken past × T.counts s.places tested past };
+
+    ghost takes = { λ tested taken e past. IsOnConnection e past };
+
+    ghost adds = { λ tested e past k r. is_on_past tested r && turns tested e past k r };
+
+    ghost weighs = { λ s. conn_weighs s.conn };
+
+    ghost bound = { λ tested taken past. aliases_sent past };
+
+    fn step(&mut self, at: Place3, note: &Note, faults: &mut Faults) -> Result<(), Memory> {
+        self.places
+            .count(self.conn.role, &self.conn.state, at, note);
+        self.conn.step(at, note, faults)?;
+        Ok(())
+    }
+
+    fn weight(&self) -> usize {
+        self.conn.weight()
+    }
+}
+
+impl<T: Tally> Brisk for CountingConn<T> {
+    fn step_bare(&mut self, at: Place3, bare: Bare<'_>, faults: &mut Faults) -> Result<(), Memory> {
+        step_noted(self, at, bare, faults)?;
+        Ok(())
+    }
+}
+
+/// How many places a statement on the past of a connection has, where all of them are counted.
+pub fn conn_places(watcher: &CountingConn<ConnTally>, rule: Rule) -> u32
+    ensures { (tested : TheTested) (taken : Option TheFate) (past : List TheSeen) → ⟦<CountingConn<ConnTally> as Watch>⟧.agrees watcher.now tested taken past → is_on_past tested rule ≡ true → result ≡ places tested past rule }
+{
+    watcher.places(rule)
+}

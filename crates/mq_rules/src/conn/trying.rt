@@ -1,0 +1,771 @@
+//! Which of C01 to C23 an event puts to the test, by what is kept of its connection: one type for
+//! each statement.
+ghost use Rattle.std.specs.Prelude.{◌≡◌, ◌==◌, ◌&&◌, ◌||◌, not, Bool, is_some, refl, Some};
+ghost use Rattle.std.specs.Option.{option_and_then};
+ghost use Rattle.mq_rules.specs.declared.role.Role.{Role as TheRole};
+ghost use Rattle.mq_rules.specs.declared.rule.Rule.{Rule as TheRule};
+ghost use Rattle.mq_rules.specs.declared.rule.Rule.TheVariants as rules;
+ghost use Rattle.mq_rules.specs.declared.note.Note.{Note as TheNote};
+ghost use Rattle.mq_rules.specs.declared.conn.state.ConnectionState.{ConnectionState as TheState};
+ghost use Rattle.mq_rules.specs.Words.{is_some_and};
+ghost use Rattle.mq_rules.specs.Notes.{is_close as closes, is_rest as rests, sent_packet as packet_of, sent_publish as publish_of, sent_connack as connack_of, sent_disconnect as disconnect_of, resumed_by, may_explain as may_be_explained};
+ghost use Rattle.mq_rules.specs.Moments.{Moment};
+ghost use Rattle.mq_rules.specs.Pasts as pasts;
+ghost use Rattle.mq_rules.specs.Statements.{on_past};
+ghost use Rattle.mq_rules.specs.Occasions.{occasion};
+ghost use Rattle.mq_rules.specs.Trying as trying;
+ghost use Rattle.mq_rules.specs.Trying.{Tries};
+
+use super::state::ConnectionState;
+use super::used_alias;
+use crate::note::{ItemNote, Note};
+use crate::role::Role;
+use crate::rule::Rule;
+use mq_packet::PacketType;
+
+/// A statement on the past of a connection.
+pub trait Tried {
+    /// The statement.
+    ghost rule: { TheRule };
+    /// Where it is put to the test.
+    ghost test: { TheRole → Moment → Bool };
+    /// The events that do, at an end that it binds.
+    ghost found: { TheRole → TheState → TheNote → Bool };
+
+    /// The statement.
+    fn rule() -> Rule
+        ensures { result ≡ rule };
+
+    /// Whether it binds an end of this role, and an event puts it to the test after what is kept.
+    fn is_tried(role: Role, state: &ConnectionState, note: &Note) -> bool
+        ensures { result ≡ found role state.now note.now };
+
+    /// The table of occasions says so.
+    ghost says: { (role : TheRole) → occasion role rule ≡ Some (on_past (test role)) };
+    /// What is kept decides it.
+    ghost finds: { Tries rule test found };
+}
+
+// Whether something of a type but 0 is sent.
+#[tactic(auto, using(crate::proofs::TallyLaws::has_type))]
+fn sends_any_type(note: &Note) -> bool
+    ensures { result ≡ trying.tries_C01 note.now }
+{
+    match note {
+        // Any packet has a type from 1 to 15.
+        Note::Sent(ItemNote::Packet(_)) => true,
+        Note::Sent(ItemNote::Bad { first, .. }) => *first / 16 != 0,
+        _ => false,
+    }
+}
+
+// Whether a packet is sent, or bytes that break a rule; or the connection closes.
+fn sends_or_closes(note: &Note) -> bool
+    ensures { result ≡ (trying.sends_some note.now || closes note.now) }
+{
+    note.is_typed_sent() || note.is_close()
+}
+
+// Whether a packet is sent.
+fn sends_packet(note: &Note) -> bool
+    ensures { result ≡ is_some (packet_of note.now) }
+{
+    matches!(note, Note::Sent(ItemNote::Packet(_)))
+}
+
+// Whether a packet is sent, or the connection closes.
+fn sends_packet_or_closes(note: &Note) -> bool
+    ensures { result ≡ (is_some (packet_of note.now) || closes note.now) }
+{
+    sends_packet(note) || note.is_close()
+}
+
+// Whether a PUBLISH is sent.
+fn sends_publish(note: &Note) -> bool
+    ensures { result ≡ is_some (publish_of note.now) }
+{
+    match note.sent_publish() {
+        Some(_) => true,
+        None => false,
+    }
+}
+
+// Whether a PUBLISH is sent with a Topic Alias.
+fn sends_alias(note: &Note) -> bool
+    ensures { result ≡ is_some (option_and_then (λ p. p.topic_alias) (publish_of note.now)) }
+{
+    match note.sent_publish() {
+        Some(publish) => publish.topic_alias.is_some(),
+        None => false,
+    }
+}
+
+// Whether a PUBLISH is sent whose Topic Alias stands for a Topic Name.
+fn uses_alias(note: &Note) -> bool
+    ensures { result ≡ trying.tries_C16 note.now }
+{
+    match note.sent_publish() {
+        Some(publish) => used_alias(publish).is_some(),
+        None => false,
+    }
+}
+
+// Whether a CONNACK is sent.
+fn sends_connack(note: &Note) -> bool
+    ensures { result ≡ is_some (connack_of note.now) }
+{
+    match note.sent_connack() {
+        Some(_) => true,
+        None => false,
+    }
+}
+
+// Whether a CONNACK is sent that accepts.
+fn accepts(note: &Note) -> bool
+    ensures { result ≡ pasts.accepts_so note.now }
+{
+    match note.sent_connack() {
+        Some(connack) => connack.code == 0,
+        None => false,
+    }
+}
+
+// Whether a CONNACK is sent with Session Present 1.
+fn says_session_present(note: &Note) -> bool
+    ensures { result ≡ pasts.says_session_present note.now }
+{
+    match note.sent_connack() {
+        Some(connack) => connack.session_present,
+        None => false,
+    }
+}
+
+// Whether a CONNACK is sent with Response Information.
+fn gives_response_information(note: &Note) -> bool
+    ensures { result ≡ is_some_and (λ c. c.has_response_information) (connack_of note.now) }
+{
+    match note.sent_connack() {
+        Some(connack) => connack.has_response_information,
+        None => false,
+    }
+}
+
+// Whether a DISCONNECT is sent with a Session Expiry Interval other than 0.
+fn sets_expiry(note: &Note) -> bool
+    ensures { result ≡ is_some_and (λ d. is_some_and (λ seconds. not (seconds == 0)) d.session_expiry) (disconnect_of note.now) }
+{
+    match note.sent_disconnect() {
+        Some(disconnect) => disconnect.session_expiry.unwrap_or(0) != 0,
+        None => false,
+    }
+}
+
+// Whether a packet is sent of which a client can ask that it explains nothing.
+fn may_be_silent(note: &Note) -> bool
+    ensures { result ≡ is_some_and (λ p. not (may_be_explained p.fields)) (packet_of note.now) }
+{
+    match note.sent_packet() {
+        Some(packet) => !packet.fields.may_explain(),
+        None => false,
+    }
+}
+
+// Whether the end is at rest, or its connection closes.
+fn rests_or_closes(note: &Note) -> bool
+    ensures { result ≡ (rests note.now || closes note.now) }
+{
+    note.is_rest() || note.is_close()
+}
+
+impl ConnectionState {
+    // Whether the CONNECT had Clean Start 0.
+    fn has_no_clean_start(&self) -> bool
+        ensures { result ≡ is_some_and (λ c. not c.clean_start) self.now.connect }
+    {
+        match self.connect {
+            Some(connect) => !connect.clean_start,
+            None => false,
+        }
+    }
+
+    // Whether the CONNACK had a Maximum QoS.
+    fn has_maximum_qos(&self) -> bool
+        ensures { result ≡ is_some (option_and_then (λ a. a.maximum_qos) self.now.connack) }
+    {
+        match self.connack {
+            Some(connack) => connack.maximum_qos.is_some(),
+            None => false,
+        }
+    }
+
+    // Whether a CONNACK that accepts says that a session is there, or could say so of one that
+    // isn't.
+    fn may_be_wrong(&self, note: &Note) -> bool
+        ensures { result ≡ (pasts.says_session_present note.now || (is_some_and (λ c. not c.clean_start) self.now.connect && not self.now.was_alive)) }
+    {
+        says_session_present(note) || (self.has_no_clean_start() && !self.was_alive)
+    }
+
+    // Whether a session was resumed that wasn't there.
+    fn is_resumed_for_nothing(&self) -> bool
+        ensures { result ≡ (is_some_and resumed_by self.now.connack && trying.has_no_session self.now) }
+    {
+        self.is_resumed() && self.is_not_to_be_resumed()
+    }
+}
+
+/// Whatever is sent: C01.
+#[derive(Drop)]
+pub struct C01;
+
+impl Tried for C01 {
+    ghost rule = { rules.C01 };
+
+    ghost test = { λ role. pasts.applies_C01 };
+
+    ghost found = { λ role s n. trying.tries_C01 n };
+
+    fn rule() -> Rule {
+        Rule::C01
+    }
+
+    fn is_tried(_: Role, _: &ConnectionState, note: &Note) -> bool {
+        sends_any_type(note)
+    }
+
+    ghost says = { λ role. refl };
+
+    ghost finds = { trying.C01_tried };
+}
+
+/// The first thing that a client sends: C02.
+#[derive(Drop)]
+pub struct C02;
+
+impl Tried for C02 {
+    ghost rule = { rules.C02 };
+
+    ghost test = { λ role. pasts.applies_C02 };
+
+    ghost found = { trying.tries_C02 };
+
+    fn rule() -> Rule {
+        Rule::C02
+    }
+
+    fn is_tried(role: Role, state: &ConnectionState, note: &Note) -> bool {
+        matches!(role, Role::Client) && (note.is_typed_sent() && !state.has_sent)
+    }
+
+    ghost says = { λ role. refl };
+
+    ghost finds = { trying.C02_tried };
+}
+
+/// A CONNECT: C03.
+#[derive(Drop)]
+pub struct C03;
+
+impl Tried for C03 {
+    ghost rule = { rules.C03 };
+
+    ghost test = { λ role. pasts.applies_C03 };
+
+    ghost found = { λ role s n. trying.tries_C03 role n };
+
+    fn rule() -> Rule {
+        Rule::C03
+    }
+
+    fn is_tried(role: Role, _: &ConnectionState, note: &Note) -> bool {
+        matches!(role, Role::Client) && note.sends_type(PacketType::Connect)
+    }
+
+    ghost says = { λ role. refl };
+
+    ghost finds = { trying.C03_tried };
+}
+
+/// A CONNACK: C04.
+#[derive(Drop)]
+pub struct C04;
+
+impl Tried for C04 {
+    ghost rule = { rules.C04 };
+
+    ghost test = { λ role. pasts.applies_C04 };
+
+    ghost found = { λ role s n. trying.tries_C04 role n };
+
+    fn rule() -> Rule {
+        Rule::C04
+    }
+
+    fn is_tried(role: Role, _: &ConnectionState, note: &Note) -> bool {
+        matches!(role, Role::Server) && note.sends_type(PacketType::Connack)
+    }
+
+    ghost says = { λ role. refl };
+
+    ghost finds = { trying.C04_tried };
+}
+
+/// What a server sends up to its CONNACK: C05.
+#[derive(Drop)]
+pub struct C05;
+
+impl Tried for C05 {
+    ghost rule = { rules.C05 };
+
+    ghost test = { λ role. pasts.applies_C05 };
+
+    ghost found = { trying.tries_C05 };
+
+    fn rule() -> Rule {
+        Rule::C05
+    }
+
+    fn is_tried(role: Role, state: &ConnectionState, note: &Note) -> bool {
+        matches!(role, Role::Server)
+            && (note.is_typed_sent()
+                && (!note.sends_type(PacketType::Auth) && !state.has_sent_connack))
+    }
+
+    ghost says = { λ role. refl };
+
+    ghost finds = { trying.C05_tried };
+}
+
+/// A CONNACK: C06.
+#[derive(Drop)]
+pub struct C06;
+
+impl Tried for C06 {
+    ghost rule = { rules.C06 };
+
+    ghost test = { λ role. pasts.applies_C06 };
+
+    ghost found = { λ role s n. trying.tries_C04 role n };
+
+    fn rule() -> Rule {
+        Rule::C06
+    }
+
+    fn is_tried(role: Role, _: &ConnectionState, note: &Note) -> bool {
+        matches!(role, Role::Server) && note.sends_type(PacketType::Connack)
+    }
+
+    ghost says = { λ role. refl };
+
+    ghost finds = { trying.C06_tried };
+}
+
+/// A CONNACK that answers Clean Start 1: C07.
+#[derive(Drop)]
+pub struct C07;
+
+impl Tried for C07 {
+    ghost rule = { rules.C07 };
+
+    ghost test = { λ role. pasts.applies_C07 };
+
+    ghost found = { trying.tries_C07 };
+
+    fn rule() -> Rule {
+        Rule::C07
+    }
+
+    fn is_tried(role: Role, state: &ConnectionState, note: &Note) -> bool {
+        matches!(role, Role::Server) && (sends_connack(note) && state.has_clean_start())
+    }
+
+    ghost says = { λ role. refl };
+
+    ghost finds = { trying.C07_tried };
+}
+
+/// A CONNACK that accepts, and could name a session that isn't there: C08.
+#[derive(Drop)]
+pub struct C08;
+
+impl Tried for C08 {
+    ghost rule = { rules.C08 };
+
+    ghost test = { λ role. pasts.applies_C08 };
+
+    ghost found = { trying.tries_C08 };
+
+    fn rule() -> Rule {
+        Rule::C08
+    }
+
+    fn is_tried(role: Role, state: &ConnectionState, note: &Note) -> bool {
+        matches!(role, Role::Server) && (accepts(note) && state.may_be_wrong(note))
+    }
+
+    ghost says = { λ role. refl };
+
+    ghost finds = { trying.C08_tried };
+}
+
+/// A CONNACK that refuses: C09.
+#[derive(Drop)]
+pub struct C09;
+
+impl Tried for C09 {
+    ghost rule = { rules.C09 };
+
+    ghost test = { λ role. pasts.applies_C09 };
+
+    ghost found = { λ role s n. trying.tries_C09 role n };
+
+    fn rule() -> Rule {
+        Rule::C09
+    }
+
+    fn is_tried(role: Role, _: &ConnectionState, note: &Note) -> bool {
+        matches!(role, Role::Server) && (sends_connack(note) && !accepts(note))
+    }
+
+    ghost says = { λ role. refl };
+
+    ghost finds = { trying.C09_tried };
+}
+
+/// A CONNACK that accepts an empty Client Identifier: C10.
+#[derive(Drop)]
+pub struct C10;
+
+impl Tried for C10 {
+    ghost rule = { rules.C10 };
+
+    ghost test = { λ role. pasts.applies_C10 };
+
+    ghost found = { trying.tries_C10 };
+
+    fn rule() -> Rule {
+        Rule::C10
+    }
+
+    fn is_tried(role: Role, state: &ConnectionState, note: &Note) -> bool {
+        matches!(role, Role::Server) && (accepts(note) && state.is_unnamed())
+    }
+
+    ghost says = { λ role. refl };
+
+    ghost finds = { trying.C10_tried };
+}
+
+/// What comes after a DISCONNECT: C11.
+#[derive(Drop)]
+pub struct C11;
+
+impl Tried for C11 {
+    ghost rule = { rules.C11 };
+
+    ghost test = { λ role. pasts.applies_C11 };
+
+    ghost found = { λ role s n. trying.tries_C11 s n };
+
+    fn rule() -> Rule {
+        Rule::C11
+    }
+
+    fn is_tried(_: Role, state: &ConnectionState, note: &Note) -> bool {
+        sends_or_closes(note) && state.has_sent_disconnect
+    }
+
+    ghost says = { λ role. refl };
+
+    ghost finds = { trying.C11_tried };
+}
+
+/// What comes after a CONNACK that refuses: C12.
+#[derive(Drop)]
+pub struct C12;
+
+impl Tried for C12 {
+    ghost rule = { rules.C12 };
+
+    ghost test = { λ role. pasts.applies_C12 };
+
+    ghost found = { trying.tries_C12 };
+
+    fn rule() -> Rule {
+        Rule::C12
+    }
+
+    fn is_tried(role: Role, state: &ConnectionState, note: &Note) -> bool {
+        matches!(role, Role::Server) && (sends_or_closes(note) && state.has_sent_refusal)
+    }
+
+    ghost says = { λ role. refl };
+
+    ghost finds = { trying.C12_tried };
+}
+
+/// What comes after a CONNACK that resumed a session which wasn't there: C13.
+#[derive(Drop)]
+pub struct C13;
+
+impl Tried for C13 {
+    ghost rule = { rules.C13 };
+
+    ghost test = { λ role. pasts.applies_C13 };
+
+    ghost found = { trying.tries_C13 };
+
+    fn rule() -> Rule {
+        Rule::C13
+    }
+
+    fn is_tried(role: Role, state: &ConnectionState, note: &Note) -> bool {
+        matches!(role, Role::Client)
+            && (sends_packet_or_closes(note) && state.is_resumed_for_nothing())
+    }
+
+    ghost says = { λ role. refl };
+
+    ghost finds = { trying.C13_tried };
+}
+
+/// A packet to a peer that announced a Maximum Packet Size: C14.
+#[derive(Drop)]
+pub struct C14;
+
+impl Tried for C14 {
+    ghost rule = { rules.C14 };
+
+    ghost test = { pasts.applies_C14 };
+
+    ghost found = { trying.tries_C14 };
+
+    fn rule() -> Rule {
+        Rule::C14
+    }
+
+    fn is_tried(role: Role, state: &ConnectionState, note: &Note) -> bool {
+        sends_packet(note) && state.size_limit(role).is_some()
+    }
+
+    ghost says = { λ role. refl };
+
+    ghost finds = { trying.C14_tried };
+}
+
+/// A PUBLISH with a Topic Alias: C15.
+#[derive(Drop)]
+pub struct C15;
+
+impl Tried for C15 {
+    ghost rule = { rules.C15 };
+
+    ghost test = { pasts.applies_C15 };
+
+    ghost found = { trying.tries_C15 };
+
+    fn rule() -> Rule {
+        Rule::C15
+    }
+
+    fn is_tried(role: Role, state: &ConnectionState, note: &Note) -> bool {
+        state.may_look(role) && sends_alias(note)
+    }
+
+    ghost says = { λ role. refl };
+
+    ghost finds = { trying.C15_tried };
+}
+
+/// A PUBLISH whose Topic Alias stands for a Topic Name: C16.
+#[derive(Drop)]
+pub struct C16;
+
+impl Tried for C16 {
+    ghost rule = { rules.C16 };
+
+    ghost test = { λ role. pasts.applies_C16 };
+
+    ghost found = { λ role s n. trying.tries_C16 n };
+
+    fn rule() -> Rule {
+        Rule::C16
+    }
+
+    fn is_tried(_: Role, _: &ConnectionState, note: &Note) -> bool {
+        uses_alias(note)
+    }
+
+    ghost says = { λ role. refl };
+
+    ghost finds = { trying.C16_tried };
+}
+
+/// A PUBLISH to a server that announced a Maximum QoS: C17.
+#[derive(Drop)]
+pub struct C17;
+
+impl Tried for C17 {
+    ghost rule = { rules.C17 };
+
+    ghost test = { λ role. pasts.applies_C17 };
+
+    ghost found = { trying.tries_C17 };
+
+    fn rule() -> Rule {
+        Rule::C17
+    }
+
+    fn is_tried(role: Role, state: &ConnectionState, note: &Note) -> bool {
+        matches!(role, Role::Client) && (sends_publish(note) && state.has_maximum_qos())
+    }
+
+    ghost says = { λ role. refl };
+
+    ghost finds = { trying.C17_tried };
+}
+
+/// A PUBLISH: C18.
+#[derive(Drop)]
+pub struct C18;
+
+impl Tried for C18 {
+    ghost rule = { rules.C18 };
+
+    ghost test = { λ role. pasts.applies_C18 };
+
+    ghost found = { λ role s n. trying.tries_C18 role n };
+
+    fn rule() -> Rule {
+        Rule::C18
+    }
+
+    fn is_tried(role: Role, _: &ConnectionState, note: &Note) -> bool {
+        matches!(role, Role::Client) && sends_publish(note)
+    }
+
+    ghost says = { λ role. refl };
+
+    ghost finds = { trying.C18_tried };
+}
+
+/// A DISCONNECT: C19.
+#[derive(Drop)]
+pub struct C19;
+
+impl Tried for C19 {
+    ghost rule = { rules.C19 };
+
+    ghost test = { λ role. pasts.applies_C19 };
+
+    ghost found = { λ role s n. trying.tries_C19 role n };
+
+    fn rule() -> Rule {
+        Rule::C19
+    }
+
+    fn is_tried(role: Role, _: &ConnectionState, note: &Note) -> bool {
+        matches!(role, Role::Server) && note.sent_disconnect().is_some()
+    }
+
+    ghost says = { λ role. refl };
+
+    ghost finds = { trying.C19_tried };
+}
+
+/// A DISCONNECT with a Session Expiry Interval other than 0: C20.
+#[derive(Drop)]
+pub struct C20;
+
+impl Tried for C20 {
+    ghost rule = { rules.C20 };
+
+    ghost test = { λ role. pasts.applies_C20 };
+
+    ghost found = { λ role s n. trying.tries_C20 role n };
+
+    fn rule() -> Rule {
+        Rule::C20
+    }
+
+    fn is_tried(role: Role, _: &ConnectionState, note: &Note) -> bool {
+        matches!(role, Role::Client) && sets_expiry(note)
+    }
+
+    ghost says = { λ role. refl };
+
+    ghost finds = { trying.C20_tried };
+}
+
+/// A packet to a client that asked for no explanations: C21.
+#[derive(Drop)]
+pub struct C21;
+
+impl Tried for C21 {
+    ghost rule = { rules.C21 };
+
+    ghost test = { λ role. pasts.applies_C21 };
+
+    ghost found = { trying.tries_C21 };
+
+    fn rule() -> Rule {
+        Rule::C21
+    }
+
+    fn is_tried(role: Role, state: &ConnectionState, note: &Note) -> bool {
+        matches!(role, Role::Server)
+            && (may_be_silent(note) && state.wants_no_problem_information())
+    }
+
+    ghost says = { λ role. refl };
+
+    ghost finds = { trying.C21_tried };
+}
+
+/// A CONNACK with Response Information: C22.
+#[derive(Drop)]
+pub struct C22;
+
+impl Tried for C22 {
+    ghost rule = { rules.C22 };
+
+    ghost test = { λ role. pasts.applies_C22 };
+
+    ghost found = { λ role s n. trying.tries_C22 role n };
+
+    fn rule() -> Rule {
+        Rule::C22
+    }
+
+    fn is_tried(role: Role, _: &ConnectionState, note: &Note) -> bool {
+        matches!(role, Role::Server) && gives_response_information(note)
+    }
+
+    ghost says = { λ role. refl };
+
+    ghost finds = { trying.C22_tried };
+}
+
+/// A REST, or the CLOSE, after the last packet that may be sent: C23.
+#[derive(Drop)]
+pub struct C23;
+
+impl Tried for C23 {
+    ghost rule = { rules.C23 };
+
+    ghost test = { pasts.applies_C23 };
+
+    ghost found = { trying.tries_C23 };
+
+    fn rule() -> Rule {
+        Rule::C23
+    }
+
+    fn is_tried(role: Role, state: &ConnectionState, note: &Note) -> bool {
+        rests_or_closes(note) && state.has_left(role)
+    }
+
+    ghost says = { λ role. refl };
+
+    ghost finds = { trying.C23_tried };
+}
