@@ -91,6 +91,9 @@ class Packet:
     clean_start: bool = False
     client_identifier: bytes = b""
     session_present: bool = False
+    keep_alive: int = 0
+    will_qos: int | None = None  # None: there is no Will
+    will_retain: bool = False
     properties: list[tuple[int, object]] = field(default_factory=list)
     will: list[tuple[int, object]] = field(default_factory=list)  # the properties of a CONNECT's Will
 
@@ -269,7 +272,8 @@ def read_connect(p: Packet, reader: Reader) -> None:
     if flags & 1 or will_qos == 3 or (not has_will and (will_qos or flags & 0x20)):
         raise Bad("W19", at)
     p.clean_start = bool(flags & 2)
-    reader.u16()
+    p.will_qos, p.will_retain = will_qos if has_will else None, bool(flags & 0x20)
+    p.keep_alive = reader.u16()
     p.properties = read_properties(reader, CONNECT)
     p.client_identifier = reader.text()
     if has_will:

@@ -1,0 +1,323 @@
+"""What the further statements say of subscriptions: of the answers to a client that subscribes and unsubscribes (B05 to B07), and of
+what comes by its subscriptions (B08 to B11, P, R). They are judged where the session is known.
+
+After bytes in a session that may have been a SUBSCRIBE or an UNSUBSCRIBE nobody can tell from the log what is subscribed: those that
+break a rule may have been taken in all the same, or in part. From there on nothing is said of the session but by B05.
+"""
+from collections.abc import Callable
+from dataclasses import dataclass
+
+from further_table import (
+    IDENTIFIERS, SUBSCRIPTION_IDENTIFIER, applies, fails, is_announced_0, is_bad_of, is_shared, share,
+)
+from reading import CLOSE, Lost, PUBLISH, Packet, SUBACK, SUBSCRIBE, UNSUBACK, UNSUBSCRIBE
+from sessions import Log, VOID
+from statements import closer, first_unanswered, matches, publish_id, topic_of
+
+ANSWERS = {SUBSCRIBE: SUBACK, UNSUBSCRIBE: UNSUBACK}
+RETAIN_AS_PUBLISHED = 0x08
+
+
+@dataclass(frozen=True)
+class Request:
+    """A filter of a SUBSCRIBE or an UNSUBSCRIBE that is received."""
+
+    type: int
+    at: int  # the packet's position
+    place: int  # the filter's, in the packet
+    filter: bytes
+    options: int
+    identifier: int | None  # the Subscription Identifier
+    answered: int | None  # the position of the first answer under the Packet Identifier, after it on its connection
+    code: int | None  # what that says of the filter
+
+    def is_refused(self, k: int) -> bool:
+        return self.answered is not None and self.answered < k and self.code is not None and self.code >= 0x80
+
+    def is_done(self) -> bool:
+        return self.code is not None and self.code < 0x80
+
+    def ceiling(self, k: int) -> int:
+        """The QoS that was granted, if that was said before k, else the one that was asked for."""
+        is_said = self.answered is not None and self.answered < k and self.code is not None
+        return self.code if is_said else self.options & 3
+
+    def handling(self) -> int:
+        return self.options >> 4 & 3
+
+    def is_before(self, other: "Request") -> bool:
+        return (self.at, self.place) < (other.at, other.place)
+
+
+def requests(log: Log, session: int) -> list[Request]:
+    """The filters of the SUBSCRIBEs and UNSUBSCRIBEs that were received in a session, in their order."""
+    kept = log.__dict__.setdefault("requests", {})
+    if session not in kept:
+        kept[session] = [one for k in log.session_positions[session] for one in requests_at(log, k)]
+    return kept[session]
+
+
+def requests_at(log: Log, k: int) -> list[Request]:
+    p = log.received_packet(k, SUBSCRIBE, UNSUBSCRIBE)
+    if p is None:
+        return []
+    later = [m for m in log.connection_positions[log.places[k]] if m > k]
+    answered = next((m for m in later if log.sends(m, ANSWERS[p.type], p.identifier)), None)
+    said = log.sent_packet(answered).codes if answered is not None else []
+    codes = [*said, *[None] * len(p.filters)]
+    identifier = p.get(SUBSCRIPTION_IDENTIFIER)
+    return [Request(p.type, k, n, *filter, identifier, answered, codes[n]) for n, filter in enumerate(p.filters)]
+
+
+def requests_before(log: Log, k: int, *types: int) -> list[Request]:
+    session = log.sessions[k]
+    return [] if session is None else [one for one in requests(log, session) if one.at < k and one.type in types]
+
+
+def is_untold(log: Log, k: int) -> bool:
+    """Before k in its session bytes were received of a SUBSCRIBE or an UNSUBSCRIBE that break a rule, or that can't be read."""
+    items = [log.received(j) for j in log.before_in(k)]
+    return any(isinstance(item, Lost) or is_bad_of(item, SUBSCRIBE) or is_bad_of(item, UNSUBSCRIBE) for item in items)
+
+
+# ---- when a subscription is live
+
+
+def in_flight(log: Log, k: int) -> list[int]:
+    """The positions before k in its session of the PUBLISHes of QoS 1 or 2 that the server sent, for which no closer came since."""
+    before = log.before_in(k)
+    return [j for j in before if (i := publish_id(log, j)) is not None and not any(closer(log, m) == i for m in before if m > j)]
+
+
+def idle_rests(log: Log, session: int) -> list[int]:
+    """The binding RESTs of a session at which no message of QoS 1 or 2 is in flight."""
+    kept = log.__dict__.setdefault("idle_rests", {})
+    if session not in kept:
+        kept[session] = [t for t in log.session_positions[session] if log.is_binding(t) and not in_flight(log, t)]
+    return kept[session]
+
+
+def is_ended(log: Log, k: int, one: Request) -> bool:
+    """A later request for the same filter was granted before k."""
+    return bool(ends(log, k, one))
+
+
+def ends(log: Log, k: int, one: Request) -> list[int]:
+    """Where requests were granted, before k, that put an end to a subscription."""
+    later = [other for other in requests_before(log, k, SUBSCRIBE, UNSUBSCRIBE) if one.is_before(other) and other.filter == one.filter]
+    return [other.answered for other in later if other.is_done() and other.answered < k]
+
+
+def is_live(log: Log, k: int, one: Request) -> bool:
+    """It isn't refused at k; and it wasn't ended, or no idle REST came after that."""
+    rests = [t for t in idle_rests(log, log.sessions[k]) if t < k]
+    return not one.is_refused(k) and not any(at < t for at in ends(log, k, one) for t in rests)
+
+
+# ---- deliveries
+
+
+def delivery(log: Log, k: int) -> Packet | None:
+    """A PUBLISH with DUP 0 that the server sends in a session of which all is known, on a topic that is known."""
+    p = log.sent_packet(k, PUBLISH) if log.role == "server" else None
+    is_judged = p is not None and not p.dup and log.sessions[k] is not None and topic_of(log, k) is not None
+    return p if is_judged and not is_untold(log, k) else None
+
+
+def is_about(filter: bytes, topic: bytes) -> bool:
+    """A filter matches a topic. A shared one does so by the filter after its name too."""
+    after = share(filter)[1] if is_shared(filter) else None
+    return matches(filter, topic) or (after is not None and matches(after, topic))
+
+
+def matching(log: Log, k: int) -> list[Request]:
+    """The subscriptions before a delivery that aren't refused there and match it."""
+    topic = topic_of(log, k)
+    return [one for one in requests_before(log, k, SUBSCRIBE) if not one.is_refused(k) and is_about(one.filter, topic)]
+
+
+def live(log: Log, k: int) -> list[Request]:
+    return [one for one in matching(log, k) if is_live(log, k, one)]
+
+
+def of_deliveries(test: Callable[[Log, int, Packet], bool]) -> Callable[[Log, int], bool]:
+    def said(log: Log, k: int) -> bool:
+        p = delivery(log, k)
+        return p is not None and test(log, k, p)
+
+    said.__doc__ = test.__doc__
+    return said
+
+
+def reaches(ceilings: list[Request], log: Log, k: int) -> bool:
+    """Some of these allows the QoS of the delivery at k."""
+    return any(one.ceiling(k) >= log.sent_packet(k).qos for one in ceilings)
+
+
+@applies("B08")
+@of_deliveries
+def has_shares(log: Log, k: int, p: Packet) -> bool:
+    """A delivery, in a session in which a SUBSCRIBE with a shared filter came before."""
+    return any(is_shared(one.filter) for one in requests_before(log, k, SUBSCRIBE))
+
+
+@applies("B09")
+def has_shares_and_qos(log: Log, k: int) -> bool:
+    """One of QoS 1 or 2."""
+    return has_shares(log, k) and log.sent_packet(k).qos > 0
+
+
+@fails("B08")
+def delivers_unasked(log: Log, k: int) -> bool:
+    return has_shares(log, k) and not matching(log, k)
+
+
+@fails("B09")
+def delivers_above(log: Log, k: int) -> bool:
+    return has_shares(log, k) and bool(matching(log, k)) and not reaches(matching(log, k), log, k)
+
+
+@applies("B10", "B11")
+@of_deliveries
+def delivers_for_an_ended_one(log: Log, k: int, p: Packet) -> bool:
+    """A delivery that some subscription matches which was ended."""
+    return any(is_ended(log, k, one) for one in matching(log, k))
+
+
+@fails("B10")
+@of_deliveries
+def delivers_for_none(log: Log, k: int, p: Packet) -> bool:
+    return bool(matching(log, k)) and not live(log, k)
+
+
+@fails("B11")
+@of_deliveries
+def delivers_by_an_old_qos(log: Log, k: int, p: Packet) -> bool:
+    alive = live(log, k)
+    return not reaches(alive, log, k) and reaches([one for one in matching(log, k) if one not in alive], log, k)
+
+
+def identifiers(p: Packet) -> list[object]:
+    return [value for kind, value in p.properties if kind == SUBSCRIPTION_IDENTIFIER]
+
+
+@applies("P01")
+@of_deliveries
+def names_subscriptions(log: Log, k: int, p: Packet) -> bool:
+    """A delivery that something matches, with a Subscription Identifier."""
+    return identifiers(p) != [] and bool(matching(log, k))
+
+
+@fails("P01")
+def names_a_foreign_one(log: Log, k: int) -> bool:
+    if not names_subscriptions(log, k):
+        return False
+    known = [one.identifier for one in live(log, k)]
+    return any(identifier not in known for identifier in identifiers(log.sent_packet(k)))
+
+
+@applies("P02")
+@of_deliveries
+def has_identifiers_to_name(log: Log, k: int, p: Packet) -> bool:
+    """A delivery that live subscriptions match, each of which has an identifier, and the server didn't say that it takes none."""
+    alive = live(log, k)
+    return bool(alive) and all(one.identifier is not None for one in alive) and not is_announced_0(log, k, IDENTIFIERS)
+
+
+@fails("P02")
+def names_none(log: Log, k: int) -> bool:
+    return has_identifiers_to_name(log, k) and identifiers(log.sent_packet(k)) == []
+
+
+def forwards_retained(one: Request) -> bool:
+    return bool(one.options & RETAIN_AS_PUBLISHED)
+
+
+@applies("R01")
+@of_deliveries
+def can_have_no_retain(log: Log, k: int, p: Packet) -> bool:
+    """A delivery that live subscriptions match, all of them with Retain As Published 0 and Retain Handling 2."""
+    alive = live(log, k)
+    return bool(alive) and all(not forwards_retained(one) and one.handling() == 2 for one in alive)
+
+
+@fails("R01")
+def retains_unasked(log: Log, k: int) -> bool:
+    return can_have_no_retain(log, k) and log.sent_packet(k).retain
+
+
+@applies("R02")
+@of_deliveries
+def gives_to_a_share(log: Log, k: int, p: Packet) -> bool:
+    """One that live subscriptions match, all of them with Retain As Published 0 and shared or with Retain Handling 2, and one of them
+    is shared and has another handling."""
+    alive = live(log, k)
+    if any(forwards_retained(one) or not (is_shared(one.filter) or one.handling() == 2) for one in alive):
+        return False
+    return any(is_shared(one.filter) and one.handling() != 2 for one in alive)
+
+
+@fails("R02")
+def retains_for_a_share(log: Log, k: int) -> bool:
+    return gives_to_a_share(log, k) and log.sent_packet(k).retain
+
+
+# ---- answers: each place of one, with what it is said of
+
+
+def answered(log: Log, k: int, type: int, exchange: str) -> list[tuple[Request, int]]:
+    """The filters of the first unanswered request to which an answer at k is sent, each with its code."""
+    p = log.sent_packet(k, ANSWERS[type]) if log.role == "server" else None
+    first = first_unanswered(log, exchange, k, p.identifier) if p is not None and log.sessions[k] is not None else None
+    return [] if first is None else list(zip(requests_at(log, first), p.codes))
+
+
+@applies("B05")
+def grants(log: Log, k: int) -> bool:
+    """A SUBACK answers a SUBSCRIBE, and grants something."""
+    return any(code < 0x80 for _, code in answered(log, k, SUBSCRIBE, "E5"))
+
+
+@fails("B05")
+def grants_too_much(log: Log, k: int) -> bool:
+    return any(one.options & 3 < code < 0x80 for one, code in answered(log, k, SUBSCRIBE, "E5"))
+
+
+def unsubscribed(log: Log, k: int) -> list[tuple[Request, int]]:
+    return [] if is_untold(log, k) else answered(log, k, UNSUBSCRIBE, "E6")
+
+
+def stands(log: Log, one: Request) -> bool:
+    """The last SUBSCRIBE with the filter of this UNSUBSCRIBE was granted before it, and neither another UNSUBSCRIBE since, nor an
+    earlier place of its own, has the filter."""
+    before = requests_before(log, one.at, SUBSCRIBE, UNSUBSCRIBE)
+    last = next((other for other in reversed(before) if other.filter == one.filter), None)
+    is_granted = last is not None and last.type == SUBSCRIBE and last.is_done() and last.answered < one.at
+    return is_granted and not any(other.filter == one.filter for other in requests_at(log, one.at)[: one.place])
+
+
+@applies("B06")
+def answers_for_a_subscription(log: Log, k: int) -> bool:
+    """An UNSUBACK says 0x00 or 0x11 of a filter that is subscribed."""
+    return any(code in (0, 0x11) and stands(log, one) for one, code in unsubscribed(log, k))
+
+
+@fails("B06")
+def denies_a_subscription(log: Log, k: int) -> bool:
+    return any(code == 0x11 and stands(log, one) for one, code in unsubscribed(log, k))
+
+
+def is_unheard_of(log: Log, k: int, filter: bytes) -> bool:
+    """No SUBSCRIBE before k in its session has this filter, refused ones aside."""
+    return not any(one.filter == filter and not one.is_refused(k) for one in requests_before(log, k, SUBSCRIBE))
+
+
+@applies("B07")
+def says_what_it_deleted(log: Log, k: int) -> bool:
+    """An UNSUBACK says 0x00 of a filter, or 0x11 of one that was never subscribed."""
+    return any(code == 0 or (code == 0x11 and is_unheard_of(log, k, one.filter)) for one, code in unsubscribed(log, k))
+
+
+@fails("B07")
+def deletes_what_never_was(log: Log, k: int) -> bool:
+    return any(code == 0 and is_unheard_of(log, k, one.filter) for one, code in unsubscribed(log, k))
