@@ -10,8 +10,8 @@ from dataclasses import dataclass
 from further_table import (
     IDENTIFIERS, SUBSCRIPTION_IDENTIFIER, applies, fails, is_announced_0, is_bad_of, is_shared, share,
 )
-from reading import CLOSE, Lost, PUBLISH, Packet, SUBACK, SUBSCRIBE, UNSUBACK, UNSUBSCRIBE
-from sessions import Log, VOID
+from reading import Lost, PUBLISH, Packet, SUBACK, SUBSCRIBE, UNSUBACK, UNSUBSCRIBE
+from sessions import Log
 from statements import closer, first_unanswered, matches, publish_id, topic_of
 
 ANSWERS = {SUBSCRIBE: SUBACK, UNSUBSCRIBE: UNSUBACK}
@@ -75,8 +75,9 @@ def requests_before(log: Log, k: int, *types: int) -> list[Request]:
 
 
 def is_untold(log: Log, k: int) -> bool:
-    """Before k in its session bytes were received of a SUBSCRIBE or an UNSUBSCRIBE that break a rule, or that can't be read."""
-    items = [log.received(j) for j in log.before_in(k)]
+    """Since k's session began, on a void connection too, bytes were received of a SUBSCRIBE or an UNSUBSCRIBE that break a rule, or
+    that can't be read."""
+    items = [log.received(j) for j in range(log.session_positions[log.sessions[k]][0], k)]
     return any(isinstance(item, Lost) or is_bad_of(item, SUBSCRIBE) or is_bad_of(item, UNSUBSCRIBE) for item in items)
 
 
@@ -284,7 +285,8 @@ def grants_too_much(log: Log, k: int) -> bool:
 
 
 def unsubscribed(log: Log, k: int) -> list[tuple[Request, int]]:
-    return [] if is_untold(log, k) else answered(log, k, UNSUBSCRIBE, "E6")
+    """The same of an UNSUBACK, in a session of which all is known."""
+    return [] if log.sessions[k] is None or is_untold(log, k) else answered(log, k, UNSUBSCRIBE, "E6")
 
 
 def stands(log: Log, one: Request) -> bool:

@@ -3,7 +3,7 @@ server hasn't got (F), and of enhanced authentication (A). They are judged on ev
 """
 from further_table import (
     IDENTIFIERS, METHOD, NO_LOCAL, RETAIN, SHARED_FILTERS, SUBSCRIPTION_IDENTIFIER, WILDCARDS, applies, fails, fails_later,
-    is_announced_0, is_bad_of, is_shared, share,
+    is_announced_0, is_shared, share,
 )
 from reading import AUTH, Bad, CONNACK, CONNECT, DISCONNECT, Lost, PUBACK, PUBLISH, PUBREC, Packet, SUBSCRIBE, codes, has_wildcard
 from sessions import Log, MAXIMUM_QOS

@@ -5,10 +5,8 @@ A stretch without anything from the client has at most one fault, at the first e
 none: the connection is over, and only its CLOSE may be late. Nor is there one after bytes of the client that can't be read: what it
 sends then is in no event.
 """
-from bisect import bisect_left
-
 from further_table import applies, fails
-from reading import Bad, CLOSE, DISCONNECT, Lost, Packet, RECV, SENT
+from reading import Bad, DISCONNECT, Lost, Packet, RECV, SENT
 from sessions import Log
 
 SECOND = 1_000_000  # in microseconds

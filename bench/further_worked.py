@@ -15,7 +15,7 @@ import hostile_logs
 import honest_logs
 import random_logs
 from further import Fault, chosen, faults, log_of, places
-from further_table import CITATIONS, TIMED
+from further_table import CITATIONS
 from reading import Recording
 from reference import beginning
 from sessions import Log
