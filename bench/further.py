@@ -21,7 +21,7 @@ import further_duties
 import further_grants
 import further_manners
 import further_times
-from further_table import CITATIONS, DECIDED, OCCASIONS, OF_SESSIONS, SENTENCES, TIMED
+from further_table import CITATIONS, DECIDED, OCCASIONS, OF_SESSIONS, SENTENCES, TIMED, about
 from reading import Recording
 from sessions import Log
 
@@ -46,8 +46,8 @@ def decided(log: Log, k: int, code: str) -> int | None:
 
 
 def faults(log: Log, times: bool = False) -> list[Fault]:
-    codes = chosen(log, times)
-    return [(k, code, at) for k in range(1, log.last + 1) for code in codes if (at := decided(log, k, code)) is not None]
+    codes = [(k, code) for k in range(1, log.last + 1) for code in about(log.event(k).subject(), log.role, times)]
+    return [(k, code, at) for k, code in codes if (at := decided(log, k, code)) is not None]
 
 
 def places(log: Log, code: str) -> list[int]:

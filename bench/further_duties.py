@@ -11,10 +11,11 @@ from further_table import (
     is_shared,
 )
 from reading import (
-    AUTH, Bad, CLOSE, CONNACK, CONNECT, DISCONNECT, FROM_SERVER_ALONE, Lost, PUBACK, PUBCOMP, PUBLISH, PUBREC, Packet, SUBSCRIBE,
+    AUTH, BROKEN, Bad, CLOSE, CONNACK, CONNECT, DISCONNECT, FROM_SERVER_ALONE, LOST, Lost, PUBACK, PUBCOMP, PUBLISH, PUBREC, Packet,
+    SUBSCRIBE, Subject,
 )
 from sessions import DEFAULTS, Log, MAXIMUM_PACKET_SIZE, MAXIMUM_QOS, RECEIVE_MAXIMUM, TOPIC_ALIAS_MAXIMUM
-from statements import has_disconnected, has_refused, type_of
+from statements import ANY, has_disconnected, has_refused, received, type_of
 
 Kind = Callable[[Log, int], bool]
 
@@ -50,8 +51,8 @@ def leaves(log: Log, k: int) -> bool:
     return p is not None and (p.type == DISCONNECT or p.code >= 0x80)
 
 
-def closes_after(code: str, kind: Kind) -> None:
-    @fails_later(code)
+def closes_after(code: str, subjects: set[Subject], kind: Kind) -> None:
+    @fails_later(code, subjects)
     def stays(log: Log, k: int) -> int | None:
         return open_rest(log, k) if is_first_of(kind, log, k) else None
 
@@ -193,7 +194,7 @@ def is_over_the_maximum(log: Log, k: int) -> bool:
     return len(unfinished(log, k)) > announced(log, k, RECEIVE_MAXIMUM)
 
 
-closes_after("D01", is_malformed)
-closes_after("D02", is_second_connect)
-closes_after("D03", breaks_protocol)
-closes_after("D05", is_over_the_maximum)
+closes_after("D01", received((BROKEN, LOST)), is_malformed)
+closes_after("D02", received((CONNECT, BROKEN)), is_second_connect)
+closes_after("D03", received(ANY), breaks_protocol)
+closes_after("D05", received([PUBLISH]), is_over_the_maximum)

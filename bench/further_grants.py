@@ -12,7 +12,7 @@ from further_table import (
 )
 from reading import Lost, PUBLISH, Packet, SUBACK, SUBSCRIBE, UNSUBACK, UNSUBSCRIBE
 from sessions import Log
-from statements import closer, first_unanswered, matches, publish_id, topic_of
+from statements import closer, first_unanswered, matches, publish_id, sent, topic_of
 
 ANSWERS = {SUBSCRIBE: SUBACK, UNSUBSCRIBE: UNSUBACK}
 RETAIN_AS_PUBLISHED = 0x08
@@ -77,8 +77,15 @@ def requests_before(log: Log, k: int, *types: int) -> list[Request]:
 def is_untold(log: Log, k: int) -> bool:
     """Since k's session began, on a void connection too, bytes were received of a SUBSCRIBE or an UNSUBSCRIBE that break a rule, or
     that can't be read."""
-    items = [log.received(j) for j in range(log.session_positions[log.sessions[k]][0], k)]
-    return any(isinstance(item, Lost) or is_bad_of(item, SUBSCRIBE) or is_bad_of(item, UNSUBSCRIBE) for item in items)
+    return any(log.session_positions[log.sessions[k]][0] <= j < k for j in unclear(log))
+
+
+def unclear(log: Log) -> list[int]:
+    """The positions of such bytes."""
+    if "unclear" not in log.__dict__:
+        items = [(j, log.received(j)) for j in range(1, log.last + 1)]
+        log.unclear = [j for j, item in items if isinstance(item, Lost) or is_bad_of(item, SUBSCRIBE) or is_bad_of(item, UNSUBSCRIBE)]
+    return log.unclear
 
 
 # ---- when a subscription is live
@@ -168,12 +175,12 @@ def has_shares_and_qos(log: Log, k: int) -> bool:
     return has_shares(log, k) and log.sent_packet(k).qos > 0
 
 
-@fails("B08")
+@fails("B08", sent([PUBLISH]))
 def delivers_unasked(log: Log, k: int) -> bool:
     return has_shares(log, k) and not matching(log, k)
 
 
-@fails("B09")
+@fails("B09", sent([PUBLISH]))
 def delivers_above(log: Log, k: int) -> bool:
     return has_shares(log, k) and bool(matching(log, k)) and not reaches(matching(log, k), log, k)
 
@@ -185,13 +192,13 @@ def delivers_for_an_ended_one(log: Log, k: int, p: Packet) -> bool:
     return any(is_ended(log, k, one) for one in matching(log, k))
 
 
-@fails("B10")
+@fails("B10", sent([PUBLISH]))
 @of_deliveries
 def delivers_for_none(log: Log, k: int, p: Packet) -> bool:
     return bool(matching(log, k)) and not live(log, k)
 
 
-@fails("B11")
+@fails("B11", sent([PUBLISH]))
 @of_deliveries
 def delivers_by_an_old_qos(log: Log, k: int, p: Packet) -> bool:
     alive = live(log, k)
@@ -209,7 +216,7 @@ def names_subscriptions(log: Log, k: int, p: Packet) -> bool:
     return identifiers(p) != [] and bool(matching(log, k))
 
 
-@fails("P01")
+@fails("P01", sent([PUBLISH]))
 def names_a_foreign_one(log: Log, k: int) -> bool:
     if not names_subscriptions(log, k):
         return False
@@ -225,7 +232,7 @@ def has_identifiers_to_name(log: Log, k: int, p: Packet) -> bool:
     return bool(alive) and all(one.identifier is not None for one in alive) and not is_announced_0(log, k, IDENTIFIERS)
 
 
-@fails("P02")
+@fails("P02", sent([PUBLISH]))
 def names_none(log: Log, k: int) -> bool:
     return has_identifiers_to_name(log, k) and identifiers(log.sent_packet(k)) == []
 
@@ -242,7 +249,7 @@ def can_have_no_retain(log: Log, k: int, p: Packet) -> bool:
     return bool(alive) and all(not forwards_retained(one) and one.handling() == 2 for one in alive)
 
 
-@fails("R01")
+@fails("R01", sent([PUBLISH]))
 def retains_unasked(log: Log, k: int) -> bool:
     return can_have_no_retain(log, k) and log.sent_packet(k).retain
 
@@ -258,7 +265,7 @@ def gives_to_a_share(log: Log, k: int, p: Packet) -> bool:
     return any(is_shared(one.filter) and one.handling() != 2 for one in alive)
 
 
-@fails("R02")
+@fails("R02", sent([PUBLISH]))
 def retains_for_a_share(log: Log, k: int) -> bool:
     return gives_to_a_share(log, k) and log.sent_packet(k).retain
 
@@ -279,7 +286,7 @@ def grants(log: Log, k: int) -> bool:
     return any(code < 0x80 for _, code in answered(log, k, SUBSCRIBE, "E5"))
 
 
-@fails("B05")
+@fails("B05", sent([SUBACK]))
 def grants_too_much(log: Log, k: int) -> bool:
     return any(one.options & 3 < code < 0x80 for one, code in answered(log, k, SUBSCRIBE, "E5"))
 
@@ -304,7 +311,7 @@ def answers_for_a_subscription(log: Log, k: int) -> bool:
     return any(code in (0, 0x11) and stands(log, one) for one, code in unsubscribed(log, k))
 
 
-@fails("B06")
+@fails("B06", sent([UNSUBACK]))
 def denies_a_subscription(log: Log, k: int) -> bool:
     return any(code == 0x11 and stands(log, one) for one, code in unsubscribed(log, k))
 
@@ -320,6 +327,6 @@ def says_what_it_deleted(log: Log, k: int) -> bool:
     return any(code == 0 or (code == 0x11 and is_unheard_of(log, k, one.filter)) for one, code in unsubscribed(log, k))
 
 
-@fails("B07")
+@fails("B07", sent([UNSUBACK]))
 def deletes_what_never_was(log: Log, k: int) -> bool:
     return any(code == 0 and is_unheard_of(log, k, one.filter) for one, code in unsubscribed(log, k))

@@ -5,9 +5,11 @@ from further_table import (
     IDENTIFIERS, METHOD, NO_LOCAL, RETAIN, SHARED_FILTERS, SUBSCRIPTION_IDENTIFIER, WILDCARDS, applies, fails, fails_later,
     is_announced_0, is_shared, share,
 )
-from reading import AUTH, Bad, CONNACK, CONNECT, DISCONNECT, Lost, PUBACK, PUBLISH, PUBREC, Packet, SUBSCRIBE, codes, has_wildcard
+from reading import (
+    AUTH, BROKEN, Bad, CONNACK, CONNECT, DISCONNECT, Lost, PUBACK, PUBLISH, PUBREC, Packet, SUBSCRIBE, codes, has_wildcard,
+)
 from sessions import Log, MAXIMUM_QOS
-from statements import type_of
+from statements import ANY, received, sent, type_of
 
 # ---- F, of what the server hasn't got
 
@@ -23,7 +25,7 @@ def publishes_where_nothing_is_retained(log: Log, k: int) -> bool:
     return new_publish(log, k) is not None and is_announced_0(log, k, RETAIN)
 
 
-@fails("F01")
+@fails("F01", sent([PUBLISH]))
 def asks_to_retain(log: Log, k: int) -> bool:
     return publishes_where_nothing_is_retained(log, k) and new_publish(log, k).retain
 
@@ -50,18 +52,18 @@ def asks_by_wildcard(filter: bytes) -> bool:
     return has_wildcard((share(filter)[1] or b"") if is_shared(filter) else filter)
 
 
-@fails("F02")
+@fails("F02", sent([SUBSCRIBE]))
 def takes_a_wildcard(log: Log, k: int) -> bool:
     return is_announced_0(log, k, WILDCARDS) and any(asks_by_wildcard(filter) for filter, _ in asked_filters(log, k))
 
 
-@fails("F03")
+@fails("F03", sent([SUBSCRIBE]))
 def takes_an_identifier(log: Log, k: int) -> bool:
     p = log.sent_packet(k, SUBSCRIBE)
     return p is not None and is_announced_0(log, k, IDENTIFIERS) and p.get(SUBSCRIPTION_IDENTIFIER) is not None
 
 
-@fails("F04")
+@fails("F04", sent([SUBSCRIBE]))
 def takes_a_shared_filter(log: Log, k: int) -> bool:
     return is_announced_0(log, k, SHARED_FILTERS) and any(is_shared(filter) for filter, _ in asked_filters(log, k))
 
@@ -80,7 +82,7 @@ def limits_a_will(log: Log, k: int) -> bool:
     return both is not None and (both[0].get(MAXIMUM_QOS) is not None or both[0].code == 0x9B)
 
 
-@fails("F05")
+@fails("F05", sent([CONNACK]))
 def accepts_too_high_a_will(log: Log, k: int) -> bool:
     match connack_to_a_will(log, k):
         case (connack, connect):
@@ -96,7 +98,7 @@ def retains_no_will(log: Log, k: int) -> bool:
     return both is not None and (both[0].get(RETAIN) == 0 or both[0].code == 0x9A)
 
 
-@fails("F06")
+@fails("F06", sent([CONNACK]))
 def accepts_a_will_to_retain(log: Log, k: int) -> bool:
     match connack_to_a_will(log, k):
         case (connack, connect):
@@ -113,13 +115,13 @@ def asks_for_a_share(log: Log, k: int) -> bool:
     return any(is_shared(filter) for filter, _ in asked_filters(log, k))
 
 
-@fails("V03")
+@fails("V03", sent([SUBSCRIBE]))
 def names_no_share(log: Log, k: int) -> bool:
     shares = [share(filter) for filter, _ in asked_filters(log, k) if is_shared(filter)]
     return any(name == b"" or has_wildcard(name) or not rest for name, rest in shares)
 
 
-@fails("V04")
+@fails("V04", sent([SUBSCRIBE]))
 def wants_others_alone(log: Log, k: int) -> bool:
     return any(is_shared(filter) and options & NO_LOCAL for filter, options in asked_filters(log, k))
 
@@ -139,7 +141,7 @@ def gives_a_reason(log: Log, k: int) -> bool:
     return log.sent_packet(k, *foreign_codes(log)) is not None
 
 
-@fails("V06")
+@fails("V06", sent([DISCONNECT, PUBACK, PUBREC]))
 def gives_a_foreign_reason(log: Log, k: int) -> bool:
     p = log.sent_packet(k, *foreign_codes(log))
     return p is not None and p.code in foreign_codes(log)[p.type]
@@ -167,7 +169,7 @@ def may_go_unanswered(log: Log, t: int) -> bool:
     return asked > sum(log.received_packet(j, AUTH) is not None for j in before)
 
 
-@fails_later("C24")
+@fails_later("C24", received([CONNECT]))
 def leaves_a_connect(log: Log, k: int) -> int | None:
     t = rests_after(log, k) if is_first_connect(log, k) else None
     if t is None or may_go_unanswered(log, t):
@@ -207,7 +209,7 @@ def sends_while_authenticating(log: Log, k: int) -> bool:
     return type_of(log.sent(k)) is not None and method(log, k) is not None and not has_heard_connack(log, k)
 
 
-@fails("A01")
+@fails("A01", sent([*ANY, BROKEN]))
 def goes_on_while_authenticating(log: Log, k: int) -> bool:
     return sends_while_authenticating(log, k) and type_of(log.sent(k)) not in (CONNECT, AUTH, DISCONNECT)
 
@@ -223,7 +225,7 @@ def may_name_a_method(log: Log, k: int) -> bool:
     return is_auth or (sends_connack(log, k) and lacks_method(log, k))
 
 
-@fails("A02")
+@fails("A02", sent([AUTH, CONNACK]))
 def names_a_method_unasked(log: Log, k: int) -> bool:
     p = log.sent_packet(k, AUTH, CONNACK)
     if p is None or not lacks_method(log, k):
@@ -239,6 +241,6 @@ def has_to_name_the_method(log: Log, k: int) -> bool:
     return method(log, k) is not None and ((auth is not None and auth.size > 2) or is_accepting)
 
 
-@fails("A03")
+@fails("A03", sent([AUTH, CONNACK]))
 def names_another_method(log: Log, k: int) -> bool:
     return has_to_name_the_method(log, k) and log.sent_packet(k).get(METHOD) != method(log, k)

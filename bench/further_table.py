@@ -8,8 +8,9 @@ Two things are said of each statement: where its fault at a position is decided,
 test there. What is put to the test may hold all the same, and what fails was put to the test.
 """
 from collections.abc import Callable
+from functools import cache
 
-from reading import Bad, CONNACK, Packet
+from reading import Bad, CONNACK, Packet, Subject
 from sessions import Log
 
 # code, citation for a client, citation for a server (`-`: isn't bound), and the sentence
@@ -58,26 +59,38 @@ Decided = Callable[[Log, int], int | None]  # where the fault at a position is d
 Occasion = Callable[[Log, int], bool]
 DECIDED: dict[str, Decided] = {}
 OCCASIONS: dict[str, Occasion] = {}
+SUBJECTS: dict[str, set[Subject] | None] = {}  # at which events each can fail; None: at any
 
 
-def fails_later(code: str) -> Callable[[Decided], Decided]:
+def fails_later(code: str, subjects: set[Subject] | None) -> Callable[[Decided], Decided]:
     """The statement of this code fails where the function gives a position, at which that is decided."""
 
     def kept(decided: Decided) -> Decided:
-        DECIDED[code] = decided
+        DECIDED[code], SUBJECTS[code] = decided, subjects
         return decided
 
     return kept
 
 
-def fails(code: str) -> Callable[[Occasion], Occasion]:
+def fails(code: str, subjects: set[Subject] | None) -> Callable[[Occasion], Occasion]:
     """The statement fails where the function says so, and it is decided there."""
 
     def kept(broken: Occasion) -> Occasion:
-        DECIDED[code] = lambda log, k: k if broken(log, k) else None
+        fails_later(code, subjects)(lambda log, k: k if broken(log, k) else None)
         return broken
 
     return kept
+
+
+@cache
+def about(subject: Subject, role: str, times: bool) -> tuple[str, ...]:
+    """The statements on this end that can fail at an event, in the order of reports."""
+
+    def is_about(code: str) -> bool:
+        subjects = SUBJECTS[code]
+        return role in CITATIONS[code] and (times or code not in TIMED) and (subjects is None or subject in subjects)
+
+    return tuple(code for code in CITATIONS if is_about(code))
 
 
 def applies(*codes: str) -> Callable[[Occasion], Occasion]:

@@ -68,7 +68,7 @@ def comes_late(log: Log, k: int) -> bool:
     return is_judged(log, k) and silence(log, k) > keep_alive(log, log.places[k]) * SECOND // 2
 
 
-@fails("K01")
+@fails("K01", None)
 def is_silent(log: Log, k: int) -> bool:
     """Later than 1.25 times the Keep Alive, and a second. A packet that the end of the connection cut off may have taken its time."""
     if not is_judged(log, k) or log.event(k).begun is not None:
@@ -82,7 +82,7 @@ def has_to_close(log: Log, k: int) -> bool:
     return is_judged(log, k) and silence(log, k) > keep_alive(log, log.places[k]) * SECOND * 3 // 2
 
 
-@fails("K02")
+@fails("K02", None)
 def stays_open(log: Log, k: int) -> bool:
     """Later than 1.5 times the Keep Alive, and the larger of half of it and 5 seconds."""
     if not is_judged(log, k):

@@ -14,7 +14,7 @@ import further_made
 import hostile_logs
 import honest_logs
 import random_logs
-from further import Fault, chosen, faults, log_of, places
+from further import Fault, chosen, decided, faults, log_of, places
 from further_table import CITATIONS
 from reading import Recording
 from reference import beginning
@@ -129,6 +129,9 @@ class Laws:
         self.places += sum(map(len, tested.values()))
         yield from (f"{code} fails at {k}, which is no place of it" for k, code, _ in found if k not in tested[code])
         yield from (f"{code} at {k} is decided at {at}" for k, code, at in found if not k <= at <= log.last)
+        everywhere = [(k, code, at) for k in range(1, log.last + 1) for code in tested if (at := decided(log, k, code)) is not None]
+        if everywhere != found:
+            yield f"it fails where it isn't looked for: {everywhere}, and not {found}"
         for length in lengths:
             short = beginning(log, length)
             if (some := faults(short, times)) != (wanted := [one for one in found if one[2] <= length]):
