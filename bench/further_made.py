@@ -1,4 +1,5 @@
-"""Makes sessions in which a server does right by subscriptions: the further statements must not blame it.
+"""Makes sessions in which a server does right by subscriptions: the further statements must not blame it. A careless one goes wrong
+now and then.
 
 Clients publish what they like, retained or not. What that brings is chosen by the subscriptions of that moment, and waits in a queue
 while the send quota is used up, also over connections; so it may come when they have been replaced or are gone. A request takes effect
@@ -6,7 +7,7 @@ when it is received, or when it is answered. Subscriptions overlap, are shared, 
 server comes to rest when it has answered all, and sent what it may.
 """
 import random
-from dataclasses import dataclass, field
+from dataclasses import dataclass, field, replace
 
 from further_grants import is_about
 from further_table import is_shared
@@ -51,8 +52,8 @@ class Request:
 class Server:
     """One log, as it is being made."""
 
-    def __init__(self, draw: random.Random):
-        self.draw = draw
+    def __init__(self, draw: random.Random, carelessness: float = 0):
+        self.draw, self.carelessness = draw, carelessness
         self.events: list[tuple[int, bytes]] = []
         self.subscriptions: dict[bytes, Subscription] = {}
         self.retained: dict[bytes, int] = {}  # topics that have a retained message, with its QoS
@@ -60,6 +61,7 @@ class Server:
         self.in_flight: dict[int, tuple[Message, bool]] = {}  # by identifiers, and whether a PUBREC came
         self.waiting: list[Request] = []
         self.has_identifiers = draw.random() < 0.9
+        self.filters = draw.sample(FILTERS, draw.choice((2, 3, 10)))
         for which in range(draw.randint(1, 3)):
             self.connection(which > 0)
 
@@ -127,10 +129,26 @@ class Server:
         if not self.may_send():
             return
         message = self.queue.pop(0)
+        if self.is_careless():
+            message = self.altered(message)
         identifier = next(one for one in range(1, 99) if one not in self.in_flight)
         self.say(message.said(identifier))
         if message.qos:
             self.in_flight[identifier] = message, False
+
+    def is_careless(self) -> bool:
+        return self.draw.random() < self.carelessness
+
+    def altered(self, message: Message) -> Message:
+        """It goes to another topic, or has another QoS, RETAIN or identifiers."""
+        others = {
+            "topic": self.draw.choice(TOPICS),
+            "qos": self.draw.randrange(3) if len(self.in_flight) < self.quota else 0,
+            "retain": True,
+            "identifiers": self.draw.choice(((), (1,), (2,), (1, 3))),
+        }
+        name = self.draw.choice(list(others))
+        return replace(message, **{name: others[name]})
 
     def acknowledge(self) -> None:
         if not self.in_flight:
@@ -149,7 +167,7 @@ class Server:
 
     def ask(self, subscribes: bool) -> None:
         filters = [(one, self.draw.randrange(3) | self.draw.choice((0, 0, 8)) | self.draw.choice((0, 16, 32, 32)))
-                   for one in self.draw.sample(FILTERS, self.draw.randint(1, 2))]
+                   for one in self.draw.sample(self.filters, self.draw.randint(1, 2))]
         identifier = self.draw.randint(1, 3) if self.has_identifiers and self.draw.random() < 0.7 else None
         request = Request(self.draw.randint(100, 60_000), subscribes, filters, identifier if subscribes else None)
         properties = b"\x0b" + varint(identifier) if subscribes and identifier else b""
@@ -170,19 +188,22 @@ class Server:
             is_new = filter not in self.subscriptions
             if not request.subscribes:
                 request.codes.append(0x11 if is_new else 0)
-                self.subscriptions.pop(filter, None)
+                if not self.is_careless():
+                    self.subscriptions.pop(filter, None)
             elif self.draw.random() < 0.1:
                 request.codes.append(0x87)
             else:
                 request.codes.append(self.draw.randint(0, options & 3))
-                self.subscriptions[filter] = Subscription(request.codes[-1], options, request.identifier)
-                handling = options >> 4
-                for topic, qos in self.retained.items():
-                    is_owed = (handling & 3 == 0 or (handling & 3 == 1 and is_new)) and not is_shared(filter)
-                    if is_owed and is_about(filter, topic):
-                        one = self.subscriptions[filter]
-                        numbers = (one.identifier,) if one.identifier and self.has_identifiers else ()
-                        self.queue.append(Message(topic, min(qos, one.qos), True, numbers))
+                if is_new or not self.is_careless():
+                    self.subscriptions[filter] = Subscription(request.codes[-1], options, request.identifier)
+                self.queue += self.retained_for(filter, self.subscriptions[filter], is_new)
+
+    def retained_for(self, filter: bytes, one: Subscription, is_new: bool) -> list[Message]:
+        handling = one.options >> 4 & 3
+        if is_shared(filter) or handling == 2 or (handling == 1 and not is_new):
+            return []
+        numbers = (one.identifier,) if one.identifier and self.has_identifiers else ()
+        return [Message(topic, min(qos, one.qos), True, numbers) for topic, qos in self.retained.items() if is_about(filter, topic)]
 
     def answer(self) -> None:
         if not self.waiting:
@@ -190,6 +211,8 @@ class Server:
         request = self.waiting.pop(0)
         if not request.codes:
             self.take_in(request)
+        if self.is_careless():
+            request.codes[0] = self.draw.choice((0, 1, 2, 0x87) if request.subscribes else (0, 0x11, 0x87))
         self.say(packet(0x90 if request.subscribes else 0xB0, number(request.number) + b"\0" + bytes(request.codes)))
 
     def rest(self) -> None:
@@ -200,6 +223,6 @@ class Server:
         self.events.append((REST, b""))
 
 
-def session(seed: int, which: int) -> bytes:
+def session(seed: int, which: int, carelessness: float = 0) -> bytes:
     """The log of this number among those of the seed."""
-    return Server(random.Random(f"server {seed} {which}")).log()
+    return Server(random.Random(f"server {seed} {which}"), carelessness).log()

@@ -173,6 +173,7 @@ def made(count: int) -> Iterator[tuple[str, bytes]]:
         honest = honest_logs.session(2, which)
         yield f"bench/honest_logs.py 2 {which}", honest
         yield f"bench/further_made.py 2 {which}", further_made.session(2, which)
+        yield f"bench/further_made.py 2 {which}, changed", further_made.session(2, which, carelessness=0.3)
         yield f"bench/honest_logs.py 2 {which}, changed", hostile_logs.changed(random.Random(f"further {which}"), honest)
 
 
