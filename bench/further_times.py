@@ -25,9 +25,8 @@ def is_judged(log: Log, k: int) -> bool:
     c = log.places[k]
     if not log.is_accepted(c) or not log.is_after_connack(k) or keep_alive(log, c) == 0:
         return False
-    ways = (SENT, RECV)
     before = [log.event(j) for j in log.before_on(k)]
-    has_ended = any(e.kind in ways and isinstance(e.item, Packet) and e.item.type == DISCONNECT for e in before)
+    has_ended = any(isinstance(e.item, Packet) and e.item.type == DISCONNECT for e in before)
     return not has_ended and not any(e.kind == of_client(log) and isinstance(e.item, Lost) for e in before)
 
 
