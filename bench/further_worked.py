@@ -43,6 +43,10 @@ class Row:
     faults: list[Fault]
     places: list[int]
 
+    def words(self) -> list[str]:
+        """The log in words, without its moments."""
+        return [word for word in self.line.split("|")[1].split() if word[0] != "@"]
+
 
 def bytes_of(text: str) -> str:
     """The hexadecimal digits of a packet."""
@@ -113,6 +117,18 @@ def wrong_coverage(all_rows: list[Row]) -> Iterator[str]:
     wanted = {(code, role, which) for code, roles in CITATIONS.items() for role in roles for which in WHICH}
     yield from (f"{' '.join(one)}: there is no such row" for one in sorted(wanted - seen))
     yield from (f"{' '.join(one)}: the end isn't bound" for one in sorted(seen - wanted))
+    for code, role in sorted({(row.code, row.log.role) for row in all_rows}):
+        broken, kept = ([row.words() for row in all_rows if (row.code, row.log.role, row.which) == (code, role, one)] for one in WHICH[:2])
+        if not any(is_next_to(one, other) for one in broken for other in kept):
+            yield f"{code} {role}: no kept log differs from a broken one in one record"
+
+
+def is_next_to(one: list[str], other: list[str]) -> bool:
+    """They differ in one record, which is changed, or in one of them alone; or in moments alone."""
+    if len(one) == len(other):
+        return sum(word != another for word, another in zip(one, other)) <= 1
+    longer, shorter = sorted((one, other), key=len, reverse=True)
+    return any(longer[:n] + longer[n + 1 :] == shorter for n in range(len(longer)))
 
 
 class Laws:
