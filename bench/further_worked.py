@@ -14,10 +14,10 @@ import further_made
 import hostile_logs
 import honest_logs
 import random_logs
+import reference
 from further import Fault, chosen, decided, faults, log_of, places
 from further_table import CITATIONS
 from reading import Recording
-from reference import beginning
 from sessions import Log
 
 ROWS = Path(__file__).resolve().parent / "further_rows.txt"
@@ -109,6 +109,9 @@ def wrong_row(row: Row) -> Iterator[str]:
     breaks = any(code == row.code for _, code, _ in row.faults)
     if row.which not in WHICH or breaks != (row.which == "broken") or (row.which == "kept" and not row.places):
         yield f"{row.line}\n  it is no {row.which} log"
+    others = [one for one in reference.faults(row.log) if one[1][0] != "W"]
+    if others and row.which != "near":
+        yield f"{row.line}\n  it breaks {others} of the 74 statements too"
 
 
 def wrong_coverage(all_rows: list[Row]) -> Iterator[str]:
@@ -149,7 +152,7 @@ class Laws:
         if everywhere != found:
             yield f"it fails where it isn't looked for: {everywhere}, and not {found}"
         for length in lengths:
-            short = beginning(log, length)
+            short = reference.beginning(log, length)
             if (some := faults(short, times)) != (wanted := [one for one in found if one[2] <= length]):
                 yield f"the first {length} events have {some}, and not {wanted}"
             for code, at in tested.items():
