@@ -43,4 +43,5 @@ pub mod UnderPlacesLaws
 pub mod WaitingLaws
 pub mod TallyLaws
 pub mod TrialLaws
+pub mod ByteTallyLaws
 pub mod HistoryLaws

@@ -62,7 +62,7 @@ next-place xs i e lt is placed =
 -- ---- the statements on the bytes of one packet
 
 -- each has its own rule
-rule_of : PacketRule → Rule
+unfoldable pub rule_of : PacketRule → Rule
 rule_of packets.W01 = W01
 rule_of packets.W02 = W02
 rule_of packets.W03 = W03
@@ -97,7 +97,7 @@ unfolding is_own rule_of
 own role W01 = refl
 own role _ = refl
 
-named : (role : Role) (rule : Rule) (bytes : PacketRule) → statement role rule ≡ on_bytes bytes → rule ≡ rule_of bytes
+pub named : (role : Role) (rule : Rule) (bytes : PacketRule) → statement role rule ≡ on_bytes bytes → rule ≡ rule_of bytes
 unfolding is_own
 named role rule bytes is = same_true the_type tt rule (rule_of bytes) (ap (is_own rule) (sym is) ∙ own role rule)
 
@@ -116,7 +116,7 @@ bound_for Client releases _ = refl
 bound_for Server releases W01 = refl
 bound_for Server releases _ = refl
 
-bound : (tested : Tested) (rule : Rule) (bytes : PacketRule) → statement tested.role rule ≡ on_bytes bytes → binds rule tested ≡ true
+pub bound : (tested : Tested) (rule : Rule) (bytes : PacketRule) → statement tested.role rule ≡ on_bytes bytes → binds rule tested ≡ true
 unfolding is_bound
 bound tested rule bytes is = ap (λ s. is_bound s (binds rule tested)) (sym is) ∙ bound_for tested.role tested.releases rule
 

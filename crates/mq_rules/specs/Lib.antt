@@ -16,6 +16,7 @@ pub mod Statements
 pub mod Steps
 pub mod Occasions
 pub mod Trials
+pub mod ByteTallies
 pub mod Under
 pub mod Growing
 pub mod Skipping

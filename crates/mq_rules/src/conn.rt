@@ -37,7 +37,7 @@ use mq_log::Place3;
 pub use state::ConnectionState;
 use std::alloc::Global;
 use std::collections::BTreeSet;
-pub use tally::{ConnTally, CountingConn, One, Tally, conn_places};
+pub use tally::{ConnTally, CountingConn, One, Tally, conn_places, places_after};
 pub use trying::Tried;
 use verdicts::{Verdict, breaks_c19};
 

@@ -8,6 +8,7 @@
 #![tactic(auto)]
 
 mod bare;
+mod byte_tally;
 mod conn;
 mod conversion;
 mod copying;
@@ -40,7 +41,8 @@ mod worked;
 mod worked_places;
 
 pub use bare::{Bare, BareFields, is_bare};
-pub use conn::{Conn, ConnTally, CountingConn, One, Tally, Tried, conn_places};
+pub use byte_tally::ByteTally;
+pub use conn::{Conn, ConnTally, CountingConn, One, Tally, Tried, conn_places, places_after};
 pub use fate::Fate;
 pub use fault::Fault;
 pub use faults::{FaultKey, Faults, Memory};

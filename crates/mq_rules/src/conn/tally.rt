@@ -1,5 +1,5 @@
 //! How often C01 to C23 are put to the test, counted in one pass.
-ghost use Rattle.std.specs.Prelude.{Option, ◌≡◌, ◌∷◌, ◌+◌, ◌<◌, ◌&&◌, ◌||◌, [], Bool, true, cond, length, List, Some};
+ghost use Rattle.std.specs.Prelude.{Option, ◌≡◌, ◌∷◌, ◌+◌, ◌<◌, ◌&&◌, ◌||◌, [], Bool, true, cond, length, List, Some, None};
 ghost use Rattle.mq_rules.specs.declared.rule.Rule.{Rule as TheRule};
 ghost use Rattle.mq_rules.specs.declared.role.Tested.{Tested as TheTested};
 ghost use Rattle.mq_rules.specs.declared.fate.Fate.{Fate as TheFate};
@@ -197,9 +197,13 @@ impl<T: Tally> Brisk for CountingConn<T> {
     }
 }
 
-/// How many places a statement on the past of a connection has, where all of them are counted.
-pub fn conn_places(watcher: &CountingConn<ConnTally>, rule: Rule) -> u32
-    ensures { (tested : TheTested) (taken : Option TheFate) (past : List TheSeen) → ⟦<CountingConn<ConnTally> as Watch>⟧.agrees watcher.now tested taken past → is_on_past tested rule ≡ true → result ≡ places tested past rule }
+/// How many places a statement on the past of a connection has, where all of them are counted. None
+/// if it isn't such a statement.
+pub fn conn_places(watcher: &CountingConn<ConnTally>, rule: Rule) -> Option<u32>
+    ensures { (tested : TheTested) (taken : Option TheFate) (past : List TheSeen) → ⟦<CountingConn<ConnTally> as Watch>⟧.agrees watcher.now tested taken past → result ≡ cond (is_on_past tested rule) (Some (places tested past rule)) None }
 {
-    watcher.places(rule)
+    if ConnTally::tests(rule) {
+        return Some(watcher.places(rule));
+    }
+    None
 }
