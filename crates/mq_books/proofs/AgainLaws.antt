@@ -1,5 +1,5 @@
 -- What is known to have been sent again on the connection.
-use Rattle.std.proofs.Common.{◌≡◌, ℕ, ◌<◌, ◌≤◌, arith, ◌==◌, nat_eq, nat_lt, Bool, true, false, cond, ◌&&◌, ◌||◌, not, List, [], ◌∷◌, Option, Some, None, refl, ap, sym, subst, ◌∙◌}
+use Rattle.std.proofs.Common.{◌≡◌, ℕ, ◌≤◌, arith, ◌==◌, nat_eq, nat_lt, Bool, true, false, cond, ◌&&◌, ◌||◌, not, List, [], ◌∷◌, Option, Some, None, refl, ap, sym, subst, ◌∙◌}
 use Rattle.std.specs.Prelude.{is_some}
 use Rattle.std.specs.Option.{option_or}
 use Rattle.std.specs.List.{list_any}
@@ -27,7 +27,7 @@ unset true h = absurd (cc)
 -- ---- what a REST finds
 
 -- no value of a map passes the test
-none-passes : (test : Entry → Bool) (i : ℕ) (es : List (ℕ × Entry)) → list_any test (values_of es) ≡ false → is_some_and test (lookup (nat_eq i) es) ≡ false
+pub none-passes : (test : Entry → Bool) (i : ℕ) (es : List (ℕ × Entry)) → list_any test (values_of es) ≡ false → is_some_and test (lookup (nat_eq i) es) ≡ false
 none-passes test i [] h = refl
 none-passes test i (e ∷ es) h = go (test e.1) refl h (nat_eq i e.0) (none-passes test i es)
   where

@@ -59,3 +59,4 @@ pub mod SettlingLaws
 pub mod ReleasePlacesLaws
 pub mod DeliveryPlacesLaws
 pub mod EarlyPlacesLaws
+pub mod TriedLaws

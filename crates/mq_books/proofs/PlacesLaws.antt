@@ -40,7 +40,7 @@ keeps_due opened excused at os m = subst (λ (n : FaultMap). Keeps m n) (sym (bl
 
 -- ---- the values of a map
 
-absent : (i : ℕ) (es : List (ℕ × Entry)) → AllByRecursion (λ y. nat_eq i y ≡ false) (keys_of es) → (o : Entry) → lookup (nat_eq i) es ≡ Some o → ⊥
+pub absent : (i : ℕ) (es : List (ℕ × Entry)) → AllByRecursion (λ y. nat_eq i y ≡ false) (keys_of es) → (o : Entry) → lookup (nat_eq i) es ≡ Some o → ⊥
 absent i [] h o q = absurd (cc)
 absent i (e ∷ es) h o q = absent i es h.1 o (sym (ap (λ b. cond b (Some e.1) (lookup (nat_eq i) es)) h.0) ∙ q)
 

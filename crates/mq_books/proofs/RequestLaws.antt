@@ -1,22 +1,25 @@
 -- No statement on requests is judged for an end that they don't bind.
-use Rattle.std.proofs.Common.{◌≡◌, ℕ, Bool, true, false, ◌&&◌, List, ◌∷◌, Option, Some, None, refl, ap, ◌∙◌}
+use Rattle.std.proofs.Common.{◌≡◌, ℕ, Bool, true, false, cond, ◌&&◌, ◌+◌, List, [], ◌∷◌, Option, Some, None, refl, ap, sym, ◌∙◌}
 use Rattle.mq_rules.specs.declared.role.Role.{Role}
 use Rattle.mq_rules.specs.declared.role.Role.TheVariants.{Client, Server}
 use Rattle.mq_rules.specs.declared.role.Tested.{Tested}
 use Rattle.mq_rules.specs.declared.fate.Fate.{Fate}
+use Rattle.mq_rules.specs.declared.fate.Fate.TheVariants.{Void}
 use Rattle.mq_rules.specs.declared.rule.Rule.{Rule}
 use Rattle.mq_rules.specs.declared.rule.Rule.TheVariants.{W01}
 use Rattle.mq_rules.specs.declared.note.Seen.{Seen}
 use Rattle.mq_rules.specs.Words.{is_some_and}
-use Rattle.mq_rules.specs.Connections.{latest_fate}
+use Rattle.mq_rules.specs.Moments.{Moment, count, moments, position}
+use Rattle.mq_rules.specs.Connections.{fate_under, latest_fate}
+use Rattle.mq_rules.specs.Occasions.{applies_under, occasion, occurs, places_under}
 use Rattle.mq_rules.specs.Statements.{statement}
 use Rattle.mq_rules.specs.Rules.{line_of, found_line, lines, binds}
 use Rattle.mq_rules.specs.FaultKeys.{FaultMap}
 use Rattle.mq_rules.specs.Under.{shows_with, turns_with, turns_known}
 use Rattle.mq_rules.specs.Growing.{Gains}
-use Rattle.mq_rules.proofs.Exports.{and_false, gains_nothing}
+use Rattle.mq_rules.proofs.Exports.{and_false, gains_nothing, places-under-start}
 use Rattle.mq_books.specs.Grouping.{of_requests, by_requests, requests_add}
-use Rattle.mq_books.specs.Requesting.{binds_requests}
+use Rattle.mq_books.specs.Requesting.{binds_requests, CountsIfBound}
 
 unbound : (role : Role) (releases : Bool) (r : Rule) → binds_requests role ≡ false → (of_requests r && binds r (record { role = role; releases = releases })) ≡ false
 unfolding line_of found_line lines
@@ -46,3 +49,29 @@ unbound-gains tested h f e past at m = gains_nothing (λ k r. of_requests r && t
 pub unbound-adds : (tested : Tested) → binds_requests tested.role ≡ false → (e : Seen) (past : List Seen) (at : ℕ) (m : FaultMap) → Gains (λ k r. by_requests r (turns_known tested e past k r)) tested (e ∷ past) at m m
 unbound-adds tested h e past at m =
     gains_nothing (λ k r. by_requests r (turns_known tested e past k r)) tested (e ∷ past) at m (λ k r. requests_add r (turns_known tested e past k r) ∙ known-none tested h e past k r)
+
+-- ---- how often they are put to the test
+
+-- a statement that doesn't bind the end has no place
+unbound-under : (tested : Tested) (taken : Option Fate) (past : List Seen) (r : Rule) → binds r tested ≡ false → places_under tested taken past r ≡ 0
+unfolding places_under applies_under
+unbound-under tested taken past r h =
+    none (λ m. binds r tested && occurs tested.role (fate_under tested.role taken past) (occasion tested.role r) past (position m)) (moments past)
+    (λ m. ap (λ b. b && occurs tested.role (fate_under tested.role taken past) (occasion tested.role r) past (position m)) h)
+  where
+    none : (test : Moment → Bool) (ms : List Moment) → ((m : Moment) → test m ≡ false) → count test ms ≡ 0
+    none test [] never = refl
+    none test (m ∷ ms) never = ap (λ b. cond b 1 0 + count test ms) (never m) ∙ ap (λ n. 0 + n) (none test ms never)
+
+-- those of an end that they don't bind are the counts of no events
+pub requests-counted : {P : Type 0} {counts : P → Tested → Option Fate → List Seen → Type 0} {places : P} (tested : Tested) (taken : Option Fate) (past : List Seen) (r : Rule) (n : ℕ)
+    → CountsIfBound counts places tested taken past → of_requests r ≡ true
+    → ((f : Option Fate) (log : List Seen) → counts places tested f log → of_requests r ≡ true → n ≡ places_under tested f log r)
+    → n ≡ places_under tested taken past r
+requests-counted tested taken past r n was judged each = go (binds_requests tested.role) refl
+  where
+    go : (b : Bool) → binds_requests tested.role ≡ b → n ≡ places_under tested taken past r
+    go true on = each taken past (was.bound on) judged
+    go false off =
+        let out : binds r tested ≡ false = sym (ap (λ b. b && binds r tested) judged) ∙ unbound tested.role tested.releases r off in
+        each (Some Void) [] (was.unbound off) judged ∙ places-under-start tested (Some Void) r ∙ sym (unbound-under tested taken past r out)

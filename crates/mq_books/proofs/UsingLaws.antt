@@ -46,29 +46,29 @@ use Rattle.mq_books.specs.Knowing.{excused, all_excused}
 
 -- ---- whom the statements bind
 
-binds-S01 : (role : Role) (releases : Bool) → binds S01 (record { role = role; releases = releases }) ≡ true
+pub binds-S01 : (role : Role) (releases : Bool) → binds S01 (record { role = role; releases = releases }) ≡ true
 unfolding line_of found_line lines
 binds-S01 Client releases = refl
 binds-S01 Server releases = refl
 
-binds-S02 : (role : Role) (releases : Bool) → binds S02 (record { role = role; releases = releases }) ≡ true
+pub binds-S02 : (role : Role) (releases : Bool) → binds S02 (record { role = role; releases = releases }) ≡ true
 unfolding line_of found_line lines
 binds-S02 Client releases = refl
 binds-S02 Server releases = refl
 
-binds-S03 : (role : Role) (releases : Bool) → binds S03 (record { role = role; releases = releases }) ≡ true
+pub binds-S03 : (role : Role) (releases : Bool) → binds S03 (record { role = role; releases = releases }) ≡ true
 unfolding line_of found_line lines
 binds-S03 Client releases = refl
 binds-S03 Server releases = refl
 
-binds-S04 : (role : Role) (releases : Bool) → binds S04 (record { role = role; releases = releases }) ≡ true
+pub binds-S04 : (role : Role) (releases : Bool) → binds S04 (record { role = role; releases = releases }) ≡ true
 unfolding line_of found_line lines
 binds-S04 Client releases = refl
 binds-S04 Server releases = refl
 
 -- ---- what is neither sent nor received is no packet
 
-taken-none : (role : Role) (n : Note) → has_item n ≡ false → taken_by role n ≡ None
+pub taken-none : (role : Role) (n : Note) → has_item n ≡ false → taken_by role n ≡ None
 taken-none Client notes.Open h = refl
 taken-none Server notes.Open h = refl
 taken-none Client (notes.Close cuts) h = refl
@@ -80,7 +80,7 @@ taken-none Server (notes.Release identifier) h = refl
 taken-none role (notes.Sent item) h = absurd (cc)
 taken-none role (notes.Recv item) h = absurd (cc)
 
-resend-none : (n : Note) → has_item n ≡ false → resend_of n ≡ None
+pub resend-none : (n : Note) → has_item n ≡ false → resend_of n ≡ None
 resend-none notes.Open h = refl
 resend-none (notes.Close cuts) h = refl
 resend-none notes.Rest h = refl
@@ -108,7 +108,7 @@ open-itemless : (n : Note) → is_open n ≡ true → has_item n ≡ false
 open-itemless notes.Open h = refl
 open-itemless _ h = absurd (cc)
 
-item-closed : (n : Note) → has_item n ≡ true → is_open n ≡ false
+pub item-closed : (n : Note) → has_item n ≡ true → is_open n ≡ false
 item-closed (notes.Sent item) h = refl
 item-closed (notes.Recv item) h = refl
 item-closed _ h = absurd (cc)
@@ -123,10 +123,10 @@ waits-connected : (starts ends : Note → Option ℕ) (i : ℕ) (past : List See
 waits-connected starts ends i past h = ap (since (λ m. is_id i (starts (note m))) (λ m. is_id i (ends (note m)))) (on_open-connected past h)
 
 -- at another event the state is one under the fate of its connection
-now : (s : Inflight) (tested : Tested) (f : Fate) (e : Seen) (past : List Seen) → is_open e.note ≡ false → IsUsing s tested (fate_before tested f e past) past → IsUsing s tested (Some f) past
+pub now : (s : Inflight) (tested : Tested) (f : Fate) (e : Seen) (past : List Seen) → is_open e.note ≡ false → IsUsing s tested (fate_before tested f e past) past → IsUsing s tested (Some f) past
 now s tested f e past closed u = subst (λ b. IsUsing s tested (cond b (latest_fate tested.role past) (Some f)) past) closed u
 
-same_some : (p q : ℕ → Bool) (o : Option ℕ) → ((i : ℕ) → p i ≡ q i) → is_some_and p o ≡ is_some_and q o
+pub same_some : (p q : ℕ → Bool) (o : Option ℕ) → ((i : ℕ) → p i ≡ q i) → is_some_and p o ≡ is_some_and q o
 same_some p q None h = refl
 same_some p q (Some i) h = h i
 
@@ -152,14 +152,14 @@ greater-after p a b = go (nat_lt b a) refl
         of (inl h) = let x : p < a = ltb-true p a h in let y : a ≤ b = ltb-false b a t in lt-ltb p b (omega arith)
 
 -- some PUBLISH that was open was sent again on the connection, with an opener after this position
-abbrev resent_past : Role → Fate → ℕ → Moment → Bool
+abbrev pub resent_past : Role → Fate → ℕ → Moment → Bool
 resent_past role f p j = is_some_and (λ o. is_open_at role f o j && is_some_and (λ m. nat_lt p (position m)) (latest_opener role f o j)) (resend_of (note j))
 
 pub opener-at : (role : Role) (f : Fate) (i : ℕ) (past : List Seen) (o : Entry) → IsPlaced past → (r : IsEntry i (session role (Some f) past) o) → o.place.position ≡ position r.opener
 opener-at role f i past o placed r =
     ap (λ p. p.position) r.same_place ∙ moment-placed past (position r.opener) r.opener placed (among-moment r.opener past (session-members role (Some f) past r.opener r.there).0)
 
-resent-later : (role : Role) (f : Fate) (p : ℕ) (past : List Seen) → IsPlaced past → nat_lt p (resent_in role (Some f) past) ≡ some (resent_past role f p) (connection past)
+pub resent-later : (role : Role) (f : Fate) (p : ℕ) (past : List Seen) → IsPlaced past → nat_lt p (resent_in role (Some f) past) ≡ some (resent_past role f p) (connection past)
 resent-later role f p [] placed = zero-after p
 resent-later role f p (e ∷ past) placed = go (is_open e.note) refl (resent-later role f p past placed.1) ∙ sym (some-next (resent_past role f p) e past)
   where
@@ -189,7 +189,7 @@ resent-later role f p (e ∷ past) placed = go (is_open e.note) refl (resent-lat
 
 -- ---- what the statements read
 
-past_pubrel-is : (role : Role) (i : ℕ) (ms : List Moment) → IsDescending ms → is_some_and (λ o. o.exactly_once && o.released) (entry_in role i ms)
+pub past_pubrel-is : (role : Role) (i : ℕ) (ms : List Moment) → IsDescending ms → is_some_and (λ o. o.exactly_once && o.released) (entry_in role i ms)
     ≡ (since (opens_id i) (closes_id i) ms && (is_some_and (opens_exactly_once i) (latest (opens_id i) ms) && since (sends_pubrel i) (opens_id i) ms))
 past_pubrel-is role i ms d = go (entry_in role i ms) refl
   where
@@ -270,6 +270,14 @@ taken-is tested s f e past placed a u i =
         ∙ ap (λ l. true && not (over l && not late)) (sym r.is_latest)
         ∙ ap (λ b. b && not (over (latest (opens_id i) ms) && not late)) (sym (sym (entry-there role i ms) ∙ ap is_some kept))
 
+-- an identifier is in use by what is kept exactly if it is busy
+pub busy-is : (tested : Tested) (s : Inflight) (f : Fate) (e : Seen) (past : List Seen) → IsPlaced past → IsOnConnection e past → has_item e.note ≡ true → accepts f ≡ true → IsUsing s tested (fate_before tested f e past) past → (i : ℕ)
+    → (is_some_and (is_taken (passed_since f s.bounds s.opened s.bounded)) (get nat_eq s.entries i) || (contains nat_eq s.subscribing i || contains nat_eq s.unsubscribing i)) ≡ is_busy_at tested.role f i (newest e past)
+busy-is tested s f e past placed on item a u i =
+    ap (λ b. b || (contains nat_eq s.subscribing i || contains nat_eq s.unsubscribing i)) (taken-is tested s f e past placed a (now s tested f e past (item-closed e.note item) u) i)
+    ∙ ap (λ b. (is_open_at tested.role f i (newest e past) && not (may_be_discarded tested.role f i (newest e past))) || (b || contains nat_eq s.unsubscribing i)) (u.subscribing_are i ∙ waits-connected (sent_as subscribe_in) (received_as suback_in) i past (on (item-needs e.note item)))
+    ∙ ap (λ b. (is_open_at tested.role f i (newest e past) && not (may_be_discarded tested.role f i (newest e past))) || (awaits_suback i (newest e past) || b)) (u.unsubscribing_are i ∙ waits-connected (sent_as unsubscribe_in) (received_as unsuback_in) i past (on (item-needs e.note item)))
+
 S01-turns : (tested : Tested) (s : Inflight) (f : Fate) (at : ℕ) (e : Seen) (past : List Seen) → IsUnder tested f at e past → IsOnConnection e past → IsUsing s tested (fate_before tested f e past) past
     → (k : ℕ) → turns_with tested f e past k S01 ≡ (is_next past k && excused (is_unasked f) (at == e.place.position) (breaks s f e.note).takes_busy)
 unfolding breaks_S01
@@ -294,10 +302,7 @@ S01-turns tested s f at e past under on u k =
     go true a false h =
         let none = taken-none tested.role e.note h in
         ap (is_some_and busy) none ∙ sym (ap (is_some_and (λ i. is_busy_at tested.role f i (newest e past))) none)
-    go true a true h = same_some busy (λ i. is_busy_at tested.role f i (newest e past)) (taken_by tested.role e.note) (λ i.
-        ap (λ b. b || (contains nat_eq s.subscribing i || contains nat_eq s.unsubscribing i)) (taken-is tested s f e past under.follows.placed.1 a (now s tested f e past (item-closed e.note h) u) i)
-        ∙ ap (λ b. (is_open_at tested.role f i (newest e past) && not (may_be_discarded tested.role f i (newest e past))) || (b || contains nat_eq s.unsubscribing i)) (u.subscribing_are i ∙ waits-connected (sent_as subscribe_in) (received_as suback_in) i past (on (item-needs e.note h)))
-        ∙ ap (λ b. (is_open_at tested.role f i (newest e past) && not (may_be_discarded tested.role f i (newest e past))) || (awaits_suback i (newest e past) || b)) (u.unsubscribing_are i ∙ waits-connected (sent_as unsubscribe_in) (received_as unsuback_in) i past (on (item-needs e.note h))))
+    go true a true h = same_some busy (λ i. is_busy_at tested.role f i (newest e past)) (taken_by tested.role e.note) (busy-is tested s f e past under.follows.placed.1 on h a u)
 
 -- a statement on a PUBLISH that is sent again
 resend-turns : (tested : Tested) (rule : Rule) (breaks : Fate → Moment → Bool) → statement tested.role rule ≡ in_session breaks → (bound : Bool) → binds rule tested ≡ bound → (f : Fate) (e : Seen) (past : List Seen) (p q : ℕ → Bool)

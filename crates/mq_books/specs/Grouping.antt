@@ -1,11 +1,14 @@
 -- The statements of exchanges, and all statements on sessions, each as the pairs that their watchers add.
-use Rattle.std.specs.Prelude.{◌≡◌, Bool, ◌&&◌, ◌||◌, Option, Some, None, refl}
+use Rattle.std.specs.Prelude.{◌≡◌, Bool, true, false, ◌&&◌, ◌||◌, not, Option, Some, None, refl}
 use Rattle.mq_rules.specs.declared.rule.Rule.{Rule}
-use Rattle.mq_rules.specs.declared.rule.Rule.TheVariants.{S07, E1A, E1R, E1O, E2A, E2R, E2O, E3A, E3R, E3O, E4A, E4R, E5A, E5R, E6A, E6R, E7R, L1, L2, L3, B01, B02, B03, B04}
+use Rattle.mq_rules.specs.declared.role.Role.{Role}
+use Rattle.mq_rules.specs.declared.rule.Rule.TheVariants.{W01, S07, E1A, E1R, E1O, E2A, E2R, E2O, E3A, E3R, E3O, E4A, E4R, E5A, E5R, E6A, E6R, E7R, L1, L2, L3, B01, B02, B03, B04}
 use Rattle.mq_rules.specs.Words.{is_some_and}
 use Rattle.mq_rules.specs.Rules.{same_rule}
 use Rattle.mq_rules.specs.Under.{either_adds}
-use Rattle.mq_books.specs.Using.{is_inflight}
+use Rattle.mq_rules.specs.Occasions.{occasion}
+use Rattle.mq_books.specs.Placings.{is_on_sessions, implied}
+use Rattle.mq_books.specs.Using.{is_at_once, is_inflight}
 
 -- ---- an exchange
 
@@ -74,6 +77,10 @@ of_releases r = (same_rule r L1 || same_rule r L2) || same_rule r L3
 abbrev pub of_sessions : Rule → Bool
 of_sessions r = of_sending r || ((of_messages r || of_requests r) || (of_releases r || of_subscriptions r))
 
+-- those of them whose places are counted: all but S06
+abbrev pub of_counted : Rule → Bool
+of_counted r = (is_at_once r || (same_rule r S07 || same_rule r E7R)) || ((of_messages r || of_requests r) || (of_releases r || of_subscriptions r))
+
 abbrev pub by_sessions : Rule → Bool → Bool
 by_sessions r t = by_sending r t || (((of_messages r && t) || (of_requests r && t)) || ((of_releases r && t) || (of_subscriptions r && t)))
 
@@ -84,3 +91,30 @@ sessions_add r t =
     (either_adds ((of_messages r && t) || (of_requests r && t)) ((of_releases r && t) || (of_subscriptions r && t)) (of_messages r || of_requests r) (of_releases r || of_subscriptions r) t
     (either_adds (of_messages r && t) (of_requests r && t) (of_messages r) (of_requests r) t refl refl)
     (either_adds (of_releases r && t) (of_subscriptions r && t) (of_releases r) (of_subscriptions r) t refl refl))
+
+-- ---- the same where an event is asked which of them it puts to the test
+
+-- a pair of one of them turns out to fail, if any pair of the statement does
+abbrev pub by_asked : Rule → Bool → Bool
+by_asked r t = by_sending r t || ((by_messages r t || by_requests r t) || ((of_releases r && t) || (((same_rule r B01 || same_rule r B02) && t) || ((same_rule r B03 && t) || (same_rule r B04 && t)))))
+
+pub asked_add : (r : Rule) (t : Bool) → by_asked r t ≡ (of_sessions r && t)
+asked_add W01 true = refl
+asked_add W01 false = refl
+asked_add _ true = refl
+asked_add _ false = refl
+
+-- each of them is put to the test on sessions
+requests_placed : (role : Role) (r : Rule) → (of_requests r && not (is_on_sessions (occasion role r))) ≡ false
+requests_placed role W01 = refl
+requests_placed role _ = refl
+
+pub on_requests : (role : Role) (r : Rule) → of_requests r ≡ true → is_on_sessions (occasion role r) ≡ true
+on_requests role r = implied (of_requests r) (is_on_sessions (occasion role r)) (requests_placed role r)
+
+counted_placed : (role : Role) (r : Rule) → (of_counted r && not (is_on_sessions (occasion role r))) ≡ false
+counted_placed role W01 = refl
+counted_placed role _ = refl
+
+pub on_counted : (role : Role) (r : Rule) → of_counted r ≡ true → is_on_sessions (occasion role r) ≡ true
+on_counted role r = implied (of_counted r) (is_on_sessions (occasion role r)) (counted_placed role r)

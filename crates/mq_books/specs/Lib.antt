@@ -1,3 +1,4 @@
+pub mod Kinds
 pub mod Quotas
 pub mod Knowing
 pub mod Holding
@@ -24,3 +25,4 @@ pub mod Selecting
 pub mod Patterning
 pub mod Burden
 pub mod Weights
+pub mod Tried

@@ -1,6 +1,6 @@
 -- What watchers that count places say of their statements.
-use Rattle.std.specs.Prelude.{◌≡◌, Bool, true, false, ◌||◌, Option, Some, None, refl}
-use Rattle.std.proofs.Common.{ap, ◌∙◌}
+use Rattle.std.specs.Prelude.{◌≡◌, Bool, true, false, cond, ◌&&◌, ◌||◌, not, Option, Some, None, refl}
+use Rattle.std.proofs.Common.{ap, sym, ◌∙◌}
 use denote.Enum.Bare.{same_true}
 use Rattle.mq_rules.specs.contracts.rule.Rule.{the_type}
 use Rattle.mq_rules.specs.declared.role.Role.{Role}
@@ -37,3 +37,9 @@ on_any role (Some o) rule test says same = on_session role o rule test (says o r
 pub on_either : (a b c : Bool) → (a ≡ true → c ≡ true) → (b ≡ true → c ≡ true) → (a || b) ≡ true → c ≡ true
 on_either true b c first second h = first refl
 on_either false b c first second h = second h
+
+-- so it is where each statement of a group is
+pub implied : (a b : Bool) → (a && not b) ≡ false → a ≡ true → b ≡ true
+implied true true h k = refl
+implied true false h k = sym h
+implied false b h k = sym (ap (λ c. cond c b true) k)

@@ -223,16 +223,14 @@ fn is_answered(binds: bool, fate: Fate, answer: Option<u16>) -> bool
 impl<X: Exchange> Asks for Asked<X> {
     type Places = u32;
 
+    ghost counted = { ⟦<Asked<X> as Fated>⟧.judges };
+
     ghost counts = { λ n tested taken past. n ≡ places_under tested taken past X.asked };
 
     ghost on_sessions = { λ role rule judged. on_session role X.asked rule (if_early X.early role (λ f. applies_A X.exchange)) (X.tries_asked role) judged };
 
     fn tests(rule: Rule) -> bool {
         rule == X::asked_rule()
-    }
-
-    fn fate(&self) -> Fate {
-        self.fate
     }
 
     fn no_places() -> u32 {

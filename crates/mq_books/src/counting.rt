@@ -1,5 +1,5 @@
 //! Watchers that count how often their statements are put to the test.
-ghost use Rattle.std.specs.Prelude.{◌≡◌, ◌∷◌, ◌+◌, ◌<◌, [], true, cond, List, Option, Some};
+ghost use Rattle.std.specs.Prelude.{◌≡◌, ◌∷◌, ◌+◌, ◌<◌, [], Bool, true, cond, List, Option, Some};
 ghost use Rattle.mq_rules.specs.declared.role.Tested.{Tested as TheTested};
 ghost use Rattle.mq_rules.specs.declared.fate.Fate.{Fate as TheFate};
 ghost use Rattle.mq_rules.specs.declared.fate.Fate.TheVariants.{Void};
@@ -9,7 +9,7 @@ ghost use Rattle.mq_rules.specs.declared.role.Role.{Role as TheRole};
 ghost use Rattle.mq_rules.specs.declared.rule.Rule.{Rule as TheRule};
 ghost use Rattle.mq_rules.specs.Occasions.{occasion, places_under};
 ghost use Rattle.mq_books.specs.Placings.{is_on_sessions, on_either};
-ghost use Rattle.std.specs.Prelude.{◌&&◌, refl};
+ghost use Rattle.std.specs.Prelude.{◌&&◌, ◌||◌, refl};
 
 use crate::fated::Fated;
 use mq_log::Place3;
@@ -25,13 +25,12 @@ pub trait Asks: Fated {
     /// taken to have this fate.
     ghost counts: { Self.Places → TheTested → Option TheFate → List TheSeen → Type 0 };
 
-    /// Whether a statement is one of its own.
-    fn tests(rule: Rule) -> bool
-        ensures { result ≡ Self.judges rule };
+    /// The statements whose places it counts, among those that it judges.
+    ghost counted: { TheRule → Bool };
 
-    /// The fate that the latest connection is taken to have.
-    fn fate(&self) -> Fate
-        ensures { (tested : TheTested) (taken : Option TheFate) (past : List TheSeen) → Self.agrees self.now tested taken past → taken ≡ Some result };
+    /// Whether it counts the places of a statement.
+    fn tests(rule: Rule) -> bool
+        ensures { result ≡ counted rule };
 
     /// The counts before any event.
     fn no_places() -> Self::Places
@@ -42,12 +41,12 @@ pub trait Asks: Fated {
     fn count(&self, places: &mut Self::Places, at: Place3, decided: u32, fate: Fate, note: &Note)
         ensures { (tested : TheTested) (past : List TheSeen) → IsUnder tested fate decided (seen at note.now) past → Self.agrees self.now tested (fate_before tested fate (seen at note.now) past) past → counts places.old tested (fate_before tested fate (seen at note.now) past) past → counts places.new tested (Some fate) (seen at note.now ∷ past) };
 
-    /// How many places one of its statements has.
+    /// How many places one of them has.
     fn places_of(places: &Self::Places, rule: Rule) -> u32
-        ensures { (tested : TheTested) (taken : Option TheFate) (past : List TheSeen) → counts places.now tested taken past → Self.judges rule ≡ true → result ≡ places_under tested taken past rule };
+        ensures { (tested : TheTested) (taken : Option TheFate) (past : List TheSeen) → counts places.now tested taken past → counted rule ≡ true → result ≡ places_under tested taken past rule };
 
-    /// Its statements are put to the test on sessions.
-    ghost on_sessions: { (role : TheRole) (rule : TheRule) → Self.Fated.judges rule ≡ true → is_on_sessions (occasion role rule) ≡ true };
+    /// They are put to the test on sessions.
+    ghost on_sessions: { (role : TheRole) (rule : TheRule) → counted rule ≡ true → is_on_sessions (occasion role rule) ≡ true };
 }
 
 /// A watcher, and how often each of its statements was put to the test.
@@ -55,6 +54,8 @@ pub trait Asks: Fated {
 pub struct Counting<W: Asks> {
     watcher: W,
     places: W::Places,
+    /// The fate that the latest connection is taken to have.
+    fate: Fate,
 }
 
 /// One place more, or none: there are fewer than events.
@@ -82,20 +83,21 @@ impl<W: Asks> Counting<W> {
         Counting {
             watcher,
             places: W::no_places(),
+            fate: Fate::Void,
         }
     }
 
     /// How many places one of its statements has, where the latest connection is taken to have the
     /// fate that the watcher took in with its events.
     pub fn places(&self, rule: Rule) -> u32
-        ensures { (tested : TheTested) (taken : Option TheFate) (past : List TheSeen) → ⟦<Counting<W> as Watch>⟧.agrees self.now tested taken past → W.judges rule ≡ true → result ≡ places_under tested taken past rule }
+        ensures { (tested : TheTested) (taken : Option TheFate) (past : List TheSeen) → ⟦<Counting<W> as Watch>⟧.agrees self.now tested taken past → W.counted rule ≡ true → result ≡ places_under tested taken past rule }
     {
         W::places_of(&self.places, rule)
     }
 }
 
 impl<W: Asks> Watch for Counting<W> {
-    ghost agrees = { λ s tested taken past. W.agrees s.watcher tested taken past × W.counts s.places tested taken past };
+    ghost agrees = { λ s tested taken past. (taken ≡ Some s.fate) × W.agrees s.watcher tested taken past × W.counts s.places tested taken past };
 
     ghost takes = { IsKnown };
 
@@ -106,8 +108,7 @@ impl<W: Asks> Watch for Counting<W> {
     ghost bound = { W.bound };
 
     fn step(&mut self, at: Place3, note: &Note, faults: &mut Faults) -> Result<(), Memory> {
-        let fate = self.watcher.fate();
-        self.fated(at, at.position, fate, note, faults)?;
+        self.fated(at, at.position, self.fate, note, faults)?;
         Ok(())
     }
 
@@ -130,6 +131,7 @@ impl<W: Asks> Fated for Counting<W> {
         self.watcher
             .count(&mut self.places, at, decided, fate, note);
         self.watcher.fated(at, decided, fate, note, faults)?;
+        self.fate = fate;
         Ok(())
     }
 
@@ -150,14 +152,12 @@ impl<A: Asks, B: Asks> Asks for Both<A, B> {
 
     ghost counts = { λ n tested taken past. A.counts n.a tested taken past × B.counts n.b tested taken past };
 
-    ghost on_sessions = { λ role rule judged. on_either (A.judges rule) (B.judges rule) (is_on_sessions (occasion role rule)) (A.on_sessions role rule) (B.on_sessions role rule) judged };
+    ghost counted = { λ r. A.counted r || B.counted r };
+
+    ghost on_sessions = { λ role rule judged. on_either (A.counted rule) (B.counted rule) (is_on_sessions (occasion role rule)) (A.on_sessions role rule) (B.on_sessions role rule) judged };
 
     fn tests(rule: Rule) -> bool {
         A::tests(rule) || B::tests(rule)
-    }
-
-    fn fate(&self) -> Fate {
-        self.a.fate()
     }
 
     fn no_places() -> Self::Places {

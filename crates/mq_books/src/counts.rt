@@ -233,16 +233,14 @@ fn is_put_to_test(
 impl<R: Replies> Asks for Counts<R> {
     type Places = u32;
 
+    ghost counted = { ⟦<Counts<R> as Fated>⟧.judges };
+
     ghost counts = { λ n tested taken past. n ≡ places_under tested taken past R.judged };
 
     ghost on_sessions = { λ role rule judged. on_session role R.judged rule (λ f. R.applies) (R.tries role) judged };
 
     fn tests(rule: Rule) -> bool {
         rule == R::judged()
-    }
-
-    fn fate(&self) -> Fate {
-        self.fate
     }
 
     fn no_places() -> u32 {

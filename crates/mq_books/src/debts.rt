@@ -5,14 +5,19 @@ ghost use Rattle.mq_rules.specs.Notes.{note_of_bare};
 ghost use Rattle.mq_rules.specs.Words.{is_some_and};
 ghost use Rattle.mq_rules.specs.Rules.{same_rule};
 ghost use Rattle.mq_rules.specs.Under.{turns_known, either_adds};
+ghost use Rattle.mq_rules.specs.Statements.{if_early};
+ghost use Rattle.mq_rules.specs.Exchanges.{applies_A, applies_O, applies_R};
+ghost use Rattle.mq_rules.specs.Occasions.{occasion};
+ghost use Rattle.mq_books.specs.Placings.{on_any, on_either, on_rest, on_session, is_on_sessions};
 
 use crate::asked::Asked;
+use crate::counting::Asks;
 use crate::exchange::Exchange;
 use crate::fated::Fated;
-use crate::owed::Owed;
+use crate::owed::{Owed, OwedPlaces};
 use crate::selective::Selective;
 use mq_log::Place3;
-use mq_rules::{Bare, Both, Brisk, Fate, Faults, Memory, Note, Tested, Watch};
+use mq_rules::{Bare, Both, Brisk, Fate, Faults, Memory, Note, Rule, Tested, Watch};
 use std::alloc::Global;
 
 /// Watches all statements of an exchange: each answer was asked for, each cause is answered before
@@ -100,5 +105,38 @@ impl<X: Exchange> Selective for Debts<X> {
 
     fn passes(&self) {
         self.parts.passes();
+    }
+}
+
+impl<X: Exchange> Asks for Debts<X> {
+    type Places = Both<u32, OwedPlaces>;
+
+    ghost counted = { ⟦<Both<Asked<X>, Owed<X>> as Asks>⟧.counted };
+
+    ghost counts = { ⟦<Both<Asked<X>, Owed<X>> as Asks>⟧.counts };
+
+    ghost on_sessions = { λ role rule judged. on_either (same_rule rule X.asked) (same_rule rule X.settled || is_some_and (same_rule rule) X.ordered) (is_on_sessions (occasion role rule)) (on_session role X.asked rule (if_early X.early role (λ f. applies_A X.exchange)) (X.tries_asked role)) (on_either (same_rule rule X.settled) (is_some_and (same_rule rule) X.ordered) (is_on_sessions (occasion role rule)) (on_rest role X.settled rule (applies_R X.exchange) (X.tries_settled role)) (on_any role X.ordered rule (λ f. applies_O X.exchange) (X.tries_ordered role))) judged };
+
+    fn tests(rule: Rule) -> bool {
+        <Both<Asked<X>, Owed<X>>>::tests(rule)
+    }
+
+    fn no_places() -> Both<u32, OwedPlaces> {
+        <Both<Asked<X>, Owed<X>>>::no_places()
+    }
+
+    fn count(
+        &self,
+        places: &mut Both<u32, OwedPlaces>,
+        at: Place3,
+        decided: u32,
+        fate: Fate,
+        note: &Note,
+    ) {
+        self.parts.count(places, at, decided, fate, note);
+    }
+
+    fn places_of(places: &Both<u32, OwedPlaces>, rule: Rule) -> u32 {
+        <Both<Asked<X>, Owed<X>>>::places_of(places, rule)
     }
 }

@@ -203,7 +203,7 @@ impl<W: Asks> Early<Counting<W>> {
     /// How many places a statement has in the log so far. On an undecided connection nothing was
     /// put to the test yet.
     pub fn places(&self, rule: Rule) -> u32
-        ensures { (tested : TheTested) (taken : Option TheFate) (past : List TheSeen) → ⟦<Early<Counting<W>> as Watch>⟧.agrees self.now tested taken past → W.judges rule ≡ true → result ≡ places tested past rule }
+        ensures { (tested : TheTested) (taken : Option TheFate) (past : List TheSeen) → ⟦<Early<Counting<W>> as Watch>⟧.agrees self.now tested taken past → W.counted rule ≡ true → result ≡ places tested past rule }
     {
         self.watcher.places(rule)
     }

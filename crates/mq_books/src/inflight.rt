@@ -23,6 +23,7 @@ ghost use Rattle.mq_books.specs.Knowing.{all_excused};
 ghost use Rattle.mq_rules.specs.Notes.{note_of_bare};
 ghost use Rattle.mq_books.specs.Selecting as selecting;
 
+mod asking;
 mod broken;
 mod earlier;
 mod entry;

@@ -56,4 +56,4 @@ pub use selective::{Selecting, Selective};
 pub use sessions::Sessions;
 pub use subs::{Deliveries, DeliveryPlaces};
 pub use subs_all::Subs;
-pub use watchers::Watchers;
+pub use watchers::{CountingWatchers, PlainWatchers, Watchers};

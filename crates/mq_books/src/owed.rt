@@ -373,16 +373,14 @@ pub struct OwedPlaces {
 impl<X: Exchange> Asks for Owed<X> {
     type Places = OwedPlaces;
 
+    ghost counted = { ⟦<Owed<X> as Fated>⟧.judges };
+
     ghost counts = { λ n tested taken past. IsSettling X.exchange X.settled n.pending n.settled tested taken past × ((rule : TheRule) → X.ordered ≡ Some rule → n.ordered ≡ places_under tested taken past rule) };
 
     ghost on_sessions = { λ role rule judged. on_either (same_rule rule X.settled) (is_some_and (same_rule rule) X.ordered) (is_on_sessions (occasion role rule)) (on_rest role X.settled rule (applies_R X.exchange) (X.tries_settled role)) (on_any role X.ordered rule (λ f. applies_O X.exchange) (X.tries_ordered role)) judged };
 
     fn tests(rule: Rule) -> bool {
         rule == X::settled_rule() || is_rule(X::ordered_rule(), rule)
-    }
-
-    fn fate(&self) -> Fate {
-        self.fate
     }
 
     fn no_places() -> OwedPlaces {

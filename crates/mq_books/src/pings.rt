@@ -255,16 +255,14 @@ fn is_put_to_test(role: Role, fate: Fate, known: bool, ended: bool, note: &Note,
 impl Asks for Pings {
     type Places = u32;
 
+    ghost counted = { ⟦<Pings as Fated>⟧.judges };
+
     ghost counts = { λ n tested taken past. n ≡ places_under tested taken past E7R };
 
     ghost on_sessions = { λ role rule judged. on_one role E7R rule refl judged };
 
     fn tests(rule: Rule) -> bool {
         rule == Rule::E7R
-    }
-
-    fn fate(&self) -> Fate {
-        self.fate
     }
 
     fn no_places() -> u32 {

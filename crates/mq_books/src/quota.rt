@@ -354,16 +354,14 @@ fn uses_up(fate: Fate, note: &Note, role: Role, peer: Option<u16>, old: u64, pos
 impl Asks for Quota {
     type Places = u32;
 
+    ghost counted = { ⟦<Quota as Fated>⟧.judges };
+
     ghost counts = { λ n tested taken past. n ≡ places_under tested taken past S07 };
 
     ghost on_sessions = { λ role rule judged. on_one role S07 rule refl judged };
 
     fn tests(rule: Rule) -> bool {
         rule == Rule::S07
-    }
-
-    fn fate(&self) -> Fate {
-        self.fate
     }
 
     fn no_places() -> u32 {

@@ -3,15 +3,17 @@
 ghost use Rattle.std.specs.Prelude.{◌≡◌, cond, [], Some};
 ghost use Rattle.mq_rules.specs.declared.fate.Fate.TheVariants.{Void};
 ghost use Rattle.mq_rules.specs.Under.{turns_known};
-ghost use Rattle.mq_books.specs.Grouping.{of_requests, by_requests, requests_add};
+ghost use Rattle.mq_books.specs.Grouping.{of_requests, by_requests, on_requests, requests_add};
 ghost use Rattle.mq_rules.specs.Notes.{note_of_bare};
 ghost use Rattle.mq_books.specs.Holding.{number_in};
-ghost use Rattle.mq_books.specs.Requesting.{binds_requests, AgreesIfBound};
+ghost use Rattle.mq_books.specs.Requesting.{binds_requests, AgreesIfBound, CountsIfBound};
 ghost use Rattle.mq_books.specs.Selecting as selecting;
 
+use crate::counting::Asks;
 use crate::debts::Debts;
 use crate::exchange::{E5, E6};
 use crate::fated::Fated;
+use crate::owed::OwedPlaces;
 use crate::selective::Selective;
 use mq_log::Place3;
 use mq_rules::{
@@ -181,4 +183,35 @@ fn bare_may_concern_requests(bare: Bare<'_>) -> bool
 {
     let _ = bare;
     false
+}
+
+/// How often E5A to E6R were put to the test.
+type RequestPlaces = Both<Both<u32, OwedPlaces>, Both<u32, OwedPlaces>>;
+
+impl Asks for Requests {
+    type Places = RequestPlaces;
+
+    ghost counted = { ⟦<Both<Debts<E5>, Debts<E6>> as Asks>⟧.counted };
+
+    ghost counts = { CountsIfBound ⟦<Both<Debts<E5>, Debts<E6>> as Asks>⟧.counts };
+
+    ghost on_sessions = { on_requests };
+
+    fn tests(rule: Rule) -> bool {
+        <Both<Debts<E5>, Debts<E6>>>::tests(rule)
+    }
+
+    fn no_places() -> RequestPlaces {
+        <Both<Debts<E5>, Debts<E6>>>::no_places()
+    }
+
+    fn count(&self, places: &mut RequestPlaces, at: Place3, decided: u32, fate: Fate, note: &Note) {
+        if let Some(watchers) = &self.watchers {
+            watchers.count(places, at, decided, fate, note);
+        }
+    }
+
+    fn places_of(places: &RequestPlaces, rule: Rule) -> u32 {
+        <Both<Debts<E5>, Debts<E6>>>::places_of(places, rule)
+    }
 }

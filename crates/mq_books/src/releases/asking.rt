@@ -11,6 +11,7 @@ ghost use Rattle.mq_books.specs.Placings.{is_on_sessions, on_either, on_one};
 
 use super::Releases;
 use crate::counting::{Asks, pick, places_after};
+use crate::fated::Fated;
 use crate::known::{is_placed, place};
 use indexmap::IndexSet;
 use mq_log::Place3;
@@ -47,14 +48,12 @@ fn is_completed(releases: bool, fate: Fate, completed: Option<u16>, due: &IndexS
 impl Asks for Releases {
     type Places = ReleasePlaces;
 
+    ghost counted = { ⟦<Releases as Fated>⟧.judges };
+
     ghost counts = { λ n tested taken past. (n.released ≡ places_under tested taken past L1) × (n.released ≡ places_under tested taken past L2) × (n.completed ≡ places_under tested taken past L3) };
 
     fn tests(rule: Rule) -> bool {
         (rule == Rule::L1 || rule == Rule::L2) || rule == Rule::L3
-    }
-
-    fn fate(&self) -> Fate {
-        self.fate
     }
 
     fn no_places() -> ReleasePlaces {

@@ -11,6 +11,7 @@ ghost use Rattle.mq_books.specs.Placings.{is_on_sessions, on_either, on_one};
 
 use super::{Deliveries, judged_topic};
 use crate::counting::{Asks, pick, places_after};
+use crate::fated::Fated;
 use crate::messages::is_acknowledged;
 use indexmap::IndexMap;
 use mq_log::Place3;
@@ -70,14 +71,12 @@ impl Deliveries {
 impl Asks for Deliveries {
     type Places = DeliveryPlaces;
 
+    ghost counted = { ⟦<Deliveries as Fated>⟧.judges };
+
     ghost counts = { λ n tested taken past. (n.delivered ≡ places_under tested taken past B01) × (n.acknowledged ≡ places_under tested taken past B02) };
 
     fn tests(rule: Rule) -> bool {
         rule == Rule::B01 || rule == Rule::B02
-    }
-
-    fn fate(&self) -> Fate {
-        self.fate
     }
 
     fn no_places() -> DeliveryPlaces {

@@ -7,5 +7,5 @@ pub returns : goal.returns
 returns g c = λ tested taken past was judged.
     let rule = c.args.rule in
     c.pick.ensures
-    ∙ either-picked (g.A.Fated.judges rule) (g.B.Fated.judges rule) c.tests.result c.places_of.result c.places_of-2.result (places_under tested taken past rule) c.tests.ensures
+    ∙ either-picked (g.A.Asks.counted rule) (g.B.Asks.counted rule) c.tests.result c.places_of.result c.places_of-2.result (places_under tested taken past rule) c.tests.ensures
     (c.places_of.ensures tested taken past was.0) (c.places_of-2.ensures tested taken past was.1) judged

@@ -1,4 +1,4 @@
-use Rattle.mq_books.proofs.watchers.Watchers.new.Goals as goal
+use Rattle.mq_books.proofs.watchers.plain.PlainWatchers.new.Goals as goal
 
 -- each watcher agrees with no events
 pub returns : goal.returns

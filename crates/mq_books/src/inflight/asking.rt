@@ -1,0 +1,215 @@
+//! How often the statements on identifiers are put to the test.
+ghost use Rattle.std.specs.Prelude.{◌≡◌, true, [], ◌∷◌, Some, List, Option, nat_eq, is_some};
+ghost use Rattle.std.specs.List.{list_any};
+ghost use Rattle.indexmap.specs.IndexMap.{get, values};
+ghost use Rattle.mq_rules.specs.declared.role.Tested.{Tested as TheTested};
+ghost use Rattle.mq_rules.specs.declared.fate.Fate.{Fate as TheFate};
+ghost use Rattle.mq_rules.specs.declared.fate.Fate.TheVariants.{Void};
+ghost use Rattle.mq_rules.specs.declared.note.Seen.{Seen as TheSeen};
+ghost use Rattle.mq_rules.specs.Words.{is_some_and};
+ghost use Rattle.mq_rules.specs.Notes.{resend_of};
+ghost use Rattle.mq_rules.specs.Under.{seen, IsUnder, fate_before};
+ghost use Rattle.mq_rules.specs.Occasions.{places_under};
+ghost use Rattle.mq_books.specs.Using.{is_taken as taken, is_at_once as judged_at_once, past_pubrel, IsUsing};
+ghost use Rattle.mq_books.specs.Tried as tried;
+ghost use Rattle.mq_books.specs.Tried.{CountsAtOnce, on_at_once};
+
+use super::Inflight;
+use super::broken::is_taken;
+use super::entry::Entry;
+use super::resends::passed_since;
+use crate::counting::{Asks, pick, places_after};
+use crate::known::excuse;
+use indexmap::{IndexMap, IndexSet};
+use mq_log::Place3;
+use mq_rules::{Fate, Note, Rule};
+
+/// How often S01 to S05 were put to the test.
+#[derive(Drop)]
+pub struct AtOncePlaces {
+    // S01: identifiers taken while something was in use.
+    taking: u32,
+    // S02: PUBLISH packets sent again, while none was cut off.
+    resending: u32,
+    // S03: PUBLISH packets sent again.
+    repeating: u32,
+    // S04: what was sent again after its PUBREL.
+    released: u32,
+    // S05: what was sent again after something else that was open.
+    ordering: u32,
+}
+
+// Whether some identifier is among these.
+fn has_any(identifiers: &IndexSet<u16>) -> bool
+    ensures { result ≡ tried.has_any identifiers.now.keys }
+{
+    !identifiers.is_empty()
+}
+
+// Whether something is open that can't have been discarded. Mostly the first is.
+fn is_any_taken(entries: &IndexMap<u16, Entry>, since: u32) -> bool
+    ensures { result ≡ list_any (λ o. taken since o) (values entries.now) }
+{
+    entries.values().any(|entry| is_taken(entry, since))
+}
+
+impl Inflight {
+    // Whether something is in use on a connection of this fate.
+    fn has_any_used(&self, fate: Fate) -> bool
+        ensures { result ≡ tried.any_used self.now fate }
+    {
+        (has_any(&self.subscribing) || has_any(&self.unsubscribing))
+            || is_any_taken(
+                &self.entries,
+                passed_since(fate, self.bounds, self.opened, self.bounded),
+            )
+    }
+
+    // Whether an event puts S01 to the test: it takes an identifier while something is in use.
+    fn tries_taking(&self, fate: Fate, known: bool, note: &Note) -> bool
+        ensures { result ≡ tried.tries_taking self.now fate known note.now }
+    {
+        let taking = fate.accepts()
+            && (note.taken_identifier(self.role).is_some() && self.has_any_used(fate));
+        excuse(fate.is_unasked(), known, taking)
+    }
+
+    // Whether it puts S02 to the test: it sends a PUBLISH again, and none was cut off.
+    fn tries_resending(&self, fate: Fate, known: bool, note: &Note) -> bool
+        ensures { result ≡ tried.tries_resending self.now fate known note.now }
+    {
+        let resending = fate.accepts()
+            && (note.resend().is_some() && !(self.earlier.cut_on_void || self.earlier.cut));
+        excuse(fate.surprises(), known, resending)
+    }
+
+    // Whether an identifier is open by a PUBLISH of QoS 2 whose PUBREL was sent since.
+    fn is_released(&self, i: u16) -> bool
+        ensures { result ≡ past_pubrel (get nat_eq self.now.entries) i }
+    {
+        match self.entries.get(&i) {
+            Some(entry) => entry.exactly_once && entry.released,
+            None => false,
+        }
+    }
+
+    // Whether it puts S04 to the test: it sends such a PUBLISH again, or its PUBREL.
+    fn tries_released(&self, fate: Fate, note: &Note) -> bool
+        ensures { result ≡ tried.tries_released self.now fate note.now }
+    {
+        fate.accepts()
+            && match note.resend().or(note.sent_pubrel()) {
+                Some(i) => self.is_released(i),
+                None => false,
+            }
+    }
+
+    // Whether what is sent again is open.
+    fn is_open_again(&self, note: &Note) -> bool
+        ensures { result ≡ is_some_and (λ i. is_some (get nat_eq self.now.entries i)) (resend_of note.now) }
+    {
+        match note.resend() {
+            Some(i) => self.entries.contains_key(&i),
+            None => false,
+        }
+    }
+
+    // Whether it puts S05 to the test: it sends again what is open, after another such PUBLISH.
+    fn tries_ordering(&self, fate: Fate, note: &Note) -> bool
+        ensures { result ≡ tried.tries_ordering self.now fate note.now }
+    {
+        self.ordered && (fate.accepts() && (self.is_open_again(note) && 0 < self.resent))
+    }
+}
+
+// Whether an event puts S03 to the test: it sends a PUBLISH again.
+fn tries_repeating(fate: Fate, note: &Note) -> bool
+    ensures { result ≡ tried.tries_repeating fate note.now }
+{
+    fate.accepts() && note.resend().is_some()
+}
+
+/// Counts the places of S01 to S05 that turn out with an event of a connection that has this fate,
+/// which is taken in after that.
+pub fn count_at_once(
+    flight: &Inflight,
+    places: &mut AtOncePlaces,
+    at: Place3,
+    decided: u32,
+    fate: Fate,
+    note: &Note,
+)
+    ensures { (tested : TheTested) (past : List TheSeen) → IsUnder tested fate decided (seen at note.now) past → IsUsing flight.now tested (fate_before tested fate (seen at note.now) past) past → CountsAtOnce places.old tested (fate_before tested fate (seen at note.now) past) past → CountsAtOnce places.new tested (Some fate) (seen at note.now ∷ past) }
+{
+    let known = decided == at.position;
+    let taking = flight.tries_taking(fate, known, note);
+    let resending = flight.tries_resending(fate, known, note);
+    let repeating = tries_repeating(fate, note);
+    let released = flight.tries_released(fate, note);
+    let ordering = flight.tries_ordering(fate, note);
+    places.taking = places_after(taking, places.taking, at.position);
+    places.resending = places_after(resending, places.resending, at.position);
+    places.repeating = places_after(repeating, places.repeating, at.position);
+    places.released = places_after(released, places.released, at.position);
+    places.ordering = places_after(ordering, places.ordering, at.position);
+}
+
+impl AtOncePlaces {
+    /// None before any event.
+    pub fn new() -> Self
+        ensures { (tested : TheTested) → CountsAtOnce result tested (Some Void) [] }
+    {
+        AtOncePlaces {
+            taking: 0,
+            resending: 0,
+            repeating: 0,
+            released: 0,
+            ordering: 0,
+        }
+    }
+
+    /// How many places one of S01 to S05 has.
+    pub fn places(&self, rule: Rule) -> u32
+        ensures { (tested : TheTested) (taken : Option TheFate) (past : List TheSeen) → CountsAtOnce self.now tested taken past → judged_at_once rule ≡ true → result ≡ places_under tested taken past rule }
+    {
+        let last = pick(rule == Rule::S04, self.released, self.ordering);
+        let later = pick(rule == Rule::S03, self.repeating, last);
+        let others = pick(rule == Rule::S02, self.resending, later);
+        pick(rule == Rule::S01, self.taking, others)
+    }
+}
+
+// Whether a statement is one of S01 to S05.
+fn is_at_once(rule: Rule) -> bool
+    ensures { result ≡ judged_at_once rule }
+{
+    rule == Rule::S01
+        || (rule == Rule::S02 || (rule == Rule::S03 || (rule == Rule::S04 || rule == Rule::S05)))
+}
+
+// It doesn't count S06.
+impl Asks for Inflight {
+    type Places = AtOncePlaces;
+
+    ghost counts = { CountsAtOnce };
+
+    ghost counted = { judged_at_once };
+
+    ghost on_sessions = { on_at_once };
+
+    fn tests(rule: Rule) -> bool {
+        is_at_once(rule)
+    }
+
+    fn no_places() -> AtOncePlaces {
+        AtOncePlaces::new()
+    }
+
+    fn count(&self, places: &mut AtOncePlaces, at: Place3, decided: u32, fate: Fate, note: &Note) {
+        count_at_once(self, places, at, decided, fate, note);
+    }
+
+    fn places_of(places: &AtOncePlaces, rule: Rule) -> u32 {
+        places.places(rule)
+    }
+}

@@ -1,0 +1,98 @@
+//! All statements, of which faults are found and places counted, but for those on a packet's bytes.
+ghost use Rattle.std.specs.Prelude.{◌≡◌, ◌*◌, cond, ◌||◌, [], List, Option, Some, None};
+ghost use Rattle.mq_rules.specs.declared.fate.Fate.TheVariants.{Void};
+ghost use Rattle.mq_rules.specs.declared.fate.Fate.{Fate as TheFate};
+ghost use Rattle.mq_rules.specs.declared.role.Tested.{Tested as TheTested};
+ghost use Rattle.mq_rules.specs.declared.note.Seen.{Seen as TheSeen};
+ghost use Rattle.mq_rules.specs.Connections.{IsOnConnection};
+ghost use Rattle.mq_rules.specs.Occasions.{places};
+ghost use Rattle.mq_rules.specs.declared.rule.Rule.TheVariants.{S06};
+ghost use Rattle.mq_rules.specs.Rules.{same_rule};
+ghost use Rattle.mq_rules.specs.Statements.{is_on_bytes};
+ghost use Rattle.mq_rules.specs.Steps.{turns};
+ghost use Rattle.mq_books.specs.Burden.{burden};
+
+use super::asked_sessions::AskedSessions;
+use crate::counting::{Asks, Counting};
+use crate::early::Early;
+use mq_log::Place3;
+use mq_rules::{
+    Bare, Both, Brisk, ConnTally, CountingConn, Faults, Memory, Note, Rule, Shapes, Tested, Watch,
+    conn_places, step_noted,
+};
+use std::alloc::Global;
+
+/// Watches all 74 statements, as `PlainWatchers` does, and counts how often those on connections
+/// and sessions are put to the test.
+pub struct CountingWatchers {
+    parts: Both<Shapes, Both<CountingConn<ConnTally>, Early<Counting<AskedSessions>>>>,
+}
+
+// As a derived one, but a call of its own.
+impl Drop for CountingWatchers {
+    #[inline(never)]
+    fn drop(self) {
+        let CountingWatchers { parts: _parts } = self;
+    }
+}
+
+impl CountingWatchers {
+    /// The watchers before the first event, for this tested end.
+    pub fn new(alloc: Global, tested: Tested) -> Self
+        ensures { ⟦<CountingWatchers as Watch>⟧.agrees result tested (Some Void) [] }
+    {
+        CountingWatchers {
+            parts: Both::new(
+                Shapes::new(tested),
+                Both::new(
+                    CountingConn::new(alloc, tested),
+                    Early::new(
+                        alloc,
+                        tested,
+                        Counting::new(AskedSessions::new(alloc, tested)),
+                    ),
+                ),
+            ),
+        }
+    }
+
+    /// How many places a statement has in the log so far. None if it is one on a packet's bytes, or
+    /// S06, whose places aren't counted.
+    pub fn places(&self, rule: Rule) -> Option<u32>
+        ensures { (tested : TheTested) (taken : Option TheFate) (past : List TheSeen) → ⟦<CountingWatchers as Watch>⟧.agrees self.now tested taken past → result ≡ cond (is_on_bytes tested rule || same_rule rule S06) None (Some (places tested past rule)) }
+    {
+        let later = &self.parts.b;
+        if AskedSessions::tests(rule) {
+            return Some(later.b.places(rule));
+        }
+        conn_places(&later.a, rule)
+    }
+}
+
+impl Watch for CountingWatchers {
+    ghost agrees = { λ s. ⟦<Both<Shapes, Both<CountingConn<ConnTally>, Early<Counting<AskedSessions>>>> as Watch>⟧.agrees s.parts };
+
+    ghost takes = { λ tested taken e past. IsOnConnection e past };
+
+    ghost adds = { turns };
+
+    ghost weighs = { λ s. ⟦<Both<Shapes, Both<CountingConn<ConnTally>, Early<Counting<AskedSessions>>>> as Watch>⟧.weighs s.parts };
+
+    ghost bound = { λ tested taken past. 4 * burden tested past };
+
+    fn step(&mut self, at: Place3, note: &Note, faults: &mut Faults) -> Result<(), Memory> {
+        self.parts.step(at, note, faults)?;
+        Ok(())
+    }
+
+    fn weight(&self) -> usize {
+        self.parts.weight()
+    }
+}
+
+impl Brisk for CountingWatchers {
+    fn step_bare(&mut self, at: Place3, bare: Bare<'_>, faults: &mut Faults) -> Result<(), Memory> {
+        step_noted(self, at, bare, faults)?;
+        Ok(())
+    }
+}

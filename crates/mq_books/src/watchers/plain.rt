@@ -1,0 +1,73 @@
+//! All statements, of which faults are found and no places counted.
+ghost use Rattle.std.specs.Prelude.{◌≡◌, ◌*◌, [], Some};
+ghost use Rattle.mq_rules.specs.declared.fate.Fate.TheVariants.{Void};
+ghost use Rattle.mq_rules.specs.Connections.{IsOnConnection};
+ghost use Rattle.mq_rules.specs.Steps.{turns};
+ghost use Rattle.mq_books.specs.Burden.{burden};
+
+use crate::early::Early;
+use crate::sessions::Sessions;
+use mq_log::Place3;
+use mq_rules::{Bare, Both, Brisk, Conn, Faults, Memory, Note, Shapes, Tested, Watch};
+use std::alloc::Global;
+
+/// Watches all 74 statements, and counts nothing: W and C as the events come, and those on sessions
+/// once their connection is decided.
+pub struct PlainWatchers {
+    parts: Both<Shapes, Both<Conn, Early<Sessions>>>,
+}
+
+// As a derived one, but a call of its own: what is to be freed is much, and else each function that
+// drops watchers would spell it out.
+impl Drop for PlainWatchers {
+    #[inline(never)]
+    fn drop(self) {
+        let PlainWatchers { parts: _parts } = self;
+    }
+}
+
+impl PlainWatchers {
+    /// The watchers before the first event, for this tested end.
+    pub fn new(alloc: Global, tested: Tested) -> Self
+        ensures { ⟦<PlainWatchers as Watch>⟧.agrees result tested (Some Void) [] }
+    {
+        PlainWatchers {
+            parts: Both::new(
+                Shapes::new(tested),
+                Both::new(
+                    Conn::new(alloc, tested),
+                    Early::new(alloc, tested, Sessions::new(alloc, tested)),
+                ),
+            ),
+        }
+    }
+}
+
+impl Watch for PlainWatchers {
+    ghost agrees = { λ s. ⟦<Both<Shapes, Both<Conn, Early<Sessions>>> as Watch>⟧.agrees s.parts };
+
+    ghost takes = { λ tested taken e past. IsOnConnection e past };
+
+    ghost adds = { turns };
+
+    ghost weighs = { λ s. ⟦<Both<Shapes, Both<Conn, Early<Sessions>>> as Watch>⟧.weighs s.parts };
+
+    ghost bound = { λ tested taken past. 4 * burden tested past };
+
+    fn step(&mut self, at: Place3, note: &Note, faults: &mut Faults) -> Result<(), Memory> {
+        self.parts.step(at, note, faults)?;
+        Ok(())
+    }
+
+    fn weight(&self) -> usize {
+        self.parts.weight()
+    }
+}
+
+impl Brisk for PlainWatchers {
+    #[inline(always)]
+    fn step_bare(&mut self, at: Place3, bare: Bare<'_>, faults: &mut Faults) -> Result<(), Memory> {
+        self.parts.step_bare(at, bare, faults)?;
+        Ok(())
+    }
+}
