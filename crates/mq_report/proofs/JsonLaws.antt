@@ -41,7 +41,7 @@ offset_unfloating (Some offset) = refl
 fault_unfloating : (role : Role) (key : FaultKey) (fault : Fault) → has_float (fault_data role key fault) ≡ false
 fault_unfloating role key fault = rw (offset_unfloating fault.offset) refl
 
-faults_unfloating : (role : Role) (faults : List (FaultKey × Fault)) → items_have_float (fault_items role faults) ≡ false
+pub faults_unfloating : (role : Role) (faults : List (FaultKey × Fault)) → items_have_float (fault_items role faults) ≡ false
 faults_unfloating role [] = refl
 faults_unfloating role (found ∷ faults) = rw (fault_unfloating role found.0 found.1) (faults_unfloating role faults)
 

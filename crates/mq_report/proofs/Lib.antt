@@ -5,6 +5,7 @@ pub mod LineLaws
 pub mod ReportLaws
 pub mod JsonLaws
 pub mod SummaryLaws
+pub mod CoverageLaws
 pub mod OutgoingLaws
 pub mod DetailLaws
 pub mod MarkingLaws

@@ -1,5 +1,5 @@
 -- A report that is written line by line.
-use Rattle.std.proofs.Common.{◌≡◌, ℕ, List, [], ◌∷◌, ◌++◌, length, Option, sym, ap, subst, ◌∙◌, append_assoc, IfErr, OnOk, Result, Ok, Err}
+use Rattle.std.proofs.Common.{◌≡◌, ℕ, List, [], ◌∷◌, ◌++◌, length, Option, subst, IfErr, OnOk, Result, Ok, Err}
 use Rattle.std.specs.Io.KnownBytes.{Appends}
 use Rattle.mq_trace.specs.Writing.{AppendsBeginning, LeavesToWrite}
 use Rattle.mq_report.specs.declared.report.RunFault.{RunFault}
@@ -7,52 +7,46 @@ use Rattle.mq_report.specs.declared.report.RunFault.TheVariants.{Write}
 use Rattle.mq_rules.specs.declared.role.Role.{Role}
 use Rattle.mq_rules.specs.declared.fault.Fault.{Fault}
 use Rattle.mq_rules.specs.declared.faults.FaultKey.{FaultKey}
-use Rattle.mq_report.specs.Report.{line, fault_text, verdict_text, fault_lines, text_report}
-use Rattle.mq_trace.proofs.Exports.{all-left, piece-written, last-written, stopped-in-piece, stopped-in-last}
+use Rattle.mq_report.specs.Report.{line, fault_text, fault_lines}
+use Rattle.mq_trace.proofs.Exports.{all-left, appends-nothing, appends-then, piece-written, last-written, stopped-in-piece, stopped-in-last}
+
+-- two pieces: both are written, or the first stops, or the second
+pub both_written : (x y z : Option (List ℕ)) (first second : List ℕ) (r : Result (Unit {0}) RunFault)
+    → Appends x y first → OnOk r (Appends y z second) → OnOk r (Appends x z (first ++ second))
+both_written x y z first second (Ok done) before more = appends-then x y z first second before more
+both_written x y z first second (Err fault) before more = tt
+
+pub first_stops : (x y : Option (List ℕ)) (first second : List ℕ) → AppendsBeginning x y first → AppendsBeginning x y (first ++ second)
+first_stops x y first second part = stopped-in-piece y first second (all-left x (first ++ second)) part
+
+pub second_stops : (x y z : Option (List ℕ)) (first second : List ℕ) (r : Result (Unit {0}) RunFault) → Appends x y first
+    → IfErr r (λ fault. (fault ≡ Write) × AppendsBeginning y z second) → IfErr r (λ fault. (fault ≡ Write) × AppendsBeginning x z (first ++ second))
+second_stops x y z first second (Ok done) before part = tt
+second_stops x y z first second (Err fault) before part =
+    (part.0, stopped-in-last z second (piece-written first second (all-left x (first ++ second)) before) part.1)
 
 -- before the first line
-pub report-begins : (x : Option (List ℕ)) (role : Role) (faults left : List (FaultKey × Fault)) (events : ℕ) → left ≡ faults
-    → LeavesToWrite x x (text_report role faults events) (fault_lines role left ++ line (verdict_text (length faults) events))
-unfolding text_report
-report-begins x role faults left events e = rw e (all-left x (fault_lines role faults ++ line (verdict_text (length faults) events)))
+pub report-begins : (x : Option (List ℕ)) (role : Role) (faults left : List (FaultKey × Fault)) → left ≡ faults
+    → LeavesToWrite x x (fault_lines role faults) (fault_lines role left)
+report-begins x role faults left e = rw e (all-left x (fault_lines role faults))
 
 -- a fault's line
-pub report-goes-on : {x y z : Option (List ℕ)} {whole : List ℕ} (role : Role) (left rest : List (FaultKey × Fault)) (key : FaultKey) (fault : Fault) (last : List ℕ)
-    → LeavesToWrite x y whole (fault_lines role left ++ last) → left ≡ (key, fault) ∷ rest
-    → Appends y z (line (fault_text role key fault)) → LeavesToWrite x z whole (fault_lines role rest ++ last)
-report-goes-on {x} {y} {z} {whole} role left rest key fault last so_far e more =
-    let this = line (fault_text role key fault) in
-    let split : LeavesToWrite x y whole (this ++ (fault_lines role rest ++ last)) =
-    subst (LeavesToWrite x y whole) (ap (λ (l : List (FaultKey × Fault)). fault_lines role l ++ last) e ∙ append_assoc this (fault_lines role rest) last) so_far in
-    piece-written this (fault_lines role rest ++ last) split more
+pub report-goes-on : {x y z : Option (List ℕ)} {whole : List ℕ} (role : Role) (left rest : List (FaultKey × Fault)) (key : FaultKey) (fault : Fault)
+    → LeavesToWrite x y whole (fault_lines role left) → left ≡ (key, fault) ∷ rest
+    → Appends y z (line (fault_text role key fault)) → LeavesToWrite x z whole (fault_lines role rest)
+report-goes-on {x} {y} {z} {whole} role left rest key fault so_far e more =
+    piece-written (line (fault_text role key fault)) (fault_lines role rest)
+    (subst (λ (l : List (FaultKey × Fault)). LeavesToWrite x y whole (fault_lines role l)) e so_far) more
 
-pub report-stops : {x y : Option (List ℕ)} (z : Option (List ℕ)) {whole : List ℕ} (role : Role) (left rest : List (FaultKey × Fault)) (key : FaultKey) (fault : Fault) (last : List ℕ)
-    → LeavesToWrite x y whole (fault_lines role left ++ last) → left ≡ (key, fault) ∷ rest
+pub report-stops : {x y : Option (List ℕ)} (z : Option (List ℕ)) {whole : List ℕ} (role : Role) (left rest : List (FaultKey × Fault)) (key : FaultKey) (fault : Fault)
+    → LeavesToWrite x y whole (fault_lines role left) → left ≡ (key, fault) ∷ rest
     → AppendsBeginning y z (line (fault_text role key fault)) → AppendsBeginning x z whole
-report-stops {x} {y} z {whole} role left rest key fault last so_far e part =
-    let this = line (fault_text role key fault) in
-    let split : LeavesToWrite x y whole (this ++ (fault_lines role rest ++ last)) =
-    subst (LeavesToWrite x y whole) (ap (λ (l : List (FaultKey × Fault)). fault_lines role l ++ last) e ∙ append_assoc this (fault_lines role rest) last) so_far in
-    stopped-in-piece z this (fault_lines role rest ++ last) split part
+report-stops {x} {y} z {whole} role left rest key fault so_far e part =
+    stopped-in-piece z (line (fault_text role key fault)) (fault_lines role rest)
+    (subst (λ (l : List (FaultKey × Fault)). LeavesToWrite x y whole (fault_lines role l)) e so_far) part
 
--- the last line
-pub report-ends : {x y : Option (List ℕ)} (z : Option (List ℕ)) {whole : List ℕ} (role : Role) (left : List (FaultKey × Fault)) (counted count events : ℕ)
-    (r : Result (Unit {0}) RunFault) → LeavesToWrite x y whole (fault_lines role left ++ line (verdict_text count events)) → left ≡ [] → counted ≡ count
-    → OnOk r (Appends y z (line (verdict_text counted events))) → OnOk r (Appends x z whole)
-report-ends {x} {y} z {whole} role left counted count events (Ok done) so_far e n more =
-    let last : LeavesToWrite x y whole (line (verdict_text counted events)) =
-    subst (LeavesToWrite x y whole) (ap (λ (l : List (FaultKey × Fault)). fault_lines role l ++ line (verdict_text count events)) e
-    ∙ ap (λ (k : ℕ). line (verdict_text k events)) (sym n)) so_far in
-    last-written z (line (verdict_text counted events)) last more
-report-ends z role left counted count events (Err fault) so_far e n more = tt
-
-pub report-stops-last : {x y : Option (List ℕ)} (z : Option (List ℕ)) {whole : List ℕ} (role : Role) (left : List (FaultKey × Fault)) (counted count events : ℕ)
-    (r : Result (Unit {0}) RunFault) → LeavesToWrite x y whole (fault_lines role left ++ line (verdict_text count events)) → left ≡ [] → counted ≡ count
-    → IfErr r (λ fault. (fault ≡ Write) × AppendsBeginning y z (line (verdict_text counted events)))
-    → IfErr r (λ fault. (fault ≡ Write) × AppendsBeginning x z whole)
-report-stops-last z role left counted count events (Ok done) so_far e n part = tt
-report-stops-last {x} {y} z {whole} role left counted count events (Err fault) so_far e n part =
-    let last : LeavesToWrite x y whole (line (verdict_text counted events)) =
-    subst (LeavesToWrite x y whole) (ap (λ (l : List (FaultKey × Fault)). fault_lines role l ++ line (verdict_text count events)) e
-    ∙ ap (λ (k : ℕ). line (verdict_text k events)) (sym n)) so_far in
-    (part.0, stopped-in-last z (line (verdict_text counted events)) last part.1)
+-- after the last line
+pub report-ends : {x y : Option (List ℕ)} {whole : List ℕ} (role : Role) (left : List (FaultKey × Fault))
+    → LeavesToWrite x y whole (fault_lines role left) → left ≡ [] → Appends x y whole
+report-ends {x} {y} {whole} role left so_far e =
+    last-written y [] (subst (λ (l : List (FaultKey × Fault)). LeavesToWrite x y whole (fault_lines role l)) e so_far) (appends-nothing y)

@@ -1,5 +1,5 @@
 -- A report in short: the faults of a statement, and its line.
-use Rattle.std.proofs.Common.{◌≡◌, ℕ, Bool, true, false, ◌<◌, ◌≤◌, ◌+◌, add-one, List, [], ◌∷◌, length, drop, drop-cons, get_or, Option, Some, None, refl, sym, ap, subst, ◌∙◌, arith, OnOk, IfErr, Result, Ok, Err}
+use Rattle.std.proofs.Common.{◌≡◌, ℕ, Bool, true, false, ◌<◌, ◌≤◌, ◌+◌, add-one, List, [], ◌∷◌, ◌++◌, length, drop, drop-cons, get_or, Option, Some, None, refl, sym, ap, subst, ◌∙◌, arith, OnOk, IfErr, Result, Ok, Err}
 use Rattle.std.specs.Option.{option_or}
 use Rattle.std.specs.Io.KnownBytes.{Appends}
 use Rattle.mq_trace.specs.Writing.{AppendsBeginning, LeavesToWrite}
@@ -11,8 +11,9 @@ use Rattle.mq_rules.specs.declared.rule.Rule.TheVariants.{W01}
 use Rattle.mq_rules.specs.declared.fault.Fault.{Fault}
 use Rattle.mq_rules.specs.declared.faults.FaultKey.{FaultKey}
 use Rattle.mq_rules.specs.Rules.{same_rule, all_rules}
-use Rattle.mq_report.specs.Report.{line, verdict_text, faults_of, first_fault_of, rule_line, rule_lines, summary_report}
-use Rattle.mq_trace.proofs.Exports.{all-left, appends-then, piece-written, stopped-in-piece, stopped-in-last}
+use Rattle.mq_report.specs.Report.{faults_of, first_fault_of, rule_line, rule_lines}
+use Rattle.mq_trace.proofs.Exports.{piece-written, stopped-in-piece}
+use Rattle.mq_report.proofs.ReportLaws.{both_written, first_stops, second_stops}
 
 -- What was counted, and the first fault that was found, before these faults are left of all: of the count, those of other statements are still to be taken away.
 pub record Tallies (rule : Rule) (count : ℕ) (found : Option (FaultKey × Fault)) (left whole : List (FaultKey × Fault)) : Type 0 where
@@ -106,32 +107,20 @@ rules_stop {x} {y} z {whole} role faults rules i h so_far part =
     stopped-in-piece z (rule_line role rule (faults_of rule faults)) (rule_lines role faults (drop (i + 1) rules))
     (subst (λ (l : List Rule). LeavesToWrite x y whole (rule_lines role faults l)) (next_rule rules i h) so_far) part
 
--- the last line follows those of the statements
-pub summary_ends : (x y z : Option (List ℕ)) (role : Role) (faults : List (FaultKey × Fault)) (counted events : ℕ) (r : Result (Unit {0}) RunFault)
-    → (listed : List Rule) → listed ≡ all_rules → Appends x y (rule_lines role faults listed) → counted ≡ length faults
-    → OnOk r (Appends y z (line (verdict_text counted events))) → OnOk r (Appends x z (summary_report role faults events))
-unfolding summary_report
-summary_ends x y z role faults counted events (Ok done) listed all rules n more =
-    appends-then x y z (rule_lines role faults all_rules) (line (verdict_text (length faults) events))
-    (subst (λ (l : List Rule). Appends x y (rule_lines role faults l)) all rules) (subst (λ (k : ℕ). Appends y z (line (verdict_text k events))) n more)
-summary_ends x y z role faults counted events (Err fault) listed all rules n more = tt
+-- the statements that are listed are all
+pub of_all_written : (x y z : Option (List ℕ)) (role : Role) (faults : List (FaultKey × Fault)) (last : List ℕ) (r : Result (Unit {0}) RunFault)
+    → (listed : List Rule) → listed ≡ all_rules → Appends x y (rule_lines role faults listed) → OnOk r (Appends y z last)
+    → OnOk r (Appends x z (rule_lines role faults all_rules ++ last))
+of_all_written x y z role faults last r listed all rules more =
+    both_written x y z (rule_lines role faults all_rules) last r (subst (λ (l : List Rule). Appends x y (rule_lines role faults l)) all rules) more
 
-pub summary_stops : (x y : Option (List ℕ)) (role : Role) (faults : List (FaultKey × Fault)) (events : ℕ)
-    → (listed : List Rule) → listed ≡ all_rules → AppendsBeginning x y (rule_lines role faults listed) → AppendsBeginning x y (summary_report role faults events)
-unfolding summary_report
-summary_stops x y role faults events listed all part =
-    stopped-in-piece y (rule_lines role faults all_rules) (line (verdict_text (length faults) events))
-    (all-left x (summary_report role faults events)) (subst (λ (l : List Rule). AppendsBeginning x y (rule_lines role faults l)) all part)
+pub of_all_first_stops : (x y : Option (List ℕ)) (role : Role) (faults : List (FaultKey × Fault)) (last : List ℕ)
+    → (listed : List Rule) → listed ≡ all_rules → AppendsBeginning x y (rule_lines role faults listed) → AppendsBeginning x y (rule_lines role faults all_rules ++ last)
+of_all_first_stops x y role faults last listed all part =
+    first_stops x y (rule_lines role faults all_rules) last (subst (λ (l : List Rule). AppendsBeginning x y (rule_lines role faults l)) all part)
 
-pub summary_stops_last : (x y z : Option (List ℕ)) (role : Role) (faults : List (FaultKey × Fault)) (counted events : ℕ) (r : Result (Unit {0}) RunFault)
-    → (listed : List Rule) → listed ≡ all_rules → Appends x y (rule_lines role faults listed) → counted ≡ length faults
-    → IfErr r (λ fault. (fault ≡ Write) × AppendsBeginning y z (line (verdict_text counted events)))
-    → IfErr r (λ fault. (fault ≡ Write) × AppendsBeginning x z (summary_report role faults events))
-unfolding summary_report
-summary_stops_last x y z role faults counted events (Ok done) listed all rules n part = tt
-summary_stops_last x y z role faults counted events (Err fault) listed all rules n part =
-    let last = line (verdict_text (length faults) events) in
-    let so_far : LeavesToWrite x y (summary_report role faults events) last =
-    piece-written (rule_lines role faults all_rules) last (all-left x (summary_report role faults events))
-    (subst (λ (l : List Rule). Appends x y (rule_lines role faults l)) all rules) in
-    (part.0, stopped-in-last z last so_far (subst (λ (k : ℕ). AppendsBeginning y z (line (verdict_text k events))) n part.1))
+pub of_all_second_stops : (x y z : Option (List ℕ)) (role : Role) (faults : List (FaultKey × Fault)) (last : List ℕ) (r : Result (Unit {0}) RunFault)
+    → (listed : List Rule) → listed ≡ all_rules → Appends x y (rule_lines role faults listed) → IfErr r (λ fault. (fault ≡ Write) × AppendsBeginning y z last)
+    → IfErr r (λ fault. (fault ≡ Write) × AppendsBeginning x z (rule_lines role faults all_rules ++ last))
+of_all_second_stops x y z role faults last r listed all rules part =
+    second_stops x y z (rule_lines role faults all_rules) last r (subst (λ (l : List Rule). Appends x y (rule_lines role faults l)) all rules) part

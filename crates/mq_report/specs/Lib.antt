@@ -1,6 +1,7 @@
 pub mod Stopping
 pub mod Chosen
 pub mod Report
+pub mod Coverage
 pub mod Summaries
 pub mod ItemText
 pub mod Outgoing

@@ -1,9 +1,12 @@
 //! Reports: what is written for a verdict, or for a log that is refused.
-ghost use Rattle.std.specs.Prelude.{◌≡◌, Some, IfErr, OnOk};
+ghost use Rattle.std.specs.Prelude.{◌≡◌, length, Some, IfErr, OnOk};
 ghost use Rattle.std.specs.FinMap as map;
 ghost use Rattle.std.specs.Io.KnownBytes.{Appends};
-ghost use Rattle.mq_report.specs.Report.{verdict_text, refused_report, report_on, FailsToReport};
+ghost use Rattle.mq_trace.specs.Writing.{AppendsBeginning};
+ghost use Rattle.mq_report.specs.Report.{line, verdict_text, refused_report, report_on, FailsToReport};
+ghost use Rattle.mq_report.specs.Coverage.{covered_report_on};
 
+pub mod coverage;
 pub mod item;
 pub mod json;
 pub mod line;
@@ -11,10 +14,11 @@ pub mod packet_summary;
 pub mod summary;
 pub mod text;
 
-use self::json::{write_json, write_refusal};
+use self::coverage::Covered;
+use self::json::{write_covered_json, write_json, write_refusal};
 use self::line::write_line;
-use self::summary::write_summary;
-use self::text::write_text;
+use self::summary::{write_covered_summary, write_summary};
+use self::text::{write_covered_text, write_text};
 use super::lines::Lines;
 use mq_log::Refusal;
 use mq_rules::{Faults, Role};
@@ -115,6 +119,52 @@ pub fn write_report<W: Write>(
         Form::Json => write_json(alloc, verdict, role, writer),
         Form::Summary => write_summary(verdict, role, writer),
     }
+}
+
+/// Writes the report on a verdict for an end in this role, in this form, which also says how often
+/// each of these statements was put to the test.
+///
+/// # Errors
+///
+/// As `write_report`.
+pub fn write_covered_report<W: Write>(
+    alloc: Global,
+    verdict: &Verdict,
+    role: Role,
+    rows: &[Covered],
+    form: Form,
+    writer: &mut W,
+) -> Result<(), RunFault>
+    ensures ok { OnOk result (Appends (W.contents writer.old) (W.contents writer.new)
+        (covered_report_on form role (map.entries verdict.now.faults) verdict.now.events rows.now)) }
+    ensures err { IfErr result (FailsToReport form (W.contents writer.old) (W.contents writer.new)
+        (covered_report_on form role (map.entries verdict.now.faults) verdict.now.events rows.now)) }
+{
+    match form {
+        Form::Text => write_covered_text(verdict, role, rows, writer),
+        Form::Json => write_covered_json(alloc, verdict, role, rows, writer),
+        Form::Summary => write_covered_summary(verdict, role, rows, writer),
+    }
+}
+
+// Writes the last line of a report in words. It is built in the buffer.
+//
+// Errors: `Write` if a write failed.
+fn write_verdict<W: Write>(
+    verdict: &Verdict,
+    lines: &mut Lines,
+    writer: &mut W,
+) -> Result<(), RunFault>
+    ensures ok { OnOk result (Appends (W.contents writer.old) (W.contents writer.new)
+        (line (verdict_text (length (map.entries verdict.now.faults)) verdict.now.events))) }
+    ensures write { IfErr result (λ fault. (fault ≡ RunFault.Write) × AppendsBeginning (W.contents writer.old) (W.contents writer.new)
+        (line (verdict_text (length (map.entries verdict.now.faults)) verdict.now.events))) }
+{
+    let counts = Counts {
+        faults: verdict.faults.len(),
+        events: verdict.events,
+    };
+    write_line(counts, lines, writer)
 }
 
 /// Writes the line that replaces the report for a log that is refused. It takes memory only in the

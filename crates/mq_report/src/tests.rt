@@ -1,3 +1,4 @@
-//! What no clause says of the details of packets: their text, written out.
+//! What no clause says of reports and of the details of packets: their text, written out.
 
+mod coverage;
 mod details;

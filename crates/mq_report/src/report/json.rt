@@ -6,7 +6,9 @@ ghost use Rattle.serde_json.specs.View.{view, items_view};
 ghost use Rattle.serde_json.specs.Written.{compact_text, has_float};
 ghost use Rattle.mq_report.specs.declared.report.Form.TheVariants.{Json};
 ghost use Rattle.mq_report.specs.Report.{line, fault_data, fault_items, verdict_word, report_data, refused_data, refused_report, report_on, FailsToReport};
+ghost use Rattle.mq_report.specs.Coverage.{places_data, places_items, covered_data, covered_report_on};
 
+use super::coverage::Covered;
 use super::line::write_bytes;
 use super::{RunFault, Verdict};
 use mq_log::Refusal;
@@ -37,6 +39,31 @@ pub fn write_json<W: Write>(
         (report_on Json role (map.entries verdict.now.faults) verdict.now.events)) }
 {
     match report_value(alloc, verdict, role) {
+        Ok(value) => write_value(alloc, &value, writer),
+        Err(_) => Err(RunFault::Memory),
+    }
+}
+
+/// Writes the report on a verdict for an end in this role as one line of JSON, as `write_json`
+/// does, and with it how often each of these statements was put to the test, in their order.
+///
+/// # Errors
+///
+/// As `write_json`.
+#[tactic(auto, unfolding(crate::specs::Coverage::covered_json_report))]
+pub fn write_covered_json<W: Write>(
+    alloc: Global,
+    verdict: &Verdict,
+    role: Role,
+    rows: &[Covered],
+    writer: &mut W,
+) -> Result<(), RunFault>
+    ensures ok { OnOk result (Appends (W.contents writer.old) (W.contents writer.new)
+        (covered_report_on Json role (map.entries verdict.now.faults) verdict.now.events rows.now)) }
+    ensures err { IfErr result (FailsToReport Json (W.contents writer.old) (W.contents writer.new)
+        (covered_report_on Json role (map.entries verdict.now.faults) verdict.now.events rows.now)) }
+{
+    match covered_value(alloc, verdict, role, rows) {
         Ok(value) => write_value(alloc, &value, writer),
         Err(_) => Err(RunFault::Memory),
     }
@@ -81,6 +108,48 @@ fn report_value(alloc: Global, verdict: &Verdict, role: Role) -> Result<Value, A
         "events": verdict.events,
         "faults": faults,
         "verdict": verdict_word(&verdict.faults)
+    })
+}
+
+// The report on a verdict, and how often each of these statements was put to the test, as a value.
+fn covered_value(
+    alloc: Global,
+    verdict: &Verdict,
+    role: Role,
+    rows: &[Covered],
+) -> Result<Value, AllocError>
+    ensures { IfOk result (λ value. view value ≡ covered_data role (map.entries verdict.now.faults) verdict.now.events rows.now) }
+{
+    let coverage = places_values(alloc, rows, role)?;
+    let faults = fault_values(alloc, &verdict.faults, role)?;
+    json!(in alloc; {
+        "coverage": coverage,
+        "events": verdict.events,
+        "faults": faults,
+        "verdict": verdict_word(&verdict.faults)
+    })
+}
+
+// How often each of these statements was put to the test, as values, in their order.
+fn places_values(alloc: Global, rows: &[Covered], role: Role) -> Result<Vec<Value>, AllocError>
+    ensures { IfOk result (λ values. items_view values.items ≡ places_items role rows.now) }
+{
+    let mut values = Vec::new(alloc);
+    for row in rows {
+        let value = places_value(alloc, role, *row)?;
+        push(&mut values, value)?;
+    }
+    Ok(values)
+}
+
+// How often a statement was put to the test, as a value.
+fn places_value(alloc: Global, role: Role, row: Covered) -> Result<Value, AllocError>
+    ensures { IfOk result (λ value. view value ≡ places_data role row) }
+{
+    json!(in alloc; {
+        "citation": row.rule.citation(role),
+        "code": row.rule.code(),
+        "places": row.places
     })
 }
 

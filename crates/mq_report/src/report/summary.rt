@@ -6,10 +6,12 @@ ghost use Rattle.mq_trace.specs.Writing.{AppendsBeginning};
 ghost use Rattle.mq_report.specs.declared.report.Form.TheVariants.{Summary};
 ghost use Rattle.mq_report.specs.declared.report.RunFault.TheVariants as run_faults;
 ghost use Rattle.mq_report.specs.Report.{faults_of, first_fault_of, rule_text, rule_line, rule_lines, report_on};
+ghost use Rattle.mq_report.specs.Coverage.{covered_report_on};
 
 use super::super::lines::Lines;
+use super::coverage::{Covered, write_covered_ending};
 use super::line::write_line;
-use super::{Counts, RunFault, Verdict};
+use super::{RunFault, Verdict, write_verdict};
 use mq_rules::{Fault, FaultKey, Faults, Role, Rule};
 use std::fmt;
 use std::io::Write;
@@ -65,11 +67,29 @@ pub fn write_summary<W: Write>(
         (report_on Summary role (map.entries verdict.now.faults) verdict.now.events)) }
 {
     write_rules(Rule::all(), &verdict.faults, role, writer)?;
-    let counts = Counts {
-        faults: verdict.faults.len(),
-        events: verdict.events,
-    };
-    write_line(counts, &mut Lines::new(), writer)
+    write_verdict(verdict, &mut Lines::new(), writer)
+}
+
+/// Writes the report in short on a verdict for an end in this role, as `write_summary` does, but
+/// before the last line also how often each of these statements was put to the test. It takes no
+/// memory.
+///
+/// # Errors
+///
+/// As `write_summary`.
+pub fn write_covered_summary<W: Write>(
+    verdict: &Verdict,
+    role: Role,
+    rows: &[Covered],
+    writer: &mut W,
+) -> Result<(), RunFault>
+    ensures ok { OnOk result (Appends (W.contents writer.old) (W.contents writer.new)
+        (covered_report_on Summary role (map.entries verdict.now.faults) verdict.now.events rows.now)) }
+    ensures write { IfErr result (λ fault. (fault ≡ run_faults.Write) × AppendsBeginning (W.contents writer.old) (W.contents writer.new)
+        (covered_report_on Summary role (map.entries verdict.now.faults) verdict.now.events rows.now)) }
+{
+    write_rules(Rule::all(), &verdict.faults, role, writer)?;
+    write_covered_ending(verdict, role, rows, &mut Lines::new(), writer)
 }
 
 // Writes a line for each of these statements that has faults.

@@ -3,12 +3,14 @@ ghost use Rattle.std.specs.Prelude.{◌≡◌, Some, IfErr, OnOk};
 ghost use Rattle.std.specs.FinMap as map;
 ghost use Rattle.std.specs.Io.KnownBytes.{Appends};
 ghost use Rattle.mq_trace.specs.Writing.{AppendsBeginning};
-ghost use Rattle.mq_report.specs.Report.{offset_text, fault_text, report_on};
+ghost use Rattle.mq_report.specs.Report.{offset_text, fault_text, fault_lines, report_on};
+ghost use Rattle.mq_report.specs.Coverage.{covered_report_on};
 
 use super::super::lines::Lines;
+use super::coverage::{Covered, write_covered_ending};
 use super::line::write_line;
-use super::{Counts, Form, RunFault, Verdict};
-use mq_rules::{Fault, FaultKey, Role};
+use super::{Form, RunFault, Verdict, write_verdict};
+use mq_rules::{Fault, FaultKey, Faults, Role};
 use std::fmt;
 use std::io::Write;
 
@@ -69,17 +71,52 @@ pub fn write_text<W: Write>(verdict: &Verdict, role: Role, writer: &mut W) -> Re
         (report_on Form.Text role (map.entries verdict.now.faults) verdict.now.events)) }
 {
     let mut lines = Lines::new();
-    for (key, fault) in verdict.faults.iter() {
+    write_faults(&verdict.faults, role, &mut lines, writer)?;
+    write_verdict(verdict, &mut lines, writer)
+}
+
+/// Writes the report on a verdict for an end in this role, as `write_text` does, but before the
+/// last line also how often each of these statements was put to the test. It takes no memory.
+///
+/// # Errors
+///
+/// As `write_text`.
+pub fn write_covered_text<W: Write>(
+    verdict: &Verdict,
+    role: Role,
+    rows: &[Covered],
+    writer: &mut W,
+) -> Result<(), RunFault>
+    ensures ok { OnOk result (Appends (W.contents writer.old) (W.contents writer.new)
+        (covered_report_on Form.Text role (map.entries verdict.now.faults) verdict.now.events rows.now)) }
+    ensures write { IfErr result (λ fault. (fault ≡ RunFault.Write) × AppendsBeginning (W.contents writer.old) (W.contents writer.new)
+        (covered_report_on Form.Text role (map.entries verdict.now.faults) verdict.now.events rows.now)) }
+{
+    let mut lines = Lines::new();
+    write_faults(&verdict.faults, role, &mut lines, writer)?;
+    write_covered_ending(verdict, role, rows, &mut lines, writer)
+}
+
+// Writes a line for each fault. Each is built in the buffer.
+//
+// Errors: `Write` if a write failed.
+fn write_faults<W: Write>(
+    faults: &Faults,
+    role: Role,
+    lines: &mut Lines,
+    writer: &mut W,
+) -> Result<(), RunFault>
+    ensures ok { OnOk result (Appends (W.contents writer.old) (W.contents writer.new) (fault_lines role (map.entries faults.now))) }
+    ensures write { IfErr result (λ fault. (fault ≡ RunFault.Write)
+        × AppendsBeginning (W.contents writer.old) (W.contents writer.new) (fault_lines role (map.entries faults.now))) }
+{
+    for (key, fault) in faults.iter() {
         let found = Found {
             role,
             key: *key,
             fault: *fault,
         };
-        write_line(found, &mut lines, writer)?;
+        write_line(found, lines, writer)?;
     }
-    let counts = Counts {
-        faults: verdict.faults.len(),
-        events: verdict.events,
-    };
-    write_line(counts, &mut lines, writer)
+    Ok(())
 }

@@ -1,25 +1,19 @@
-use Rattle.std.proofs.Common.{◌∙◌}
-use Rattle.std.specs.FinMap as map
+use Rattle.mq_report.specs.Report.{text_report}
 use Rattle.std.proofs.lemmas.Result.{err_from_is_err_and}
-use Rattle.mq_report.proofs.ReportLaws.{report-begins, report-goes-on, report-stops, report-ends, report-stops-last}
+use Rattle.mq_report.proofs.ReportLaws.{both_written, first_stops, second_stops}
 use Rattle.mq_report.proofs.report.text.write_text.Goals as goal
 
-pub loop-key-init : goal.loop-key-init
-loop-key-init g c = report-begins _ _ _ _ _ (c.into_iter-key-iterator.ensures.into_iter_gives ∙ c.iter-key-items.ensures.rest)
-
-pub loop-key-preserved : goal.loop-key-preserved
-loop-key-preserved g c =
-    report-goes-on _ _ _ c.in-Some.key.now c.in-Some.fault.now _ c.loop-key.invariant c.in-Some.ensures.steps c.in_ok-write_line.ensures.ok
-
-pub returns-in_err-write_line-clause-write : goal.returns-in_err-write_line-clause-write
-returns-in_err-write_line-clause-write g c =
+pub returns-in_err-write_faults-clause-write : goal.returns-in_err-write_faults-clause-write
+unfolding text_report
+returns-in_err-write_faults-clause-write g c =
     let p = err_from_is_err_and c.from_residual.result c.from_residual.ensures.1 in
-    let failed = c.in_err-write_line.ensures.write in
-    rw (p.1, p.2) (failed.0, report-stops _ _ _ _ c.in-Some.key.now c.in-Some.fault.now _ c.loop-key.invariant c.in-Some.ensures.steps failed.1)
+    let failed = c.in_err-write_faults.ensures.write in
+    rw (p.1, p.2) (failed.0, first_stops _ _ _ _ failed.1)
 
 pub returns-clause-ok : goal.returns-clause-ok
-returns-clause-ok g c = report-ends _ _ _ _ _ _ _ c.loop-key.invariant c.in-None.ensures.steps.0 (c.len.ensures ∙ map.len-entries _) c.write_line-2.ensures.ok
+unfolding text_report
+returns-clause-ok g c = both_written (g.W.Write.contents c.args.writer.now) (g.W.Write.contents c.write_faults.new.writer) (g.W.Write.contents c.write_verdict.new.writer) _ _ c.write_verdict.result c.in_ok-write_faults.ensures.ok c.write_verdict.ensures.ok
 
 pub returns-clause-write : goal.returns-clause-write
-returns-clause-write g c =
-    report-stops-last _ _ _ _ _ _ _ c.loop-key.invariant c.in-None.ensures.steps.0 (c.len.ensures ∙ map.len-entries _) c.write_line-2.ensures.write
+unfolding text_report
+returns-clause-write g c = second_stops (g.W.Write.contents c.args.writer.now) (g.W.Write.contents c.write_faults.new.writer) (g.W.Write.contents c.write_verdict.new.writer) _ _ c.write_verdict.result c.in_ok-write_faults.ensures.ok c.write_verdict.ensures.write
