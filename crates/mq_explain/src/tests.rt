@@ -2,8 +2,8 @@
 use crate::explanation;
 use mq_rules::{Role, Rule};
 
-// Whether a statement's text begins with its code and citations, has its sentence next, says why
-// and where it is judged, and has no line of more than 80 bytes.
+// Whether a statement's text begins with its code and citations, has its sentence next, says why,
+// where it is judged and what puts it to the test, and has no line of more than 80 bytes.
 fn is_explained(rule: Rule) -> bool {
     let text = explanation(rule);
     let mut words = text.split_whitespace();
@@ -26,6 +26,9 @@ fn is_explained(rule: Rule) -> bool {
         }
     }
     if !text.contains("\n\nWhy: ") || !text.contains("\n\nJudged: ") {
+        return false;
+    }
+    if !text.contains("\n\nTo see it tested: ") {
         return false;
     }
     text.lines().all(|line| line.len() <= 80)

@@ -9,6 +9,9 @@ pub const B01: &str = "B01 server MQTT-3.3.2-3\n\
     CONNACK if that comes later. A server's PUBLISH with DUP 1 isn't judged, nor any\n\
     in a session that asked for a shared subscription. A filter that was\n\
     unsubscribed still counts, since messages may be on the way.\n\n\
+    To see it tested: Let the server send a PUBLISH with DUP 0, in a session that\n\
+    hasn't asked for a shared subscription so far. Publish to topics too that the\n\
+    client's filters nearly match.\n\n\
     In a server: The matcher lets # or + match too much, or subscriptions of another\n\
     client or of an ended session are used. Delete subscriptions with their session,\n\
     and match level by level; $ topics don't match a leading wildcard.\n\n\
@@ -24,6 +27,9 @@ pub const B02: &str = "B02 server MQTT-3.8.4-8\n\
     at the CONNACK if that comes later. A server's PUBLISH with DUP 1 isn't judged,\n\
     nor any in a session that asked for a shared subscription. Before the SUBACK the\n\
     QoS that was asked for counts.\n\n\
+    To see it tested: Let the server send a PUBLISH of QoS above 0 with DUP 0, in a\n\
+    session that hasn't asked for a shared subscription so far. Publish at a QoS\n\
+    above what was granted.\n\n\
     In a server: The delivery keeps the publisher's QoS. Send with the smaller one\n\
     of that and the QoS that the SUBACK granted.\n\n\
     See: MQTT 5.0, section 3.8.4.\n";
@@ -35,6 +41,8 @@ pub const B03: &str = "B03 server MQTT-3.8.4-6\n\
     Judged: At a SUBACK that hasn't as many Reason Codes as its SUBSCRIBE has\n\
     filters, on a connection that the server accepted. Decided at once, or at the\n\
     CONNACK if that comes later.\n\n\
+    To see it tested: Send a SUBSCRIBE; one with several filters says most. The\n\
+    SUBACK that answers it tests this.\n\n\
     In a server: Filters that are refused, or equal to one before, get no code.\n\
     Write one code for each filter, in the order of the SUBSCRIBE.\n\n\
     See: MQTT 5.0, section 3.8.4.\n";
@@ -46,6 +54,8 @@ pub const B04: &str = "B04 server sec-3.11.3\n\
     Judged: At an UNSUBACK that hasn't as many Reason Codes as its UNSUBSCRIBE has\n\
     filters, on a connection that the server accepted. Decided at once, or at the\n\
     CONNACK if that comes later.\n\n\
+    To see it tested: Send an UNSUBSCRIBE; one with several filters, some without a\n\
+    subscription, says most. The UNSUBACK that answers it tests this.\n\n\
     In a server: No code is written for a filter without a subscription, or the\n\
     UNSUBACK has none at all, as in MQTT 3.1.1. Write one code for each filter:\n\
     0x00, or 0x11 where there was no subscription.\n\n\

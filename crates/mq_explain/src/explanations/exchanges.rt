@@ -10,6 +10,8 @@ pub const E1A: &str = "E1A both MQTT-2.2.1-5\n\
     that were answered on this connection. Decided at once, or at the CONNACK if\n\
     that comes later. Before a CONNACK it isn't judged if that begins a session\n\
     though the client asked for its own, or resumes one that it couldn't expect.\n\n\
+    To see it tested: Each PUBACK from this end tests it. Send it a PUBLISH of QoS\n\
+    1.\n\n\
     In a client: A PUBACK is sent twice, once by the library and once by the\n\
     application, or with the identifier of another message. Keep a list of what is\n\
     to be acknowledged, and take each entry out as it is answered.\n\n\
@@ -28,6 +30,8 @@ pub const E1R: &str = "E1R both MQTT-4.3.2-4\n\
     binding REST on that connection before which it hasn't come. A REST binds after\n\
     the accepting CONNACK, if neither end has sent a DISCONNECT or a malformed\n\
     packet.\n\n\
+    To see it tested: Send this end a PUBLISH of QoS 1, under an identifier with no\n\
+    unanswered one, and let the log have a binding REST after it on that connection.\n\n\
     In a client: The application's handler throws, or takes the message and never\n\
     acknowledges. Send the PUBACK on every path out of the handler, with a Reason\n\
     Code of 0x80 or more for an error.\n\n\
@@ -43,6 +47,8 @@ pub const E1O: &str = "E1O client MQTT-4.6.0-2\n\
     Judged: At a PUBACK, where a PUBLISH of QoS 1 under another identifier came\n\
     earlier on this connection and is still unanswered, on a connection that the\n\
     server accepted. Decided at once, or at the CONNACK if that comes later.\n\n\
+    To see it tested: Send the client two PUBLISHes of QoS 1 before it answers the\n\
+    first one. The PUBACK that it sends first tests it.\n\n\
     In a client: Handlers run at the same time, and each acknowledges when it ends.\n\
     Put acknowledgements into a queue in the order of arrival, and send one only\n\
     when all before it are ready.\n\n\
@@ -58,6 +64,8 @@ pub const E2A: &str = "E2A both MQTT-2.2.1-5\n\
     that were answered on this connection. Decided at once, or at the CONNACK if\n\
     that comes later. Before a CONNACK it isn't judged if that begins a session\n\
     though the client asked for its own, or resumes one that it couldn't expect.\n\n\
+    To see it tested: Each PUBREC from this end tests it. Send it a PUBLISH of QoS\n\
+    2.\n\n\
     In a client: A PUBREC answers a PUBLISH of QoS 1, or is sent a second time.\n\
     Choose the answer by the QoS of the PUBLISH, and send it once for each.\n\n\
     In a server: A PUBREC answers a PUBLISH of QoS 1, or is sent again after a\n\
@@ -75,6 +83,8 @@ pub const E2R: &str = "E2R both MQTT-4.3.3-8\n\
     binding REST on that connection before which it hasn't come. A REST binds after\n\
     the accepting CONNACK, if neither end has sent a DISCONNECT or a malformed\n\
     packet.\n\n\
+    To see it tested: Send this end a PUBLISH of QoS 2, under an identifier with no\n\
+    unanswered one, and let the log have a binding REST after it on that connection.\n\n\
     In a client: A PUBLISH with DUP 1 of a known identifier is dropped as a\n\
     duplicate, and its PUBREC with it. Drop only the message, and send the PUBREC\n\
     each time.\n\n\
@@ -90,6 +100,8 @@ pub const E2O: &str = "E2O client MQTT-4.6.0-3\n\
     Judged: At a PUBREC, where a PUBLISH of QoS 2 under another identifier came\n\
     earlier on this connection and is still unanswered, on a connection that the\n\
     server accepted. Decided at once, or at the CONNACK if that comes later.\n\n\
+    To see it tested: Send the client two PUBLISHes of QoS 2 before it answers the\n\
+    first one. The PUBREC that it sends first tests it.\n\n\
     In a client: Messages are stored by several tasks, and each sends its PUBREC\n\
     when done. Put PUBRECs into a queue in the order of arrival.\n\n\
     See: MQTT 5.0, section 4.6.\n";
@@ -104,6 +116,9 @@ pub const E3A: &str = "E3A both MQTT-2.2.1-5\n\
     that were answered on this connection. Decided at once, or at the CONNACK if\n\
     that comes later. Before a CONNACK it isn't judged if that begins a session\n\
     though the client asked for its own, or resumes one that it couldn't expect.\n\n\
+    To see it tested: Each PUBREL from this end tests it. Let it send a PUBLISH of\n\
+    QoS 2, and answer with a PUBREC below 0x80; answer another one with 0x80 or\n\
+    more, to see whether it sends a PUBREL there.\n\n\
     In a client: A PUBREL follows a PUBREC of 0x80 or more, or is sent after a\n\
     reconnect for a message whose PUBREC never came. Look at the Reason Code, and\n\
     keep for each message whether its PUBREC came.\n\n\
@@ -122,6 +137,9 @@ pub const E3R: &str = "E3R both MQTT-4.3.3-4\n\
     binding REST on that connection before which it hasn't come. A REST binds after\n\
     the accepting CONNACK, if neither end has sent a DISCONNECT or a malformed\n\
     packet.\n\n\
+    To see it tested: Let this end send a PUBLISH of QoS 2, answer with a PUBREC\n\
+    below 0x80, and let the log have a binding REST after it on that connection. A\n\
+    PUBREC tests it only if its identifier has no unanswered one.\n\n\
     In a client: A PUBREC of 0x10 (No matching subscribers) is taken for an error,\n\
     or one for an unknown identifier is ignored. Answer every PUBREC below 0x80 with\n\
     a PUBREL, with code 0x92 where the identifier isn't known.\n\n\
@@ -138,6 +156,9 @@ pub const E3O: &str = "E3O client MQTT-4.6.0-4\n\
     Judged: At a PUBREL, where a PUBREC under another identifier came earlier on\n\
     this connection and is still unanswered, on a connection that the server\n\
     accepted. Decided at once, or at the CONNACK if that comes later.\n\n\
+    To see it tested: Let the client send two PUBLISHes of QoS 2, and send a PUBREC\n\
+    below 0x80 for both before it answers the first one. The PUBREL that it sends\n\
+    first tests it.\n\n\
     In a client: PUBRELs are sent when a write to the store is done, in whatever\n\
     order that happens. Put them into a queue in the order of the PUBRECs.\n\n\
     See: MQTT 5.0, section 4.6.\n";
@@ -151,6 +172,8 @@ pub const E4A: &str = "E4A both MQTT-2.2.1-5\n\
     has no unanswered PUBREL before it: none in the session, or only ones that were\n\
     answered on this connection. Decided at once, or at the CONNACK if that comes\n\
     later.\n\n\
+    To see it tested: Each PUBCOMP from this end tests it. Send it a PUBLISH of QoS\n\
+    2, and after its PUBREC the PUBREL.\n\n\
     In a client: The PUBCOMP is sent right after the PUBREC, or once by the library\n\
     and once by the application. Send it only when a PUBREL comes.\n\n\
     In a server: The PUBCOMP is sent together with the PUBREC, or again after a\n\
@@ -166,6 +189,9 @@ pub const E4R: &str = "E4R both MQTT-4.3.3-11\n\
     identifier; not sending the PUBCOMP is the fault. Decided at the first binding\n\
     REST on that connection before which it hasn't come. A REST binds after the\n\
     accepting CONNACK, if neither end has sent a DISCONNECT or a malformed packet.\n\n\
+    To see it tested: Send this end a PUBREL, under an identifier with no unanswered\n\
+    one, and let the log have a binding REST after it on that connection. A PUBREL\n\
+    for an identifier that it doesn't know tests it too.\n\n\
     In a client: A PUBREL for an identifier that is no longer stored is ignored,\n\
     often after a reconnect. Answer it anyway, with code 0x92 (Packet Identifier not\n\
     found).\n\n\
@@ -182,6 +208,8 @@ pub const E5A: &str = "E5A server MQTT-2.2.1-6\n\
     has no unanswered SUBSCRIBE before it: none in the session, or only ones that\n\
     were answered on this connection. Decided at once, or at the CONNACK if that\n\
     comes later.\n\n\
+    To see it tested: Each SUBACK from the server tests it. Send it a SUBSCRIBE; one\n\
+    with several filters says most.\n\n\
     In a server: A SUBACK is sent for each filter and not for each SUBSCRIBE, or by\n\
     two plugins. Collect the codes of all filters, and answer once.\n\n\
     See: MQTT 5.0, section 2.2.1.\n";
@@ -195,6 +223,8 @@ pub const E5R: &str = "E5R server MQTT-3.8.4-1\n\
     identifier; not sending the SUBACK is the fault. Decided at the first binding\n\
     REST on that connection before which it hasn't come. A REST binds after the\n\
     accepting CONNACK, if neither end has sent a DISCONNECT or a malformed packet.\n\n\
+    To see it tested: Send the server a SUBSCRIBE, under an identifier with no\n\
+    unanswered one, and let the log have a binding REST after it on that connection.\n\n\
     In a server: A SUBSCRIBE that isn't authorized is dropped without an answer, or\n\
     an asynchronous check never comes back. Answer it with codes of 0x80 or more.\n\n\
     See: MQTT 5.0, section 3.8.4.\n";
@@ -208,6 +238,8 @@ pub const E6A: &str = "E6A server MQTT-2.2.1-6\n\
     identifier has no unanswered UNSUBSCRIBE before it: none in the session, or only\n\
     ones that were answered on this connection. Decided at once, or at the CONNACK\n\
     if that comes later.\n\n\
+    To see it tested: Each UNSUBACK from the server tests it. Send it an\n\
+    UNSUBSCRIBE; one with several filters says most.\n\n\
     In a server: An UNSUBACK is sent for each filter and not for each UNSUBSCRIBE.\n\
     Collect the codes of all filters, and answer once.\n\n\
     See: MQTT 5.0, section 2.2.1.\n";
@@ -221,6 +253,8 @@ pub const E6R: &str = "E6R server MQTT-3.10.4-4\n\
     identifier; not sending the UNSUBACK is the fault. Decided at the first binding\n\
     REST on that connection before which it hasn't come. A REST binds after the\n\
     accepting CONNACK, if neither end has sent a DISCONNECT or a malformed packet.\n\n\
+    To see it tested: Send the server an UNSUBSCRIBE, under an identifier with no\n\
+    unanswered one, and let the log have a binding REST after it on that connection.\n\n\
     In a server: Nothing is sent where no subscription matches. Answer anyway, with\n\
     code 0x11 (No subscription existed) for that filter.\n\n\
     See: MQTT 5.0, section 3.10.4.\n";
@@ -234,6 +268,8 @@ pub const E7R: &str = "E7R server MQTT-3.12.4-1\n\
     PINGREQs received on its connection. Decided at once, there. A REST binds after\n\
     the accepting CONNACK, if neither end has sent a DISCONNECT or a malformed\n\
     packet.\n\n\
+    To see it tested: Send the server a PINGREQ, and let the log have a binding REST\n\
+    after it on that connection.\n\n\
     In a server: A PINGREQ only resets the keep-alive timer, or its answer waits\n\
     behind a full queue of deliveries. Write a PINGRESP for each PINGREQ, past the\n\
     queue.\n\n\

@@ -9,6 +9,8 @@ pub const W01: &str = "W01 both MQTT-2.1.3-1\n\
     Judged: On every connection, at the packet, only by its bytes. Decided at once.\n\
     Only the first rule that a packet's bytes break is reported, with the offset in\n\
     the packet.\n\n\
+    To see it tested: Let this end send any packet other than PUBLISH. PUBREL,\n\
+    SUBSCRIBE and UNSUBSCRIBE say most, since their flags aren't 0000.\n\n\
     In a client: The encoder writes only the type shifted by four, and forgets the\n\
     0x02 of PUBREL, SUBSCRIBE or UNSUBSCRIBE. Take the whole first byte from a table\n\
     by type: 0x62, 0x82, 0xA2.\n\n\
@@ -24,6 +26,7 @@ pub const W02: &str = "W02 both sec-2.1.2\n\
     Judged: On every connection, at the packet, only by its bytes. Decided at once.\n\
     Only the first rule that a packet's bytes break is reported, with the offset in\n\
     the packet.\n\n\
+    To see it tested: Each packet that this end sends tests it.\n\n\
     In a client or a server: A buffer is sent before its first byte was filled in,\n\
     or the sender has lost its place in the stream, for example because a Remaining\n\
     Length was too short and the rest of a packet is read as a new one. Write the\n\
@@ -38,6 +41,8 @@ pub const W03: &str = "W03 both MQTT-1.5.5-1\n\
     Judged: On every connection, at the packet, only by its bytes. Decided at once.\n\
     Only the first rule that a packet's bytes break is reported, with the offset in\n\
     the packet.\n\n\
+    To see it tested: Each packet that this end sends tests it, by its Remaining\n\
+    Length. One of 128 bytes or more says most.\n\n\
     In a client or a server: The encoder reserves a fixed number of bytes for a\n\
     length and fills it with 0x80 bytes. Compute the length first, and write seven\n\
     bits at a time until nothing is left.\n\n\
@@ -51,6 +56,9 @@ pub const W04: &str = "W04 both MQTT-1.5.4-1\n\
     Judged: On every connection, at the packet, only by its bytes. Decided at once.\n\
     Only the first rule that a packet's bytes break is reported, with the offset in\n\
     the packet.\n\n\
+    To see it tested: Let this end send a text: a CONNECT, SUBSCRIBE or UNSUBSCRIBE\n\
+    from a client has one, and so has a PUBLISH with a Topic Name, and each packet\n\
+    with a text among its properties, such as a Reason String or a User Property.\n\n\
     In a client: The application gives a text in Latin-1, or one cut in the middle\n\
     of a character, and the library copies its bytes. Check UTF-8 where a text\n\
     enters the API, and cut texts at characters.\n\n\
@@ -67,6 +75,9 @@ pub const W05: &str = "W05 both MQTT-1.5.4-2\n\
     Judged: On every connection, at the packet, only by its bytes. Decided at once.\n\
     Only the first rule that a packet's bytes break is reported, with the offset in\n\
     the packet.\n\n\
+    To see it tested: Let this end send a text: a CONNECT, SUBSCRIBE or UNSUBSCRIBE\n\
+    from a client has one, and so has a PUBLISH with a Topic Name, and each packet\n\
+    with a text among its properties, such as a Reason String or a User Property.\n\n\
     In a client or a server: A text from a buffer with a terminating zero is sent\n\
     with it, since the buffer's size was taken for the text's length. Take the\n\
     length of the text, and refuse a text with U+0000 in the API.\n\n\
@@ -81,6 +92,8 @@ pub const W06: &str = "W06 both sec-2.1.4\n\
     Judged: On every connection, at the packet, only by its bytes. Decided at once.\n\
     Only the first rule that a packet's bytes break is reported, with the offset in\n\
     the packet.\n\n\
+    To see it tested: Each packet that this end sends tests it. Those with\n\
+    properties, and with several filters or Reason Codes, say most.\n\n\
     In a client or a server: The Remaining Length or the Property Length is computed\n\
     by different code from the code that writes the fields, and one of the two was\n\
     forgotten. Write the fields to a buffer and take the lengths from it.\n\n\
@@ -93,6 +106,8 @@ pub const W07: &str = "W07 both MQTT-3.3.1-4\n\
     Judged: On every connection, at the packet, only by its bytes. Decided at once.\n\
     Only the first rule that a packet's bytes break is reported, with the offset in\n\
     the packet.\n\n\
+    To see it tested: Let this end send a PUBLISH: let a client publish, and publish\n\
+    what a server's client has subscribed to.\n\n\
     In a client: The QoS is taken from a number of the application without a check,\n\
     or two flags are set one after the other. Make the QoS a type with three values.\n\n\
     In a server: The QoS of a delivery is computed with bits, as by an OR of the\n\
@@ -106,6 +121,8 @@ pub const W08: &str = "W08 both MQTT-3.3.1-2\n\
     Judged: On every connection, at the packet, only by its bytes. Decided at once.\n\
     Only the first rule that a packet's bytes break is reported, with the offset in\n\
     the packet.\n\n\
+    To see it tested: Let this end send a PUBLISH of QoS 0: let a client publish at\n\
+    QoS 0, and publish what a server's client has subscribed to at QoS 0.\n\n\
     In a client: The code that sends again after a reconnect also takes messages of\n\
     QoS 0 from its queue and sets DUP on all. Keep only messages of QoS 1 and 2 for\n\
     resending.\n\n\
@@ -122,6 +139,9 @@ pub const W09: &str = "W09 both sec-2.2.1\n\
     Judged: On every connection, at the packet, only by its bytes. Decided at once.\n\
     Only the first rule that a packet's bytes break is reported, with the offset in\n\
     the packet.\n\n\
+    To see it tested: Let this end send a packet with a Packet Identifier: a PUBLISH\n\
+    of QoS 1 or 2, or one that follows it (PUBACK to PUBCOMP); a SUBSCRIBE or\n\
+    UNSUBSCRIBE from a client, and its answer from a server.\n\n\
     In a client: The counter of Packet Identifiers begins at 0, or wraps from 65,535\n\
     to 0. Wrap it to 1, and skip identifiers that are in use.\n\n\
     In a server: The counter for deliveries begins at 0 or wraps to it, or an answer\n\
@@ -137,6 +157,8 @@ pub const W10: &str = "W10 both sec-2.2.2.2\n\
     Judged: On every connection, at the packet, only by its bytes. Decided at once.\n\
     Only the first rule that a packet's bytes break is reported, with the offset in\n\
     the packet.\n\n\
+    To see it tested: Let this end send a packet with a property, or a CONNECT with\n\
+    a Will that has one.\n\n\
     In a client: One list of properties is used for all packets, so a Session Expiry\n\
     Interval is sent in a SUBSCRIBE, say. Give each packet its own set of\n\
     properties.\n\n\
@@ -153,6 +175,9 @@ pub const W11: &str = "W11 both sec-2.2.2.2\n\
     Judged: On every connection, at the packet, only by its bytes. Decided at once.\n\
     Only the first rule that a packet's bytes break is reported, with the offset in\n\
     the packet.\n\n\
+    To see it tested: Let this end send a packet, or a Will, with a property that\n\
+    may be there only once: each but User Property, and Subscription Identifier in a\n\
+    PUBLISH.\n\n\
     In a client: A default property is put into the list and the application's own\n\
     one after it. Keep properties in fields or a map, and let the later value\n\
     replace the first.\n\n\
@@ -169,6 +194,9 @@ pub const W12: &str = "W12 both sec-2.2.2.2\n\
     Judged: On every connection, at the packet, only by its bytes. Decided at once.\n\
     Only the first rule that a packet's bytes break is reported, with the offset in\n\
     the packet.\n\n\
+    To see it tested: Let this end send a property that doesn't have all values of\n\
+    its type, such as Receive Maximum, Maximum Packet Size, Topic Alias, or one that\n\
+    is 0 or 1.\n\n\
     In a client: A setting of 0 that means \"no limit\" in the application is sent as\n\
     Receive Maximum or Maximum Packet Size. Leave the property out instead.\n\n\
     In a server: A setting of 0 that means \"no limit\" is sent as Receive Maximum or\n\
@@ -184,6 +212,10 @@ pub const W13: &str = "W13 both sec-2.4\n\
     Judged: On every connection, at the packet, only by its bytes. Decided at once.\n\
     Only the first rule that a packet's bytes break is reported, with the offset in\n\
     the packet.\n\n\
+    To see it tested: Let this end send a Reason Code: a CONNACK has one, and a\n\
+    SUBACK or UNSUBACK one for each filter. A PUBACK, PUBREC, PUBREL, PUBCOMP,\n\
+    DISCONNECT or AUTH tests it only if the code is written, so let it be another\n\
+    than 0x00.\n\n\
     In a client: A Return Code of MQTT 3.1.1 or an error number of the application\n\
     is sent as it is, as in a DISCONNECT. Map errors to an enum of the codes of that\n\
     packet.\n\n\
@@ -200,6 +232,8 @@ pub const W14: &str = "W14 both sec-3.3.2\n\
     Judged: On every connection, at the packet, only by its bytes. Decided at once.\n\
     Only the first rule that a packet's bytes break is reported, with the offset in\n\
     the packet.\n\n\
+    To see it tested: Let this end send a PUBLISH with a Topic Name or a Response\n\
+    Topic.\n\n\
     In a client: The application publishes to the text that it subscribed with.\n\
     Check for + and # where a topic enters the API, the Response Topic and the Will\n\
     Topic too.\n\n\
@@ -216,6 +250,8 @@ pub const W15: &str = "W15 both sec-4.7\n\
     Judged: On every connection, at the packet, only by its bytes. Decided at once.\n\
     Only the first rule that a packet's bytes break is reported, with the offset in\n\
     the packet.\n\n\
+    To see it tested: Let a client send a SUBSCRIBE or UNSUBSCRIBE; filters with\n\
+    wildcards say most. A server sends neither, and isn't tested.\n\n\
     In a client: A filter is put together from parts, which gives sport# or a+b, or\n\
     nothing at all. Check filters where they enter the API.\n\n\
     In a server: A server sends no filters: it has sent a SUBSCRIBE or UNSUBSCRIBE,\n\
@@ -231,6 +267,8 @@ pub const W16: &str = "W16 both MQTT-3.8.3-2,MQTT-3.10.3-2\n\
     Judged: On every connection, at the packet, only by its bytes. Decided at once.\n\
     Only the first rule that a packet's bytes break is reported, with the offset in\n\
     the packet.\n\n\
+    To see it tested: Let a client send a SUBSCRIBE or UNSUBSCRIBE. A server sends\n\
+    neither, and isn't tested.\n\n\
     In a client: The list of filters to subscribe to after a reconnect is empty, and\n\
     the packet is sent anyway. Send it only where there is a filter.\n\n\
     In a server: A server sends neither packet: C01 forbids it. If the server is\n\
@@ -246,6 +284,9 @@ pub const W17: &str = "W17 both sec-3.8.3\n\
     Judged: On every connection, at the packet, only by its bytes. Decided at once.\n\
     Only the first rule that a packet's bytes break is reported, with the offset in\n\
     the packet.\n\n\
+    To see it tested: Let a client send a SUBSCRIBE; one with No Local, Retain As\n\
+    Published and Retain Handling 2 says most. A server sends none, and isn't\n\
+    tested.\n\n\
     In a client: The options are put together with wrong shifts: No Local is bit 2,\n\
     Retain As Published bit 3, and Retain Handling bits 4 and 5. Write them from one\n\
     struct, by one function.\n\n\
@@ -261,6 +302,8 @@ pub const W18: &str = "W18 both sec-3.1.2\n\
     Judged: On every connection, at the packet, only by its bytes. Decided at once.\n\
     Only the first rule that a packet's bytes break is reported, with the offset in\n\
     the packet.\n\n\
+    To see it tested: Each CONNECT from a client tests it. A server sends none, and\n\
+    isn't tested.\n\n\
     In a client: The CONNECT still has MQIsdp, the name of MQTT 3.1, or the name is\n\
     written with small letters. Write MQTT and version 5.\n\n\
     In a server: A server sends no CONNECT: C01 forbids it. If the server is also a\n\
@@ -276,6 +319,8 @@ pub const W19: &str = "W19 both sec-3.1.2\n\
     Judged: On every connection, at the packet, only by its bytes. Decided at once.\n\
     Only the first rule that a packet's bytes break is reported, with the offset in\n\
     the packet.\n\n\
+    To see it tested: Each CONNECT from a client tests it; one with a Will says\n\
+    most. A server sends none, and isn't tested.\n\n\
     In a client: The Will's QoS and Retain are taken from settings though no Will is\n\
     set. Compute all three flags from one optional Will.\n\n\
     In a server: A server sends no CONNECT: C01 forbids it. If the server is also a\n\
@@ -289,6 +334,8 @@ pub const W20: &str = "W20 both MQTT-3.2.2-1\n\
     Judged: On every connection, at the packet, only by its bytes. Decided at once.\n\
     Only the first rule that a packet's bytes break is reported, with the offset in\n\
     the packet.\n\n\
+    To see it tested: Each CONNACK from a server tests it. A client sends none, and\n\
+    isn't tested.\n\n\
     In a client: A client sends no CONNACK: C01 forbids it. Look whether the two\n\
     directions of the log were swapped.\n\n\
     In a server: The Reason Code or other bits are written into the flags' byte.\n\
@@ -303,6 +350,8 @@ pub const W21: &str = "W21 both sec-3.3.2\n\
     Judged: On every connection, at the packet, only by its bytes. Decided at once.\n\
     Only the first rule that a packet's bytes break is reported, with the offset in\n\
     the packet.\n\n\
+    To see it tested: Let this end send a PUBLISH with an empty Topic Name: announce\n\
+    a Topic Alias Maximum to it, and let it send to one topic several times.\n\n\
     In a client: The Topic Name is left out because an alias was set before, but the\n\
     property isn't written. Let one function choose: name alone, name and alias, or\n\
     alias alone.\n\n\

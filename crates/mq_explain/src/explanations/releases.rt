@@ -10,6 +10,8 @@ pub const L1: &str = "L1 both sec-4.3.3\n\
     come, at the CONNACK or at the CLOSE. This is judged where the log's header says\n\
     that releases are recorded, but not before a CONNACK that begins a session,\n\
     where the message may be of the session before.\n\n\
+    To see it tested: Record releases, and let this end receive a message of QoS 2\n\
+    and release it: each RELEASE tests it. Send the PUBREL again after a reconnect.\n\n\
     In a client: The message is handed to the application again from the store after\n\
     its PUBCOMP, or after a PUBREC that refused it. Delete the stored message when\n\
     it is handed on, or refused.\n\n\
@@ -28,6 +30,9 @@ pub const L2: &str = "L2 both MQTT-4.3.3-10\n\
     CONNACK hasn't come, at the CONNACK or at the CLOSE. This is judged where the\n\
     log's header says that releases are recorded, but not before a CONNACK that\n\
     begins a session, where the message may be of the session before.\n\n\
+    To see it tested: Record releases, and let this end receive a message of QoS 2\n\
+    and release it: each RELEASE tests it. Send the PUBLISH again with DUP 1 after a\n\
+    reconnect.\n\n\
     In a client: A PUBLISH with DUP 1 is handed on like a new one, or the message\n\
     goes out both at the PUBLISH and at the PUBREL. Keep the identifiers that were\n\
     received, and release a message at one point only.\n\n\
@@ -46,6 +51,9 @@ pub const L3: &str = "L3 both sec-4.3.3\n\
     that comes later. It is excused if the PUBLISH had a Message Expiry Interval, or\n\
     a PUBREC of 0x10 was sent for it. This is judged where the log's header says\n\
     that releases are recorded.\n\n\
+    To see it tested: Record releases, and send this end a message of QoS 2 without\n\
+    a Message Expiry Interval. Its PUBCOMP of code 0x00 tests it, unless a PUBREC of\n\
+    0x10 was sent for the message.\n\n\
     In a client: The PUBCOMP is sent by the network task while the application still\n\
     has the message in its queue. Release it first, and then send the PUBCOMP.\n\n\
     In a server: The PUBCOMP is sent before the message was routed to the\n\

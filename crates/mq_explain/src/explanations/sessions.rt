@@ -15,6 +15,9 @@ pub const S01: &str = "S01 both MQTT-2.2.1-3;MQTT-2.2.1-4\n\
     sent under it on a resumed connection on which the peer announced Maximum Packet\n\
     Size or Maximum QoS: its message may have been discarded. Before a CONNACK that\n\
     resumes a session which the client couldn't expect it isn't judged.\n\n\
+    To see it tested: Let this end take an identifier while another is in use: hold\n\
+    back an acknowledgement meanwhile. A client takes one for a PUBLISH of QoS above\n\
+    0, a SUBSCRIBE and an UNSUBSCRIBE, a server for a PUBLISH of QoS above 0.\n\n\
     In a client: The counter continues or starts over without regard to what is\n\
     unacknowledged, often after a reconnect or a restart. Keep the set of\n\
     identifiers in use with the session's store, and draw only free ones, for all\n\
@@ -39,6 +42,9 @@ pub const S02: &str = "S02 both MQTT-4.3.2-2,MQTT-4.3.3-2\n\
     the CONNACK with which the session began, on an earlier connection. Before a\n\
     CONNACK it isn't judged if that begins a session though the client asked for its\n\
     own, or resumes one that it couldn't expect.\n\n\
+    To see it tested: Let this end send a PUBLISH of QoS above 0 again, with DUP 1:\n\
+    hold back its acknowledgement, close the connection, and resume the session.\n\
+    Close it while no PUBLISH is being sent.\n\n\
     In a client: DUP is set for every message from the queue after a reconnect, also\n\
     for those that never left. Set it only where a PUBLISH was written before; and\n\
     drop a message when its acknowledgement comes.\n\n\
@@ -55,6 +61,10 @@ pub const S03: &str = "S03 both MQTT-4.4.0-1\n\
     Judged: At a PUBLISH with DUP 1 that was sent on this connection already, with\n\
     no acknowledgement since, on a connection that the server accepted. Decided at\n\
     once, or at the CONNACK if that comes later.\n\n\
+    To see it tested: Let this end send a PUBLISH of QoS above 0 again, with DUP 1:\n\
+    hold back its acknowledgement, close the connection, and resume the session.\n\
+    Hold one back for long on one connection too, to see whether it is sent again\n\
+    there.\n\n\
     In a client: A timer sends again what isn't acknowledged in time, as was done in\n\
     MQTT 3.1. Remove the timer, and send again only after a reconnect that resumes\n\
     the session.\n\n\
@@ -70,6 +80,9 @@ pub const S04: &str = "S04 both MQTT-4.3.3-6\n\
     Judged: At a PUBLISH with DUP 1 of QoS 2 after whose first sending a PUBREL was\n\
     sent, on a connection that the server accepted. Decided at once, or at the\n\
     CONNACK if that comes later.\n\n\
+    To see it tested: Let this end send a PUBLISH of QoS 2 and its PUBREL, hold back\n\
+    the PUBCOMP, close the connection, and resume the session. The PUBREL that is\n\
+    sent again tests it, and a PUBLISH that is sent again in its place.\n\n\
     In a client: The store keeps the PUBLISH until the PUBCOMP and sends it again\n\
     after a reconnect. When a PUBREC comes, replace it by a mark, so that the PUBREL\n\
     is sent again in its place.\n\n\
@@ -86,6 +99,9 @@ pub const S05: &str = "S05 client MQTT-4.6.0-1\n\
     Judged: At a PUBLISH with DUP 1, where one that was first sent after it was sent\n\
     again before it on this connection, on a connection that the server accepted.\n\
     Decided at once, or at the CONNACK if that comes later.\n\n\
+    To see it tested: Resume a session with two PUBLISHes of QoS above 0 from the\n\
+    client unacknowledged. The second one that it sends again tests it, and each\n\
+    after that.\n\n\
     In a client: What is unacknowledged is kept in a hash map, or is sorted by\n\
     Packet Identifier. Keep it in a queue in the order of sending; the order of\n\
     identifiers isn't it, since they wrap.\n\n\
@@ -103,6 +119,9 @@ pub const S06: &str = "S06 both MQTT-4.4.0-1\n\
     used up; if the peer announced Maximum Packet Size or Maximum QoS, there or on a\n\
     resumed connection between on which it wasn't sent either; or if it has RETAIN 1\n\
     and the server announced Retain Available 0.\n\n\
+    To see it tested: Resume a session with a PUBLISH of QoS above 0 from this end\n\
+    unacknowledged, answer what it sends then, and let the log have a REST on that\n\
+    connection.\n\n\
     In a client: The list of unacknowledged messages is in memory and cleared with\n\
     the connection, or it is sent only if Clean Start was 0 and not by Session\n\
     Present. Keep it with the session, and send it when the CONNACK says that the\n\
@@ -125,6 +144,10 @@ pub const S07: &str = "S07 both MQTT-4.9.0-2\n\
     on a connection that the server accepted. Decided at once, or at the CONNACK if\n\
     that comes later. In flight are PUBLISHes on this connection without a PUBACK, a\n\
     PUBCOMP or a PUBREC of 0x80 or more.\n\n\
+    To see it tested: Announce a small Receive Maximum, to a client in the CONNACK,\n\
+    to a server in the CONNECT, let this end have more messages of QoS above 0, and\n\
+    hold back the acknowledgements. The PUBLISH that takes the last place tests it,\n\
+    and each beyond it.\n\n\
     In a client: The Receive Maximum of the CONNACK isn't kept, or what is sent\n\
     again after a reconnect isn't counted. Let one counter per connection gate all\n\
     PUBLISHes of QoS above 0, and count it up again only by PUBACK, PUBCOMP or a\n\
