@@ -6,6 +6,8 @@ The logs and their reports are the rows of `tests/statements/suite.rt` of mq_wor
 log in words, and the report, with a semicolon between its lines. The reports were written from the statements' words before any
 program judged the logs. The two logs of a statement differ in one record, which is changed, added or missing.
 
+What each log tests is written by occasions.py: each has to test its own statement, also if it keeps it.
+
 With --check (or without options) it compares the files with the rows, byte by byte, and the reports with reference.py's. With
 --program that program has to give the same reports for the files, as text and as JSON, with the right status. The logs are of
 version 1; each must get the same report converted to version 2 by converting.py. --write makes the files.
@@ -23,6 +25,7 @@ from pathlib import Path
 
 sys.dont_write_bytecode = True  # the repository stays as it is
 import check_rows
+import occasions
 import reading
 import reference
 import statements
@@ -50,10 +53,12 @@ to the test, and they differ in one record. Each log has its exact report beside
 | `CODE-broken.log`, `CODE-kept.log` | the logs, for example `S01-broken.log` |
 | `CODE-broken.report`, `CODE-kept.report` | the report as text: what `mqjudge check FILE` prints |
 | `CODE-broken.json`, `CODE-kept.json` | the same as one line of JSON: what `mqjudge check --json FILE` prints |
+| `CODE-broken.places`, `CODE-kept.places` | the report with what was tested: what `mqjudge check --coverage FILE` prints |
 
 Each broken log has one fault, that of its statement, and each kept log passes. All packets are
 valid, except for the one that breaks a statement on a packet's bytes (W01 to W21). The reports were
-written from the statements' words, not by a program. [docs/STATEMENTS.md](../../docs/STATEMENTS.md)
+written from the statements' words, not by a program; what was tested was counted by
+`bench/occasions.py`, a second opinion in Python. [docs/STATEMENTS.md](../../docs/STATEMENTS.md)
 has all statements, with their citations.
 
 ## A log
@@ -82,6 +87,12 @@ breaks the statement (here each record is one event), the statement, where MQTT 
 event that shows the fault, the record of the first, and for W01 to W21 the offset in the packet,
 else `-`. In JSON the same has these names, and `-` is `null`.
 
+With what was tested, the last line comes after a line `tested <code> <citation> places <n>` for each
+statement on the tested end, in the order of reports: at so many events it was put to the test, kept
+or broken. W15 to W19 are about packets that only a client sends, and W20 about those of a server:
+for the other end they are listed only if they have a place. Then comes
+`covered <m> of <n> statements`: so many of the listed ones have a place.
+
 ## The logs
 
 Records count from 1. One that is changed is shown as it is in both logs; one that is added is only
@@ -104,8 +115,10 @@ class Row:
 
     def files(self) -> dict[str, bytes]:
         """What is in its files, by their names."""
+        tested = occasions.with_lines(self.report, occasions.lines(reading.Recording(self.log)))
+        texts = {"report": self.report, "json": as_json(self.report), "places": tested}
         name = f"{self.code}-{self.which}"
-        return {f"{name}.log": self.log, f"{name}.report": self.report.encode(), f"{name}.json": as_json(self.report).encode()}
+        return {f"{name}.log": self.log} | {f"{name}.{kind}": text.encode() for kind, text in texts.items()}
 
 
 def rows() -> Iterator[Row]:
@@ -204,8 +217,11 @@ def wrong_reports() -> Iterator[str]:
             yield f"{row.code} {row.which}: wanted {row.report!r}, reference.py says {said!r}"
         if (said := reference.report(in_second_version(row))) != row.report:
             yield f"{row.code} {row.which}, version 2: wanted {row.report!r}, reference.py says {said!r}"
+        recording = reading.Recording(row.log)
+        if not occasions.places(occasions.log_of(recording), row.code):
+            yield f"{row.code} {row.which}: it doesn't test its statement"
         may_break = row.code[0] == "W" and row.which == BROKEN
-        for event in reading.Recording(row.log).events:
+        for event in recording.events:
             if isinstance(event.item, (reading.Bad, reading.Lost)) and not may_break:
                 yield f"{row.code} {row.which}: record {event.record} has no valid packet"
 
