@@ -13,12 +13,17 @@ import base64
 import re
 import sys
 import unittest
+from collections import Counter
 from pathlib import Path
 
 sys.dont_write_bytecode = True  # the repository stays as it is
 sys.path.insert(0, str(Path(__file__).resolve().parent))
 from browser import CHROMIUM, Browser
+from judging.coverage import Coverage, Demand
+from judging.explain import Explanation
+from judging.page import Page
 from judging.story import STEP
+from judging.verdict import FAULTS, PASSED, Verdict
 from made_logs import CONNECT, log, packet, publish, record, text
 from page_calls import ACCEPTED, EXAMPLES, KEPT, OVERRIDE, Case, timed
 from testing import missing
@@ -166,6 +171,67 @@ class Opened(InBrowser):
         self.browser.call("Emulation.setEmulatedMedia", media="print")
         self.assertEqual(self.browser.value("getComputedStyle(document.body).backgroundColor"), "rgb(255, 255, 255)")
         self.browser.call("Emulation.setEmulatedMedia", media="")
+
+
+class Matrix(InBrowser):
+    """What the logs test: 40 logs by 57 statements."""
+
+    CODES = tuple(f"{family}{number:02}" for family in "WCS" for number in range(1, 20))
+    NEVER = ("C10", "S05")
+
+    def setUp(self) -> None:
+        super().setUp()
+        verdicts = [self.verdict(number) for number in range(40)]
+        coverage = Coverage(verdicts, Demand(least=57), {code: f"{code} <b>is so</b>." for code in self.CODES})
+        page = Page("mqjudge", "40 logs", [], {"S01": Explanation("S01")}, coverage).write(verdicts)
+        self.place = (KEPT[0] if KEPT else self.folder) / "matrix.html"
+        self.place.write_text(page)
+
+    def verdict(self, number: int) -> Verdict:
+        """The name of each is hostile, and the first ones have faults."""
+        name = f"{number}{OVERRIDE}<img src=x onerror=window.hit=1>\"'{'z' * number * 5}.log"
+        places = {f"{code} sec-1": 0 if code in self.NEVER else 3 ** ((number + at) % 14)
+                  for at, code in enumerate(self.CODES)}
+        faults = Counter({"S01 sec-1": 2} if number < 3 else {})
+        return Verdict(Path(name), FAULTS if faults else PASSED, last="pass 9 events", places=places, faults=faults,
+                       end="server")
+
+    def size(self, name: str) -> int:
+        return int(self.browser.value(f"document.querySelector('.matrix').{name}"))
+
+    def test_it_is_readable(self) -> None:
+        for width in (390, 1200):
+            for scheme in ("light", "dark"):
+                self.browser.open(self.place, width, scheme)
+                self.assertEqual((self.browser.errors, self.browser.value("window.hit")), ([], None))
+                self.assertEqual(self.browser.value("document.documentElement.scrollWidth"), width)
+                self.browser.picture(self.place.with_name(f"matrix-{width}-{scheme}.png"), width)
+        self.open(width=1200)
+        self.assertEqual(self.size("scrollWidth"), self.size("clientWidth"))  # all statements are seen at once
+        self.assertEqual(self.browser.value("document.querySelectorAll('.matrix .x').length"), 3)
+        self.assertEqual(self.browser.value(DEAD_LINKS), [])
+        tall = "[...document.querySelectorAll('.matrix tbody tr')].filter((row) => row.offsetHeight > 20).length"
+        self.assertEqual(self.browser.value(tall), 0)
+        cut = ("[...document.querySelectorAll('.matrix td')].filter((one) => one.scrollWidth > one.clientWidth + 1)"
+               ".map((one) => one.textContent)")
+        self.assertEqual(self.browser.value(cut), [])
+
+    def test_heads_and_names_stay_in_sight(self) -> None:
+        self.open(width=390)
+        self.browser.value("document.querySelector('.matrix').style.maxHeight = '400px'")
+        self.browser.value("document.querySelector('.matrix').scrollTo(300, 300)")
+        self.assertEqual((self.size("scrollLeft"), self.size("scrollTop") > 0), (300, True))
+        for selector, side in ((".matrix thead", "top"), (".matrix tbody th", "left")):
+            self.assertLessEqual(abs(self.edge(selector, side) - self.edge(".matrix", side)), 1)
+
+    def test_on_paper(self) -> None:
+        self.open(width=1200)
+        answer = self.browser.call("Page.printToPDF", printBackground=True, preferCSSPageSize=True)
+        made = base64.b64decode(answer["data"])
+        self.assertLess(len(made), 4_000_000)
+        sizes = [tuple(map(float, box)) for box in re.findall(rb"/MediaBox \[0 0 ([\d.]+) ([\d.]+)\]", made)]
+        self.assertIn(True, [width > height for width, height in sizes])
+        self.assertLess(len(sizes), 8)
 
 
 class Used(InBrowser):

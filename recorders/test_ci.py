@@ -10,6 +10,7 @@ import os
 import re
 import subprocess
 import sys
+import tempfile
 import unittest
 from pathlib import Path
 from typing import Any
@@ -18,6 +19,8 @@ from xml.etree import ElementTree
 sys.dont_write_bytecode = True  # the repository stays as it is
 HERE = Path(__file__).resolve().parent
 sys.path.insert(0, str(HERE))
+from judging.coverage import read_required
+from judging.statements import statements_of
 from testing import PATHS, PATIENCE, InFolder, broker, free_port, judge_program, missing
 
 PAGE = (HERE / "CI.md").read_text()
@@ -79,11 +82,24 @@ class Jobs(unittest.TestCase):
         return [yaml.safe_load(block) for block in blocks("yaml")]
 
     def test_they_run_the_script(self) -> None:
-        github, gitlab = self.jobs()
+        github, gitlab, covering = self.jobs()
         steps = github["jobs"]["judge"]["steps"]
         self.assertTrue(any(step.get("run", "").startswith("sh judge.sh ") for step in steps))
         self.assertIn("sh judge.sh", gitlab["mqjudge"]["script"])
         self.assertEqual(gitlab["mqjudge"]["artifacts"]["reports"]["junit"], "mqjudge.xml")
+        runs = [step["run"] for step in covering["jobs"]["coverage"]["steps"] if "run" in step]
+        self.assertIn(" --require-coverage coverage.txt ", next(run for run in runs if run.startswith("sh judge.sh ")))
+
+    def test_what_has_to_be_tested(self) -> None:
+        """The file has lines that can be read, on statements that bind their ends."""
+        (text,) = blocks("text")
+        with tempfile.TemporaryDirectory() as folder:
+            (Path(folder) / "coverage.txt").write_text(text)
+            required = read_required(Path(folder) / "coverage.txt")
+        statements = {one.code: one for one in statements_of(judge_program())}
+        self.assertEqual(len(required), 4)
+        for one in required if statements else ():
+            self.assertTrue(statements[one.code].binds(one.end), one)
 
     def test_the_options_exist(self) -> None:
         known = "".join(

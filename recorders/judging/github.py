@@ -3,6 +3,7 @@ from __future__ import annotations
 
 from collections import Counter
 
+from judging.coverage import Coverage
 from judging.explain import Explanation
 from judging.refusals import refusal_of
 from judging.verdict import FAULTS, PASSED, REFUSED, TOO_SHORT, Verdict, counted, show
@@ -20,6 +21,15 @@ def annotations(verdicts: list[Verdict], explanations: dict[str, Explanation]) -
 def general(text: str) -> str:
     """An error that is about no log."""
     return f"::error title=mqjudge::{within(text, DATA)}"
+
+
+def of_coverage(coverage: Coverage) -> list[str]:
+    """An error for what isn't tested as it is required: at the line that requires it."""
+    lines = []
+    for short in coverage.shortfalls:
+        place = f"file={within(coverage.file, PROPERTY)},line={short.line}," if short.line is not None else ""
+        lines.append(f"::error {place}title=not tested::{within(short.text, DATA)}")
+    return lines
 
 
 def of_log(verdict: Verdict, explanations: dict[str, Explanation]) -> list[str]:

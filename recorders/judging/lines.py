@@ -24,9 +24,17 @@ def json_line(verdict: Verdict) -> str:
         found["failed"] = "\n".join(verdict.first)
     else:
         found["faults"] = [of_fault(verdict, fault) for fault in verdict.found]
+    if verdict.places and not verdict.why_no_places:
+        found["coverage"] = [of_places(key, count) for key, count in verdict.places.items()]
     found |= {"ignored": verdict.ignored, "notes": verdict.notes}
     kept = {name: value for name, value in found.items() if name == "faults" or value not in (None, "", [])}
     return json.dumps(kept, ensure_ascii=False)
+
+
+def of_places(key: str, count: int) -> dict[str, Any]:
+    """How often a statement was tested, as `check --coverage --json` has it. The key is its code and citation."""
+    code, citation = key.split()
+    return {"citation": citation, "code": code, "places": count}
 
 
 def of_fault(verdict: Verdict, fault: Fault) -> dict[str, Any]:

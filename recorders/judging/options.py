@@ -3,23 +3,22 @@ from __future__ import annotations
 
 import argparse
 import os
-import re
 import shlex
 import shutil
-import subprocess
 from pathlib import Path
 
 from arguments import Parser
 from judging.baseline import Baseline
+from judging.coverage import Demand, read_required
 from judging.places import place_of
 from judging.policy import Policy, PolicyError, read_expected
 from judging.refusals import REFUSALS
 from judging.reports import Places
+from judging.statements import BOTH, CODE, Statement, counts_places, statements_of
 from judging.verdict import one_line
 
 REPOSITORY = Path(__file__).resolve().parent.parent.parent
 BUILT = REPOSITORY / "crates/mq_cli/out/mq_cli"
-CODE = re.compile("[A-Z][0-9A-Z]{1,3}")
 
 
 def words_of(text: str) -> frozenset[str]:
@@ -46,27 +45,29 @@ def arguments() -> Parser:
                         help="faults that don't count")
     parser.add_argument("--allow-refused", type=words_of, default=frozenset(), metavar="NUMBER,..",
                         help="refusals that don't count")
+    parser.add_argument("--coverage", action="store_true", help="say how often the logs test each statement")
+    parser.add_argument("--require-coverage", type=Path, metavar="FILE",
+                        help="what they have to test, in lines END CODE PLACES")
+    parser.add_argument("--min-coverage", type=int, metavar="N", help="fewer statements tested than N are a failure")
+    parser.add_argument("--write-coverage", type=Path, metavar="FILE", help="write what they test, in such lines")
     return parser
 
 
-def statements_of(program: str) -> list[str]:
-    """The codes of the statements that the program judges by; none where it doesn't list them."""
-    try:
-        answer = subprocess.run([program, "rules"], stdin=subprocess.DEVNULL, capture_output=True, timeout=60)
-    except (OSError, subprocess.TimeoutExpired):
-        return []
-    codes = [line.split()[0] for line in answer.stdout.decode("utf-8", "replace").splitlines() if line.split()]
-    return codes if answer.returncode == 0 and all(map(CODE.fullmatch, codes)) else []
-
-
-def unknown_code(code: str, statements: list[str]) -> str:
+def unknown_code(code: str, statements: list[Statement]) -> str:
     """Why there is no such code, with those that are meant perhaps; empty if there is. A program may list none."""
-    if code in statements or (not statements and CODE.fullmatch(code)):
+    codes = [statement.code for statement in statements]
+    if code in codes or (not codes and CODE.fullmatch(code)):
         return ""
     text = f"there is no statement {one_line(code)}"
-    if near := [known for known in statements if known[0] == code[:1]]:
+    if near := [known for known in codes if known[0] == code[:1]]:
         return f"{text}; those with {code[:1]} are {', '.join(near)}"
-    return f"{text}; there are {', '.join(statements)}" if statements else text
+    return f"{text}; there are {', '.join(codes)}" if codes else text
+
+
+def unbound(end: str, code: str, statements: list[Statement]) -> str:
+    """Why an end isn't judged by a statement; empty if it is, or where that isn't known."""
+    ends = next((statement.ends for statement in statements if statement.code == code), BOTH)
+    return "" if ends in (end, BOTH) else f"{code} binds a {ends}, and no {end}"
 
 
 def unknown_refusal(number: str) -> str:
@@ -76,7 +77,9 @@ def unknown_refusal(number: str) -> str:
     return "" if number in names else f"there is no refusal {one_line(number)}; there are {those}"
 
 
-def check_names(parser: Parser, options: argparse.Namespace, expected: Baseline | None) -> None:
+def check_names(
+    parser: Parser, options: argparse.Namespace, expected: Baseline | None, statements: list[Statement]
+) -> None:
     """Refuses codes and numbers that don't exist: what they were meant to name would count without a word."""
     for number in sorted(options.allow_refused):
         if why := unknown_refusal(number):
@@ -84,10 +87,31 @@ def check_names(parser: Parser, options: argparse.Namespace, expected: Baseline 
     named = {(code, "--ignore") for code in options.ignore}
     for known in expected.lines if expected else ():
         named.add((known.code, f"--expect: {options.expect}, line {known.line}"))
-    statements = statements_of(options.program) if named else []
     for code, option in sorted(named):
         if why := unknown_code(code, statements):
             parser.error(f"{option}: {why}")
+
+
+def check_required(parser: Parser, demand: Demand, statements: list[Statement]) -> None:
+    """Refuses requirements on statements that don't exist, or that the end isn't judged by."""
+    for one in demand.required:
+        if why := unknown_code(one.code, statements) or unbound(one.end, one.code, statements):
+            parser.error(f"--require-coverage: {one_line(demand.file)}, line {one.line}: {why}")
+
+
+def check_coverage(parser: Parser, options: argparse.Namespace) -> None:
+    """Turns coverage on where an option is about it, and refuses a program that doesn't count places."""
+    asked = {
+        "--coverage": options.coverage,
+        "--require-coverage": options.require_coverage is not None,
+        "--min-coverage": options.min_coverage is not None,
+        "--write-coverage": options.write_coverage is not None,
+    }
+    given = [name for name, is_given in asked.items() if is_given]
+    options.coverage = bool(given)
+    if given and not counts_places(options.program):
+        parser.error(f"{given[0]}: {one_line(options.shown_program)} doesn't count what logs test:"
+                     " its check has no --coverage; build a newer one")
 
 
 def as_typed(program: str) -> str:
@@ -104,8 +128,9 @@ def parse() -> tuple[argparse.Namespace, Policy]:
     """The options, and the policy that they make."""
     parser = arguments()
     options = parser.parse_args()
-    if options.jobs < 1 or min(options.most, options.min_events or 0, options.min_logs or 0) < 0:
-        parser.error("--jobs must be at least 1, and --most, --min-events and --min-logs at least 0")
+    least = (options.most, options.min_events or 0, options.min_logs or 0, options.min_coverage or 0)
+    if options.jobs < 1 or min(least) < 0:
+        parser.error("--jobs must be at least 1, and --most, --min-events, --min-logs and --min-coverage at least 0")
     if options.json and options.github:
         parser.error("--json and --github both write to standard output: choose one")
     program = options.program or (str(BUILT) if BUILT.is_file() else "mqjudge")
@@ -116,10 +141,16 @@ def parse() -> tuple[argparse.Namespace, Policy]:
     options.shown_program = as_typed(program)
     try:
         expected = read_expected(options.expect) if options.expect else None
+        required = read_required(options.require_coverage) if options.require_coverage else ()
     except PolicyError as error:
         parser.error(str(error))
-    check_names(parser, options, expected)
-    options.reports = Places(options.html, options.junit, options.sarif)
+    check_coverage(parser, options)
+    options.demand = Demand(options.require_coverage, required, options.min_coverage or 0)
+    is_listed = bool(options.coverage or options.ignore or expected)
+    options.statements = statements_of(options.program) if is_listed else []
+    check_names(parser, options, expected, options.statements)
+    check_required(parser, options.demand, options.statements)
+    options.reports = Places(options.html, options.junit, options.sarif, options.write_coverage)
     if refusal := options.reports.refused():
         parser.error(refusal)
     return options, Policy(options.ignore, options.allow_refused, expected, options.min_events or 0)

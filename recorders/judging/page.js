@@ -156,7 +156,7 @@
       form.addEventListener("submit", (event) => event.preventDefault());
       choose();
     }
-    for (const head of all("thead th")) {
+    for (const head of all("thead th").filter((one) => !one.closest(".matrix"))) {
       const button = document.createElement("button");
       button.append(...head.childNodes);
       head.append(button);
@@ -164,7 +164,7 @@
     }
     let printed = [];
     addEventListener("beforeprint", () => {
-      printed = all(".passes:not([open])");
+      printed = all(":is(.passes, .never):not([open])");
       for (const fold of printed) fold.open = true;
     });
     addEventListener("afterprint", () => {

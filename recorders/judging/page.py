@@ -12,8 +12,10 @@ from pathlib import Path
 
 from judging.card import Cards, advice
 from judging.chart import FULL, LEAN, SHORT, Drawing, draw
+from judging.coverage import Coverage
 from judging.explain import Explanation
 from judging.markup import attribute, counted, escaped, isolated, number
+from judging.matrix import Row, matrices
 from judging.refusals import refusal_of
 from judging.story import Fault, Story, choose
 from judging.verdict import FAILED, FAULTS, PASSED, REFUSED, TOO_SHORT, WORDS, Verdict
@@ -120,6 +122,7 @@ class Page:
     summary: str
     remarks: list[str]
     explanations: dict[str, Explanation]  # of each code that came
+    coverage: Coverage | None = None  # what the logs test, if that is wanted
     date: datetime = field(default_factory=lambda: datetime.now(UTC))
 
     def write(self, verdicts: list[Verdict]) -> str:
@@ -181,6 +184,9 @@ class Page:
         worst = next((status for status in ORDER if any(entry.verdict.status == status for entry in entries)), FAILED)
         place = f", in <code>{escaped(folder)}</code>" if folder else ""
         kind = " class=many" if len(charts) > SAMPLES else ""
+        is_untested = bool(self.coverage and self.coverage.shortfalls)
+        title = headline(entries) + ("; not all that is required was tested" if is_untested else "")
+        worst = FAULTS if is_untested and worst == PASSED else worst
         logs = '<i id="logs"></i>'
         if len(entries) >= FEW:
             logs = self._rows(entries[:ROWS], charts) + passes(entries[:ROWS])
@@ -189,13 +195,13 @@ class Page:
             f'<meta http-equiv="Content-Security-Policy" content="{policy}">'
             f'<meta name="viewport" content="width=device-width, initial-scale=1">'
             f'<meta name="color-scheme" content="light dark"><link rel="icon" href="data:,">'
-            f"<title>mqjudge: {headline(entries)}</title><style>{style}</style></head><body>{MARKERS}"
+            f"<title>mqjudge: {title}</title><style>{style}</style></head><body>{MARKERS}"
             f'<a class="skip" href="#logs">To the logs</a>'
-            f'<header><h1 class="{class_of(worst)}">{headline(entries)}</h1><p class="last">{escaped(self.summary)}</p>'
+            f'<header><h1 class="{class_of(worst)}">{title}</h1><p class="last">{escaped(self.summary)}</p>'
             f"{''.join(f'<p class=remark>{escaped(note)}</p>' for note in notes)}"
             f'<p class="version">Judged by {escaped(self.version or "mqjudge")} on'
             f" {self.date:%Y-%m-%d %H:%M} UTC{place}.</p>{LEGEND}</header><main{kind}>{self._codes(entries, places)}"
-            f"{logs}<script>{script}</script>"
+            f"{self._tested(entries[:ROWS])}{logs}<script>{script}</script>"
         )
 
     def _codes(self, entries: list[Entry], places: dict[str, str]) -> str:
@@ -216,6 +222,13 @@ class Page:
                         f'<td class=num{unit("log", logs[code])}>{number(logs[code])}{cell}'
                         f"<td>{escaped(self.explanations[code].sentence)}")
         return f'<h2 id="codes">Faults by statement</h2><table class="codes">{heads}<tbody>{"".join(rows)}</table>'
+
+    def _tested(self, entries: list[Entry]) -> str:
+        """How often the logs test each statement."""
+        if self.coverage is None:
+            return ""
+        counting = (entry for entry in entries if not entry.verdict.why_no_places)
+        return matrices(self.coverage, map(row_of, counting))
 
     def _rows(self, entries: list[Entry], charts: set[int]) -> str:
         """A row for each log that isn't just a pass, the worst ones first, and what chooses among all."""
@@ -421,11 +434,18 @@ def row(entry: Entry, has_section: bool) -> str:
     return f"{cells(entry, has_section)}{said}{hash_cell(entry)}"
 
 
+def row_of(entry: Entry) -> Row:
+    """A log in the matrix of what is tested."""
+    places = {key.split()[0]: count for key, count in entry.verdict.places.items()}
+    return Row(entry.number, entry.name, entry.verdict.end, places, entry.codes)
+
+
 def cells(entry: Entry, has_section: bool) -> str:
     """What begins a row: the name, a link where there is more to see, the tested end, and the number of events."""
     verdict = entry.verdict
     name = isolated(entry.name)
     words = f'<a href="#l{entry.number}">{name}</a>' if has_section else name
+    words += ' <span class="way">no REST</span>' if verdict.silence else ""
     place = "" if has_section else f' id="l{entry.number}"'
     events = number(verdict.events) if verdict.events is not None else ""
     codes = " ".join(sorted({*entry.codes, *entry.ignored}))
@@ -528,7 +548,7 @@ def notes_of(verdict: Verdict) -> list[str]:
     notes = [*(f"ignored: {text}" for text in verdict.ignored), *(note for note in verdict.notes if note != own)]
     if verdict.whole is not None:
         notes.append(f"The log ends inside a record: judged are its first {number(verdict.whole)} bytes.")
-    return notes
+    return notes + ([verdict.silence] if verdict.silence else [])
 
 
 def refused(verdict: Verdict) -> str:

@@ -40,11 +40,15 @@ class Judge:
     """Has logs judged by a program, and what it says weighed by a policy."""
 
     def __init__(
-        self, program: str, most: int, weigh: Callable[[Verdict], None], keeps: bool = False, tells: bool = False
+        self, program: str, most: int, weigh: Callable[[Verdict], None], keeps: bool = False, tells: bool = False,
+        covers: bool = False,
     ) -> None:
-        """Of each log at most so many lines are kept; and each fault, and a story of what happened, if it is wanted."""
+        """Of each log at most so many lines are kept; and each fault, and a story of what happened, if it is wanted.
+
+        So is how often each statement was tested, which the program has to know.
+        """
         self._program, self._most, self._weigh = program, most, weigh
-        self._keeps, self._tells = keeps, tells
+        self._keeps, self._tells, self._covers = keeps, tells, covers
         self._running: set[subprocess.Popen[bytes]] = set()
         self._lock = threading.Lock()  # for what runs
         self.copies: dict[Path, Path] = {}  # files that stand for logs which can't be read twice
@@ -98,8 +102,9 @@ class Judge:
         if verdict.is_foreign:
             verdict.excerpts = {}  # what is spoken says more than its bytes do
         suspects = {place: identifiers[place] for place in verdict.suspects & identifiers.keys()}
-        end = end_of(header_of(log)) if self._keeps or suspects or LIMITS.keys() & verdict.positions.keys() else ""
-        if self._keeps:
+        is_kept = self._keeps or self._covers
+        end = end_of(header_of(log)) if is_kept or suspects or LIMITS.keys() & verdict.positions.keys() else ""
+        if is_kept:
             verdict.end = end
         resends, limits = Resends(end, suspects), Limits(end, verdict.positions)
         if self._is_told(verdict):
@@ -128,13 +133,14 @@ class Judge:
     def _ask(self, path: Path, log: Path) -> Verdict:
         """What the program says of a log, under the name that it has. It has failed where it ends oddly."""
         verdict = Verdict(path, keeps=self._keeps)
+        words = ["check", "--coverage"] if self._covers else ["check"]
 
         def take(line: str) -> None:
             if not line.startswith(HINT):
                 verdict.take(line, self._most)
 
         try:
-            verdict.status = self._read(take, "check", log=log, errors=subprocess.STDOUT)
+            verdict.status = self._read(take, *words, log=log, errors=subprocess.STDOUT)
         except OSError as error:
             verdict.take(why(error), self._most)
         if verdict.status not in STATUSES or (verdict.status == FAULTS) != verdict.last.startswith("fail "):

@@ -9,6 +9,7 @@ from pathlib import Path
 from xml.etree import ElementTree
 
 from judging.colours import Paint
+from judging.coverage import Coverage
 from judging.verdict import FAILED, FAULTS, PASSED, REFUSED, TOO_SHORT, WORDS, Verdict, counted, one_line, show
 
 NOT_IN_XML = re.compile("[^\t\n\r\x20-\ud7ff\ue000-\ufffd\U00010000-\U0010ffff]")
@@ -88,18 +89,21 @@ def in_xml(text: object) -> str:
 
 
 def junit(
-    verdicts: list[Verdict], empty: Sequence[Path], missing: Sequence[str], remarks: list[str]
+    verdicts: list[Verdict], empty: Sequence[Path], missing: Sequence[str], remarks: list[str],
+    coverage: Coverage | None = None,
 ) -> ElementTree.ElementTree:
     """The verdicts as JUnit XML: a log is a test case.
 
     Faults are a failure, what isn't judged is an error, and what is ignored altogether is skipped. A folder without
-    logs is an error too, and so is a line on what is missing. Remarks are what is said of all of them.
+    logs is an error too, and so is a line on what is missing. What isn't tested as it is required is a test that
+    failed. Remarks are what is said of all of them.
     """
-    failures = sum(verdict.status in FAILURES for verdict in verdicts)
+    shortfalls = coverage.shortfalls if coverage else []
+    failures = sum(verdict.status in FAILURES for verdict in verdicts) + len(shortfalls)
     errors = sum(verdict.status in ERRORS for verdict in verdicts) + len(empty) + len(missing)
     skipped = sum(verdict.status == PASSED and bool(verdict.ignored) for verdict in verdicts)
     seconds = f"{sum(verdict.seconds for verdict in verdicts):.3f}"
-    tests = str(len(verdicts) + len(empty) + len(missing))
+    tests = str(len(verdicts) + len(empty) + len(missing) + len(shortfalls))
     counts = {"tests": tests, "failures": str(failures), "errors": str(errors), "time": seconds}
     suites = ElementTree.Element("testsuites", counts)
     suite = ElementTree.SubElement(suites, "testsuite", {"name": "mqjudge", "skipped": str(skipped), **counts})
@@ -111,8 +115,12 @@ def junit(
     ]:
         case = ElementTree.SubElement(suite, "testcase", {"classname": place, "name": name, "time": "0.000"})
         ElementTree.SubElement(case, "error", {"type": WORDS[FAILED], "message": message})
-    if remarks:
-        ElementTree.SubElement(suite, "system-out").text = in_xml("\n".join(remarks))
+    for short in shortfalls:
+        words = {"classname": "coverage", "name": short.subject, "time": "0.000"}
+        case = ElementTree.SubElement(suite, "testcase", words)
+        ElementTree.SubElement(case, "failure", {"type": "not tested", "message": short.amounts})
+    if said := [*(coverage.lines if coverage else []), *remarks]:
+        ElementTree.SubElement(suite, "system-out").text = in_xml("\n".join(said))
     ElementTree.indent(suites)
     return ElementTree.ElementTree(suites)
 
@@ -127,5 +135,6 @@ def add_case(suite: ElementTree.Element, verdict: Verdict) -> None:
         ElementTree.SubElement(case, kind, words).text = text
     elif verdict.ignored:
         ElementTree.SubElement(case, "skipped", {"message": in_xml("; ".join(verdict.ignored))}).text = text
-    elif verdict.is_worth_a_line:
-        ElementTree.SubElement(case, "system-out").text = text
+    said = [text] if verdict.status == PASSED and not verdict.ignored and verdict.is_worth_a_line else []
+    if said := [*said, *([verdict.silence] if verdict.silence else [])]:
+        ElementTree.SubElement(case, "system-out").text = "\n".join(said)

@@ -7,6 +7,7 @@ from dataclasses import dataclass
 from pathlib import Path
 
 from arguments import writing
+from judging.coverage import Coverage, written
 from judging.explain import Explanation, read_explanation
 from judging.page import Page
 from judging.program import Judge
@@ -22,13 +23,15 @@ class Places:
     html: Path | None = None
     junit: Path | None = None
     sarif: Path | None = None
+    coverage: Path | None = None
 
     def refused(self) -> str:
         """Which of them can't be written, and why; empty if all can be.
 
         Those that weren't there aren't there afterwards: what is interrupted before it has a report leaves none.
         """
-        for name, place in (("junit", self.junit), ("html", self.html), ("sarif", self.sarif)):
+        named = {"junit": self.junit, "html": self.html, "sarif": self.sarif, "write-coverage": self.coverage}
+        for name, place in named.items():
             if place is None:
                 continue
             try:
@@ -54,13 +57,18 @@ def write_reports(
     remarks: list[str],
     empty: Sequence[Path] = (),
     missing: Sequence[str] = (),
+    coverage: Coverage | None = None,
 ) -> None:
     """Writes the reports. The last remark is the summary.
 
-    Folders without logs, and lines on what else is missing, are errors in JUnit XML.
+    Folders without logs, and lines on what else is missing, are errors in JUnit XML. What the logs test is in all of
+    them, where it is known.
     """
+    if places.coverage and coverage:
+        with writing(places.coverage):
+            places.coverage.write_text(written(coverage), "utf-8")
     if places.junit:
-        tests = junit(verdicts, empty, missing, remarks)
+        tests = junit(verdicts, empty, missing, remarks, coverage)
         with writing(places.junit):
             tests.write(places.junit, "utf-8", xml_declaration=True)
     if not places.html and not places.sarif:
@@ -68,11 +76,13 @@ def write_reports(
     explanations = explain_all(judge, verdicts)
     version = (judge.ask("--version").splitlines() or [""])[0]
     if places.html:
-        page = Page(version, remarks[-1], remarks[:-1], explanations).write(verdicts)
+        untested = set(coverage.untested if coverage else ())  # the page has them where it says what is tested
+        notes = [remark for remark in remarks[:-1] if remark not in untested]
+        page = Page(version, remarks[-1], notes, explanations, coverage).write(verdicts)
         with writing(places.html):
             places.html.write_text(page, "utf-8", "replace")
     if places.sarif:
         number = version.split()[1] if len(version.split()) > 1 else ""
-        text = json.dumps(sarif(verdicts, explanations, number), indent=1) + "\n"
+        text = json.dumps(sarif(verdicts, explanations, number, coverage), indent=1) + "\n"
         with writing(places.sarif):
             places.sarif.write_text(text, "utf-8")

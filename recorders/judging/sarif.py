@@ -6,6 +6,7 @@ from pathlib import Path
 from typing import Any
 from urllib.parse import quote
 
+from judging.coverage import Coverage, Shortfall
 from judging.explain import Explanation
 from judging.story import Fault
 from judging.verdict import FAILED, PASSED, REFUSED, TOO_SHORT, Verdict, show
@@ -13,20 +14,42 @@ from judging.verdict import FAILED, PASSED, REFUSED, TOO_SHORT, Verdict, show
 SCHEMA = "https://json.schemastore.org/sarif-2.1.0.json"
 LEVELS = {REFUSED: "error", FAILED: "error", TOO_SHORT: "warning"}
 Json = dict[str, Any]
+NOT_TESTED: Json = {
+    "id": "coverage",
+    "shortDescription": {"text": "The logs test each statement as often as it is required."},
+    "fullDescription": {"text": "A pass says nothing of a statement that was never put to the test."},
+    "help": {"text": "Record a session in which the tested end has to keep the statement: mqjudge explain CODE says"
+                     " where it is judged."},
+    "defaultConfiguration": {"level": "error"},
+    "properties": {"tags": ["MQTT 5.0"]},
+}
 
 
-def sarif(verdicts: list[Verdict], explanations: dict[str, Explanation], version: str) -> Json:
-    """One run. What is ignored is a result that is suppressed; what isn't judged is a notification of the tool."""
+def sarif(
+    verdicts: list[Verdict], explanations: dict[str, Explanation], version: str, coverage: Coverage | None = None
+) -> Json:
+    """One run. What is ignored is a result that is suppressed; what isn't judged is a notification of the tool.
+
+    What isn't tested as a line of a file requires is a result at that line, and other coverage a notification.
+    """
     codes = sorted(explanations)
     numbers = {code: number for number, code in enumerate(codes)}
-    driver: Json = {"name": "mqjudge", "rules": [rule(explanations[code]) for code in codes]}
+    rules = [rule(explanations[code]) for code in codes]
+    shortfalls = coverage.shortfalls if coverage else []
+    required = [short for short in shortfalls if short.line is not None]
+    driver: Json = {"name": "mqjudge", "rules": [*rules, *([NOT_TESTED] if required else [])]}
     if version:
         driver["version"] = version
     notices = [notice(verdict) for verdict in verdicts if verdict.status in LEVELS]
+    notices += [{"level": "note", "message": {"text": line}} for line in (coverage.lines if coverage else [])]
+    notices += [{"level": "error", "message": {"text": f"not tested: {short.text}"}}
+                for short in shortfalls if short.line is None]
     invocation: Json = {"executionSuccessful": not any(verdict.status == FAILED for verdict in verdicts)}
     if notices:
         invocation["toolExecutionNotifications"] = notices
     results = [result(verdict, fault, explanations, numbers) for verdict in verdicts for fault in verdict.found]
+    if coverage and coverage.file:
+        results += [untested(short, coverage.file, len(codes)) for short in required]
     run: Json = {"tool": {"driver": driver}, "invocations": [invocation], "columnKind": "unicodeCodePoints"}
     return {"$schema": SCHEMA, "version": "2.1.0", "runs": [run | {"results": results}]}
 
@@ -78,6 +101,19 @@ def result(verdict: Verdict, fault: Fault, explanations: dict[str, Explanation],
     if way := verdict.overlooked.get(fault.code):
         found["suppressions"] = [{"kind": "external", "justification": f"ignored by {way}"}]
     return found
+
+
+def untested(short: Shortfall, file: Path, number: int) -> Json:
+    """What isn't tested as a line of a file requires. It has the rule of this number."""
+    place = {"artifactLocation": artifact(file), "region": {"startLine": short.line}}
+    return {
+        "ruleId": NOT_TESTED["id"],
+        "ruleIndex": number,
+        "level": "error",
+        "message": {"text": f"not tested: {short.text}"},
+        "locations": [{"physicalLocation": place}],
+        "partialFingerprints": {"requirement/v1": short.subject},
+    }
 
 
 def artifact(path: Path) -> Json:

@@ -22,6 +22,8 @@ WORDS = {PASSED: "pass", FAULTS: "fail", REFUSED: "refused", FAILED: "failed", T
 SHORT = 3  # events that a connection takes to open: OPEN, CONNECT, CONNACK
 FAULT = re.compile(r"fault (\d+) (\S+) (\S+) decided (\d+) record (\d+) offset (\d+|-)")
 ENDING = re.compile(r"(?:pass|fail \d+ faults) (\d+) events")
+TESTED = re.compile(r"tested (\w+ \S+) places (\d+)")
+COVERED = re.compile(r"covered \d+ of \d+ statements")
 
 REFUSED_LINE = re.compile(r"refused (\d+) (\w+) at (\d+)")
 
@@ -64,6 +66,7 @@ class Verdict:
     count: int = 0  # lines
     faults: Counter[str] = field(default_factory=Counter)  # of each code with its citation
     positions: dict[str, int] = field(default_factory=dict)  # of each code's first fault
+    places: dict[str, int] = field(default_factory=dict)  # of each code with its citation, where they are counted
     whole: int | None = None  # bytes that were judged, where the log ends inside a record
     seconds: float = 0.0
     ignored: list[str] = field(default_factory=list)  # what the policy left out of the status, and why
@@ -83,7 +86,15 @@ class Verdict:
     story: Story | None = None  # what happened, where it is to be shown
 
     def take(self, line: str, most: int) -> None:
-        """Takes in the program's next line. No more than `most` of them are kept, and the last one."""
+        """Takes in the program's next line. No more than `most` of them are kept, and the last one.
+
+        Those that say how often statements were tested are no part of the report.
+        """
+        if tested := TESTED.fullmatch(line):
+            self.places[sys.intern(tested[1])] = int(tested[2])
+            return
+        if COVERED.fullmatch(line):
+            return
         words = line.split()
         if words[:1] == ["fault"] and len(words) > 3:
             self.faults[" ".join(words[2:4])] += 1
@@ -100,6 +111,24 @@ class Verdict:
         """How many the log has; None where it wasn't judged."""
         ending = ENDING.fullmatch(self.last)
         return int(ending[1]) if ending else None
+
+    @property
+    def why_no_places(self) -> str:
+        """Why it doesn't count what the log tests, in a word or two; empty if it does."""
+        reasons = {
+            "failed": self.status == FAILED,
+            "refused": self.events is None,
+            "cut": self.whole is not None,
+            "not MQTT": self.is_foreign,
+            "ignored": bool(self.ignored),
+        }
+        return next((reason for reason, is_so in reasons.items() if is_so), "")
+
+    @property
+    def silence(self) -> str:
+        """What it doesn't say since the log has no REST; empty if it has one, or was never judged."""
+        is_silent = self.events is not None and self.has_rest is False
+        return "no REST: missing answers aren't judged" if is_silent else ""
 
     @property
     def is_short(self) -> bool:
