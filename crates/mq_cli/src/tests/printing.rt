@@ -35,7 +35,7 @@ fn explains_a_code_in_any_case(rt: HostRuntime) -> Result<(), Fail> {
     let first = b"S01 both MQTT-2.2.1-3;MQTT-2.2.1-4\n";
     for code in ["S01", "s01"] {
         assert!(rt;
-            lists(rt.alloc(), &["mqjudge", "explain", code], 27, first)?,
+            lists(rt.alloc(), &["mqjudge", "explain", code], 31, first)?,
             "{code}"
         );
     }
