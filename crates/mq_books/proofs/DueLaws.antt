@@ -29,7 +29,7 @@ opened-within (e ∷ past) = go (is_open e.note) (opened-within past)
     go false h = omega arith
 
 -- the moments of the latest connection are those from its OPEN on
-to-connection : (past : List Seen) (m : Moment) → Among m (moments past) → opened_at past ≤ position m → Among m (connection past)
+pub to-connection : (past : List Seen) (m : Moment) → Among m (moments past) → opened_at past ≤ position m → Among m (connection past)
 to-connection [] m h le = absurd h
 to-connection (e ∷ past) m h le = subst (λ (ms : List Moment). Among m ms) (sym (connection-next e past)) (go h (is_open e.note) le (to-connection past m))
   where
@@ -38,7 +38,7 @@ to-connection (e ∷ past) m h le = subst (λ (ms : List Moment). Among m ms) (s
     go (inr old) true le rest = absurd (let w : position m ≤ length past = among-within m past old in omega arith)
     go (inr old) false le rest = inr (rest old le)
 
-from-connection : (past : List Seen) (m : Moment) → Among m (connection past) → Among m (moments past) × (opened_at past ≤ position m)
+pub from-connection : (past : List Seen) (m : Moment) → Among m (connection past) → Among m (moments past) × (opened_at past ≤ position m)
 from-connection [] m h = absurd h
 from-connection (e ∷ past) m h = go (is_open e.note) (subst (λ (ms : List Moment). Among m ms) (connection-next e past) h) (from-connection past m)
   where
@@ -62,7 +62,7 @@ connection-session role f a (e ∷ past) m h =
     go true w true (inr old) rest = absurd old
     go true w false (inr old) rest = inr (rest old)
 
-same-moment : (past : List Seen) (a b : Moment) → Among a (moments past) → Among b (moments past) → position a ≡ position b → a ≡ b
+pub same-moment : (past : List Seen) (a b : Moment) → Among a (moments past) → Among b (moments past) → position a ≡ position b → a ≡ b
 same-moment past a b x y same = let both : Some a ≡ Some b = sym (among-moment a past x) ∙ ap (moment past) same ∙ among-moment b past y in cc
 
 unset : (b : Bool) → not b ≡ true → b ≡ false

@@ -60,3 +60,5 @@ pub mod ReleasePlacesLaws
 pub mod DeliveryPlacesLaws
 pub mod EarlyPlacesLaws
 pub mod TriedLaws
+pub mod ResumedLaws
+pub mod ResumingLaws

@@ -49,7 +49,7 @@ use Rattle.mq_books.proofs.DueLaws.{owes, due-owes, owes-due}
 use Rattle.mq_books.proofs.PlacesLaws.{IsDueAt, value-due, key-due, places_under, under-due, listed-due, blamed_due-is, blamed_under-is}
 use Rattle.mq_books.proofs.AgainLaws.{due-listed}
 
-binds-S06 : (role : Role) (releases : Bool) → binds S06 (record { role = role; releases = releases }) ≡ true
+pub binds-S06 : (role : Role) (releases : Bool) → binds S06 (record { role = role; releases = releases }) ≡ true
 unfolding line_of found_line lines
 binds-S06 Client releases = refl
 binds-S06 Server releases = refl
@@ -114,7 +114,7 @@ none-waits (k ∷ keys) e past are =
     some_one ∙ sym (ap not waiting)
 
 -- so it is where the connection is resumed
-vacant-waits : (tested : Tested) (s : Inflight) (taken : Option Fate) (e : Seen) (past : List Seen) → IsUsing s tested taken past → resumes s.fate ≡ true → is_connected past ≡ true
+pub vacant-waits : (tested : Tested) (s : Inflight) (taken : Option Fate) (e : Seen) (past : List Seen) → IsUsing s tested taken past → resumes s.fate ≡ true → is_connected past ≡ true
     → (index_set_len s.unanswered == 0) ≡ not (is_waiting (newest e past))
 vacant-waits tested s taken e past u resumed connected =
     none-waits s.unanswered.keys e past (λ i. u.unanswered_are i ∙ ap (λ b. b && waits sent_under closer_of i past) resumed ∙ ap (λ ms. since (λ m. is_id i (sent_under (note m))) (closes_id i) ms) (on_open-connected past connected))
@@ -122,7 +122,7 @@ vacant-waits tested s taken e past u resumed connected =
 -- ---- a REST that binds
 
 -- its connection had its fate before it
-binding-fate : (tested : Tested) (f : Fate) (at : ℕ) (e : Seen) (past : List Seen) → IsUnder tested f at e past → is_binding tested.role (newest e past) ≡ true → latest_fate tested.role past ≡ Some f
+pub binding-fate : (tested : Tested) (f : Fate) (at : ℕ) (e : Seen) (past : List Seen) → IsUnder tested f at e past → is_binding tested.role (newest e past) ≡ true → latest_fate tested.role past ≡ Some f
 unfolding is_binding
 binding-fate tested f at e past under h =
     let parts = both_true (is_rest e.note) (accepted (latest_fate tested.role past) && not (some ends_binding (connection past))) h in
@@ -164,7 +164,7 @@ shown-nowhere role f x past h (Some m) = first-none (resumes f) _ h
     first-none : (a b : Bool) → a ≡ false → (a && b) ≡ false
     first-none a b h = ap (λ c. c && b) h
 
-rest-needs : (n : Note) → is_rest n ≡ true → needs_connection n ≡ true
+pub rest-needs : (n : Note) → is_rest n ≡ true → needs_connection n ≡ true
 rest-needs notes.Rest h = refl
 rest-needs _ h = absurd (cc)
 

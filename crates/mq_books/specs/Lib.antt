@@ -26,3 +26,4 @@ pub mod Patterning
 pub mod Burden
 pub mod Weights
 pub mod Tried
+pub mod Resumings

@@ -29,6 +29,7 @@ mod earlier;
 mod entry;
 mod moving;
 mod resends;
+mod resuming;
 
 use crate::asked::opened_after;
 use crate::fated::Fated;

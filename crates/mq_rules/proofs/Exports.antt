@@ -17,7 +17,7 @@ pub use Rattle.mq_rules.proofs.OnOpenLaws.{has_item, on_open-connected, on_open-
 pub use Rattle.mq_rules.proofs.OpenLaws.{on_connections}
 pub use Rattle.mq_rules.proofs.OrderLaws.{orderly}
 pub use Rattle.mq_rules.proofs.PassedLaws.{earlier_over, passed-none, passed-opens, passed-stays, passed_over-back, passed_over-is}
-pub use Rattle.mq_rules.proofs.PlacesLaws.{from-zero, places-most, places-once, places-unbound}
+pub use Rattle.mq_rules.proofs.PlacesLaws.{applies-nowhere, applies-step, count-most, from-zero, places-most, places-once, places-step, places-unbound}
 pub use Rattle.mq_rules.proofs.PlainLaws.{beginning, grows-next, newest-first, within-next}
 pub use Rattle.mq_rules.proofs.PositionLaws.{among-moment, among-some, among-within, earliest_since-is, earliest_since-there, latest-is, moment-among, moment-beginning, moment-newest, moment-older, moment-placed, moments-descend, none-first_found, session-descend, since-stands, some-among, stands-since, those-among, those-descend}
 pub use Rattle.mq_rules.proofs.SessionLaws.{session-members}
