@@ -1,5 +1,5 @@
 -- A log that is told event by event.
-use Rattle.std.proofs.Common.{◌≡◌, ℕ, ◌+◌, ◌<◌, Bool, true, false, cond, ◌&&◌, ◌||◌, not, ◌⊎◌, inl, inr, List, [], ◌∷◌, length, Option, Some, None, Result, Ok, Err, OnOk, OnErr, refl, ap, sym, ◌∙◌, subst, get_or, take, drop}
+use Rattle.std.proofs.Common.{◌≡◌, ℕ, ◌+◌, ◌<◌, Bool, true, false, cond, ◌&&◌, ◌||◌, ◌⊎◌, inl, inr, List, [], ◌∷◌, length, Option, Some, None, Result, Ok, Err, OnOk, OnErr, refl, ap, sym, ◌∙◌, subst, get_or, take, drop}
 use Rattle.std.specs.Prelude.{reverse}
 use Rattle.std.specs.Option.{option_or}
 use mathlib.Core.List.{reverse_aux}
@@ -9,13 +9,12 @@ use Rattle.mq_rules.specs.declared.role.Role.{Role}
 use Rattle.mq_rules.specs.declared.role.Tested.{Tested}
 use Rattle.mq_rules.specs.declared.fate.Fate.{Fate}
 use Rattle.mq_rules.specs.declared.rule.Rule.{Rule}
-use Rattle.mq_rules.specs.declared.rule.Rule.TheVariants.{W01, S06}
+use Rattle.mq_rules.specs.declared.rule.Rule.TheVariants.{W01}
 use Rattle.mq_rules.specs.declared.fault.Fault.{Fault}
 use Rattle.mq_rules.specs.declared.note.Seen.{Seen}
 use Rattle.mq_rules.specs.Moments.{moment, IsPlaced}
 use Rattle.mq_rules.specs.Connections.{latest_fate, AreOnConnections}
 use Rattle.mq_rules.specs.Words.{is_some_and}
-use Rattle.mq_rules.specs.Rules.{same_rule}
 use Rattle.mq_rules.specs.Statements.{Statement, on_bytes, on_past, in_session, at_release, at_rest, statement, is_by_bytes, is_by_past, is_on_bytes, is_on_past}
 use Rattle.mq_rules.specs.Occasions.{places}
 use Rattle.mq_rules.specs.Steps.{turns}
@@ -26,7 +25,7 @@ use Rattle.mq_rules.specs.Under.{is_by_session, is_on_session, IsInTurn, Follows
 use Rattle.mq_rules.specs.Growing.{added, Gains, GainsWithin, news, GrowsBy, GrowsByWithin}
 use Rattle.mq_books.specs.Judging.{IsWhole}
 use Rattle.mq_books.specs.Holding.{turns_session}
-use Rattle.mq_books.specs.Grouping.{of_counted, of_sessions}
+use Rattle.mq_books.specs.Grouping.{of_sessions}
 
 tails : (P : List Seen → Type 0) → ((e : Seen) (past : List Seen) → P (e ∷ past) → P past) → (later past : List Seen) → P (reverse_aux later past) → P past
 tails P tail [] past h = h
@@ -107,41 +106,25 @@ on_error (Err e) P Q f p = f p
 
 -- ---- where a statement's places are counted
 
--- those on sessions are, but for S06
-counted-all : (role : Role) (r : Rule) → of_counted r ≡ (is_by_session (statement role r) && not (same_rule r S06))
-counted-all role W01 = refl
-counted-all role _ = refl
+there : (s : Statement) → is_by_session s ≡ true → is_by_bytes s ≡ false
+there (on_bytes rule) h = absurd (cc)
+there (on_past breaks) h = absurd (cc)
+there (in_session breaks) h = refl
+there (at_release breaks) h = refl
+there (at_rest test) h = refl
 
--- S06 is on sessions
-sixth : (role : Role) (r : Rule) → (same_rule r S06 && not (is_by_session (statement role r))) ≡ false
-sixth role W01 = refl
-sixth role _ = refl
-
-there : (s : Statement) (six : Bool) → (is_by_session s && not six) ≡ true → (is_by_bytes s || six) ≡ false
-there (on_bytes rule) six h = absurd (cc)
-there (on_past breaks) six h = absurd (cc)
-there (in_session breaks) true h = absurd (cc)
-there (in_session breaks) false h = refl
-there (at_release breaks) true h = absurd (cc)
-there (at_release breaks) false h = refl
-there (at_rest test) true h = absurd (cc)
-there (at_rest test) false h = refl
-
-pub counted-session : (tested : Tested) (r : Rule) (past : List Seen) (n : ℕ) → of_counted r ≡ true → n ≡ places tested past r → Some n ≡ cond (is_on_bytes tested r || same_rule r S06) None (Some (places tested past r))
+-- those on sessions are
+pub counted-session : (tested : Tested) (r : Rule) (past : List Seen) (n : ℕ) → of_sessions r ≡ true → n ≡ places tested past r → Some n ≡ cond (is_on_bytes tested r) None (Some (places tested past r))
 counted-session tested r past n on is =
-    ap Some is ∙ ap (λ (b : Bool). cond b None (Some (places tested past r))) (sym (there (statement tested.role r) (same_rule r S06) (sym (counted-all tested.role r) ∙ on)))
+    ap Some is ∙ ap (λ (b : Bool). cond b None (Some (places tested past r))) (sym (there (statement tested.role r) (sym (sessions-all tested.role r) ∙ on)))
 
-elsewhere : (s : Statement) (six : Bool) → (is_by_session s && not six) ≡ false → (six && not (is_by_session s)) ≡ false → (o : Option ℕ) → cond (is_by_past s) o None ≡ cond (is_by_bytes s || six) None o
-elsewhere (on_bytes rule) six h k o = refl
-elsewhere (on_past breaks) true h k o = absurd (cc)
-elsewhere (on_past breaks) false h k o = refl
-elsewhere (in_session breaks) true h k o = refl
-elsewhere (in_session breaks) false h k o = absurd (cc)
-elsewhere (at_release breaks) true h k o = refl
-elsewhere (at_release breaks) false h k o = absurd (cc)
-elsewhere (at_rest test) true h k o = refl
-elsewhere (at_rest test) false h k o = absurd (cc)
+elsewhere : (s : Statement) → is_by_session s ≡ false → (o : Option ℕ) → cond (is_by_past s) o None ≡ cond (is_by_bytes s) None o
+elsewhere (on_bytes rule) h o = refl
+elsewhere (on_past breaks) h o = refl
+elsewhere (in_session breaks) h o = absurd (cc)
+elsewhere (at_release breaks) h o = absurd (cc)
+elsewhere (at_rest test) h o = absurd (cc)
 
--- any other is on the past of a connection, or isn't counted
-pub counted-past : (tested : Tested) (r : Rule) (past : List Seen) → of_counted r ≡ false → cond (is_on_past tested r) (Some (places tested past r)) None ≡ cond (is_on_bytes tested r || same_rule r S06) None (Some (places tested past r))
-counted-past tested r past off = elsewhere (statement tested.role r) (same_rule r S06) (sym (counted-all tested.role r) ∙ off) (sixth tested.role r) (Some (places tested past r))
+-- any other is on the past of a connection, or on a packet's bytes
+pub counted-past : (tested : Tested) (r : Rule) (past : List Seen) → of_sessions r ≡ false → cond (is_on_past tested r) (Some (places tested past r)) None ≡ cond (is_on_bytes tested r) None (Some (places tested past r))
+counted-past tested r past off = elsewhere (statement tested.role r) (sym (sessions-all tested.role r) ∙ off) (Some (places tested past r))

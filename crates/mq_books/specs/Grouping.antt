@@ -8,7 +8,7 @@ use Rattle.mq_rules.specs.Rules.{same_rule}
 use Rattle.mq_rules.specs.Under.{either_adds}
 use Rattle.mq_rules.specs.Occasions.{occasion}
 use Rattle.mq_books.specs.Placings.{is_on_sessions, implied}
-use Rattle.mq_books.specs.Using.{is_at_once, is_inflight}
+use Rattle.mq_books.specs.Using.{is_inflight}
 
 -- ---- an exchange
 
@@ -77,10 +77,6 @@ of_releases r = (same_rule r L1 || same_rule r L2) || same_rule r L3
 abbrev pub of_sessions : Rule → Bool
 of_sessions r = of_sending r || ((of_messages r || of_requests r) || (of_releases r || of_subscriptions r))
 
--- those of them whose places are counted: all but S06
-abbrev pub of_counted : Rule → Bool
-of_counted r = (is_at_once r || (same_rule r S07 || same_rule r E7R)) || ((of_messages r || of_requests r) || (of_releases r || of_subscriptions r))
-
 abbrev pub by_sessions : Rule → Bool → Bool
 by_sessions r t = by_sending r t || (((of_messages r && t) || (of_requests r && t)) || ((of_releases r && t) || (of_subscriptions r && t)))
 
@@ -112,9 +108,9 @@ requests_placed role _ = refl
 pub on_requests : (role : Role) (r : Rule) → of_requests r ≡ true → is_on_sessions (occasion role r) ≡ true
 on_requests role r = implied (of_requests r) (is_on_sessions (occasion role r)) (requests_placed role r)
 
-counted_placed : (role : Role) (r : Rule) → (of_counted r && not (is_on_sessions (occasion role r))) ≡ false
-counted_placed role W01 = refl
-counted_placed role _ = refl
+sessions_placed : (role : Role) (r : Rule) → (of_sessions r && not (is_on_sessions (occasion role r))) ≡ false
+sessions_placed role W01 = refl
+sessions_placed role _ = refl
 
-pub on_counted : (role : Role) (r : Rule) → of_counted r ≡ true → is_on_sessions (occasion role r) ≡ true
-on_counted role r = implied (of_counted r) (is_on_sessions (occasion role r)) (counted_placed role r)
+pub on_sessions : (role : Role) (r : Rule) → of_sessions r ≡ true → is_on_sessions (occasion role r) ≡ true
+on_sessions role r = implied (of_sessions r) (is_on_sessions (occasion role r)) (sessions_placed role r)

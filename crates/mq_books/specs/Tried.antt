@@ -7,7 +7,7 @@ use Rattle.mq_rules.specs.declared.role.Role.{Role}
 use Rattle.mq_rules.specs.declared.role.Tested.{Tested}
 use Rattle.mq_rules.specs.declared.fate.Fate.{Fate}
 use Rattle.mq_rules.specs.declared.rule.Rule.{Rule}
-use Rattle.mq_rules.specs.declared.rule.Rule.TheVariants.{S01, S02, S03, S04, S05}
+use Rattle.mq_rules.specs.declared.rule.Rule.TheVariants.{S01, S02, S03, S04, S05, S06}
 use Rattle.mq_rules.specs.declared.note.Note.{Note}
 use Rattle.mq_rules.specs.declared.note.Seen.{Seen}
 use Rattle.mq_rules.specs.Words.{is_some_and}
@@ -21,7 +21,7 @@ use Rattle.mq_books.specs.declared.inflight.asking.AtOncePlaces.{AtOncePlaces}
 use Rattle.mq_books.specs.Knowing.{excused}
 use Rattle.mq_books.specs.Resending.{passed_since}
 use Rattle.mq_books.specs.Placings.{is_on_sessions, on_either, on_one}
-use Rattle.mq_books.specs.Using.{is_taken, past_pubrel, is_at_once}
+use Rattle.mq_books.specs.Using.{is_taken, past_pubrel, is_at_once, is_inflight}
 
 -- some identifier is among these
 abbrev pub has_any : List ℕ → Bool
@@ -68,3 +68,7 @@ on_at_once role rule = on_either (same_rule rule S01) (same_rule rule S02 || (sa
   where
     there : Bool
     there = is_on_sessions (occasion role rule)
+
+-- and so is S06
+pub on_inflight : (role : Role) (rule : Rule) → is_inflight rule ≡ true → is_on_sessions (occasion role rule) ≡ true
+on_inflight role rule = on_either (is_at_once rule) (same_rule rule S06) (is_on_sessions (occasion role rule)) (on_at_once role rule) (on_one role S06 rule refl)

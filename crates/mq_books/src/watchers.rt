@@ -1,5 +1,5 @@
 //! All statements, with their places counted or not.
-ghost use Rattle.std.specs.Prelude.{◌≡◌, ◌∷◌, ◌+◌, ◌*◌, ◌||◌, true, false, cond, [], List, length, Option, Some, None, OnOk, OnErr};
+ghost use Rattle.std.specs.Prelude.{◌≡◌, ◌∷◌, ◌+◌, ◌*◌, true, false, cond, [], List, length, Option, Some, None, OnOk, OnErr};
 ghost use Rattle.mq_rules.specs.declared.fate.Fate.TheVariants.{Void};
 ghost use Rattle.mq_rules.specs.declared.fate.Fate.{Fate as TheFate};
 ghost use Rattle.mq_rules.specs.declared.role.Tested.{Tested as TheTested};
@@ -9,8 +9,6 @@ ghost use Rattle.mq_rules.specs.Notes.{note_of_bare};
 ghost use Rattle.mq_rules.specs.Under.{seen, Follows};
 ghost use Rattle.mq_rules.specs.Growing.{Gains, GainsWithin};
 ghost use Rattle.mq_rules.specs.Occasions.{places};
-ghost use Rattle.mq_rules.specs.declared.rule.Rule.TheVariants.{S06};
-ghost use Rattle.mq_rules.specs.Rules.{same_rule};
 ghost use Rattle.mq_rules.specs.Statements.{is_on_bytes};
 ghost use Rattle.mq_rules.specs.Steps.{turns};
 ghost use Rattle.mq_books.specs.Burden.{burden};
@@ -61,10 +59,10 @@ impl Watchers {
     }
 
     /// How many places a statement has in the log so far. None if places aren't counted, and for a
-    /// statement on a packet's bytes, and S06.
+    /// statement on a packet's bytes.
     pub fn places(&self, rule: Rule) -> Option<u32>
         ensures plain { counts self.now ≡ false → result ≡ None }
-        ensures counted { (tested : TheTested) (taken : Option TheFate) (past : List TheSeen) → counts self.now ≡ true → ⟦<Watchers as Watch>⟧.agrees self.now tested taken past → result ≡ cond (is_on_bytes tested rule || same_rule rule S06) None (Some (places tested past rule)) }
+        ensures counted { (tested : TheTested) (taken : Option TheFate) (past : List TheSeen) → counts self.now ≡ true → ⟦<Watchers as Watch>⟧.agrees self.now tested taken past → result ≡ cond (is_on_bytes tested rule) None (Some (places tested past rule)) }
     {
         match self {
             Watchers::Plain(_) => None,

@@ -10,14 +10,16 @@ ghost use Rattle.mq_rules.specs.Words.{is_some_and};
 ghost use Rattle.mq_rules.specs.Notes.{resend_of};
 ghost use Rattle.mq_rules.specs.Under.{seen, IsUnder, fate_before};
 ghost use Rattle.mq_rules.specs.Occasions.{places_under};
-ghost use Rattle.mq_books.specs.Using.{is_taken as taken, is_at_once as judged_at_once, past_pubrel, IsUsing};
+ghost use Rattle.mq_books.specs.Using.{is_taken as taken, is_at_once as judged_at_once, is_inflight, past_pubrel, IsUsing};
 ghost use Rattle.mq_books.specs.Tried as tried;
-ghost use Rattle.mq_books.specs.Tried.{CountsAtOnce, on_at_once};
+ghost use Rattle.mq_books.specs.Tried.{CountsAtOnce, on_inflight};
+ghost use Rattle.mq_books.specs.Resumings.{CountsResumed};
 
 use super::Inflight;
 use super::broken::is_taken;
 use super::entry::Entry;
 use super::resends::passed_since;
+use super::resuming::{ResumedPlaces, count_resumed};
 use crate::counting::{Asks, pick, places_after};
 use crate::known::excuse;
 use indexmap::{IndexMap, IndexSet};
@@ -187,29 +189,50 @@ fn is_at_once(rule: Rule) -> bool
         || (rule == Rule::S02 || (rule == Rule::S03 || (rule == Rule::S04 || rule == Rule::S05)))
 }
 
-// It doesn't count S06.
+/// How often S01 to S06 were put to the test.
+#[derive(Drop)]
+pub struct InflightPlaces {
+    at_once: AtOncePlaces,
+    resumed: ResumedPlaces,
+}
+
 impl Asks for Inflight {
-    type Places = AtOncePlaces;
+    type Places = InflightPlaces;
 
-    ghost counts = { CountsAtOnce };
+    ghost counts = { λ p tested taken past. CountsAtOnce p.at_once tested taken past × CountsResumed p.resumed tested taken past };
 
-    ghost counted = { judged_at_once };
+    ghost counted = { is_inflight };
 
-    ghost on_sessions = { on_at_once };
+    ghost on_sessions = { on_inflight };
 
     fn tests(rule: Rule) -> bool {
-        is_at_once(rule)
+        is_at_once(rule) || rule == Rule::S06
     }
 
-    fn no_places() -> AtOncePlaces {
-        AtOncePlaces::new()
+    fn no_places() -> InflightPlaces {
+        InflightPlaces {
+            at_once: AtOncePlaces::new(),
+            resumed: ResumedPlaces::new(),
+        }
     }
 
-    fn count(&self, places: &mut AtOncePlaces, at: Place3, decided: u32, fate: Fate, note: &Note) {
-        count_at_once(self, places, at, decided, fate, note);
+    fn count(
+        &self,
+        places: &mut InflightPlaces,
+        at: Place3,
+        decided: u32,
+        fate: Fate,
+        note: &Note,
+    ) {
+        count_at_once(self, &mut places.at_once, at, decided, fate, note);
+        count_resumed(self, &mut places.resumed, at, decided, fate, note);
     }
 
-    fn places_of(places: &AtOncePlaces, rule: Rule) -> u32 {
-        places.places(rule)
+    fn places_of(places: &InflightPlaces, rule: Rule) -> u32 {
+        pick(
+            is_at_once(rule),
+            places.at_once.places(rule),
+            places.resumed.places(),
+        )
     }
 }

@@ -2,7 +2,7 @@
 ghost use Rattle.std.specs.Prelude.{◌≡◌, [], Some};
 ghost use Rattle.mq_rules.specs.declared.fate.Fate.TheVariants.{Void};
 ghost use Rattle.mq_rules.specs.Under.{turns_known};
-ghost use Rattle.mq_books.specs.Grouping.{asked_add, by_asked, of_counted, of_sessions, on_counted};
+ghost use Rattle.mq_books.specs.Grouping.{asked_add, by_asked, of_sessions, on_sessions as placed};
 
 use crate::counting::Asks;
 use crate::counts::{Counts, Subacks, Unsubacks};
@@ -153,9 +153,9 @@ impl Asks for AskedSessions {
 
     ghost counts = { ⟦<Both<Both<Inflight, Both<Quota, Pings>>, Both<Both<Both<Both<Debts<E1>, Debts<E2>>, Both<Debts<E3>, Debts<E4>>>, Requests>, Both<Releases, Both<Deliveries, Both<Counts<Subacks>, Counts<Unsubacks>>>>>> as Asks>⟧.counts };
 
-    ghost counted = { of_counted };
+    ghost counted = { of_sessions };
 
-    ghost on_sessions = { on_counted };
+    ghost on_sessions = { placed };
 
     fn tests(rule: Rule) -> bool {
         Parts::tests(rule)

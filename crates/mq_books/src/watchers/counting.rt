@@ -1,13 +1,11 @@
 //! All statements, of which faults are found and places counted, but for those on a packet's bytes.
-ghost use Rattle.std.specs.Prelude.{◌≡◌, ◌*◌, cond, ◌||◌, [], List, Option, Some, None};
+ghost use Rattle.std.specs.Prelude.{◌≡◌, ◌*◌, cond, [], List, Option, Some, None};
 ghost use Rattle.mq_rules.specs.declared.fate.Fate.TheVariants.{Void};
 ghost use Rattle.mq_rules.specs.declared.fate.Fate.{Fate as TheFate};
 ghost use Rattle.mq_rules.specs.declared.role.Tested.{Tested as TheTested};
 ghost use Rattle.mq_rules.specs.declared.note.Seen.{Seen as TheSeen};
 ghost use Rattle.mq_rules.specs.Connections.{IsOnConnection};
 ghost use Rattle.mq_rules.specs.Occasions.{places};
-ghost use Rattle.mq_rules.specs.declared.rule.Rule.TheVariants.{S06};
-ghost use Rattle.mq_rules.specs.Rules.{same_rule};
 ghost use Rattle.mq_rules.specs.Statements.{is_on_bytes};
 ghost use Rattle.mq_rules.specs.Steps.{turns};
 ghost use Rattle.mq_books.specs.Burden.{burden};
@@ -56,10 +54,9 @@ impl CountingWatchers {
         }
     }
 
-    /// How many places a statement has in the log so far. None if it is one on a packet's bytes, or
-    /// S06, whose places aren't counted.
+    /// How many places a statement has in the log so far. None if it is one on a packet's bytes.
     pub fn places(&self, rule: Rule) -> Option<u32>
-        ensures { (tested : TheTested) (taken : Option TheFate) (past : List TheSeen) → ⟦<CountingWatchers as Watch>⟧.agrees self.now tested taken past → result ≡ cond (is_on_bytes tested rule || same_rule rule S06) None (Some (places tested past rule)) }
+        ensures { (tested : TheTested) (taken : Option TheFate) (past : List TheSeen) → ⟦<CountingWatchers as Watch>⟧.agrees self.now tested taken past → result ≡ cond (is_on_bytes tested rule) None (Some (places tested past rule)) }
     {
         let later = &self.parts.b;
         if AskedSessions::tests(rule) {
