@@ -88,17 +88,7 @@ sessions_add r t =
     (either_adds (of_messages r && t) (of_requests r && t) (of_messages r) (of_requests r) t refl refl)
     (either_adds (of_releases r && t) (of_subscriptions r && t) (of_releases r) (of_subscriptions r) t refl refl))
 
--- ---- the same where an event is asked which of them it puts to the test
-
--- a pair of one of them turns out to fail, if any pair of the statement does
-abbrev pub by_asked : Rule → Bool → Bool
-by_asked r t = by_sending r t || ((by_messages r t || by_requests r t) || ((of_releases r && t) || (((same_rule r B01 || same_rule r B02) && t) || ((same_rule r B03 && t) || (same_rule r B04 && t)))))
-
-pub asked_add : (r : Rule) (t : Bool) → by_asked r t ≡ (of_sessions r && t)
-asked_add W01 true = refl
-asked_add W01 false = refl
-asked_add _ true = refl
-asked_add _ false = refl
+-- ---- where they are put to the test
 
 -- each of them is put to the test on sessions
 requests_placed : (role : Role) (r : Rule) → (of_requests r && not (is_on_sessions (occasion role r))) ≡ false
@@ -107,6 +97,20 @@ requests_placed role _ = refl
 
 pub on_requests : (role : Role) (r : Rule) → of_requests r ≡ true → is_on_sessions (occasion role r) ≡ true
 on_requests role r = implied (of_requests r) (is_on_sessions (occasion role r)) (requests_placed role r)
+
+messages_placed : (role : Role) (r : Rule) → (of_messages r && not (is_on_sessions (occasion role r))) ≡ false
+messages_placed role W01 = refl
+messages_placed role _ = refl
+
+pub on_messages : (role : Role) (r : Rule) → of_messages r ≡ true → is_on_sessions (occasion role r) ≡ true
+on_messages role r = implied (of_messages r) (is_on_sessions (occasion role r)) (messages_placed role r)
+
+subscriptions_placed : (role : Role) (r : Rule) → (of_subscriptions r && not (is_on_sessions (occasion role r))) ≡ false
+subscriptions_placed role W01 = refl
+subscriptions_placed role _ = refl
+
+pub on_subscriptions : (role : Role) (r : Rule) → of_subscriptions r ≡ true → is_on_sessions (occasion role r) ≡ true
+on_subscriptions role r = implied (of_subscriptions r) (is_on_sessions (occasion role r)) (subscriptions_placed role r)
 
 sessions_placed : (role : Role) (r : Rule) → (of_sessions r && not (is_on_sessions (occasion role r))) ≡ false
 sessions_placed role W01 = refl

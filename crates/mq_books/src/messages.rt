@@ -2,11 +2,12 @@
 ghost use Rattle.std.specs.Prelude.{◌≡◌, [], Some};
 ghost use Rattle.mq_rules.specs.declared.fate.Fate.TheVariants.{Void};
 ghost use Rattle.mq_rules.specs.Under.{turns_known};
-ghost use Rattle.mq_books.specs.Grouping.{of_messages, by_messages, messages_add};
+ghost use Rattle.mq_books.specs.Grouping.{on_messages, of_messages, by_messages, messages_add};
 ghost use Rattle.mq_rules.specs.Notes.{note_of_bare};
 ghost use Rattle.mq_books.specs.Selecting as selecting;
 ghost use Rattle.mq_rules.specs.Notes.{is_acknowledged};
 
+use crate::counting::Asks;
 use crate::debts::Debts;
 use crate::exchange::{E1, E2, E3, E4};
 use crate::fated::Fated;
@@ -14,8 +15,8 @@ use crate::selective::Selective;
 use mq_log::{Direction, Place3};
 use mq_packet::Qos;
 use mq_rules::{
-    Bare, BareFields, Both, Brisk, Fate, Faults, ItemNote, Memory, Note, PacketFields, Tested,
-    Watch,
+    Bare, BareFields, Both, Brisk, Fate, Faults, ItemNote, Memory, Note, PacketFields, Rule,
+    Tested, Watch,
 };
 use std::alloc::Global;
 
@@ -112,6 +113,32 @@ impl Selective for Messages {
     #[inline(always)]
     fn may_concern_bare(&self, bare: Bare<'_>) -> bool {
         bare_may_concern_messages(bare)
+    }
+}
+
+impl Asks for Messages {
+    type Places = <Both<Both<Debts<E1>, Debts<E2>>, Both<Debts<E3>, Debts<E4>>> as Asks>::Places;
+
+    ghost counts = { ⟦<Both<Both<Debts<E1>, Debts<E2>>, Both<Debts<E3>, Debts<E4>>> as Asks>⟧.counts };
+
+    ghost counted = { of_messages };
+
+    ghost on_sessions = { on_messages };
+
+    fn tests(rule: Rule) -> bool {
+        <Both<Both<Debts<E1>, Debts<E2>>, Both<Debts<E3>, Debts<E4>>>>::tests(rule)
+    }
+
+    fn no_places() -> Self::Places {
+        <Both<Both<Debts<E1>, Debts<E2>>, Both<Debts<E3>, Debts<E4>>>>::no_places()
+    }
+
+    fn count(&self, places: &mut Self::Places, at: Place3, decided: u32, fate: Fate, note: &Note) {
+        self.watchers.count(places, at, decided, fate, note);
+    }
+
+    fn places_of(places: &Self::Places, rule: Rule) -> u32 {
+        <Both<Both<Debts<E1>, Debts<E2>>, Both<Debts<E3>, Debts<E4>>>>::places_of(places, rule)
     }
 }
 

@@ -10,9 +10,10 @@ ghost use Rattle.mq_rules.specs.Notes.{note_of_bare};
 ghost use Rattle.mq_rules.specs.Under.{seen, Follows, IsUnder, IsKnown, fate_before, turns_known};
 ghost use Rattle.mq_books.specs.Concerns.{Passes};
 
+use crate::counting::Asks;
 use crate::fated::Fated;
 use mq_log::Place3;
-use mq_rules::{Bare, Both, Brisk, Fate, Faults, Memory, Note, Watch};
+use mq_rules::{Bare, Both, Brisk, Fate, Faults, Memory, Note, Rule, Watch};
 
 /// A watcher of which it is known which events concern it: any other event leaves what it keeps as
 /// it is, and shows none of its statements to be false.
@@ -126,6 +127,33 @@ impl<W: Selective + Brisk> Brisk for Selecting<W> {
         }
         self.watcher.step_bare(at, bare, faults)?;
         Ok(())
+    }
+}
+
+// Its watcher is asked of every event, also of those that it isn't given.
+impl<W: Selective + Asks> Asks for Selecting<W> {
+    type Places = W::Places;
+
+    ghost counts = { W.counts };
+
+    ghost counted = { W.counted };
+
+    ghost on_sessions = { W.on_sessions };
+
+    fn tests(rule: Rule) -> bool {
+        W::tests(rule)
+    }
+
+    fn no_places() -> W::Places {
+        W::no_places()
+    }
+
+    fn count(&self, places: &mut W::Places, at: Place3, decided: u32, fate: Fate, note: &Note) {
+        self.watcher.count(places, at, decided, fate, note);
+    }
+
+    fn places_of(places: &W::Places, rule: Rule) -> u32 {
+        W::places_of(places, rule)
     }
 }
 

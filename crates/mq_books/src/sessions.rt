@@ -2,8 +2,9 @@
 ghost use Rattle.std.specs.Prelude.{◌≡◌, [], Some};
 ghost use Rattle.mq_rules.specs.declared.fate.Fate.TheVariants.{Void};
 ghost use Rattle.mq_rules.specs.Under.{turns_known};
-ghost use Rattle.mq_books.specs.Grouping.{of_sessions, by_sessions, sessions_add};
+ghost use Rattle.mq_books.specs.Grouping.{of_sessions, on_sessions as on_each, by_sessions, sessions_add};
 
+use crate::counting::Asks;
 use crate::fated::Fated;
 use crate::inflight::Inflight;
 use crate::messages::Messages;
@@ -14,7 +15,7 @@ use crate::requests::Requests;
 use crate::selective::Selecting;
 use crate::subs_all::Subs;
 use mq_log::Place3;
-use mq_rules::{Bare, Both, Brisk, Fate, Faults, Memory, Note, Tested, Watch};
+use mq_rules::{Bare, Both, Brisk, Fate, Faults, Memory, Note, Rule, Tested, Watch};
 use std::alloc::Global;
 
 /// What is sent under Packet Identifiers, within the send quota, and in answer to pings.
@@ -134,5 +135,31 @@ impl Brisk for Sessions {
     fn step_bare(&mut self, at: Place3, bare: Bare<'_>, faults: &mut Faults) -> Result<(), Memory> {
         self.watchers.step_bare(at, bare, faults)?;
         Ok(())
+    }
+}
+
+impl Asks for Sessions {
+    type Places = <Both<Sending, Both<Exchanges, Delivering>> as Asks>::Places;
+
+    ghost counts = { ⟦<Both<Both<Selecting<Inflight>, Both<Selecting<Quota>, Selecting<Pings>>>, Both<Both<Selecting<Messages>, Selecting<Requests>>, Both<Selecting<Releases>, Selecting<Subs>>>> as Asks>⟧.counts };
+
+    ghost counted = { of_sessions };
+
+    ghost on_sessions = { on_each };
+
+    fn tests(rule: Rule) -> bool {
+        <Both<Sending, Both<Exchanges, Delivering>>>::tests(rule)
+    }
+
+    fn no_places() -> Self::Places {
+        <Both<Sending, Both<Exchanges, Delivering>>>::no_places()
+    }
+
+    fn count(&self, places: &mut Self::Places, at: Place3, decided: u32, fate: Fate, note: &Note) {
+        self.watchers.count(places, at, decided, fate, note);
+    }
+
+    fn places_of(places: &Self::Places, rule: Rule) -> u32 {
+        <Both<Sending, Both<Exchanges, Delivering>>>::places_of(places, rule)
     }
 }

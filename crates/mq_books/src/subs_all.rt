@@ -5,16 +5,18 @@ ghost use Rattle.mq_rules.specs.Rules.{same_rule};
 ghost use Rattle.mq_rules.specs.Under.{turns_known, either_adds};
 ghost use Rattle.mq_rules.specs.declared.fate.Fate.TheVariants.{Void};
 ghost use Rattle.mq_rules.specs.Notes.{note_of_bare};
+ghost use Rattle.mq_books.specs.Grouping.{of_subscriptions, on_subscriptions};
 ghost use Rattle.mq_books.specs.Selecting as selecting;
 
+use crate::counting::Asks;
 use crate::counts::{Counts, Subacks, Unsubacks};
 use crate::fated::Fated;
 use crate::selective::{Selective, step_first};
 use crate::subs::Deliveries;
 use mq_log::{Direction, Place3};
 use mq_rules::{
-    Bare, BareFields, Both, Brisk, Fate, Faults, ItemNote, Memory, Note, PacketFields, Tested,
-    Watch,
+    Bare, BareFields, Both, Brisk, Fate, Faults, ItemNote, Memory, Note, PacketFields, Rule,
+    Tested, Watch,
 };
 use std::alloc::Global;
 
@@ -111,6 +113,32 @@ impl Selective for Subs {
     #[inline(always)]
     fn may_concern_bare(&self, bare: Bare<'_>) -> bool {
         bare_may_concern_subscriptions(self.watchers.a.is_bound(), bare)
+    }
+}
+
+impl Asks for Subs {
+    type Places = <Both<Deliveries, Both<Counts<Subacks>, Counts<Unsubacks>>> as Asks>::Places;
+
+    ghost counts = { ⟦<Both<Deliveries, Both<Counts<Subacks>, Counts<Unsubacks>>> as Asks>⟧.counts };
+
+    ghost counted = { of_subscriptions };
+
+    ghost on_sessions = { on_subscriptions };
+
+    fn tests(rule: Rule) -> bool {
+        <Both<Deliveries, Both<Counts<Subacks>, Counts<Unsubacks>>>>::tests(rule)
+    }
+
+    fn no_places() -> Self::Places {
+        <Both<Deliveries, Both<Counts<Subacks>, Counts<Unsubacks>>>>::no_places()
+    }
+
+    fn count(&self, places: &mut Self::Places, at: Place3, decided: u32, fate: Fate, note: &Note) {
+        self.watchers.count(places, at, decided, fate, note);
+    }
+
+    fn places_of(places: &Self::Places, rule: Rule) -> u32 {
+        <Both<Deliveries, Both<Counts<Subacks>, Counts<Unsubacks>>>>::places_of(places, rule)
     }
 }
 

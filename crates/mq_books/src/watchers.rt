@@ -14,7 +14,6 @@ ghost use Rattle.mq_rules.specs.Steps.{turns};
 ghost use Rattle.mq_books.specs.Burden.{burden};
 ghost use Rattle.mq_books.specs.Kinds.{AgreesByKind, weighs_by_kind, is_counting as counts};
 
-mod asked_sessions;
 mod counting;
 mod plain;
 

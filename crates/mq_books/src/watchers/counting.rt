@@ -10,9 +10,9 @@ ghost use Rattle.mq_rules.specs.Statements.{is_on_bytes};
 ghost use Rattle.mq_rules.specs.Steps.{turns};
 ghost use Rattle.mq_books.specs.Burden.{burden};
 
-use super::asked_sessions::AskedSessions;
 use crate::counting::{Asks, Counting};
 use crate::early::Early;
+use crate::sessions::Sessions;
 use mq_log::Place3;
 use mq_rules::{
     Bare, Both, Brisk, ConnTally, CountingConn, Faults, Memory, Note, Rule, Shapes, Tested, Watch,
@@ -23,7 +23,7 @@ use std::alloc::Global;
 /// Watches all 74 statements, as `PlainWatchers` does, and counts how often those on connections
 /// and sessions are put to the test.
 pub struct CountingWatchers {
-    parts: Both<Shapes, Both<CountingConn<ConnTally>, Early<Counting<AskedSessions>>>>,
+    parts: Both<Shapes, Both<CountingConn<ConnTally>, Early<Counting<Sessions>>>>,
 }
 
 // As a derived one, but a call of its own.
@@ -44,11 +44,7 @@ impl CountingWatchers {
                 Shapes::new(tested),
                 Both::new(
                     CountingConn::new(alloc, tested),
-                    Early::new(
-                        alloc,
-                        tested,
-                        Counting::new(AskedSessions::new(alloc, tested)),
-                    ),
+                    Early::new(alloc, tested, Counting::new(Sessions::new(alloc, tested))),
                 ),
             ),
         }
@@ -59,7 +55,7 @@ impl CountingWatchers {
         ensures { (tested : TheTested) (taken : Option TheFate) (past : List TheSeen) → ⟦<CountingWatchers as Watch>⟧.agrees self.now tested taken past → result ≡ cond (is_on_bytes tested rule) None (Some (places tested past rule)) }
     {
         let later = &self.parts.b;
-        if AskedSessions::tests(rule) {
+        if Sessions::tests(rule) {
             return Some(later.b.places(rule));
         }
         conn_places(&later.a, rule)
@@ -67,13 +63,13 @@ impl CountingWatchers {
 }
 
 impl Watch for CountingWatchers {
-    ghost agrees = { λ s. ⟦<Both<Shapes, Both<CountingConn<ConnTally>, Early<Counting<AskedSessions>>>> as Watch>⟧.agrees s.parts };
+    ghost agrees = { λ s. ⟦<Both<Shapes, Both<CountingConn<ConnTally>, Early<Counting<Sessions>>>> as Watch>⟧.agrees s.parts };
 
     ghost takes = { λ tested taken e past. IsOnConnection e past };
 
     ghost adds = { turns };
 
-    ghost weighs = { λ s. ⟦<Both<Shapes, Both<CountingConn<ConnTally>, Early<Counting<AskedSessions>>>> as Watch>⟧.weighs s.parts };
+    ghost weighs = { λ s. ⟦<Both<Shapes, Both<CountingConn<ConnTally>, Early<Counting<Sessions>>>> as Watch>⟧.weighs s.parts };
 
     ghost bound = { λ tested taken past. 4 * burden tested past };
 
