@@ -22,7 +22,8 @@ use Rattle.mq_rules.specs.Faults.{fault_in}
 use Rattle.mq_rules.specs.Notes.{tested_as, tested_by, seen, seen_in}
 use Rattle.mq_rules.proofs.Exports.{fault_in-start}
 use Rattle.mq_judge.specs.declared.watching.Watching.{Watching}
-use Rattle.mq_judge.specs.Watching.{IsFound, IsWatching}
+use Rattle.mq_books.specs.Kinds.{is_counting as counts}
+use Rattle.mq_judge.specs.Watching.{IsFound, IsWatching, IsTallying, IsJudging}
 use Rattle.mq_judge.specs.declared.judge.Judge.{Judge}
 use Rattle.mq_judge.specs.Judging.{FollowsBy, KnowsBy, RefusesIn, JudgesPiece, JudgesPieceBy, TakesEvents, AreFaultsOf}
 use Rattle.mq_report.specs.Stopping.{IsRefusedByte}
@@ -34,6 +35,15 @@ use Rattle.mq_report.proofs.HeaderLaws.{header-stays}
 seen-nothing : seen_in [] ≡ []
 unfolding seen_in events events_back
 seen-nothing = refl
+
+nothing-complete : events [] ≡ []
+unfolding events events_back
+nothing-complete = refl
+
+-- where nothing was seen, no event is complete
+none-complete : (log : List ℕ) → seen_in log ≡ [] → events log ≡ []
+unfolding seen_in
+none-complete log none = nil_from_length (events log) (sym (length-map (events log) seen) ∙ ap length none)
 
 -- nor has a header
 pub unseen : (log : List ℕ) → length log ≤ 8 → seen_in log ≡ []
@@ -70,8 +80,8 @@ pub knows-found : (tracer : Traced) (w : Watching) (log : List ℕ) → KeepsHea
     → KnowsBy tracer.reading w log
 knows-found tracer w log header named found = record { header = header; faults = faults-found w log named found; events = events-counted w log found }
 
-pub follows-nothing : (limit : ℕ) (tracer : Traced) (w : Watching) → IsTracedTo tracer [] → tracer.reading.limit ≡ limit → IsWatching w [] → FollowsBy limit tracer w []
-follows-nothing limit tracer w traced within watches =
+pub follows-nothing : (limit : ℕ) (tracer : Traced) (w : Watching) → IsTracedTo tracer [] → tracer.reading.limit ≡ limit → IsWatching w [] → IsTallying w [] → FollowsBy limit tracer w []
+follows-nothing limit tracer w traced within watches tallies =
     let here : IsWatching w (seen_in []) = subst (IsWatching w) (sym seen-nothing) watches in
     record {
       traced = traced;
@@ -79,6 +89,7 @@ follows-nothing limit tracer w traced within watches =
       knows = knows-found tracer w [] (keeps_header tracer.reading [] traced.keeps) (λ long. absurd (omega (arith, long))) here.found;
       named = λ long. absurd (omega (arith, long));
       watches = here;
+      tallies = subst (IsTallying w) (sym nothing-complete) tallies;
     }
 
 -- nothing is refused in a log that a judge follows
@@ -87,35 +98,33 @@ unrefused limit tracer w log f = subst (λ l. refused l log ≡ None) f.within f
 
 -- ---- a piece that is taken in by a tracer, whose sink judges the events
 
-abbrev Agrees : {S : Type 0} → (S → Watching) → Tested → S → List Placed → Type 0
-Agrees watching tested s received = ((watching s).tested ≡ tested) × IsWatching (watching s) (map seen received)
+abbrev Agrees : {S : Type 0} → (S → Watching) → Tested → Bool → S → List Placed → Type 0
+Agrees watching tested counting s received = IsJudging tested counting (watching s) received
 
 -- the sink refuses for want of memory alone, and then has the faults of the events before
 abbrev Refuses : {S : Type 0} → (S → Watching) → Tested → S → List Placed → Refusal → Type 0
 Refuses watching tested s received refusal = (refusal ≡ refusals.Memory 0) × ((watching s).tested ≡ tested) × IsFound (watching s) (map seen received)
 
-why-refused : {S : Type 0} (watching : S → Watching) (tested : Tested) (limit : ℕ) (log taken : List ℕ) (byte : ℕ) (old new : S) (r : Refusal) → Agrees watching tested old (events log)
-    → Why (Agrees watching tested) (Refuses watching tested) limit log taken byte old new r
+why-refused : {S : Type 0} (watching : S → Watching) (tested : Tested) (counting : Bool) (limit : ℕ) (log taken : List ℕ) (byte : ℕ) (old new : S) (r : Refusal) → Agrees watching tested counting old (events log)
+    → Why (Agrees watching tested counting) (Refuses watching tested) limit log taken byte old new r
     → IsRefusedByte limit (log ++ taken) byte r × ((watching new).tested ≡ tested) × IsFound (watching new) (map seen (events (log ++ taken)))
-why-refused watching tested limit log taken byte old new r was (inl met) = let now = met.receives was in (inl met.met, now.0, now.1.found)
-why-refused watching tested limit log taken byte old new r was (inr (inl lacks)) = let now = lacks.receives was in (inr (lacks.unmet, lacks.is, inl lacks.needs), now.0, now.1.found)
-why-refused watching tested limit log taken byte old new r was (inr (inr own)) =
+why-refused watching tested counting limit log taken byte old new r was (inl met) = let now = met.receives was in (inl met.met, now.0, now.1.found)
+why-refused watching tested counting limit log taken byte old new r was (inr (inl lacks)) = let now = lacks.receives was in (inr (lacks.unmet, lacks.is, inl lacks.needs), now.0, now.1.found)
+why-refused watching tested counting limit log taken byte old new r was (inr (inr own)) =
     let is = own.refused was in
     (inr (own.unmet, own.is ∙ ap (λ o. moved o (length (log ++ taken))) is.0, inr own.completes), is.1, is.2)
 
-pub fed-events : {S : Type 0} (watching : S → Watching) (tested : Tested) (limit : ℕ) (next : Traced) (log piece : List ℕ) (old new : S) (result : Result (Unit {0}) Refusal)
-    → (watching old).tested ≡ tested → IsWatching (watching old) (seen_in log)
+pub fed-events : {S : Type 0} (watching : S → Watching) (tested : Tested) (counting : Bool) (limit : ℕ) (next : Traced) (log piece : List ℕ) (old new : S) (result : Result (Unit {0}) Refusal)
+    → (watching old).tested ≡ tested → IsWatching (watching old) (seen_in log) → counts (watching old).watchers ≡ counting → IsTallying (watching old) (events log)
     → OnOk result (IsTracedTo next (log ++ piece)) → OnOk result (next.reading.limit ≡ limit)
-    → TracesPiece (Agrees watching tested) (Refuses watching tested) limit log piece old new result
-    → IfErr result (λ r. StopsAt (Agrees watching tested) (Refuses watching tested) limit log piece old new next.reading r)
-    → TakesEvents limit tested log piece next (watching new) result
+    → TracesPiece (Agrees watching tested counting) (Refuses watching tested) limit log piece old new result
+    → IfErr result (λ r. StopsAt (Agrees watching tested counting) (Refuses watching tested) limit log piece old new next.reading r)
+    → TakesEvents limit tested counting log piece next (watching new) result
 unfolding seen_in
-fed-events watching tested limit next log piece old new (Ok done) whom watches traced same t stops =
-    let now = t.1 (whom, watches) in
-    (traced, same, now.0, now.1)
-fed-events watching tested limit next log piece old new (Err r) whom watches traced same t stops =
+fed-events watching tested counting limit next log piece old new (Ok done) whom watches kind tallies traced same t stops = (traced, same, t.1 (whom, watches, kind, tallies))
+fed-events watching tested counting limit next log piece old new (Err r) whom watches kind tallies traced same t stops =
     let s = stops.0 in
-    let w = why-refused watching tested limit log s.taken s.byte old new r (whom, watches) s.why in
+    let w = why-refused watching tested counting limit log s.taken s.byte old new r (whom, watches, kind, tallies) s.why in
     (record { taken = s.taken; byte = s.byte; later = s.later; is = s.is; unrefused = s.unrefused; why = w.0 }, stops.1, w.1, w.2)
 
 -- ---- the tested end, once the header is whole
@@ -124,6 +133,7 @@ fed-events watching tested limit next log piece old new (Err r) whom watches tra
 pub record Begun (w : Watching) (log : List ℕ) : Type 0 where
   pub named : 8 ≤ length log → w.tested ≡ tested_by log
   pub watches : IsWatching w (seen_in log)
+  pub tallies : IsTallying w (events log)
 
 no-events : (log : List ℕ) (count : ℕ) → count ≡ length (seen_in log) → count ≡ 0 → seen_in log ≡ []
 no-events log count is none = nil_from_length (seen_in log) (sym is ∙ none)
@@ -131,7 +141,7 @@ no-events log count is none = nil_from_length (seen_in log) (sym is ∙ none)
 -- no event is complete in the header, so its end is taken up by watchers that have taken in none
 pub begun : (limit : ℕ) (first mid : Traced) (w v : Watching) (log piece rest : List ℕ) (header : Option Header) → FollowsBy limit first w log → (b : Begins mid log piece rest)
     → header ≡ (if nat_lt (length (log ++ b.taken)) 8 then None else Some (header_by (log ++ b.taken)))
-    → (w.events ≡ 0 → IfSome header (λ named. (v.tested ≡ tested_as named) × IsWatching v [])) → (header ≡ None → v ≡ w) → ((w.events ≡ 0 → ⊥) → v ≡ w)
+    → (w.events ≡ 0 → IfSome header (λ named. (v.tested ≡ tested_as named) × IsWatching v [] × IsTallying v [])) → (header ≡ None → v ≡ w) → ((w.events ≡ 0 → ⊥) → v ≡ w)
     → Begun v (log ++ b.taken)
 unfolding seen_in
 begun limit first mid w v log piece rest header f b is anew unnamed later = go (nat_lt (length (log ++ b.taken)) 8) refl
@@ -142,13 +152,19 @@ begun limit first mid w v log piece rest header f b is anew unnamed later = go (
     kept : v ≡ w → IsWatching v (seen_in (log ++ b.taken))
     kept e = subst (IsWatching v) (sym same) (subst (λ (u : Watching). IsWatching u (seen_in log)) (sym e) f.watches)
 
+    tallied : v ≡ w → IsTallying v (events (log ++ b.taken))
+    tallied e = subst (IsTallying v) (sym b.no_event) (subst (λ (u : Watching). IsTallying u (events log)) (sym e) f.tallies)
+
     -- before the first event
     fresh : header ≡ Some (header_by (log ++ b.taken)) → w.events ≡ 0 → Begun v (log ++ b.taken)
     fresh whole none =
-        let now : (v.tested ≡ tested_as (header_by (log ++ b.taken))) × IsWatching v [] = subst (λ (o : Option Header). IfSome o (λ named. (v.tested ≡ tested_as named) × IsWatching v [])) whole (anew none) in
+        let now : (v.tested ≡ tested_as (header_by (log ++ b.taken))) × IsWatching v [] × IsTallying v [] =
+        subst (λ (o : Option Header). IfSome o (λ named. (v.tested ≡ tested_as named) × IsWatching v [] × IsTallying v [])) whole (anew none) in
+        let unseen_yet : seen_in log ≡ [] = no-events log w.events f.watches.found.count none in
         record {
           named = λ long. now.0;
-          watches = subst (IsWatching v) (sym (same ∙ no-events log w.events f.watches.found.count none)) now.1;
+          watches = subst (IsWatching v) (sym (same ∙ unseen_yet)) now.1;
+          tallies = subst (IsTallying v) (sym (b.no_event ∙ none-complete log unseen_yet)) now.2;
         }
 
     -- after it
@@ -157,7 +173,7 @@ begun limit first mid w v log piece rest header f b is anew unnamed later = go (
         let e : v ≡ w = later some in
         let long : nat_lt (length log) 8 ≡ false → Begun v (log ++ b.taken) = λ is.
         let whole : 8 ≤ length log = ltb-false (length log) 8 is in
-        record { named = λ h. ap (λ (u : Watching). u.tested) e ∙ f.named whole ∙ sym (tested-stays log b.taken whole); watches = kept e } in
+        record { named = λ h. ap (λ (u : Watching). u.tested) e ∙ f.named whole ∙ sym (tested-stays log b.taken whole); watches = kept e; tallies = tallied e } in
         let short : nat_lt (length log) 8 ≡ true → Begun v (log ++ b.taken) = λ is.
         let few : length log < 8 = ltb-true (length log) 8 is in
         absurd (some (f.watches.found.count ∙ ap length (unseen log (omega (arith, few))))) in
@@ -177,6 +193,7 @@ begun limit first mid w v log piece rest header f b is anew unnamed later = go (
         record {
           named = λ long. absurd (omega (arith, few, long));
           watches = kept (unnamed (is ∙ ap (λ (t : Bool). if t then None else Some (header_by (log ++ b.taken))) short));
+          tallies = tallied (unnamed (is ∙ ap (λ (t : Bool). if t then None else Some (header_by (log ++ b.taken))) short));
         }
     go false long = by_count w.events refl (is ∙ ap (λ (t : Bool). if t then None else Some (header_by (log ++ b.taken))) long)
 
@@ -192,16 +209,18 @@ named-on v log more b (inr none) long =
 -- the bytes after the header are taken in, or one of them isn't
 pub consumed : (limit : ℕ) (first mid next : Traced) (w v x : Watching) (log piece rest : List ℕ) (result : Result (Unit {0}) Refusal) → FollowsBy limit first w log → (b : Begins mid log piece rest)
     → mid.reading.limit ≡ first.reading.limit → Begun v (log ++ b.taken) → IfErr result (λ r. next.refusal ≡ Some r)
-    → TakesEvents mid.reading.limit v.tested (log ++ b.taken) rest next x result → JudgesPieceBy limit next x log piece result
+    → TakesEvents mid.reading.limit v.tested (counts v.watchers) (log ++ b.taken) rest next x result → JudgesPieceBy limit next x log piece result
+unfolding seen_in
 consumed limit first mid next w v x log piece rest (Ok done) f b lim from given t =
     let all : (log ++ b.taken) ++ rest ≡ log ++ piece = append_assoc log b.taken rest ∙ ap (λ (p : List ℕ). log ++ p) (sym b.is) in
-    let named : 8 ≤ length ((log ++ b.taken) ++ rest) → x.tested ≡ tested_by ((log ++ b.taken) ++ rest) = λ long. t.2 ∙ named-on v (log ++ b.taken) rest from b.whole long in
+    let named : 8 ≤ length ((log ++ b.taken) ++ rest) → x.tested ≡ tested_by ((log ++ b.taken) ++ rest) = λ long. t.2.0 ∙ named-on v (log ++ b.taken) rest from b.whole long in
     let here : FollowsBy limit next x ((log ++ b.taken) ++ rest) = record {
       traced = t.0;
       within = t.1 ∙ lim ∙ f.within;
-      knows = knows-found next x ((log ++ b.taken) ++ rest) (keeps_header next.reading ((log ++ b.taken) ++ rest) t.0.keeps) named t.3.found;
+      knows = knows-found next x ((log ++ b.taken) ++ rest) (keeps_header next.reading ((log ++ b.taken) ++ rest) t.0.keeps) named t.2.1.found;
       named = named;
-      watches = t.3;
+      watches = t.2.1;
+      tallies = t.2.3;
     } in
     let follows : FollowsBy limit next x (log ++ piece) = subst (FollowsBy limit next x) all here in
     (unrefused limit next x (log ++ piece) follows, follows)
@@ -225,6 +244,12 @@ consumed limit first mid next w v x log piece rest (Err r) f b lim from given t 
       },
       record { answers = given; knows = subst (KnowsBy next.reading x) all here },
     )
+
+-- places are counted if they were before
+pub counting-stays : (limit : ℕ) (tested : Tested) (counting before : Bool) (log piece : List ℕ) (next : Traced) (x : Watching) (result : Result (Unit {0}) Refusal) → counting ≡ before
+    → TakesEvents limit tested counting log piece next x result → OnOk result (counts x.watchers ≡ before)
+counting-stays limit tested counting before log piece next x (Ok done) same t = t.2.2 ∙ same
+counting-stays limit tested counting before log piece next x (Err r) same t = tt
 
 -- a byte of the header isn't taken in
 pub refused-first : (limit : ℕ) (first next : Traced) (w : Watching) (log piece : List ℕ) (r : Refusal) → FollowsBy limit first w log → next.refusal ≡ Some r

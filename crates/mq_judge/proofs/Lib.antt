@@ -1,3 +1,4 @@
+pub mod CoverageLaws
 pub mod JudgeLaws
 pub mod StayLaws
 pub mod RunnerLaws

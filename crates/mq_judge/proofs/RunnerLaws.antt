@@ -19,7 +19,10 @@ use Rattle.mq_rules.specs.FaultKeys.{FaultMap}
 use Rattle.mq_report.specs.Report.{report, report_on, FailsToReport}
 use Rattle.mq_trace.specs.Feeding.{FedAll}
 use Rattle.mq_report.specs.Stopping.{FedBefore, IsRefusedAt, IsRefusedByte, IsRefusedEnd, default_limit, IsJudged}
-use Rattle.mq_judge.specs.Runner.{outcome_of, IsVerdictOn, JudgesOver, RunsOver}
+use Rattle.mq_report.specs.declared.report.coverage.Covered.{Covered}
+use Rattle.mq_report.specs.Coverage.{covered_report_on}
+use Rattle.mq_judge.specs.Coverage.{coverage_of}
+use Rattle.mq_judge.specs.Runner.{covered_report, outcome_of, IsVerdictOn, JudgesOver, RunsCoveredOver, RunsOver}
 use Rattle.mq_judge.proofs.JudgeLaws.{unrefused}
 use Rattle.mq_report.specs.Chosen.{is_judged}
 use Rattle.mq_trace.proofs.Exports.{pieces-are, some-taken, whole-taken}
@@ -105,6 +108,65 @@ pub run-stops-writing : (x y : Option (List ℕ)) (form : Form) (w z : Option (L
 run-stops-writing x y form w z count faults role fault judged stopped =
     for_log x (λ log. IsVerdictOn log role count faults) (λ log. RunsOver form log y (Err fault) w z)
     (λ log v. stops-with form log y w z fault v.judged (subst (λ (t : List ℕ). FailsToReport form w z t fault) (report-is form log role count faults v) stopped)) judged
+
+-- ---- with coverage
+
+-- what holds of a log by two facts on it
+for_both : (remaining : Option (List ℕ)) (P Q R : List ℕ → Type 0) → ((log : List ℕ) → P log → Q log → R log) → IfSome remaining P → IfSome remaining Q → IfSome remaining R
+for_both None P Q R f h k = tt
+for_both (Some log) P Q R f h k = f log h k
+
+covered-report-is : (form : Form) (log : List ℕ) (role : Role) (count : ℕ) (faults : FaultMap) (rows : List Covered) → IsVerdictOn log role count faults → rows ≡ coverage_of log
+    → covered_report_on form role (map.entries faults) count rows ≡ covered_report form log
+unfolding covered_report
+covered-report-is form log role count faults rows v is = rw (v.role_is, v.faults_are, v.count_is, is) refl
+
+-- a run that came to an outcome, and said how often each statement was put to the test
+pub run-covers : (x y : Option (List ℕ)) (form : Form) (w z : Option (List ℕ)) (count : ℕ) (faults : FaultMap) (role : Role) (rows : List Covered) (outcome : Outcome)
+    → IfSome x (λ log. IsVerdictOn log role count faults) → IfSome x (λ log. rows ≡ coverage_of log)
+    → Appends w z (covered_report_on form role (map.entries faults) count rows) → outcome ≡ (if map.len faults == 0 then Pass else Fail)
+    → IfSome x (λ log. RunsCoveredOver form log y (Ok outcome) w z)
+run-covers x y form w z count faults role rows outcome judged covered wrote says =
+    for_both x (λ log. IsVerdictOn log role count faults) (λ log. rows ≡ coverage_of log) (λ log. RunsCoveredOver form log y (Ok outcome) w z)
+    (λ log v is. (v.judged, says ∙ outcome-is log role count faults v, subst (Appends w z) (covered-report-is form log role count faults rows v is) wrote)) judged covered
+
+-- one whose report couldn't be written
+covers-partly : (form : Form) (log : List ℕ) (y w z : Option (List ℕ)) (fault : RunFault) → IsJudged log → FailsToReport form w z (covered_report form log) fault → RunsCoveredOver form log y (Err fault) w z
+covers-partly form log y w z (run_faults.Refused refusal) judged failed = absurd failed
+covers-partly form log y w z run_faults.Write judged failed = (judged, failed)
+covers-partly form log y w z run_faults.Memory judged failed = (judged, failed.1)
+
+pub run-stops-covering : (x y : Option (List ℕ)) (form : Form) (w z : Option (List ℕ)) (count : ℕ) (faults : FaultMap) (role : Role) (rows : List Covered) (fault : RunFault)
+    → IfSome x (λ log. IsVerdictOn log role count faults) → IfSome x (λ log. rows ≡ coverage_of log)
+    → FailsToReport form w z (covered_report_on form role (map.entries faults) count rows) fault
+    → IfSome x (λ log. RunsCoveredOver form log y (Err fault) w z)
+run-stops-covering x y form w z count faults role rows fault judged covered stopped =
+    for_both x (λ log. IsVerdictOn log role count faults) (λ log. rows ≡ coverage_of log) (λ log. RunsCoveredOver form log y (Err fault) w z)
+    (λ log v is. covers-partly form log y w z fault v.judged (subst (λ (t : List ℕ). FailsToReport form w z t fault) (covered-report-is form log role count faults rows v is) stopped)) judged covered
+
+-- one that had no memory for the rows
+pub run-lacks-rows : (x y : Option (List ℕ)) (form : Form) (w : Option (List ℕ)) (count : ℕ) (faults : FaultMap) (role : Role) → IfSome x (λ log. IsVerdictOn log role count faults)
+    → IfSome x (λ log. RunsCoveredOver form log y (Err run_faults.Memory) w w)
+run-lacks-rows x y form w count faults role judged =
+    for_log x (λ log. IsVerdictOn log role count faults) (λ log. RunsCoveredOver form log y (Err run_faults.Memory) w w) (λ log v. (v.judged, refl)) judged
+
+-- what is so of the rows, if there are some, is so of these
+pub rows-known : {A : Type 0} (P : List ℕ → A → Type 0) (x : Option (List ℕ)) (found : Option A) (rows : A) → found ≡ Some rows → IfSome x (λ log. IfSome found (P log))
+    → IfSome x (λ log. P log rows)
+rows-known {A} P x found rows is known =
+    for_log x (λ log. IfSome found (P log)) (λ log. P log rows)
+    (λ log h. let there : IfSome (Some rows) (P log) = subst (λ (o : Option A). IfSome o (P log)) is h in there) known
+
+-- a judge that stopped has no rows
+abbrev stopped_by : {V E : Type 0} → E → Result V E
+stopped_by e = Err e
+
+pub no-rows : {V E : Type 0} (x : Option (List ℕ)) (result : Result V E) (e : E) (P : List ℕ → V → Type 0) → result ≡ Err e → IfSome x (λ log. IfOk result (P log))
+no-rows {V} {E} x result e P is = subst (λ (r : Result V E). IfSome x (λ log. IfOk r (P log))) (sym is) (nothing x)
+  where
+    nothing : (y : Option (List ℕ)) → IfSome y (λ log. IfOk (stopped_by {V = V} e) (P log))
+    nothing None = tt
+    nothing (Some log) = tt
 
 -- a run that was stopped while it was feeding the judge
 pub run-stopped : {S : Type 0} {first : ℕ} {x y : Option (List ℕ)} {judge : Judge} {sink : S} (refusal : Refusal) → FedBefore (λ j. j.limit) (λ j (_ : S). Follows j) (λ l j _. RefusesIn l j) first x y judge sink refusal → first ≡ default_limit

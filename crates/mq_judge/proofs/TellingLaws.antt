@@ -1,5 +1,5 @@
 -- What is told of a log while it is judged.
-use Rattle.std.proofs.Common.{◌≡◌, ℕ, inl, inr, List, [], ◌∷◌, ◌++◌, length, Option, None, Some, Result, Ok, Err, refl, sym, ap, ◌∙◌, append_assoc, append-nil}
+use Rattle.std.proofs.Common.{◌≡◌, ℕ, Bool, inl, inr, List, [], ◌∷◌, ◌++◌, length, Option, None, Some, Result, Ok, Err, refl, sym, ap, ◌∙◌, append_assoc, append-nil}
 use Rattle.std.specs.FinMap as map
 use Rattle.std.specs.Prelude.{IfSome}
 use Rattle.mq_log.specs.declared.refusal.Refusal.{Refusal}
@@ -13,7 +13,7 @@ use Rattle.mq_report.specs.declared.report.Outcome.{Outcome}
 use Rattle.mq_report.specs.declared.report.RunFault.{RunFault}
 use Rattle.mq_report.specs.declared.report.RunFault.TheVariants as run_faults
 use Rattle.mq_report.specs.Chosen.{is_judged}
-use Rattle.mq_judge.specs.Judging.{AreFaultsOf, Follows, RefusesIn}
+use Rattle.mq_judge.specs.Judging.{is_counting, AreFaultsOf, Follows, RefusesIn}
 use Rattle.mq_judge.specs.Runner.{found_in}
 use Rattle.mq_report.specs.Stopping.{FedBefore}
 use Rattle.mq_judge.specs.Telling.{Said, advanced, ended, SaidSoFar, IsTold, IsToldOf, IsToldOfRun, AreFirst, IsJudgedFor}
@@ -35,10 +35,10 @@ told-piece old mid new log piece bytes count h long many more = record {
   told = λ before was. more (h.said ++ before) (h.told before was);
 }
 
-module _ {W S : Type 0} (judge_of : W → Judge) (old : SaidSoFar) (words : S → SaidSoFar) where
+module _ {W S : Type 0} (judge_of : W → Judge) (old : SaidSoFar) (counting : Bool) (words : S → SaidSoFar) where
   -- a judge that tells has followed a log, and told all of it
   abbrev pub FollowsTelling : W → S → List ℕ → Type 0
-  FollowsTelling w s log = Follows (judge_of w) log × IsTold old (words s) log
+  FollowsTelling w s log = Follows (judge_of w) log × IsTold old (words s) log × (is_counting (judge_of w) ≡ counting)
 
   -- or it has refused a byte of a piece after the log
   abbrev pub StopsTelling : ℕ → W → S → List ℕ → List ℕ → Refusal → Type 0
@@ -48,6 +48,10 @@ module _ {W S : Type 0} (judge_of : W → Judge) (old : SaidSoFar) (words : S �
   pub judge-fed-all : {first : ℕ} {x y : Option (List ℕ)} {w : W} {s : S} → FedAll (λ v. (judge_of v).limit) FollowsTelling first x y w s
       → FedAll (λ j. j.limit) (λ j (_ : S). Follows j) first x y (judge_of w) s
   judge-fed-all took = record { log = took.log; consumed = took.consumed; ended = took.ended; followed = took.followed.0; within = took.within }
+
+  -- it counts places, or not, as it did at first
+  pub counting-all : {first : ℕ} {x y : Option (List ℕ)} {w : W} {s : S} → FedAll (λ v. (judge_of v).limit) FollowsTelling first x y w s → is_counting (judge_of w) ≡ counting
+  counting-all took = took.followed.2
 
   pub told-all : {A : Type 0} (result : Result A Refusal) {first : ℕ} {x y : Option (List ℕ)} {w : W} {s : S} → FedAll (λ v. (judge_of v).limit) FollowsTelling first x y w s
       → IsToldOf (IsJudgedFor result) x old (words s)

@@ -1,11 +1,13 @@
 -- What is kept of the events so far, from one event to the next.
-use Rattle.std.proofs.Common.{◌≡◌, ℕ, ◌+◌, ◌<◌, List, [], ◌∷◌, length, map, Option, Some, None, refl, sym, ap, ◌∙◌, subst, arith}
+use Rattle.std.proofs.Common.{◌≡◌, true, false, ℕ, ◌+◌, ◌<◌, List, [], ◌∷◌, length, map, Option, Some, None, refl, sym, ap, ◌∙◌, subst, arith}
 use Rattle.std.specs.Option.{option_or}
+use Rattle.std.proofs.lemmas.List.{length-map}
 use Rattle.std.specs.FinMap.{entries, get-empty}
 use Rattle.mq_log.specs.declared.place.Place3.{Place3}
 use Rattle.mq_log.specs.Events.{Placed, events}
 use Rattle.mq_log.specs.Reception.{AreEvents}
 use Rattle.mq_rules.specs.declared.role.Tested.{Tested}
+use Rattle.mq_rules.specs.declared.role.Role.TheVariants.{Client}
 use Rattle.mq_rules.specs.declared.rule.Rule.{Rule}
 use Rattle.mq_rules.specs.declared.note.Seen.{Seen}
 use Rattle.mq_rules.specs.declared.note.Note.{Note}
@@ -19,7 +21,8 @@ use Rattle.mq_rules.specs.Growing.{added, Gains, GainsWithin}
 use Rattle.mq_rules.specs.Under.{IsInTurn, seen as seen_at}
 use Rattle.mq_rules.proofs.Exports.{fault_in-dropped, fault_in-start, fault_in-step, on_connections, orderly, turned_for}
 use Rattle.mq_judge.specs.declared.watching.Watching.{Watching}
-use Rattle.mq_judge.specs.Watching.{IsFound, IsWatching, MayCome, TakesIn, LeavesOut}
+use Rattle.mq_books.specs.Kinds.{is_counting}
+use Rattle.mq_judge.specs.Watching.{IsFound, IsWatching, IsTallying, MayCome, TakesIn, LeavesOut}
 
 -- no events have no faults
 pub none-found : (tested : Tested) (faults : FaultMap) → faults ≡ Rattle.std.specs.FinMap.empty → (k : ℕ) (rule : Rule) → fault_at faults k rule ≡ fault_in tested [] k rule
@@ -74,3 +77,18 @@ found-still tested p earlier old new n is are was same step =
     let e : seen_at p.place n ≡ seen p = ap (seen_at p.place) is in
     let may : MayCome old.tested (seen_at p.place n) (map seen earlier) = subst (λ (s : Seen). MayCome old.tested s (map seen earlier)) (sym e) (may-come old.tested p earlier are) in
     (same ∙ was.0, step (map seen earlier) may was.1)
+
+-- the place of the next event
+pub next-place : (p : Placed) (earlier : List Placed) → AreEvents (p ∷ earlier) → p.place.position ≡ length earlier + 1
+next-place p earlier are = (may-come (record { role = Client; releases = false }) p earlier are).follows.placed.0 ∙ ap (λ n. n + 1) (length-map earlier seen)
+
+-- where places aren't counted, there is nothing to count
+pub still-uncounted : (old new : Watching) (received : List Placed) → is_counting old.watchers ≡ false → is_counting new.watchers ≡ is_counting old.watchers → IsTallying new received
+still-uncounted old new received off same = λ on. absurd (let bad : true ≡ false = sym on ∙ same ∙ off in cc)
+
+-- it is known of the watching whatever is counted on a packet's bytes
+pub watched-anew : (old new : Watching) (past : List Seen) → new.watchers ≡ old.watchers → new.tested ≡ old.tested → new.faults ≡ old.faults → new.events ≡ old.events → IsWatching old past → IsWatching new past
+watched-anew old new past w t f e was = record {
+  agree = rw (w, t) was.agree;
+  found = record { each = λ k rule. rw (f, t) (was.found.each k rule); count = e ∙ was.found.count };
+}

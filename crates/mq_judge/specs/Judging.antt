@@ -1,5 +1,5 @@
 -- The state of a judge, and what its calls return.
-use Rattle.std.specs.Prelude.{◌≡◌, ℕ, ◌≤◌, false, List, ◌++◌, length, Some, None, Result, Ok, Err}
+use Rattle.std.specs.Prelude.{◌≡◌, ℕ, ◌≤◌, Bool, false, List, ◌++◌, length, Some, None, Result, Ok, Err}
 use Rattle.mq_log.specs.declared.refusal.Refusal.{Refusal}
 use Rattle.mq_trace.specs.declared.reading.Reading.{Reading}
 use Rattle.mq_trace.specs.Tracing.{Traced, IsTracedTo, KeepsHeader}
@@ -12,7 +12,8 @@ use Rattle.mq_rules.specs.Faults.{chosen_fault}
 use Rattle.mq_report.specs.Chosen.{is_judged}
 use Rattle.mq_rules.specs.FaultKeys.{FaultMap, fault_at}
 use Rattle.mq_report.specs.Stopping.{StopsIn, IsRefusedEnd}
-use Rattle.mq_judge.specs.Watching.{IsFound, IsWatching}
+use Rattle.mq_books.specs.Kinds.{is_counting as counts}
+use Rattle.mq_judge.specs.Watching.{IsFound, IsWatching, IsTallying, IsJudging}
 use Rattle.mq_judge.specs.declared.judge.Judge.{Judge}
 use Rattle.mq_judge.specs.declared.watching.Watching.{Watching}
 
@@ -35,6 +36,7 @@ pub record FollowsBy (limit : ℕ) (tracer : Traced) (watching : Watching) (log 
   pub knows : KnowsBy tracer.reading watching log
   pub named : 8 ≤ length log → watching.tested ≡ tested_by log
   pub watches : IsWatching watching (seen_in log)
+  pub tallies : IsTallying watching (events log)
 
 -- A judge has refused the byte after these bytes of its log, and knows nothing of that byte. From then on it returns this refusal.
 pub record HasRefused (tracer : Traced) (watching : Watching) (taken : List ℕ) (refusal : Refusal) : Type 0 where
@@ -50,6 +52,10 @@ abbrev pub JudgesPieceBy : ℕ → Traced → Watching → List ℕ → List ℕ
 JudgesPieceBy limit tracer watching log piece (Ok _) = (refused limit (log ++ piece) ≡ None) × FollowsBy limit tracer watching (log ++ piece)
 JudgesPieceBy limit tracer watching log piece (Err refusal) = RefusesBy limit tracer watching log piece refusal
 
+-- the judge counts how often each statement is put to the test
+abbrev pub is_counting : Judge → Bool
+is_counting judge = counts judge.judging.watching.watchers
+
 -- the same of a judge
 abbrev pub Knows : Judge → List ℕ → Type 0
 Knows judge = KnowsBy judge.tracer.reading judge.judging.watching
@@ -63,11 +69,11 @@ RefusesIn limit judge = RefusesBy limit judge.tracer judge.judging.watching
 abbrev pub JudgesPiece : List ℕ → List ℕ → Judge → Result (Unit {0}) Refusal → Type 0
 JudgesPiece log piece judge = JudgesPieceBy judge.limit judge.tracer judge.judging.watching log piece
 
--- The same for a tracer with this limit, whose events are judged as those of this end.
-abbrev pub TakesEvents : ℕ → Tested → List ℕ → List ℕ → Traced → Watching → Result (Unit {0}) Refusal → Type 0
-TakesEvents limit tested log piece tracer watching (Ok _) =
-    IsTracedTo tracer (log ++ piece) × (tracer.reading.limit ≡ limit) × (watching.tested ≡ tested) × IsWatching watching (seen_in (log ++ piece))
-TakesEvents limit tested log piece tracer watching (Err refusal) =
+-- The same for a tracer with this limit, whose events are judged as those of this end, with their places counted or not.
+abbrev pub TakesEvents : ℕ → Tested → Bool → List ℕ → List ℕ → Traced → Watching → Result (Unit {0}) Refusal → Type 0
+TakesEvents limit tested counting log piece tracer watching (Ok _) =
+    IsTracedTo tracer (log ++ piece) × (tracer.reading.limit ≡ limit) × IsJudging tested counting watching (events (log ++ piece))
+TakesEvents limit tested counting log piece tracer watching (Err refusal) =
     (stops : StopsIn limit log piece refusal) × KeepsHeader tracer.reading (log ++ stops.taken) × (watching.tested ≡ tested) × IsFound watching (seen_in (log ++ stops.taken))
 
 -- What finishing a log that wasn't refused so far returns: the verdict if the log is whole, else why its end is refused.

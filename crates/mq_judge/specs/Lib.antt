@@ -1,3 +1,4 @@
+pub mod Coverage
 pub mod Judging
 pub mod Runner
 pub use Rattle.mq_log.specs.Refusals

@@ -1,6 +1,10 @@
 -- What a judge keeps of the events so far.
-use Rattle.std.specs.Prelude.{◌≡◌, ℕ, List, ◌∷◌, length}
+use Rattle.std.specs.Prelude.{◌≡◌, ℕ, Bool, true, List, ◌∷◌, length, map}
 use Rattle.mq_log.specs.declared.place.Place3.{Place3}
+use Rattle.mq_log.specs.Events.{Placed}
+use Rattle.mq_rules.specs.ByteTallies.{CountsBytes}
+use Rattle.mq_rules.specs.Notes.{seen as seen_of}
+use Rattle.mq_books.specs.Kinds.{is_counting}
 use Rattle.mq_rules.specs.declared.role.Tested.{Tested}
 use Rattle.mq_rules.specs.declared.rule.Rule.{Rule}
 use Rattle.mq_rules.specs.declared.note.Note.{Note}
@@ -38,3 +42,17 @@ TakesIn old new place n = (past : List Seen) → MayCome old.tested (seen place 
 -- There was no memory for it, and the faults are those of the events before it.
 abbrev pub LeavesOut : Watching → Watching → Place3 → Note → Type 0
 LeavesOut old new place n = (past : List Seen) → MayCome old.tested (seen place n) past → IsWatching old past → IsFound new past
+
+-- ---- where places are counted
+
+-- The counts of the statements on a packet's bytes are those of these events, the newest first, if places are counted.
+abbrev pub IsTallying : Watching → List Placed → Type 0
+IsTallying w received = is_counting w.watchers ≡ true → CountsBytes w.tally w.tested received
+
+-- Nothing was counted on a packet's bytes, and places are counted if they were before.
+abbrev pub CountsNothing : Watching → Watching → Type 0
+CountsNothing old new = (is_counting new.watchers ≡ is_counting old.watchers) × (new.tally ≡ old.tally)
+
+-- These events were taken in as those of this end, and their places are counted, or aren't.
+abbrev pub IsJudging : Tested → Bool → Watching → List Placed → Type 0
+IsJudging tested counting w received = (w.tested ≡ tested) × IsWatching w (map seen_of received) × (is_counting w.watchers ≡ counting) × IsTallying w received

@@ -1,16 +1,20 @@
 //! The judge: it is fed a log, in any pieces, and returns the verdict on it.
 ghost use Rattle.mq_books.specs.Burden.{burden};
-ghost use Rattle.std.specs.Prelude.{◌≡◌, ◌≤◌, ◌*◌, ℕ, List, [], nat_lt, length, Some, None, Err, IfErr, IfOk, IfSome, OnOk, if◌then◌else◌};
-ghost use Rattle.mq_judge.specs.Judging.{Knows, Follows, FollowsBy, JudgesPiece, JudgesPieceBy, TakesEvents, AreFaultsOf, Ends, Finishes};
-ghost use Rattle.mq_judge.specs.Watching.{IsWatching, watchers_weigh};
+ghost use Rattle.std.specs.Prelude.{◌≡◌, true, false, cond, ◌≤◌, ◌*◌, ℕ, List, [], nat_lt, length, Some, None, Err, IfErr, IfOk, IfSome, OnOk, if◌then◌else◌};
+ghost use Rattle.mq_judge.specs.Coverage.{places_in, coverage_of};
+ghost use Rattle.mq_judge.specs.Judging.{is_counting, Knows, Follows, FollowsBy, JudgesPiece, JudgesPieceBy, TakesEvents, AreFaultsOf, Ends, Finishes};
+ghost use Rattle.mq_judge.specs.Watching.{IsWatching, IsTallying, watchers_weigh};
+ghost use Rattle.mq_log.specs.Events.{events};
+ghost use Rattle.mq_books.specs.Kinds.{is_counting as counts};
 ghost use Rattle.mq_rules.specs.Weights.{in_word};
 ghost use Rattle.mq_rules.specs.Notes.{tested_by, seen_in};
 ghost use Rattle.mq_trace.specs.Tracing.{IsTracedTo};
 
+use super::coverage::coverage;
 use super::watching::{End, Judging, Watching};
 use mq_log::Refusal;
-use mq_report::{DEFAULT_LIMIT, Verdict};
-use mq_rules::{Faults, Role, Tested};
+use mq_report::{Covered, DEFAULT_LIMIT, Verdict};
+use mq_rules::{Faults, Memory, Role, Rule, Tested};
 use mq_trace::Tracer;
 use std::alloc::Global;
 use std::marker::Brand;
@@ -32,6 +36,14 @@ impl Default for Options {
             limit: DEFAULT_LIMIT,
         }
     }
+}
+
+/// The verdict on a log of which places were counted.
+#[derive(Drop)]
+pub(crate) struct CoveredVerdict {
+    pub verdict: Verdict,
+    /// How often each statement was put to the test. Nothing, if there was no memory for it.
+    pub rows: Option<Vec<Covered>>,
 }
 
 /// Judges one log.
@@ -59,6 +71,25 @@ impl Judge {
     pub fn new(alloc: Global, options: Options) -> Self
         ensures follows { Follows result [] }
         ensures limit { result.limit ≡ options.limit }
+        ensures counts { is_counting result ≡ false }
+    {
+        Judge::start(alloc, options, false)
+    }
+
+    /// The same, which counts how often each statement is put to the test. That takes longer.
+    pub fn counting(alloc: Global, options: Options) -> Self
+        ensures follows { Follows result [] }
+        ensures limit { result.limit ≡ options.limit }
+        ensures counts { is_counting result ≡ true }
+    {
+        Judge::start(alloc, options, true)
+    }
+
+    // A judge that has been fed nothing, and counts places or doesn't.
+    fn start(alloc: Global, options: Options, counting: bool) -> Self
+        ensures follows { Follows result [] }
+        ensures limit { result.limit ≡ options.limit }
+        ensures counts { is_counting result ≡ counting }
     {
         // Until the log's header is whole, it doesn't matter which end this is.
         let tested = Tested {
@@ -68,8 +99,21 @@ impl Judge {
         Judge {
             limit: options.limit,
             tracer: Tracer::new(alloc, options.limit),
-            judging: Judging::new(Watching::new(alloc, tested)),
+            judging: Judging::new(Watching::new(alloc, tested, counting)),
         }
+    }
+
+    /// How many places a statement has in the log so far: at how many positions it is put to the
+    /// test. None if the judge doesn't count them. After a refusal it says nothing of the log.
+    pub fn places(&self, rule: Rule) -> Option<u32>
+        ensures plain { is_counting self.now ≡ false → result ≡ None }
+        ensures counted { (log : List ℕ) → is_counting self.now ≡ true → Follows self.now log → result ≡ Some (places_in log rule) }
+    {
+        let watching = &self.judging.watching;
+        if !watching.is_counting() {
+            return None;
+        }
+        Some(watching.places(rule))
     }
 
     /// Which end is judged, once the log's header is whole. After a refusal it is what the bytes
@@ -109,6 +153,7 @@ impl Judge {
     /// it, nor at one before it. From then on each call fails with the same refusal.
     pub fn feed(&mut self, piece: &[u8]) -> Result<(), Refusal>
         ensures answers { (log : List ℕ) → Follows self.old log → JudgesPiece log piece.now self.new result }
+        ensures counts { (log : List ℕ) → Follows self.old log → OnOk result (is_counting self.new ≡ is_counting self.old) }
         ensures limit { self.new.limit ≡ self.old.limit }
         ensures refuses { IfErr result (λ refusal. self.new.tracer.refusal ≡ Some refusal) }
         ensures for_ever { IfSome self.old.tracer.refusal (λ refusal. (result ≡ Err refusal) × (self.new ≡ self.old)) }
@@ -165,6 +210,34 @@ impl Judge {
         judge.take_verdict()
     }
 
+    /// The same, and how often each statement that is listed was put to the test.
+    ///
+    /// # Errors
+    ///
+    /// As `finish`.
+    pub(crate) fn finish_covered(self, alloc: Global) -> Result<(CoveredVerdict, Role), Refusal>
+        ensures verdict { (log : List ℕ) → Follows self log → Finishes (λ answer. answer.0.verdict.events) (λ answer. answer.0.verdict.faults) log result }
+        ensures role { (log : List ℕ) → Follows self log → IfOk result (λ answer. answer.1 ≡ (tested_by log).role) }
+        ensures rows { (log : List ℕ) → is_counting self ≡ true → Follows self log → IfOk result (λ answer. IfSome answer.0.rows (λ rows. rows.items ≡ coverage_of log)) }
+        ensures for_ever { IfSome self.tracer.refusal (λ refusal. result ≡ Err refusal) }
+    {
+        let mut judge = self;
+        let rows = judge.coverage(alloc);
+        let (verdict, role) = judge.take_verdict()?;
+        Ok((CoveredVerdict { verdict, rows }, role))
+    }
+
+    // How often each statement that is listed was put to the test in the log so far, where places
+    // are counted. Nothing if there is no memory for it.
+    fn coverage(&self, alloc: Global) -> Option<Vec<Covered>>
+        ensures { (log : List ℕ) → is_counting self.now ≡ true → Follows self.now log → 8 ≤ length log → IfSome result (λ rows. rows.items ≡ coverage_of log) }
+    {
+        match coverage(alloc, &self.judging.watching) {
+            Ok(rows) => Some(rows),
+            Err(Memory) => None,
+        }
+    }
+
     // Ends the log, and takes the faults out. A function that owns a judge has to drop it at each of
     // its exits, which is much: so this one borrows it.
     //
@@ -192,6 +265,7 @@ impl Judge {
 // and then the rest, in which events are complete.
 fn consume(tracer: &mut Tracer, judging: &mut Judging<Brand>, piece: &[u8]) -> Result<(), Refusal>
     ensures answers { (limit : ℕ) (log : List ℕ) → FollowsBy limit tracer.old judging.old.watching log → JudgesPieceBy limit tracer.new judging.new.watching log piece.now result }
+    ensures counts { (limit : ℕ) (log : List ℕ) → FollowsBy limit tracer.old judging.old.watching log → OnOk result (counts judging.new.watching.watchers ≡ counts judging.old.watching.watchers) }
     ensures refuses { IfErr result (λ refusal. tracer.new.refusal ≡ Some refusal) }
     ensures for_ever { IfSome tracer.old.refusal (λ refusal. (result ≡ Err refusal) × (tracer.new ≡ tracer.old) × (judging.new ≡ judging.old)) }
 {
@@ -211,7 +285,8 @@ fn take_events<K: End>(
     piece: &[u8],
 ) -> Result<(), Refusal>
     requires tested { judging.old.watching.tested ≡ K.tested }
-    ensures answers { (log : List ℕ) → IsTracedTo tracer.old log → IsWatching judging.old.watching (seen_in log) → TakesEvents tracer.old.reading.limit judging.old.watching.tested log piece.now tracer.new judging.new.watching result }
+    requires counting { counts judging.old.watching.watchers ≡ K.counting }
+    ensures answers { (log : List ℕ) → IsTracedTo tracer.old log → IsWatching judging.old.watching (seen_in log) → IsTallying judging.old.watching (events log) → TakesEvents tracer.old.reading.limit judging.old.watching.tested (counts judging.old.watching.watchers) log piece.now tracer.new judging.new.watching result }
     ensures refuses { IfErr result (λ refusal. tracer.new.refusal ≡ Some refusal) }
     ensures for_ever { IfSome tracer.old.refusal (λ refusal. (result ≡ Err refusal) × (tracer.new ≡ tracer.old) × (judging.new ≡ judging.old)) }
 {

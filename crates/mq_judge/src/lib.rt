@@ -2,6 +2,7 @@
 //! end broke, and where.
 #![tactic(auto)]
 
+mod coverage;
 mod judge;
 mod laws;
 mod progress;
@@ -13,11 +14,11 @@ pub use judge::{Judge, Options};
 pub use laws::known_faults_stay;
 pub use mq_log::Refusal;
 pub use mq_report::{
-    Form, Outcome, RunFault, Verdict, converted_logs_have_the_same_report, dates_are_exact, show,
-    show_faults, show_long, worked_times, write_json, write_long_packet, write_packet,
-    write_refused, write_summary, write_text,
+    Covered, Form, Outcome, RunFault, Verdict, converted_logs_have_the_same_report,
+    dates_are_exact, show, show_faults, show_long, worked_times, write_json, write_long_packet,
+    write_packet, write_refused, write_summary, write_text,
 };
 pub use mq_rules::{Fault, FaultKey, Faults, Memory, Role, Rule, Tested};
 pub use mq_trace::{ConvertFault, convert};
 pub use progress::Progress;
-pub use runner::{judge_reader, run, run_bounded, run_watched};
+pub use runner::{judge_reader, run, run_bounded, run_covered, run_watched};

@@ -1,17 +1,18 @@
 //! Judges a log from a reader, and writes the report on it.
-ghost use Rattle.std.specs.Prelude.{◌≡◌, ◌*◌, ◌==◌, List, IfSome, Err, if◌then◌else◌};
+ghost use Rattle.std.specs.Prelude.{◌≡◌, ◌*◌, ◌==◌, true, false, List, IfOk, IfSome, Err, if◌then◌else◌};
 ghost use Rattle.std.specs.FinMap as map;
 ghost use Rattle.mq_report.specs.declared.report.RunFault.TheVariants as run_faults;
 ghost use Rattle.mq_log.specs.declared.refusal.Refusal.{Refusal as AnyRefusal};
 ghost use Rattle.mq_trace.specs.Feeding.{TakesAtMost};
-ghost use Rattle.mq_judge.specs.Runner.{JudgesOver, RunsOver};
+ghost use Rattle.mq_judge.specs.Coverage.{coverage_of};
+ghost use Rattle.mq_judge.specs.Runner.{JudgesOver, RunsOver, RunsCoveredOver};
 ghost use Rattle.mq_judge.specs.Telling.{IsToldOf, IsToldOfRun, IsJudgedFor, Said};
 
-use super::judge::{Judge, Options};
+use super::judge::{CoveredVerdict, Judge, Options};
 use super::progress::Progress;
 use super::telling::{Before, Telling};
 use mq_log::Refusal;
-use mq_report::{Form, Outcome, RunFault, Verdict, feed_log, write_report};
+use mq_report::{Form, Outcome, RunFault, Verdict, feed_log, write_covered_report, write_report};
 use mq_rules::Role;
 use std::alloc::Global;
 use std::io::{Read, Write};
@@ -155,6 +156,7 @@ fn judge_telling<R: Read, P: Progress, K: Before>(
     progress: &mut P,
 ) -> Result<(Verdict, Role), Refusal>
     requires told { (before : List Said) → K.told before → P.told progress.old before }
+    requires counting { K.counting ≡ false }
     ensures judges { IfSome (R.remaining reader.old) (λ log. JudgesOver (λ v. v.events) (λ v. v.faults) log (R.remaining reader.new) result) }
     ensures told { IsToldOf (IsJudgedFor result) (R.remaining reader.old) K.told (P.told progress.new) }
     ensures few { TakesAtMost (8192 * turns) (R.remaining reader.old) (R.remaining reader.new) }
@@ -165,6 +167,67 @@ fn judge_telling<R: Read, P: Progress, K: Before>(
     feed_log(&mut telling, progress, reader, &mut buffer, turns)?;
     let judge = telling.into_judge();
     judge.finish_with_role()
+}
+
+/// Judges the log that a reader gives, as `run_watched` does, and says in the report how often each
+/// statement was put to the test.
+///
+/// # Errors
+///
+/// As `run_watched`. `Memory` also if there is no memory to list the statements, in each form.
+pub fn run_covered<R: Read, W: Write, P: Progress>(
+    alloc: Global,
+    reader: &mut R,
+    writer: &mut W,
+    form: Form,
+    progress: &mut P,
+) -> Result<Outcome, RunFault>
+    ensures runs { IfSome (R.remaining reader.old) (λ log. RunsCoveredOver form log (R.remaining reader.new) result (W.contents writer.old) (W.contents writer.new)) }
+    ensures unwritten { (refusal : AnyRefusal) → result ≡ Err (run_faults.Refused refusal) → writer.new ≡ writer.old }
+    ensures told { IsToldOfRun result (R.remaining reader.old) (P.told progress.old) (P.told progress.new) }
+{
+    let judged = judge_covered(alloc, reader, progress);
+    progress.end();
+    let (covered, role) = judged?;
+    let CoveredVerdict { verdict, rows } = covered;
+    let Some(rows) = rows else {
+        return Err(RunFault::Memory);
+    };
+    write_covered_report(alloc, &verdict, role, &rows, form, writer)?;
+    Ok(outcome(&verdict))
+}
+
+// Judges the log that a reader gives, counting places, and telling `progress` how far it is.
+fn judge_covered<R: Read, P: Progress>(
+    alloc: Global,
+    reader: &mut R,
+    progress: &mut P,
+) -> Result<(CoveredVerdict, Role), Refusal>
+    ensures judges { IfSome (R.remaining reader.old) (λ log. JudgesOver (λ v. v.verdict.events) (λ v. v.verdict.faults) log (R.remaining reader.new) result) }
+    ensures rows { IfSome (R.remaining reader.old) (λ log. IfOk result (λ answer. IfSome answer.0.rows (λ rows. rows.items ≡ coverage_of log))) }
+    ensures told { IsToldOf (IsJudgedFor result) (R.remaining reader.old) (P.told progress.old) (P.told progress.new) }
+{
+    cover_telling::<R, P, Brand>(alloc, reader, progress)
+}
+
+// Judges as `judge_covered` does, and tells it to whoever had been told what was picked.
+fn cover_telling<R: Read, P: Progress, K: Before>(
+    alloc: Global,
+    reader: &mut R,
+    progress: &mut P,
+) -> Result<(CoveredVerdict, Role), Refusal>
+    requires told { (before : List Said) → K.told before → P.told progress.old before }
+    requires counting { K.counting ≡ true }
+    ensures judges { IfSome (R.remaining reader.old) (λ log. JudgesOver (λ v. v.verdict.events) (λ v. v.verdict.faults) log (R.remaining reader.new) result) }
+    ensures rows { IfSome (R.remaining reader.old) (λ log. IfOk result (λ answer. IfSome answer.0.rows (λ rows. rows.items ≡ coverage_of log))) }
+    ensures told { IsToldOf (IsJudgedFor result) (R.remaining reader.old) K.told (P.told progress.new) }
+{
+    let judge = Judge::counting(alloc, Options::default());
+    let mut telling = Telling::<K>::new(judge);
+    let mut buffer = [0; 8192];
+    feed_log(&mut telling, progress, reader, &mut buffer, u32::MAX)?;
+    let judge = telling.into_judge();
+    judge.finish_covered(alloc)
 }
 
 // The outcome of a report on a verdict.

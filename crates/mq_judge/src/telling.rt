@@ -7,17 +7,23 @@ use mq_log::Refusal;
 use mq_trace::Feed;
 use std::marker::{Brand, PhantomData};
 
-/// What had been told before. Each call of `judge_telling` picks it.
+/// What had been told before, and whether places are counted. Each call of `feed_judge` picks it.
 pub trait Before {
+    ghost use Rattle.std.specs.Prelude.{Bool};
     ghost use Rattle.mq_judge.specs.Telling.{SaidSoFar};
 
     ghost told: { SaidSoFar };
+
+    // Whether the judge counts places.
+    ghost counting: { Bool };
 }
 
 impl Before for Brand {
-    ghost use Rattle.std.specs.Prelude.{⊤};
+    ghost use Rattle.std.specs.Prelude.{⊤, false};
 
     ghost told = { λ _. ⊤ };
+
+    ghost counting = { false };
 }
 
 /// A judge that tells after each piece of its log how far it is.
@@ -52,12 +58,13 @@ impl<K> Telling<K> {
 
 impl<P: Progress, K: Before> Feed<P, Refusal> for Telling<K> {
     ghost use Rattle.std.specs.Prelude.{◌*◌};
-    ghost use Rattle.mq_judge.specs.Judging.{Follows, RefusesIn};
+    ghost use Rattle.std.specs.Prelude.{◌≡◌};
+    ghost use Rattle.mq_judge.specs.Judging.{is_counting, Follows, RefusesIn};
     ghost use Rattle.mq_judge.specs.Telling.{IsTold};
 
     ghost limit = { λ telling. telling.judge.limit };
 
-    ghost follows = { λ telling progress log. Follows telling.judge log × IsTold K.told (P.told progress) log };
+    ghost follows = { λ telling progress log. Follows telling.judge log × IsTold K.told (P.told progress) log × (is_counting telling.judge ≡ K.counting) };
 
     ghost stops = { λ limit telling progress log piece refusal. RefusesIn limit telling.judge log piece refusal × IsTold K.told (P.told progress) log };
 

@@ -1,20 +1,28 @@
 //! Judging each event as it comes.
-ghost use Rattle.std.specs.Prelude.{◌≡◌, [], None, List, length, ◌≤◌, ◌*◌, IfSome, OnOk, OnErr};
+ghost use Rattle.std.specs.Prelude.{◌≡◌, ◌∷◌, ◌+◌, [], ℕ, Bool, true, cond, None, Some, List, length, map, ◌≤◌, ◌*◌, IfSome, OnOk, OnErr};
 ghost use Rattle.mq_books.specs.Burden.{burden};
+ghost use Rattle.mq_books.specs.Kinds.{is_counting as counts};
 ghost use Rattle.mq_rules.specs.declared.note.Seen.{Seen as TheSeen};
 ghost use Rattle.mq_packet.specs.Reading.{view};
 ghost use Rattle.mq_packet.specs.declared.packet.Packet.TheVariants as packets;
-ghost use Rattle.mq_log.specs.Events.{packet as packet_item};
+ghost use Rattle.mq_log.specs.Events.{Placed, packet as packet_item};
 ghost use Rattle.mq_log.specs.Flows.{item_event};
-ghost use Rattle.mq_log.specs.Reception.{event_of};
+ghost use Rattle.mq_log.specs.Reception.{event_of, placed_at};
+ghost use Rattle.mq_rules.specs.ByteTallies.{CountsBytes};
 ghost use Rattle.mq_rules.specs.Notes.{tested_as, note_of, note_of_bare};
 ghost use Rattle.mq_rules.specs.Weights.{in_word};
-ghost use Rattle.mq_judge.specs.Watching.{IsWatching, TakesIn, LeavesOut, watchers_weigh};
+ghost use Rattle.mq_rules.specs.declared.role.Tested.{Tested as TheTested};
+ghost use Rattle.mq_rules.specs.declared.fate.Fate.TheVariants.{Void};
+ghost use Rattle.mq_judge.specs.Watching.{IsWatching, IsTallying, TakesIn, LeavesOut, CountsNothing, watchers_weigh};
+ghost use Rattle.mq_judge.specs.Coverage.{places_among};
+ghost use Rattle.mq_rules.specs.Notes.{seen as seen_of};
 
 use mq_books::Watchers;
-use mq_log::{Direction, Event, Header, Place3, Refusal};
+use mq_log::{Direction, Event, Header, Item, Place3, Refusal, item_event};
 use mq_packet::{Packet, Publish};
-use mq_rules::{Bare, BareFields, Brisk, Faults, Memory, Note, Tested, Watch, is_bare};
+use mq_rules::{
+    Bare, BareFields, Brisk, ByteTally, Faults, Memory, Note, Rule, Tested, Watch, is_bare,
+};
 use mq_trace::Sink;
 use std::alloc::Global;
 use std::marker::{Brand, PhantomData};
@@ -27,6 +35,8 @@ pub struct Watching {
     /// The end that is judged: that of the log's header once an event has come.
     tested: Tested,
     watchers: Watchers,
+    /// How often the statements on a packet's bytes were put to the test, if places are counted.
+    tally: ByteTally,
     /// The faults of the events so far.
     pub faults: Faults,
     /// How many events there were.
@@ -34,23 +44,53 @@ pub struct Watching {
 }
 
 impl Watching {
-    /// Judges this end, before any event.
-    pub fn new(alloc: Global, tested: Tested) -> Self
+    /// Judges this end, before any event. Places are counted or not.
+    pub fn new(alloc: Global, tested: Tested, counting: bool) -> Self
         ensures tested { result.tested ≡ tested }
+        ensures counts { counts result.watchers ≡ counting }
         ensures watches { IsWatching result [] }
+        ensures tallies { IsTallying result [] }
     {
+        let watchers = watch(alloc, tested, counting);
         Watching {
             alloc,
             tested,
-            watchers: Watchers::new(alloc, tested),
+            watchers,
+            tally: ByteTally::new(),
             faults: Faults::new(alloc),
             events: 0,
         }
     }
 
+    /// The end that is judged.
+    pub fn tested(&self) -> Tested
+        ensures { result ≡ self.now.tested }
+    {
+        self.tested
+    }
+
+    /// Whether places are counted.
+    #[inline(always)]
+    pub fn is_counting(&self) -> bool
+        ensures { result ≡ counts self.now.watchers }
+    {
+        self.watchers.is_counting()
+    }
+
+    /// How many places a statement has among the events so far, where places are counted.
+    pub fn places(&self, rule: Rule) -> u32
+        ensures { (events : List Placed) → counts self.now.watchers ≡ true → IsWatching self.now (map seen_of events) → IsTallying self.now events → result ≡ places_among self.now.tested events rule }
+    {
+        match self.watchers.places(rule) {
+            Some(places) => places,
+            None => self.tally.places(rule),
+        }
+    }
+
     /// Judges the end that the log's header names, once the header is whole, and before any event.
     pub fn begin(&mut self, header: Option<Header>)
-        ensures first { self.old.events ≡ 0 → IfSome header (λ named. (self.new.tested ≡ tested_as named) × IsWatching self.new []) }
+        ensures first { self.old.events ≡ 0 → IfSome header (λ named. (self.new.tested ≡ tested_as named) × IsWatching self.new [] × IsTallying self.new []) }
+        ensures kind { counts self.new.watchers ≡ counts self.old.watchers }
         ensures unnamed { header ≡ None → self.new ≡ self.old }
         ensures later { (self.old.events ≡ 0 → ⊥) → self.new ≡ self.old }
     {
@@ -58,7 +98,7 @@ impl Watching {
             return;
         }
         if let Some(header) = header {
-            *self = Watching::new(self.alloc, Tested::of(header));
+            *self = Watching::new(self.alloc, Tested::of(header), self.is_counting());
         }
     }
 
@@ -86,6 +126,7 @@ impl Watching {
         ensures tested { self.new.tested ≡ self.old.tested }
         ensures ok { OnOk result (TakesIn self.old self.new place note.now) }
         ensures memory { OnErr result (LeavesOut self.old self.new place note.now) }
+        ensures counts { OnOk result (CountsNothing self.old self.new) }
     {
         match self.watchers.step(place, note, &mut self.faults) {
             Ok(()) => {
@@ -105,6 +146,7 @@ impl Watching {
         ensures tested { self.new.tested ≡ self.old.tested }
         ensures ok { OnOk result (TakesIn self.old self.new at (note_of_bare bare.entry)) }
         ensures memory { OnErr result (LeavesOut self.old self.new at (note_of_bare bare.entry)) }
+        ensures counts { OnOk result (CountsNothing self.old self.new) }
     {
         match self.watchers.step_bare(at, bare, &mut self.faults) {
             Ok(()) => {
@@ -127,11 +169,20 @@ impl Watching {
         ensures tested { self.new.tested ≡ self.old.tested }
         ensures ok { OnOk result (TakesIn self.old self.new place (note_of (event_of event.now))) }
         ensures memory { OnErr result (LeavesOut self.old self.new place (note_of (event_of event.now))) }
+        ensures counts { OnOk result (counts self.new.watchers ≡ counts self.old.watchers) }
+        ensures tallies { OnOk result ((events : List Placed) → place.position ≡ length events + 1 → IsTallying self.old events → IsTallying self.new (placed_at place event.now ∷ events)) }
     {
         let Ok(note) = Note::of(self.alloc, event) else {
             return Err(Memory);
         };
-        self.take_in(place, &note)
+        match self.take_in(place, &note) {
+            Ok(()) => {
+                let counting = self.watchers.is_counting();
+                tally_event(&mut self.tally, counting, place, event);
+                Ok(())
+            }
+            Err(Memory) => Err(Memory),
+        }
     }
 
     // Makes a note of a packet, and takes it in. It takes the packet by value: one that a call
@@ -147,6 +198,7 @@ impl Watching {
         ensures tested { self.new.tested ≡ self.old.tested }
         ensures ok { OnOk result (TakesIn self.old self.new place (note_of (item_event direction (packet_item size (view packet.entry))))) }
         ensures memory { OnErr result (LeavesOut self.old self.new place (note_of (item_event direction (packet_item size (view packet.entry))))) }
+        ensures counts { OnOk result (CountsNothing self.old self.new) }
     {
         let Ok(note) = Note::of_packet(self.alloc, direction, size, &packet) else {
             return Err(Memory);
@@ -166,6 +218,7 @@ impl Watching {
         ensures tested { self.new.tested ≡ self.old.tested }
         ensures ok { OnOk result (TakesIn self.old self.new place (note_of (item_event direction (packet_item size (view (packets.Publish publish.entry)))))) }
         ensures memory { OnErr result (LeavesOut self.old self.new place (note_of (item_event direction (packet_item size (view (packets.Publish publish.entry)))))) }
+        ensures counts { OnOk result (CountsNothing self.old self.new) }
     {
         self.take_packet(place, direction, size, Packet::Publish(publish))
     }
@@ -184,6 +237,7 @@ impl Watching {
         ensures tested { self.new.tested ≡ self.old.tested }
         ensures ok { OnOk result (TakesIn self.old self.new place (note_of (item_event direction (packet_item size (view packet.entry))))) }
         ensures memory { OnErr result (LeavesOut self.old self.new place (note_of (item_event direction (packet_item size (view packet.entry))))) }
+        ensures counts { OnOk result (CountsNothing self.old self.new) }
     {
         match BareFields::of_packet(&packet) {
             Some(fields) => self.take_bare(
@@ -212,6 +266,7 @@ impl Watching {
         ensures tested { self.new.tested ≡ self.old.tested }
         ensures ok { OnOk result (TakesIn self.old self.new place (note_of (item_event direction (packet_item size (view (packets.Publish publish.entry)))))) }
         ensures memory { OnErr result (LeavesOut self.old self.new place (note_of (item_event direction (packet_item size (view (packets.Publish publish.entry)))))) }
+        ensures counts { OnOk result (CountsNothing self.old self.new) }
     {
         if !is_bare(&publish) {
             return self.take_publish(place, direction, size, publish);
@@ -228,11 +283,34 @@ impl Watching {
     }
 }
 
-/// Which end is judged. Each call of `take_events` picks it.
+// The watchers of all statements, before any event.
+fn watch(alloc: Global, tested: Tested, counting: bool) -> Watchers
+    ensures kind { counts result ≡ counting }
+    ensures agrees { ⟦<Watchers as Watch>⟧.agrees result tested (Some Void) [] }
+{
+    if counting {
+        return Watchers::counting(alloc, tested);
+    }
+    Watchers::new(alloc, tested)
+}
+
+// Counts the statements on a packet's bytes that an event puts to the test, if places are counted.
+fn tally_event(tally: &mut ByteTally, counting: bool, place: Place3, event: &Event<'_>)
+    ensures { (tested : TheTested) (events : List Placed) → place.position ≡ length events + 1 → (counting ≡ true → CountsBytes tally.old tested events) → counting ≡ true → CountsBytes tally.new tested (placed_at place event.now ∷ events) }
+{
+    if counting {
+        tally.count_event(place.position, event);
+    }
+}
+
+/// Which end is judged, and whether places are counted. Each call of `take_events` picks it.
 pub trait End {
+    ghost use Rattle.std.specs.Prelude.{Bool};
     ghost use Rattle.mq_rules.specs.declared.role.Tested.{Tested};
 
     ghost tested: { Tested };
+
+    ghost counting: { Bool };
 }
 
 impl End for Brand {
@@ -240,6 +318,8 @@ impl End for Brand {
     ghost use Rattle.mq_rules.specs.declared.role.Role.TheVariants.{Client};
 
     ghost tested = { record { role = Client; releases = false } };
+
+    ghost counting = { false };
 }
 
 /// A sink that judges the events that it receives.
@@ -269,9 +349,9 @@ impl<K: End> Sink for Judging<K> {
     ghost use Rattle.std.specs.Prelude.{◌≡◌, map};
     ghost use Rattle.mq_log.specs.declared.refusal.Refusal.TheVariants as refusals;
     ghost use Rattle.mq_rules.specs.Notes.{seen as seen_of};
-    ghost use Rattle.mq_judge.specs.Watching.{IsFound, IsWatching};
+    ghost use Rattle.mq_judge.specs.Watching.{IsFound, IsJudging};
 
-    ghost agrees = { λ sink received. (sink.watching.tested ≡ K.tested) × IsWatching sink.watching (map seen_of received) };
+    ghost agrees = { λ sink received. IsJudging K.tested K.counting sink.watching received };
 
     // There was no memory, and the faults are those of the earlier events.
     ghost refuses = { λ sink received refusal. (refusal ≡ refusals.Memory 0) × (sink.watching.tested ≡ K.tested) × IsFound sink.watching (map seen_of received) };
@@ -292,6 +372,9 @@ impl<K: End> Sink for Judging<K> {
         size: u32,
         packet: Packet<'_>,
     ) -> Result<(), Refusal> {
+        if self.watching.is_counting() {
+            return self.event(place, item_event(direction, Item::Packet(packet)));
+        }
         match self.watching.receive_packet(place, direction, size, packet) {
             Ok(()) => Ok(()),
             Err(Memory) => Err(Refusal::Memory(0)),
@@ -306,6 +389,9 @@ impl<K: End> Sink for Judging<K> {
         size: u32,
         publish: Publish<'_>,
     ) -> Result<(), Refusal> {
+        if self.watching.is_counting() {
+            return self.packet(place, direction, size, Packet::Publish(publish));
+        }
         match self
             .watching
             .receive_publish(place, direction, size, publish)

@@ -9,6 +9,7 @@ returns-in-Ok-clause-follows g c = λ log held.
       fed.1,
       told-piece g.K.Before.told (g.P.Progress.told c.args.progress.now) (g.P.Progress.told c.advance.new.self) log c.args.piece.now _ _ held.1 refl
           (c.len-faults.ensures ∙ faults-known (log ++ c.args.piece.now) _ (c.known.ensures (log ++ c.args.piece.now) fed.1.knows)) c.advance.ensures,
+      c.in-Ok.ensures.counts log held.0 ∙ held.2,
     )
 
 pub returns-in-Err-clause-stops : goal.returns-in-Err-clause-stops

@@ -1,0 +1,53 @@
+use Rattle.std.specs.Prelude.{IfOk, IfSome}
+use Rattle.std.proofs.Common.{◌≡◌, [], ◌∙◌, ap, subst, sym}
+use Rattle.std.proofs.lemmas.Result.{err_from_is_err_and}
+use Rattle.mq_judge.specs.declared.judge.Judge.{Judge}
+use Rattle.mq_judge.specs.declared.telling.Telling.{Telling}
+use Rattle.mq_judge.specs.Judging.{is_counting, Follows}
+use Rattle.mq_judge.proofs.RunnerLaws.{judge-finishes, no-rows, run-stopped}
+use Rattle.mq_judge.specs.Coverage.{coverage_of}
+use Rattle.mq_trace.proofs.Exports.{whole-taken}
+use Rattle.mq_judge.proofs.TellingLaws.{counting-all, told-nothing, told-all, told-before, judge-fed-all, judge-fed-before}
+use Rattle.mq_judge.proofs.runner.cover_telling.Given as given
+use Rattle.mq_judge.proofs.runner.cover_telling.Goals as goal
+
+abbrev judge_of : (g : given.Over) → Telling g.row.K.Denot → Judge
+judge_of g telling = telling.judge
+
+pub feed_log-requires-clause-follows : goal.feed_log-requires-clause-follows
+feed_log-requires-clause-follows g c =
+    (subst (λ (judge : Judge). Follows judge []) (sym c.new-telling.ensures) c.counting-judge.ensures.follows, told-nothing g.K.Before.told (g.P.Progress.told c.args.progress.now) c.requires.told, ap is_counting c.new-telling.ensures ∙ c.counting-judge.ensures.counts ∙ sym c.requires.counting)
+
+pub returns-in_err-feed_log-clause-judges : goal.returns-in_err-feed_log-clause-judges
+returns-in_err-feed_log-clause-judges g c =
+    let p = err_from_is_err_and c.from_residual.result c.from_residual.ensures.1 in
+    let stopped = run-stopped _ (judge-fed-before (judge_of g) g.K.Before.told g.K.Before.counting g.P.Progress.told _ c.in_err-feed_log.ensures.some)
+    (ap (λ (judge : Judge). judge.limit) c.new-telling.ensures ∙ c.counting-judge.ensures.limit ∙ c.default.ensures) in
+    rw (p.1, p.2) stopped
+
+pub returns-in_err-feed_log-clause-told : goal.returns-in_err-feed_log-clause-told
+returns-in_err-feed_log-clause-told g c =
+    let p = err_from_is_err_and c.from_residual.result c.from_residual.ensures.1 in
+    rw (p.1, p.2) (told-before (judge_of g) g.K.Before.told g.K.Before.counting g.P.Progress.told _ c.in_err-feed_log.ensures.some)
+
+pub returns-in_err-feed_log-clause-rows : goal.returns-in_err-feed_log-clause-rows
+returns-in_err-feed_log-clause-rows g c =
+    let p = err_from_is_err_and c.from_residual.result c.from_residual.ensures.1 in
+    no-rows _ c.from_residual.result _ _ p.1
+
+pub returns-clause-judges : goal.returns-clause-judges
+returns-clause-judges g c =
+    judge-finishes (λ v. v.verdict.events) (λ v. v.verdict.faults) c.finish_covered.result (judge-fed-all (judge_of g) g.K.Before.told g.K.Before.counting g.P.Progress.told c.in_ok-feed_log.ensures.all)
+    (ap (λ (judge : Judge). judge.limit) c.new-telling.ensures ∙ c.counting-judge.ensures.limit ∙ c.default.ensures)
+    (λ log f. c.finish_covered.ensures.verdict log (subst (λ (judge : Judge). Follows judge log) (sym c.into_judge-judge.ensures) f))
+    (λ log f. c.finish_covered.ensures.role log (subst (λ (judge : Judge). Follows judge log) (sym c.into_judge-judge.ensures) f))
+
+pub returns-clause-told : goal.returns-clause-told
+returns-clause-told g c = told-all (judge_of g) g.K.Before.told g.K.Before.counting g.P.Progress.told c.finish_covered.result c.in_ok-feed_log.ensures.all
+
+pub returns-clause-rows : goal.returns-clause-rows
+returns-clause-rows g c =
+    let took = c.in_ok-feed_log.ensures.all in
+    let counts = counting-all (judge_of g) g.K.Before.told g.K.Before.counting g.P.Progress.told took in
+    whole-taken _ _ took.log (λ log. IfOk c.finish_covered.result (λ answer. IfSome answer.0.rows (λ rows. rows.items ≡ coverage_of log))) took.consumed took.ended
+    (c.finish_covered.ensures.rows took.log (ap is_counting c.into_judge-judge.ensures ∙ counts ∙ c.requires.counting) (subst (λ (judge : Judge). Follows judge took.log) (sym c.into_judge-judge.ensures) took.followed.0))

@@ -1,0 +1,44 @@
+use Rattle.std.specs.Prelude.{IfSome}
+use Rattle.std.proofs.Common.{◌≡◌, List, None, Ok, Err, subst, sym}
+use Rattle.std.proofs.lemmas.Result.{err_from_is_err_and}
+use Rattle.mq_report.specs.declared.report.RunFault.TheVariants as run_faults
+use Rattle.mq_report.specs.declared.report.coverage.Covered.{Covered}
+use Rattle.mq_judge.specs.Coverage.{coverage_of}
+use Rattle.mq_judge.proofs.RunnerLaws.{rows-known, run-covers, run-lacks-rows, run-stops-covering}
+use Rattle.mq_judge.proofs.TellingLaws.{told-refusal, told-verdict}
+use Rattle.mq_judge.proofs.runner.run_covered.Goals as goal
+
+pub returns-in_err-covered-clause-told : goal.returns-in_err-covered-clause-told
+returns-in_err-covered-clause-told g c =
+    let p = err_from_is_err_and c.from_residual.result c.from_residual.ensures.1 in
+    let told = g.P.Progress.told in
+    rw (p.1, p.2) (told-refusal _ (told c.args.progress.now) (told c.judge_covered-judged.new.progress) (told c.end.new.self) c.end.ensures c.in_err-covered.ensures.told)
+
+pub returns-in_default-clause-runs : goal.returns-in_default-clause-runs
+returns-in_default-clause-runs g c =
+    run-lacks-rows _ (g.R.Read.remaining c.judge_covered-judged.new.reader) c.args.form (g.W.Write.contents c.args.writer.now) _ _ _ c.in_ok-covered.ensures.judges
+
+pub returns-in_default-clause-told : goal.returns-in_default-clause-told
+returns-in_default-clause-told g c =
+    let told = g.P.Progress.told in
+    told-verdict (Err run_faults.Memory) _ (told c.args.progress.now) (told c.judge_covered-judged.new.progress) (told c.end.new.self) c.end.ensures c.in_ok-covered.ensures.told
+
+pub returns-in_err-write_covered_report-clause-runs : goal.returns-in_err-write_covered_report-clause-runs
+returns-in_err-write_covered_report-clause-runs g c =
+    let p = err_from_is_err_and c.from_residual-in_err-write_covered_report.result c.from_residual-in_err-write_covered_report.ensures.1 in
+    rw (p.1, p.2) (run-stops-covering _ _ c.args.form _ _ _ _ _ _ _ c.in_ok-covered.ensures.judges (subst (λ (rows : List Covered). IfSome (g.R.Read.remaining c.args.reader.now) (λ log. rows ≡ coverage_of log)) (sym c.deref.ensures.value)
+    (rows-known _ _ _ _ c.in-Some.is c.in_ok-covered.ensures.rows)) c.in_err-write_covered_report.ensures.err)
+
+pub returns-in_err-write_covered_report-clause-told : goal.returns-in_err-write_covered_report-clause-told
+returns-in_err-write_covered_report-clause-told g c =
+    let told = g.P.Progress.told in
+    told-verdict _ _ (told c.args.progress.now) (told c.judge_covered-judged.new.progress) (told c.end.new.self) c.end.ensures c.in_ok-covered.ensures.told
+
+pub returns-clause-runs : goal.returns-clause-runs
+returns-clause-runs g c = run-covers _ None c.args.form _ _ _ _ _ _ _ c.in_ok-covered.ensures.judges (subst (λ (rows : List Covered). IfSome (g.R.Read.remaining c.args.reader.now) (λ log. rows ≡ coverage_of log)) (sym c.deref.ensures.value)
+    (rows-known _ _ _ _ c.in-Some.is c.in_ok-covered.ensures.rows)) c.in_ok-write_covered_report.ensures.ok c.outcome.ensures
+
+pub returns-clause-told : goal.returns-clause-told
+returns-clause-told g c =
+    let told = g.P.Progress.told in
+    told-verdict (Ok c.outcome.result) _ (told c.args.progress.now) (told c.judge_covered-judged.new.progress) (told c.end.new.self) c.end.ensures c.in_ok-covered.ensures.told
