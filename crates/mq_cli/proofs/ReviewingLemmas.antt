@@ -133,7 +133,7 @@ judging_is_refused plan judged shown left old new refusal (Err e) stops own writ
 judging_is_refused {E} plan judged shown left old new refusal (Ok s) stops own written = λ is.
     let status_is : Result ℕ E = Ok s in
     for_first judged shown (λ log. RefusesCheck Text log old new) (λ first second. RefusesPlan plan first second old new) (λ first second h. inl h)
-    (refusal_is_printed Text judged left old old new refusal status_is stops refl own written is)
+    (refusal_is_printed Text false judged left old old new refusal status_is stops refl own written is)
 
 pub judging_stops : (plan : Plan) (judged shown left shown_left old new : Option (List ℕ)) (refusal : Refusal) (status : Result ℕ Failure)
     → IfSome judged (λ log. IsRefusedAt default_limit log left refusal)

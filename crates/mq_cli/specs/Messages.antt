@@ -1,5 +1,5 @@
 -- What the program writes, and where.
-use Rattle.std.specs.Prelude.{Bool, true, false, ◌≡◌, ◌⊎◌, ⊤, List, ℕ, Option, None, [], ◌++◌, string_bytes, unwrap_or, option_map, ◌<◌, length, IfSome, IsSome, IsSomeAnd, IsErr, Ok}
+use Rattle.std.specs.Prelude.{Bool, true, false, ◌≡◌, ◌⊎◌, ⊤, List, ℕ, Option, None, [], ◌++◌, string_bytes, unwrap_or, option_map, ◌<◌, length, IfSome, IsSome, IsSomeAnd, IsErr, Result, Ok, Err}
 use Rattle.std.specs.FinMap as map
 use Rattle.std.specs.Io.KnownBytes.{Appends, Keeps}
 use Rattle.mq_judge.specs.declared.Form.{Form}
@@ -9,7 +9,11 @@ use Rattle.mq_judge.specs.declared.Refusal.TheVariants as refusals
 use Rattle.mq_report.specs.LongPacket.{long_packet_report}
 use Rattle.mq_report.specs.OnePacket.{IsOnePacket, packet_report}
 use Rattle.mq_report.specs.Report.{refused_line, refused_report, report}
-use Rattle.mq_judge.specs.Runner.{IsFaultless}
+use Rattle.mq_judge.specs.declared.Outcome.{Outcome}
+use Rattle.mq_judge.specs.declared.RunFault.{RunFault}
+use Rattle.mq_judge.specs.declared.RunFault.TheVariants as run_faults
+use Rattle.mq_judge.specs.Runner.{IsFaultless, covered_report, outcome_of}
+use Rattle.mq_trace.specs.Writing.{AppendsBeginning}
 use Rattle.mq_report.specs.Stopping.{IsJudged, default_limit, IsRefusedAt, IsRefusedNext}
 use Rattle.mq_report.specs.Display.{WritesBeginning, annotated, is_timed, short_lines_of, long_lines_of}
 use Rattle.mq_log.specs.Events.{Placed, events}
@@ -86,6 +90,23 @@ form_of true summary = Json
 form_of false true = Summary
 form_of false false = Text
 
+-- the report on a log in this form, with how often each statement was put to the test, or without
+abbrev pub report_for : Form → (coverage : Bool) → List ℕ → List ℕ
+report_for form false log = report form log
+report_for form true log = covered_report form log
+
+-- memory may be wanting for the report: for a JSON value, or for the list of the statements that were put to the test
+abbrev pub MayLackMemory : Form → (coverage : Bool) → Type 0
+MayLackMemory form coverage = (form ≡ Json) ⊎ (coverage ≡ true)
+
+-- What a run over this log did whose report is in this form and has coverage or not, by its result and what the reader has left: it wrote the report
+-- and nothing else; or, if writing failed, a beginning of it; or nothing, if the log is refused or there was no memory for the report.
+abbrev pub RunsFor : Form → (coverage : Bool) → List ℕ → Option (List ℕ) → Result Outcome RunFault → Option (List ℕ) → Option (List ℕ) → Type 0
+RunsFor form coverage log left (Ok outcome) old new = IsJudged log × (outcome ≡ outcome_of log) × Appends old new (report_for form coverage log)
+RunsFor form coverage log left (Err (run_faults.Refused refusal)) old new = IsRefusedAt default_limit log left refusal
+RunsFor form coverage log left (Err run_faults.Write) old new = IsJudged log × AppendsBeginning old new (report_for form coverage log)
+RunsFor form coverage log left (Err run_faults.Memory) old new = IsJudged log × MayLackMemory form coverage × (new ≡ old)
+
 -- A check of the log was refused: the refusal was written in this form and nothing else.
 abbrev pub RefusesCheck : Form → List ℕ → (old new : Option (List ℕ)) → Type 0
 RefusesCheck form log old new = (refusal : Refusal) × IsRefusedBy log refusal × Appends old new (refused_report form refusal)
@@ -112,13 +133,13 @@ RefusesShow text_of log old new = (refusal : Refusal) × (by : IsRefusedBy log r
 abbrev pub IsDecided : List ℕ → Type 0
 IsDecided log = IsJudged log ⊎ ((refusal : Refusal) × IsRefusedBy log refusal)
 
--- A check of the log failed. Reading it failed, or memory ran out, for the log or for the report or refusal as JSON: nothing was
--- written. Or writing failed: part of the report was written, or of its refusal.
-abbrev pub StopsCheck : Form → Failure → List ℕ → (left old new : Option (List ℕ)) → Type 0
-StopsCheck form failures.Read log left old new = (at : ℕ) × IsRefusedAt default_limit log left (refusals.Read at) × Keeps old new
-StopsCheck form failures.Memory log left old new = ((at : ℕ) × IsRefusedAt default_limit log left (refusals.Memory at) × Keeps old new)
-    ⊎ ((form ≡ Json) × IsDecided log × Keeps old new)
-StopsCheck form failures.Write log left old new = (IsJudged log × AppendsPart old new (report form log))
+-- A check of the log failed. Reading it failed, or memory ran out, for the log, for the report or refusal as JSON, or for the list of
+-- what was put to the test: nothing was written. Or writing failed: part of the report was written, or of its refusal.
+abbrev pub StopsCheck : Form → (coverage : Bool) → Failure → List ℕ → (left old new : Option (List ℕ)) → Type 0
+StopsCheck form coverage failures.Read log left old new = (at : ℕ) × IsRefusedAt default_limit log left (refusals.Read at) × Keeps old new
+StopsCheck form coverage failures.Memory log left old new = ((at : ℕ) × IsRefusedAt default_limit log left (refusals.Memory at) × Keeps old new)
+    ⊎ (MayLackMemory form coverage × IsDecided log × Keeps old new)
+StopsCheck form coverage failures.Write log left old new = (IsJudged log × AppendsPart old new (report_for form coverage log))
     ⊎ ((refusal : Refusal) × IsRefusedBy log refusal × AppendsPart old new (refused_report form refusal))
 
 -- Showing the log by this text of events failed. Reading it failed, or memory ran out: the text of the preceding events was written. Or
@@ -182,7 +203,7 @@ PrintsPart text old new = IsSomeAnd text (λ printed. AppendsPart old new printe
 
 -- 0: the log is judged and has no fault; the log that is shown can be judged; the bytes are one packet; the word names an end, or a statement
 abbrev pub HasPassed : Task → Option (List ℕ) → Type 0
-HasPassed (Check file json summary) input = IfSome input (λ log. IsJudged log × IsFaultless log)
+HasPassed (Check file json summary coverage) input = IfSome input (λ log. IsJudged log × IsFaultless log)
 HasPassed (Show file long) input = IfSome input IsJudged
 HasPassed (Packet hex long) input = OfDigits (string_bytes hex) input SpellsPacket
 HasPassed (Rules role) input = IsSome (listed_for (option_map string_bytes role))
@@ -190,7 +211,7 @@ HasPassed (Explain code) input = IsSome (explained_for (string_bytes code))
 
 -- 1: the log is judged and has faults; the bytes aren't exactly one packet
 abbrev pub HasFailed : Task → Option (List ℕ) → Type 0
-HasFailed (Check file json summary) input = IfSome input (λ log. IsJudged log × (¬ IsFaultless log))
+HasFailed (Check file json summary coverage) input = IfSome input (λ log. IsJudged log × (¬ IsFaultless log))
 HasFailed (Show file long) input = ⊥
 HasFailed (Packet hex long) input = OfDigits (string_bytes hex) input SpellsNoPacket
 HasFailed (Rules role) input = ⊥
@@ -198,7 +219,7 @@ HasFailed (Explain code) input = ⊥
 
 -- 0 and 1: the report was written, or the lines of the log's events, the line on the packet, the lines of the statements, or the explanation of one, and nothing else
 abbrev pub IsReportedOn : Task → Option (List ℕ) → Option (List ℕ) → Option (List ℕ) → Type 0
-IsReportedOn (Check file json summary) input old new = IfSome input (λ log. Appends old new (report (form_of json summary) log))
+IsReportedOn (Check file json summary coverage) input old new = IfSome input (λ log. Appends old new (report_for (form_of json summary) coverage log))
 IsReportedOn (Show file long) input old new = IfSome input (λ log. Appends old new (text_for (is_timed log) long (events log)))
 IsReportedOn (Packet hex long) input old new = OfDigits (string_bytes hex) input (λ text. AppendsReportOf long text old new)
 IsReportedOn (Rules role) input old new = Prints (listed_for (option_map string_bytes role)) old new
@@ -206,7 +227,7 @@ IsReportedOn (Explain code) input old new = Prints (explained_for (string_bytes 
 
 -- 2: the log is refused, and the line that says so was written: alone by a check, after the lines of the preceding events if the log is shown
 abbrev pub IsRefusedOn : Task → (input old new : Option (List ℕ)) → Type 0
-IsRefusedOn (Check file json summary) input old new = IfSome input (λ log. RefusesCheck (form_of json summary) log old new)
+IsRefusedOn (Check file json summary coverage) input old new = IfSome input (λ log. RefusesCheck (form_of json summary) log old new)
 IsRefusedOn (Show file long) input old new = IfSome input (λ log. RefusesShow (text_for (is_timed log) long) log old new)
 IsRefusedOn (Packet hex long) input old new = ⊥
 IsRefusedOn (Rules role) input old new = ⊥
@@ -214,7 +235,7 @@ IsRefusedOn (Explain code) input old new = ⊥
 
 -- 3: the digits of a packet spell no bytes or are too many, or a word isn't an end, or is neither the code of a statement nor a citation; and this line says so
 abbrev pub IsMisnamed : Task → (input : Option (List ℕ)) → (line : List ℕ) → Type 0
-IsMisnamed (Check file json summary) input line = ⊥
+IsMisnamed (Check file json summary coverage) input line = ⊥
 IsMisnamed (Show file long) input line = ⊥
 IsMisnamed (Packet hex long) input line = IsMisgiven (string_bytes hex) input line
 IsMisnamed (Rules role) input line = (listed_for (option_map string_bytes role) ≡ None) × (line ≡ no_role_line (unwrap_or (option_map string_bytes role) []))
@@ -251,7 +272,7 @@ StopsText text line old new (obstacles.Misused misuse) = (text ≡ None) × (mis
 
 -- 4: what failed, and what had been written
 abbrev pub StopsTask : Failure → Task → (input left old new : Option (List ℕ)) → Type 0
-StopsTask failure (Check file json summary) input left old new = IfSome input (λ log. StopsCheck (form_of json summary) failure log left old new)
+StopsTask failure (Check file json summary coverage) input left old new = IfSome input (λ log. StopsCheck (form_of json summary) coverage failure log left old new)
 StopsTask failure (Show file long) input left old new = IfSome input (λ log. StopsShow (text_for (is_timed log) long) failure log left old new)
 StopsTask failure (Packet hex long) input left old new = StopsGiven long (string_bytes hex) input old new (obstacles.Failed failure)
 StopsTask failure (Rules role) input left old new = StopsPrinting failure (listed_for (option_map string_bytes role)) old new

@@ -1,5 +1,5 @@
 //! Doing what a command line asks for.
-ghost use Rattle.std.specs.Prelude.{◌≡◌, ◌≤◌, ◌↔◌, ◌⊎◌, ℕ, true, List, [], None, Some, IfErr, IfOk, IfSome, OnOk};
+ghost use Rattle.std.specs.Prelude.{◌≡◌, ◌≤◌, ◌↔◌, ◌⊎◌, ℕ, true, List, [], None, Some, IfErr, IfOk, IfSome, OnOk, Err};
 ghost use Rattle.std.specs.Io.KnownBytes.{Appends, Keeps};
 ghost use Rattle.mq_explain.specs.Citing.{explained_for, if_some};
 ghost use Rattle.mq_explain.specs.Listing.{listed_for, statement_lines};
@@ -7,10 +7,12 @@ ghost use Rattle.mq_command.specs.Digits.{OfDigits};
 ghost use Rattle.mq_cli.specs.Messages.{AppendsReportOf, BeginsRefusal, HasFailed, HasPassed, IsOfLog, IsPrintedOn, IsRefusedOn, IsReportedOn};
 ghost use Rattle.mq_cli.specs.Messages.{IsShownOn, LacksJsonMemory, Prints, RefusesCheck, RefusesShow, SpellsNoPacket, SpellsPacket};
 ghost use Rattle.mq_cli.specs.Messages.{StopsAttempt, StopsCheck, StopsGiven, StopsRead, StopsShow, StopsSpelled, StopsText, failure_of, form_of, report_of_packet, text_in_view};
+ghost use Rattle.mq_cli.specs.Messages.{RunsFor, report_for};
+ghost use Rattle.mq_judge.specs.declared.RunFault.TheVariants as run_faults;
 ghost use Rattle.mq_cli.specs.Program.{FailsStop};
 ghost use Rattle.mq_host.specs.Streams.{AppendsPart, no_role_line, no_statement_line, stream};
 ghost use Rattle.mq_report.specs.OnePacket.{IsOnePacket};
-ghost use Rattle.mq_report.specs.Report.{refused_report, report};
+ghost use Rattle.mq_report.specs.Report.{refused_report};
 ghost use Rattle.mq_judge.specs.Runner.{IsFaultless};
 ghost use Rattle.mq_report.specs.Stopping.{IsJudged};
 ghost use Rattle.mq_report.specs.Display.{Shows, is_timed};
@@ -25,7 +27,7 @@ use mq_host::{
     PASSED, REFUSED, Trouble, flush, read_text, write_out,
 };
 use mq_judge::{
-    Faults, Form, Outcome, Progress, Refusal, RunFault, run_watched, show, show_faults, show_long,
+    Faults, Form, Outcome, Progress, Refusal, RunFault, run_covered, run_watched, show, show_faults, show_long,
     write_long_packet, write_packet, write_refused,
 };
 use mq_rules::{Role, Rule};
@@ -86,9 +88,15 @@ pub fn attempt<'a, R: Read, W: Write, P: Progress>(
     ensures statuses { IfOk result (λ status. status ≤ REFUSED) }
 {
     match task {
-        Task::Check { json, summary, .. } => match check(
+        Task::Check {
+            json,
+            summary,
+            coverage,
+            ..
+        } => match check(
             alloc,
             form_of(*json, *summary),
+            *coverage,
             input,
             output,
             progress,
@@ -122,10 +130,12 @@ fn form_of(json: bool, summary: bool) -> Form
     if summary { Form::Summary } else { Form::Text }
 }
 
-// Judges a log, with a report in this form.
+// Judges a log, with a report in this form, which says how often each statement was put to the test
+// if `coverage` is asked for.
 fn check<R: Read, W: Write, P: Progress>(
     alloc: Global,
     form: Form,
+    coverage: bool,
     input: &mut R,
     output: &mut W,
     progress: &mut P,
@@ -135,19 +145,40 @@ fn check<R: Read, W: Write, P: Progress>(
     ensures faulty { IfOk result (λ status. status ≡ FAULTY → IfSome (R.remaining input.old)
         (λ log. IsJudged log × (¬ IsFaultless log))) }
     ensures reported { IfOk result (λ status. status ≤ FAULTY → IfSome (R.remaining input.old)
-        (λ log. Appends (W.contents output.old) (W.contents output.new) (report form log))) }
+        (λ log. Appends (W.contents output.old) (W.contents output.new) (report_for form coverage log))) }
     ensures refused { IfOk result (λ status. status ≡ REFUSED → IfSome (R.remaining input.old)
         (λ log. RefusesCheck form log (W.contents output.old) (W.contents output.new))) }
     ensures stops { IfErr result (λ failure. IfSome (R.remaining input.old)
-        (λ log. StopsCheck form failure log (R.remaining input.new) (W.contents output.old) (W.contents output.new))) }
+        (λ log. StopsCheck form coverage failure log (R.remaining input.new) (W.contents output.old) (W.contents output.new))) }
     ensures statuses { IfOk result (λ status. status ≤ REFUSED) }
 {
-    match run_watched(alloc, input, output, form, progress) {
+    match run_for(alloc, form, coverage, input, output, progress) {
         Ok(Outcome::Pass) => see_out(PASSED, output),
         Ok(Outcome::Fail) => see_out(FAULTY, output),
         Err(RunFault::Refused(refusal)) => refuse(alloc, &refusal, form, output),
         Err(RunFault::Write) => Err(Failure::Write),
         Err(RunFault::Memory) => Err(Failure::Memory),
+    }
+}
+
+// Judges a log and writes the report on it, with coverage or without.
+#[tactic(auto, using(crate::proofs::MessageLaws::ran_with, crate::proofs::MessageLaws::ran_without))]
+fn run_for<R: Read, W: Write, P: Progress>(
+    alloc: Global,
+    form: Form,
+    coverage: bool,
+    input: &mut R,
+    output: &mut W,
+    progress: &mut P,
+) -> Result<Outcome, RunFault>
+    ensures runs { IfSome (R.remaining input.old) (λ log. RunsFor form coverage log (R.remaining input.new) result
+        (W.contents output.old) (W.contents output.new)) }
+    ensures unwritten { (refusal : Refusal) → result ≡ Err (run_faults.Refused refusal) → output.new ≡ output.old }
+{
+    if coverage {
+        run_covered(alloc, input, output, form, progress)
+    } else {
+        run_watched(alloc, input, output, form, progress)
     }
 }
 

@@ -238,10 +238,11 @@ met_by : (words : List Text) (m sub : ArgMatches) (name : Text) → subcommand_r
 met_by words m sub name same named rows =
     sym same ∙ both_met (subcommand_rows_of m) name (rows_of (found_of sub)) (name_met (out-ArgMatches m).subcommand ∙ named) rows
 
-pub same_check : {file file' : Option Text} {json json' summary summary' : Bool} → file ≡ file' → json ≡ json' → summary ≡ summary'
-    → Some (check_request file json summary) ≡ Some (check_request file' json' summary')
-same_check {file} {file'} {json} {json'} {summary} {summary'} f j s = ap (λ (x : Option Text). Some (check_request x json summary)) f
-    ∙ ap (λ (x : Bool). Some (check_request file' x summary)) j ∙ ap (λ (x : Bool). Some (check_request file' json' x)) s
+pub same_check : {file file' : Option Text} {json json' summary summary' coverage coverage' : Bool} → file ≡ file' → json ≡ json' → summary ≡ summary' → coverage ≡ coverage'
+    → Some (check_request file json summary coverage) ≡ Some (check_request file' json' summary' coverage')
+same_check {file} {file'} {json} {json'} {summary} {summary'} {coverage} {coverage'} f j s v = ap (λ (x : Option Text). Some (check_request x json summary coverage)) f
+    ∙ ap (λ (x : Bool). Some (check_request file' x summary coverage)) j ∙ ap (λ (x : Bool). Some (check_request file' json' x coverage)) s
+    ∙ ap (λ (x : Bool). Some (check_request file' json' summary' x)) v
 
 pub same_show : {file file' : Option Text} {long long' faults faults' : Bool} {around around' : Option Text} → file ≡ file' → long ≡ long' → faults ≡ faults' → around ≡ around'
     → Some (show_request file long faults around) ≡ Some (show_request file' long' faults' around')
@@ -251,11 +252,12 @@ same_show {file} {file'} {long} {long'} {faults} {faults'} {around} {around'} f 
 
 pub request_is_check : (words : List Text) (m check : ArgMatches) → subcommand_rows_of m ≡ subcommand_of mqjudge words → subcommand_name_of m ≡ Some (codes "check")
     → option_map (λ p. p.1) (subcommand_rows_of m) ≡ Some (rows_of (found_of check)) → request_of words ≡ Some (check_request (first_value (found_of check) (codes "FILE"))
-    (is_true (first_value (found_of check) (codes "json"))) (is_true (first_value (found_of check) (codes "summary"))))
+    (is_true (first_value (found_of check) (codes "json"))) (is_true (first_value (found_of check) (codes "summary")))
+    (is_true (first_value (found_of check) (codes "coverage"))))
 request_is_check words m check same named rows =
     ap (option_map request_in) (met_by words m check (codes "check") same named rows)
     ∙ same_check (sym (first_value-rows (found_of check) (codes "FILE"))) (ap is_true (sym (first_value-rows (found_of check) (codes "json"))))
-    (ap is_true (sym (first_value-rows (found_of check) (codes "summary"))))
+    (ap is_true (sym (first_value-rows (found_of check) (codes "summary")))) (ap is_true (sym (first_value-rows (found_of check) (codes "coverage"))))
 
 pub request_is_show : (words : List Text) (m shown : ArgMatches) → subcommand_rows_of m ≡ subcommand_of mqjudge words → subcommand_name_of m ≡ Some (codes "show")
     → option_map (λ p. p.1) (subcommand_rows_of m) ≡ Some (rows_of (found_of shown)) → request_of words ≡ Some (show_request (first_value (found_of shown) (codes "FILE"))

@@ -23,9 +23,10 @@ use Rattle.mq_command.specs.declared.command_line.EarlyExit.TheVariants.{Help, U
 abbrev pub flag : Text → Rule
 flag name = record (new_rule name) { long = Some name; action = Some SetTrue }
 
--- `check [--json] [--summary] [FILE]`
+-- `check [--json] [--summary] [--coverage] [FILE]`
 abbrev pub check_command : App
-check_command = with_rule (with_rule (with_rule (new_app (codes "check")) (new_rule (codes "FILE"))) (flag (codes "json"))) (flag (codes "summary"))
+check_command = with_rule (with_rule (with_rule (with_rule (new_app (codes "check")) (new_rule (codes "FILE"))) (flag (codes "json"))) (flag (codes "summary")))
+    (flag (codes "coverage"))
 
 -- `--around N`
 abbrev pub around_option : Rule
@@ -82,6 +83,7 @@ pub record Request : Type 0 where
   pub operand : Option Text
   pub json : Bool
   pub summary : Bool
+  pub coverage : Bool
   pub long : Bool
   pub faults : Bool
   pub around : Option Text
@@ -92,11 +94,23 @@ pub record Request : Type 0 where
 -- a subcommand on this operand, with nothing else
 abbrev pub plain_request : Text → Option Text → Request
 plain_request subcommand operand =
-    record { subcommand = subcommand; operand = operand; json = false; summary = false; long = false; faults = false; around = None; role = None; made = None; force = false }
+    record {
+      subcommand = subcommand;
+      operand = operand;
+      json = false;
+      summary = false;
+      coverage = false;
+      long = false;
+      faults = false;
+      around = None;
+      role = None;
+      made = None;
+      force = false;
+    }
 
 -- `check` on this file, with these flags
-abbrev pub check_request : Option Text → Bool → Bool → Request
-check_request file json summary = record (plain_request (codes "check") file) { json = json; summary = summary }
+abbrev pub check_request : Option Text → (json summary coverage : Bool) → Request
+check_request file json summary coverage = record (plain_request (codes "check") file) { json = json; summary = summary; coverage = coverage }
 
 -- `show` of this file, with these flags and this number
 abbrev pub show_request : Option Text → (long faults : Bool) → (around : Option Text) → Request
@@ -130,6 +144,7 @@ is_true (Some value) = bytes_eq value (codes "true")
 -- the request in a subcommand's name and matches
 abbrev pub request_in : Text × List Row → Request
 request_in met = if bytes_eq met.0 (codes "check") then check_request (first_of (codes "FILE") met.1) (is_true (first_of (codes "json") met.1)) (is_true (first_of (codes "summary") met.1))
+    (is_true (first_of (codes "coverage") met.1))
     else (if bytes_eq met.0 (codes "show") then show_request (first_of (codes "FILE") met.1) (is_true (first_of (codes "long") met.1))
     (is_true (first_of (codes "faults") met.1)) (first_of (codes "N") met.1)
     else (if bytes_eq met.0 (codes "packet") then packet_request (all_of (codes "HEX") met.1) (is_true (first_of (codes "long") met.1))
@@ -147,7 +162,7 @@ word_faults words = fault_of mqjudge words
 
 -- the request that corresponds to some work
 abbrev pub request_by : Work → Request
-request_by (Once (Check file json summary)) = check_request (option_map string_bytes file) json summary
+request_by (Once (Check file json summary coverage)) = check_request (option_map string_bytes file) json summary coverage
 request_by (Once (Show file long)) = show_request (option_map string_bytes file) long false None
 request_by (Once (Packet hex long)) = digits_request (string_bytes hex) long
 request_by (Once (Rules role)) = rules_request (option_map string_bytes role)
@@ -192,7 +207,7 @@ path_named (Some operand) = if bytes_eq operand (codes "-") then None else Some 
 
 -- the path of the log that a task reads: none if it reads standard input, or nothing
 abbrev pub path_of : Task → Option Text
-path_of (Check file json summary) = path_named (option_map string_bytes file)
+path_of (Check file json summary coverage) = path_named (option_map string_bytes file)
 path_of (Show file long) = path_named (option_map string_bytes file)
 path_of (Packet hex long) = None
 path_of (Rules role) = None
@@ -200,7 +215,7 @@ path_of (Explain code) = None
 
 -- a task reads its input: a log, or the digits of a packet if the operand is `-`. Others need no input.
 abbrev pub reads_input : Task → Bool
-reads_input (Check file json summary) = true
+reads_input (Check file json summary coverage) = true
 reads_input (Show file long) = true
 reads_input (Packet hex long) = is_dash (string_bytes hex)
 reads_input (Rules role) = false

@@ -101,6 +101,8 @@ pub enum Task {
         json: bool,
         /// Report a line for each statement that has faults, in place of one for each fault.
         summary: bool,
+        /// Report how often each statement was put to the test too.
+        coverage: bool,
     },
     /// Show the events of the log in `file`, or on standard input if there is none or it is `-`.
     Show {
@@ -176,7 +178,7 @@ pub enum EarlyExit {
     Memory,
 }
 
-/// Reads the words of a command line, `mqjudge check [--json] [--summary] [FILE]`,
+/// Reads the words of a command line, `mqjudge check [--json] [--summary] [--coverage] [FILE]`,
 /// `mqjudge show [--long] [--faults] [--around N] [FILE]`,
 /// `mqjudge packet [--long] HEX..`, `mqjudge rules [--role ROLE]`, `mqjudge explain CODE` or
 /// `mqjudge convert [--force] IN OUT`, of which the first is the program's name. A request for help
@@ -196,6 +198,7 @@ pub fn parse<S: AsStr>(alloc: Global, words: &[S]) -> Result<Work, EarlyExit>
                 check.get_str("FILE"),
                 is_true(check.get_str("json")),
                 is_true(check.get_str("summary")),
+                is_true(check.get_str("coverage")),
             ),
             None => match matches.subcommand_matches("show") {
                 Some(show) => show_task(
@@ -333,6 +336,11 @@ fn check_command<'a>(alloc: Global) -> Result<Command<'a>, AllocError>
             alloc,
             "summary",
             "Report a line for each statement that has faults",
+        ))?
+        .arg(flag(
+            alloc,
+            "coverage",
+            "Say how often each statement was put to the test",
         ))
 }
 
@@ -480,9 +488,10 @@ fn check_task(
     file: Option<&str>,
     json: bool,
     summary: bool,
+    coverage: bool,
 ) -> Result<Work, EarlyExit>
     ensures work { IfOk result (λ work.
-        request_by work ≡ check_request (option_map (λ path. path.now) file.entry) json summary) }
+        request_by work ≡ check_request (option_map (λ path. path.now) file.entry) json summary coverage) }
     ensures readings { IfOk result ReadsAsAsked }
     ensures stop { IfErr result (λ stop. stop ≡ EarlyExit.Memory) }
 {
@@ -491,6 +500,7 @@ fn check_task(
         file,
         json,
         summary,
+        coverage,
     }))
 }
 

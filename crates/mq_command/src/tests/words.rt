@@ -18,39 +18,55 @@ fn is_check_of(
     alloc: Global,
     words: &[&str],
     wanted: Option<&str>,
-    flags: (bool, bool),
+    flags: (bool, bool, bool),
 ) -> Result<bool, EarlyExit> {
     let Task::Check {
         file,
         json,
         summary,
+        coverage,
     } = task_of(alloc, words)?
     else {
         return Ok(false);
     };
     let path = file.as_ref().map(|path| path.as_str());
-    Ok(path == wanted && (json, summary) == flags)
+    Ok(path == wanted && (json, summary, coverage) == flags)
 }
 
 #[test]
 fn reads_the_words_of_a_check(rt: HostRuntime) -> Result<(), Fail> {
-    let rows: [(&[&str], Option<&str>, (bool, bool)); 5] = [
-        (&["mqjudge", "check"], None, (false, false)),
+    let rows: [(&[&str], Option<&str>, (bool, bool, bool)); 8] = [
+        (&["mqjudge", "check"], None, (false, false, false)),
         (
             &["mqjudge", "check", "a.log"],
             Some("a.log"),
-            (false, false),
+            (false, false, false),
         ),
         (
             &["mqjudge", "check", "--", "--help"],
             Some("--help"),
-            (false, false),
+            (false, false, false),
         ),
-        (&["mqjudge", "check", "--json"], None, (true, false)),
+        (&["mqjudge", "check", "--json"], None, (true, false, false)),
         (
             &["mqjudge", "check", "--summary", "a.log", "--json"],
             Some("a.log"),
-            (true, true),
+            (true, true, false),
+        ),
+        (
+            &["mqjudge", "check", "--coverage"],
+            None,
+            (false, false, true),
+        ),
+        (
+            &["mqjudge", "check", "a.log", "--coverage", "--json"],
+            Some("a.log"),
+            (true, false, true),
+        ),
+        (
+            &["mqjudge", "check", "--coverage", "--summary", "-"],
+            Some("-"),
+            (false, true, true),
         ),
     ];
     for (words, wanted, flags) in rows {
@@ -193,11 +209,19 @@ fn is_packet_of(alloc: Global, words: &[&str], digits: &str) -> Result<bool, Ear
 #[test]
 fn reads_the_words_of_a_packet(rt: HostRuntime) -> Result<(), Fail> {
     assert!(rt; is_packet_of(rt.alloc(), &["mqjudge", "packet", "c000"], "c000")?);
-    let misuses: [(&[&str], &str); 2] = [
+    let misuses: [(&[&str], &str); 4] = [
         (&["mqjudge", "packet"], "<HEX>"),
         (
             &["mqjudge", "packet", "--json", "c000"],
             "unexpected argument '--json' found",
+        ),
+        (
+            &["mqjudge", "packet", "--coverage", "c000"],
+            "unexpected argument '--coverage' found",
+        ),
+        (
+            &["mqjudge", "show", "--coverage"],
+            "unexpected argument '--coverage' found",
         ),
     ];
     for (words, part) in misuses {

@@ -11,11 +11,13 @@ returns-clause-app c =
     let about_is : app_of c.after_help.result ≡ new_app (codes "check") = ap app_of_fields c.after_help.ensures ∙ ap app_of_fields c.about.ensures ∙ c.new.ensures.app in
     let with_file = c.in_ok-arg.ensures.shape c.log_operand.ensures.local ∙ ap₂ with_rule about_is c.log_operand.ensures.rule in
     let with_json = c.in_ok-arg-2.ensures.shape c.flag.ensures.local ∙ ap₂ with_rule with_file c.flag.ensures.rule in
-    IfOk-weaker c.arg-3.result _ _ (λ r h. h.shape c.flag-2.ensures.local ∙ ap₂ with_rule with_json c.flag-2.ensures.rule) c.arg-3.ensures
+    let with_summary = c.in_ok-arg-3.ensures.shape c.flag-2.ensures.local ∙ ap₂ with_rule with_json c.flag-2.ensures.rule in
+    IfOk-weaker c.arg-4.result _ _ (λ r h. h.shape c.flag-3.ensures.local ∙ ap₂ with_rule with_summary c.flag-3.ensures.rule) c.arg-4.ensures
 
 pub returns-clause-local : goal.returns-clause-local
 returns-clause-local c =
     let before = ap (λ (f : Command-F Command). f.has_globals) c.after_help.ensures ∙ ap (λ (f : Command-F Command). f.has_globals) c.about.ensures ∙ c.new.ensures.local in
     let with_file = c.in_ok-arg.ensures.globals ∙ ap₂ (λ x y. x || y) before c.log_operand.ensures.local in
     let with_json = c.in_ok-arg-2.ensures.globals ∙ ap₂ (λ x y. x || y) with_file c.flag.ensures.local in
-    IfOk-weaker c.arg-3.result _ _ (λ r h. h.globals ∙ ap₂ (λ x y. x || y) with_json c.flag-2.ensures.local) c.arg-3.ensures
+    let with_summary = c.in_ok-arg-3.ensures.globals ∙ ap₂ (λ x y. x || y) with_json c.flag-2.ensures.local in
+    IfOk-weaker c.arg-4.result _ _ (λ r h. h.globals ∙ ap₂ (λ x y. x || y) with_summary c.flag-3.ensures.local) c.arg-4.ensures
