@@ -63,7 +63,7 @@ extern "C" {
  * CHANGELOG.md then describes: of a function, of when an answer comes, or of a type's layout. What a number of
  * mqjudge_status names doesn't change.
  */
-#define MQJUDGE_VERSION 2
+#define MQJUDGE_VERSION 3
 
 /* What each call answers. After each of them the judge can still be asked, and freed. Where several apply, it is the
  * first of NULL, NO_JUDGE, REFUSED, VALUE, ORDER.
@@ -173,6 +173,11 @@ uint32_t mqjudge_fault_at(mqjudge *judge, uint32_t position, size_t index, mqjud
  * filters that a server granted in the session, so a weight that grows says that the end leaves more and more open, or
  * grants more and more different filters. OK, NO_JUDGE. */
 uint32_t mqjudge_weight(mqjudge *judge, size_t *weight);
+
+/* How often a statement was put to the test: at how many events of what was told, at no cost. So a verdict without a
+ * fault says what it is worth. A statement that doesn't bind the end that is judged has 0. Statements are counted from 0,
+ * in the order of reports. OK, NO_JUDGE, ABSENT (no such statement), REFUSED. */
+uint32_t mqjudge_places(mqjudge *judge, uint32_t statement, uint32_t *places);
 
 /* Why the log is refused: the number of the refusal (docs/LOG_FORMAT.md), and the offset in the log of the refused byte.
  * OK, NO_JUDGE, ABSENT. */
@@ -291,6 +296,13 @@ static inline uint32_t mqjudge_checked_weight(mqjudge *judge, size_t *weight) {
     return mqjudge_weight(judge, weight);
 }
 
+static inline uint32_t mqjudge_checked_places(mqjudge *judge, uint32_t statement, uint32_t *places) {
+    if (judge == NULL || places == NULL) {
+        return MQJUDGE_NULL;
+    }
+    return mqjudge_places(judge, statement, places);
+}
+
 static inline uint32_t mqjudge_checked_fault(mqjudge *judge, size_t index, mqjudge_fault_row *fault) {
     if (judge == NULL || fault == NULL) {
         return MQJUDGE_NULL;
@@ -369,6 +381,7 @@ static inline uint32_t mqjudge_checked_sentence(uint32_t statement, char *buffer
 #define mqjudge_faults(judge, count) mqjudge_checked_faults(judge, count)
 #define mqjudge_next_fault(judge, fault) mqjudge_checked_next_fault(judge, fault)
 #define mqjudge_weight(judge, weight) mqjudge_checked_weight(judge, weight)
+#define mqjudge_places(judge, statement, places) mqjudge_checked_places(judge, statement, places)
 #define mqjudge_fault(judge, index, fault) mqjudge_checked_fault(judge, index, fault)
 #define mqjudge_fault_from(judge, position, fault) mqjudge_checked_fault_from(judge, position, fault)
 #define mqjudge_fault_at(judge, position, index, fault) mqjudge_checked_fault_at(judge, position, index, fault)

@@ -36,6 +36,7 @@ int main(void) {
     EXPECT(NO_JUDGE, mqjudge_faults(&judge, &size));
     EXPECT(NO_JUDGE, mqjudge_next_fault(&judge, &fault));
     EXPECT(NO_JUDGE, mqjudge_weight(&judge, &size));
+    EXPECT(NO_JUDGE, mqjudge_places(&judge, 0, &number));
     EXPECT(VALUE, mqjudge_new(&judge, 4));
     EXPECT(VALUE, mqjudge_new(&judge, 268435461));
 
@@ -51,6 +52,10 @@ int main(void) {
     EXPECT(NULL, mqjudge_weight(&judge, NULL));
     EXPECT(OK, mqjudge_weight(&judge, &size));
     expect("the weight of nothing", (uint32_t)size, 0);
+    EXPECT(NULL, mqjudge_places(&judge, 0, NULL));
+    EXPECT(OK, mqjudge_places(&judge, 0, &number));
+    expect("the places of nothing", number, 0);
+    EXPECT(ABSENT, mqjudge_places(&judge, 74, &number));
     EXPECT(ABSENT, mqjudge_fault(&judge, 0, &fault));
     EXPECT(ABSENT, mqjudge_fault_from(&judge, 0, &fault));
     EXPECT(ABSENT, mqjudge_fault_at(&judge, 1, 0, &fault));
@@ -72,6 +77,8 @@ int main(void) {
     EXPECT(REFUSED, mqjudge_begin(&judge, MQJUDGE_CLIENT, 2));
     EXPECT(REFUSED, mqjudge_sent(&judge, many, sizeof many));
     EXPECT(REFUSED, mqjudge_finish(&judge, &number));
+    EXPECT(REFUSED, mqjudge_places(&judge, 0, &number));
+    EXPECT(ABSENT, mqjudge_places(&judge, 74, &number));
     EXPECT(OK, mqjudge_refusal(&judge, &number, &byte));
     EXPECT(OK, mqjudge_free(&judge));
 

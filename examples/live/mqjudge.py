@@ -8,12 +8,13 @@
 from __future__ import annotations
 
 import ctypes
+import itertools
 import os
 import subprocess
 from pathlib import Path
 from typing import NamedTuple
 
-VERSION = 2  # of include/mqjudge.h
+VERSION = 3  # of include/mqjudge.h
 CLIENT, SERVER = 0, 1
 END_AT = 5  # the byte of a log's header that says which end is tested
 STATUS = ("ok", "null", "no judge", "held", "value", "memory", "refused", "order", "length", "absent", "room")
@@ -131,6 +132,19 @@ class Judge:
         weight = ctypes.c_size_t()
         self.call("weight", ctypes.byref(weight))
         return weight.value
+
+    def places(self, code: str) -> int:
+        """At how many events so far the statement of this code was put to the test."""
+        places = ctypes.c_uint32()
+        self.call("places", self.number(code), ctypes.byref(places))
+        return places.value
+
+    def number(self, code: str) -> int:
+        """The number of the statement of this code, in the order of reports."""
+        for number in itertools.count():
+            if self.text("code", number) == code:
+                return number
+        raise AssertionError
 
     def faults(self) -> list[Fault]:
         """All faults that are known, in the order of reports."""

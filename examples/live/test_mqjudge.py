@@ -235,6 +235,25 @@ class Events(unittest.TestCase):
                 judge.received(b"\x40\x02" + identifier.to_bytes(2, "big"))
             self.assertEqual(judge.weight(), empty)
 
+    def test_places_are_those_of_the_suite(self) -> None:
+        files = sorted((EXAMPLES / "suite").glob("*.places"))
+        self.assertEqual(len(files), 148)
+        for file in files:
+            lines = [line.split() for line in file.read_text().splitlines() if line.startswith("tested ")]
+            with self.subTest(file.stem), Judge() as judge:
+                judge.feed(file.with_suffix(".log").read_bytes())
+                wanted = {words[1]: int(words[-1]) for words in lines}
+                self.assertEqual({code: judge.places(code) for code in wanted}, wanted)
+
+    def test_places_grow_with_what_is_told(self) -> None:
+        with Judge.of(CLIENT) as judge:
+            self.assertEqual(judge.places("C02"), 0)
+            judge.open()
+            judge.sent(CONNECT)
+            self.assertEqual((judge.places("C02"), judge.places("W18"), judge.places("C05")), (1, 1, 0))
+            with self.assertRaises(Trouble):
+                judge.call("places", 74, ctypes.byref(ctypes.c_uint32()))
+
     def test_two_judges_are_independent(self) -> None:
         with Judge.of(CLIENT) as one, Judge.of(CLIENT) as other:
             one.open()

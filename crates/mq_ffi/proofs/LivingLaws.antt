@@ -1,13 +1,18 @@
 -- What taking bytes in says of a judge that was told a log.
-use Rattle.std.proofs.Common.{◌≡◌, ℕ, Bool, true, false, ◌==◌, ◌⊎◌, inl, inr, List, [], ◌∷◌, length, subst, Option, Some, None, is_some, Ok, Err, sym, ap, ◌∙◌}
+use Rattle.std.proofs.Common.{◌≡◌, ℕ, Bool, true, false, refl, ◌==◌, ◌⊎◌, inl, inr, List, [], ◌∷◌, length, subst, Option, Some, None, is_some, Ok, Err, sym, ap, ◌∙◌}
 use Rattle.std.proofs.lemmas.Bool.{false≢true}
 use Rattle.std.specs.Option.{IfSome}
 use Rattle.std.specs.Prelude.{Result}
+use Rattle.mq_log.specs.declared.refusal.Refusal.{Refusal}
+use Rattle.mq_rules.specs.declared.rule.Rule.{Rule}
+use Rattle.mq_judge.specs.Coverage.{places_in}
+use Rattle.mq_judge.specs.Judging.{Follows, is_counting}
 use Rattle.mq_ffi.specs.declared.answer.Trouble.{Trouble}
+use Rattle.mq_ffi.specs.declared.answer.Trouble.TheVariants as troubles
 use Rattle.mq_ffi.specs.declared.live.Live.{Live}
 use Rattle.mq_ffi.specs.declared.live.Source.{Source}
 use Rattle.mq_ffi.specs.declared.live.Source.TheVariants as sources
-use Rattle.mq_ffi.specs.Living.{Answer, IsTold, FeedsBytes, FeedsFrom, Takes, TakesIn, Ends, EndsFrom, is_end}
+use Rattle.mq_ffi.specs.Living.{Answer, AnswersPlaces, IsTold, FeedsBytes, FeedsFrom, Takes, TakesIn, Ends, EndsFrom, is_end}
 
 pub if_none : {A : Type 0} (o : Option A) (P : A → Type 0) → is_some o ≡ false → IfSome o P
 if_none None P is = tt
@@ -17,7 +22,7 @@ pub takes : (source : Source) (log piece : List ℕ) (old new : Live) (answer : 
     → TakesIn piece old.judge new.judge old.refusal new.refusal answer → Takes source log piece new answer
 takes source log piece old new (Ok _) more told is taken =
     let after = taken.1 log told.follows in
-    (after.0, record { follows = after.1; unrefused = taken.0 ∙ told.unrefused; first = λ e. absurd (more (sym is ∙ e)) }, is)
+    (after.0, record { follows = after.1; unrefused = taken.0 ∙ told.unrefused; first = λ e. absurd (more (sym is ∙ e)); counting = after.2 ∙ told.counting }, is)
 takes source log piece old new (Err trouble) more told is taken = (taken.0, record { refusal = taken.1.0; kept = taken.1.1; why = taken.1.2 log told.follows })
 
 abbrev is_first : Source → Bool
@@ -47,3 +52,32 @@ feeds_some (byte ∷ later) log old new answer some taken = taken
 pub feeds_from : (s : Source) (piece log : List ℕ) (old new : Live) (answer : Answer) → (s ≡ sources.Nothing) ⊎ (s ≡ sources.Log) → FeedsBytes piece log old new answer → FeedsFrom s log piece old new answer
 feeds_from s piece log old new answer (inl is) fed = subst (λ (s : Source). FeedsFrom s log piece old new answer) (sym is) fed
 feeds_from s piece log old new answer (inr is) fed = subst (λ (s : Source). FeedsFrom s log piece old new answer) (sym is) fed
+
+-- ---- how often a statement was put to the test
+
+-- a refused log has no places that are told
+pub refused_places : (rule : Rule) (live : Live) → is_some live.refusal ≡ true → AnswersPlaces rule live (Err troubles.Refused)
+refused_places rule live is = record {
+  for_ever = go live.refusal;
+  counted = λ log told. absurd (false≢true (sym (ap is_some told.unrefused) ∙ is));
+}
+  where
+    said : Result ℕ Trouble
+    said = Err troubles.Refused
+
+    go : (o : Option Refusal) → IfSome o (λ _. said ≡ said)
+    go None = tt
+    go (Some refusal) = refl
+
+-- what is answered for the places that a judge knows
+abbrev pub places_or_absent : Option ℕ → Result ℕ Trouble
+places_or_absent None = Err troubles.Absent
+places_or_absent (Some places) = Ok places
+
+pub counted_places : (rule : Rule) (live : Live) (o : Option ℕ) (answer : Result ℕ Trouble) → is_some live.refusal ≡ false
+    → ((log : List ℕ) → is_counting live.judge ≡ true → Follows live.judge log → o ≡ Some (places_in log rule))
+    → answer ≡ places_or_absent o → AnswersPlaces rule live answer
+counted_places rule live o answer unrefused known is = record {
+  for_ever = if_none live.refusal _ unrefused;
+  counted = λ log told. is ∙ ap places_or_absent (known log told.counting told.follows);
+}

@@ -47,6 +47,7 @@ takes_nothing judge refusal = (
       let same : log ≡ log ++ [] = sym (append-nil log) in (
         subst (λ (bytes : List ℕ). refused judge.limit bytes ≡ None) same (subst (λ (limit : ℕ). refused limit log ≡ None) follows.within follows.traced.keeps.unrefused),
         subst (Follows judge) same follows,
+        refl,
       ),
 )
 
@@ -56,9 +57,10 @@ pub takes_both : (front back : List ℕ) (first middle last : Judge) (before bet
 takes_both front back first middle last before between after (Ok _) one other = (
   other.0 ∙ one.0,
   λ log follows.
-      let next = other.1 (log ++ front) (one.1 log follows).1 in
+      let before = one.1 log follows in
+      let next = other.1 (log ++ front) before.1 in
       let along : (log ++ front) ++ back ≡ log ++ (front ++ back) = append_assoc log front back in
-      (subst (λ (bytes : List ℕ). refused last.limit bytes ≡ None) along next.0, subst (Follows last) along next.1),
+      (subst (λ (bytes : List ℕ). refused last.limit bytes ≡ None) along next.0, subst (Follows last) along next.1, next.2 ∙ before.2),
 )
 takes_both front back first middle last before between after (Err trouble) one other = (
   other.0,

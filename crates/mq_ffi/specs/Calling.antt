@@ -3,12 +3,13 @@ use Rattle.std.specs.Prelude.{◌≡◌, ℕ, ◌==◌, nat_lt, ◌||◌, Bool, 
 use Rattle.mq_log.specs.declared.header.Header.{Header}
 use Rattle.mq_log.specs.declared.refusal.Refusal.{Refusal}
 use Rattle.mq_log.specs.Refusing.{number_of, name_of, refusal_offset}
+use Rattle.mq_rules.specs.declared.rule.Rule.{Rule}
 use Rattle.mq_ffi.specs.declared.answer.Trouble.{Trouble}
 use Rattle.mq_ffi.specs.declared.answer.Trouble.TheVariants as troubles
 use Rattle.mq_ffi.specs.declared.event.Event.{Event}
 use Rattle.mq_ffi.specs.declared.live.Live.{Live}
 use Rattle.mq_ffi.specs.Answers.{answer_code}
-use Rattle.mq_ffi.specs.Living.{Answer, IsTold, StaysRefused, Declines, Feeds, Begins, Tells, Finishes}
+use Rattle.mq_ffi.specs.Living.{Answer, AnswersPlaces, IsTold, StaysRefused, Declines, Feeds, Begins, Tells, Finishes}
 use Rattle.mq_ffi.specs.Texts.{PutsTextAs}
 
 -- The call reaches the judge that the handle holds, and the handle holds it afterwards. A handle that holds none says so, and stays empty.
@@ -94,12 +95,25 @@ TellsName None before after count count' code = (code ≡ 9) × (after ≡ befor
 abbrev pub AsksName : List ℕ → List ℕ → ℕ → ℕ → Live → Live → ℕ → Type 0
 AsksName before after count count' old new code = (new ≡ old) × TellsName old.refusal before after count count' code
 
--- How many events there are is written if the log is whole.
-abbrev pub CountsEvents : Result ℕ Trouble → ℕ → ℕ → ℕ → Type 0
-CountsEvents (Ok count) before after code = (code ≡ 0) × (after ≡ count)
-CountsEvents (Err trouble) before after code = (code ≡ answer_code (Err trouble)) × (after ≡ before)
+-- A count is written if there is one.
+abbrev pub WritesCount : Result ℕ Trouble → ℕ → ℕ → ℕ → Type 0
+WritesCount (Ok count) before after code = (code ≡ 0) × (after ≡ count)
+WritesCount (Err trouble) before after code = (code ≡ answer_code (Err trouble)) × (after ≡ before)
 
+-- How many events there are is written if the log is whole.
 pub record FinishesAs (before after : ℕ) (old new : Live) (code : ℕ) : Type 0 where
   pub answer : Result ℕ Trouble
-  pub counts : CountsEvents answer before after code
+  pub counts : WritesCount answer before after code
   pub finishes : Finishes old new answer
+
+-- how many places a statement has, if there is such a statement
+abbrev pub PlacesBy : Option Rule → Live → Result ℕ Trouble → Type 0
+PlacesBy None live answer = answer ≡ Err troubles.Absent
+PlacesBy (Some rule) live answer = AnswersPlaces rule live answer
+
+-- A call that asks for them changes nothing. They are written if they are known.
+pub record AsksPlaces (rule : Option Rule) (before after : ℕ) (old new : Live) (code : ℕ) : Type 0 where
+  pub same : new ≡ old
+  pub answer : Result ℕ Trouble
+  pub counts : WritesCount answer before after code
+  pub places : PlacesBy rule old answer

@@ -6,7 +6,9 @@ use Rattle.mq_log.specs.Events.{events}
 use Rattle.mq_log.specs.Refusals.{refused, is_cut_short}
 use Rattle.mq_trace.specs.Writing.{header_bytes}
 use Rattle.mq_judge.specs.declared.judge.Judge.{Judge}
-use Rattle.mq_judge.specs.Judging.{Knows, Follows, RefusesIn}
+use Rattle.mq_judge.specs.Judging.{Knows, Follows, RefusesIn, is_counting}
+use Rattle.mq_judge.specs.Coverage.{places_in}
+use Rattle.mq_rules.specs.declared.rule.Rule.{Rule}
 use Rattle.mq_report.specs.Stopping.{IsRefusedEnd}
 use Rattle.mq_ffi.specs.declared.answer.Trouble.{Trouble}
 use Rattle.mq_ffi.specs.declared.answer.Trouble.TheVariants as troubles
@@ -20,11 +22,12 @@ use Rattle.mq_ffi.specs.Telling.{bytes_of}
 abbrev pub Answer : Type 0
 Answer = Result (Unit {0}) Trouble
 
--- The judge was told this log, and refused none of it. Nothing is told before the first call.
+-- The judge was told this log, and refused none of it. Nothing is told before the first call. It counts how often each statement is put to the test.
 pub record IsTold (live : Live) (log : List ℕ) : Type 0 where
   pub follows : Follows live.judge log
   pub unrefused : live.refusal ≡ None
   pub first : live.source ≡ sources.Nothing → log ≡ []
+  pub counting : is_counting live.judge ≡ true
 
 -- The call is refused for this reason, and changes nothing.
 abbrev pub Declines : Trouble → Live → Live → Answer → Type 0
@@ -43,7 +46,7 @@ Takes source log piece new (Err trouble) = (trouble ≡ troubles.Refused) × IsS
 
 -- The same of a judge and of what is kept of its refusal.
 abbrev pub TakesIn : List ℕ → Judge → Judge → Option Refusal → Option Refusal → Answer → Type 0
-TakesIn piece old new before after (Ok _) = (after ≡ before) × ((log : List ℕ) → Follows old log → (refused new.limit (log ++ piece) ≡ None) × Follows new (log ++ piece))
+TakesIn piece old new before after (Ok _) = (after ≡ before) × ((log : List ℕ) → Follows old log → (refused new.limit (log ++ piece) ≡ None) × Follows new (log ++ piece) × (is_counting new ≡ is_counting old))
 TakesIn piece old new before after (Err trouble) =
     (trouble ≡ troubles.Refused) × ((refusal : Refusal) × (after ≡ Some refusal) × ((log : List ℕ) → Follows old log → RefusesIn new.limit new log piece refusal))
 
@@ -110,3 +113,8 @@ pub record Finishes (old new : Live) (answer : Result ℕ Trouble) : Type 0 wher
   pub given : new.turn ≡ old.turn
   pub for_ever : IfSome old.refusal (λ _. (answer ≡ Err troubles.Refused) × (new ≡ old))
   pub taken : (log : List ℕ) → IsTold old log → EndsFrom old.source log old new answer
+
+-- what asking how often a statement was put to the test answers
+pub record AnswersPlaces (rule : Rule) (live : Live) (answer : Result ℕ Trouble) : Type 0 where
+  pub for_ever : IfSome live.refusal (λ _. answer ≡ Err troubles.Refused)
+  pub counted : (log : List ℕ) → IsTold live log → answer ≡ Ok (places_in log rule)

@@ -1,8 +1,8 @@
 //! What the exported functions do: each takes the judge out of the handle, asks it, and puts it
 //! back.
 ghost use Rattle.std.specs.Prelude.{◌≡◌, ℕ, None};
-ghost use Rattle.mq_ffi.specs.Asking.{AsksFault, CountsFaults, ShowsFound, Weighs, chosen_fault};
-ghost use Rattle.mq_ffi.specs.Calling.{Asked, AskedInto, Makes, MakesWith, limit_by as limit_for, Frees, FeedsAs, BeginsAs, TellsAs, AsksRefusal, AsksName, FinishesAs, BeginsWith};
+ghost use Rattle.mq_ffi.specs.Asking.{AsksFault, CountsFaults, ShowsFound, Weighs, chosen_fault, statement_at as statement_of};
+ghost use Rattle.mq_ffi.specs.Calling.{Asked, AskedInto, Makes, MakesWith, limit_by as limit_for, Frees, FeedsAs, BeginsAs, TellsAs, AsksRefusal, AsksName, FinishesAs, BeginsWith, AsksPlaces, PlacesBy};
 ghost use Rattle.mq_ffi.specs.Giving.{AsksNext};
 ghost use Rattle.mq_ffi.specs.Holding.{held};
 
@@ -10,7 +10,7 @@ use crate::about::put_text;
 use crate::answer::{Trouble, code_of};
 use crate::asking::{Choice, choose};
 use crate::event::Event;
-use crate::fault::FaultRow;
+use crate::fault::{FaultRow, statement_at};
 use crate::handle::Handle;
 use crate::live::Live;
 use mq_log::Header;
@@ -159,6 +159,34 @@ pub fn weigh(alloc: Global, judge: &mut Handle, weight: &mut usize) -> u32
     *weight = live.weight();
     judge.put(live);
     code_of(Ok(()))
+}
+
+/// Counts the places of the statement with this number.
+pub fn count_places(alloc: Global, judge: &mut Handle, statement: u32, places: &mut u32) -> u32
+    ensures { AskedInto (places.new ≡ places.old) (AsksPlaces (statement_of statement) places.old places.new) (held judge.old) (held judge.new) result }
+{
+    let Some(live) = judge.take(alloc) else {
+        return code_of(Err(Trouble::NoJudge));
+    };
+    let answer = places_of(&live, statement);
+    judge.put(live);
+    match answer {
+        Ok(count) => {
+            *places = count;
+            code_of(Ok(()))
+        }
+        Err(trouble) => code_of(Err(trouble)),
+    }
+}
+
+// How many places the statement with this number has.
+fn places_of(live: &Live, statement: u32) -> Result<u32, Trouble>
+    ensures { PlacesBy (statement_of statement) live.now result }
+{
+    match statement_at(statement) {
+        Some(rule) => live.places(rule),
+        None => Err(Trouble::Absent),
+    }
 }
 
 /// Asks why the log is refused.

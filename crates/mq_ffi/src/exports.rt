@@ -7,7 +7,7 @@ ghost use Rattle.mq_rules.specs.Rules.{code_of as code_text};
 ghost use Rattle.mq_rules.specs.Naming.{citation_of, sentence_of};
 ghost use Rattle.mq_ffi.specs.declared.event.Event.TheVariants as happened;
 ghost use Rattle.mq_ffi.specs.Asking.{AsksFault, CountsFaults, Weighs, first_fault_from, nth, statement_at as statement_of, role_at as role_of};
-ghost use Rattle.mq_ffi.specs.Calling.{Asked, AskedInto, Makes, Frees, FeedsAs, BeginsAs, TellsAs, AsksRefusal, AsksName, FinishesAs};
+ghost use Rattle.mq_ffi.specs.Calling.{Asked, AskedInto, Makes, Frees, FeedsAs, BeginsAs, TellsAs, AsksPlaces, AsksRefusal, AsksName, FinishesAs};
 ghost use Rattle.mq_ffi.specs.Giving.{AsksNext};
 ghost use Rattle.mq_ffi.specs.Holding.{held};
 ghost use Rattle.mq_ffi.specs.Texts.{TellsText, TellsCitation};
@@ -15,7 +15,8 @@ ghost use Rattle.mq_ffi.specs.Texts.{TellsText, TellsCitation};
 use crate::about::{tell_citation, tell_text};
 use crate::asking::Choice;
 use crate::calls::{
-    ask_fault, ask_next, begin, count, feed, finish, free, make, name, refuse, tell, weigh,
+    ask_fault, ask_next, begin, count, count_places, feed, finish, free, make, name, refuse, tell,
+    weigh,
 };
 use crate::event::Event;
 use crate::fault::{FaultRow, statement_at};
@@ -172,6 +173,19 @@ pub extern "C" fn mqjudge_weight(alloc: Global, judge: &mut Handle, weight: &mut
     ensures { AskedInto (weight.new ≡ weight.old) (Weighs weight.new) (held judge.old) (held judge.new) result }
 {
     weigh(alloc, judge, weight)
+}
+
+/// How many places a statement has: at how many events it was put to the test.
+#[unsafe(no_mangle)]
+pub extern "C" fn mqjudge_places(
+    alloc: Global,
+    judge: &mut Handle,
+    statement: u32,
+    places: &mut u32,
+) -> u32
+    ensures { AskedInto (places.new ≡ places.old) (AsksPlaces (statement_of statement) places.old places.new) (held judge.old) (held judge.new) result }
+{
+    count_places(alloc, judge, statement, places)
 }
 
 /// Why the log is refused: the number of the refusal, and the offset in the log of the refused

@@ -7,7 +7,7 @@ ghost use Rattle.mq_rules.specs.Weights.{in_word};
 ghost use Rattle.mq_rules.specs.Notes.{seen_in};
 ghost use Rattle.mq_ffi.specs.Giving.{GivesNext};
 ghost use Rattle.mq_ffi.specs.declared.live.Source.TheVariants as sources;
-ghost use Rattle.mq_ffi.specs.Living.{IsTold, is_end, Feeds, Begins, Tells, Finishes};
+ghost use Rattle.mq_ffi.specs.Living.{IsTold, is_end, Feeds, Begins, Tells, Finishes, AnswersPlaces};
 
 use crate::answer::Trouble;
 use crate::event::Event;
@@ -15,7 +15,7 @@ use crate::fault::FaultRow;
 use crate::taking::{take_event, take_in};
 use crate::turn::{Turn, next_in_turn};
 use crate::writing::header_of;
-use mq_judge::{Faults, Judge, Options, Refusal};
+use mq_judge::{Faults, Judge, Options, Refusal, Rule};
 use mq_log::Header;
 use std::alloc::Global;
 
@@ -52,7 +52,7 @@ impl Live {
         ensures turn { result.turn ≡ record { event = 0; given = 0 } }
     {
         Live {
-            judge: Judge::new(alloc, Options { limit }),
+            judge: Judge::counting(alloc, Options { limit }),
             source: Source::Nothing,
             refusal: None,
             turn: Turn { event: 0, given: 0 },
@@ -88,6 +88,19 @@ impl Live {
         ensures bounded { (log : List ℕ) → Follows self.now.judge log → result ≤ 4 * burden self.now.judge.judging.watching.tested (seen_in log) }
     {
         self.judge.weight()
+    }
+
+    /// How many places a statement has in what was told: at how many events it was put to the test.
+    pub fn places(&self, rule: Rule) -> Result<u32, Trouble>
+        ensures { AnswersPlaces rule self.now result }
+    {
+        if self.refusal.is_some() {
+            return Err(Trouble::Refused);
+        }
+        match self.judge.places(rule) {
+            Some(places) => Ok(places),
+            None => Err(Trouble::Absent),
+        }
     }
 
     /// Why the log is refused, if it is.

@@ -1,5 +1,5 @@
-use Rattle.std.proofs.Common.{refl, sym, subst, ◌∙◌, Some, Ok, Err}
-use Rattle.mq_judge.specs.Judging.{Follows}
+use Rattle.std.proofs.Common.{refl, sym, ap, subst, ◌∙◌, Some, Ok, Err}
+use Rattle.mq_judge.specs.Judging.{Follows, is_counting}
 use Rattle.mq_judge.specs.declared.judge.Judge.{Judge}
 use Rattle.mq_ffi.specs.declared.answer.Trouble.TheVariants as troubles
 use Rattle.mq_ffi.specs.declared.live.Live.{Live}
@@ -28,5 +28,6 @@ returns-in-Ok c =
       taken = λ log told. let verdict = c.in-Ok.ensures.verdict log told.follows in
           let follows = subst (λ (j : Judge). Follows j log) (sym c.in-Ok.ensures.same) told.follows in
           ends_from old.source log old new (Ok c.in-Ok.events) (sym c.has_ended.ensures ∙ c.if-has_ended.false)
-          (verdict.0, verdict.1, record { follows = follows; unrefused = told.unrefused; first = λ e. absurd (ended_is_last e) }, refl);
+          (verdict.0, verdict.1, record { follows = follows; unrefused = told.unrefused; first = λ e. absurd (ended_is_last e);
+              counting = ap is_counting c.in-Ok.ensures.same ∙ told.counting }, refl);
     }
