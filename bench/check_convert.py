@@ -126,7 +126,7 @@ class Comparison:
         for name, log in examples():
             (self.folder / "one.log").write_bytes(log)
             self.run("convert", "--force", "one.log", "two.log")
-            for form in ((), ("--json",), ("--summary",)):
+            for form in ((), ("--json",), ("--summary",), ("--coverage",)):
                 found, wanted = (self.run("check", *form, path) for path in ("two.log", "one.log"))
                 self.compare(f"{name}, converted, {' '.join(form) or 'as text'}", found, wanted)
             self.compare(f"{name}, converted twice", self.run("convert", "two.log", "three.log")[:2], SECOND_VERSION)

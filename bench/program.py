@@ -15,6 +15,9 @@ from collections.abc import Callable, Iterator
 from dataclasses import dataclass, field
 from pathlib import Path
 
+sys.dont_write_bytecode = True  # the repository stays as it is
+import occasions
+
 HERE = Path(__file__).resolve().parent
 PROGRAM = HERE.parent / "crates" / "mq_cli" / "out" / "mq_cli"
 SECONDS = 60
@@ -61,8 +64,16 @@ TOO_LONG = f"mqjudge: standard input has more than {MOST_TEXT} bytes, the most t
 
 PASS = "pass 4 events\n"
 FAIL = "fault 5 S01 MQTT-2.2.1-3 decided 5 record 5 offset -\nfail 1 faults 5 events\n"
+SUMMARY = "S01 MQTT-2.2.1-3 faults 1 first 5 record 5\nfail 1 faults 5 events\n"
 LONG_FAIL = FAIL.replace(" 5 events", " 115 events")
 REFUSED = "refused 7 Nested at 13\n"
+
+
+def covering(report: str, publishes: int) -> str:
+    """The report on a client with so many PUBLISHes under one identifier, with what was tested."""
+    return occasions.covering(report, occasions.of_publishes(publishes))
+
+
 FIRST_LINES = "1 record 1 OPEN\n2 record 2 SENT CONNECT size 15\n3 record 3 RECV CONNACK size 5\n"
 LINES = FIRST_LINES + "4 record 4 SENT PUBLISH size 9 qos 1 dup 0 id 1\n"
 MANY_LINES = FIRST_LINES + "".join(f"{at} record 4 SENT PINGREQ size 2\n" for at in range(4, PINGS + 4))
@@ -132,9 +143,10 @@ Arguments:
   [FILE]  The log; standard input if it is missing or `-`
 
 Options:
-      --json     Report as one line of JSON, also with --summary
-      --summary  Report a line for each statement that has faults
-  -h, --help     Print help
+      --json      Report as one line of JSON, also with --summary
+      --summary   Report a line for each statement that has faults
+      --coverage  Say how often each statement was put to the test
+  -h, --help      Print help
 
 Statuses: 0 for no fault, 1 for faults, 2 for a refused log, 3 for misuse,
 4 if reading or writing failed or memory ran out.
@@ -186,6 +198,22 @@ Usage: mqjudge check [OPTIONS] [FILE]
 
 For more information, try '--help'.
 mqjudge: check takes one log; recorders/judge takes many
+"""
+FOR_CHECK_ALONE = """\
+error: unexpected argument '--coverage' found
+
+  tip: to pass '--coverage' as a value, use '-- --coverage'
+
+Usage: mqjudge show [OPTIONS] [FILE]
+
+For more information, try '--help'.
+"""
+TWICE = """\
+error: the argument '--coverage' cannot be used multiple times
+
+Usage: mqjudge check [OPTIONS] [FILE]
+
+For more information, try '--help'.
 """
 UNKNOWN_WORD = """\
 error: unrecognized subcommand 'judge'
@@ -290,6 +318,18 @@ RUNS = [
     Run(["check", "long.log"], 0, f"pass {LONG_PINGS + 3} events\n"),
     Run(["check"], 2, "refused 6 Length at 17\n", stdin=HEADER + OPEN + LONG_HEAD + b"\xc0\x00" * LONG_PINGS),
     Run(["check", "short-moment.log"], 2, "refused 10 Cut at 20\n"),
+    # What was tested is said before the last line, and nothing of a log that is refused.
+    Run(["check", "--coverage", "good.log"], 0, covering(PASS, 1), stdin=FAULTY),
+    Run(["check", "faulty.log", "--coverage"], 1, covering(FAIL, 2), stdin=GOOD),
+    Run(["check", "--coverage", "--summary"], 1, covering(SUMMARY, 2), stdin=FAULTY),
+    Run(["check", "--coverage", "timed.log"], 1, covering(FAIL, 2)),
+    Run(["check", "--coverage", "nested.log"], 2, REFUSED, stdin=GOOD),
+    Run(["check", "--coverage", "short.log"], 2, f"refused 10 Cut at {len(GOOD) - 1}\n"),
+    Run(["check", "--coverage", "missing.log"], 4, errors=missing("missing.log"), stdin=GOOD),
+    Run(["check", "--coverage"], 4, errors=directory("standard input"), stdin=Path(".")),
+    Run(["check", "--coverage", "a.pcap"], 2, "refused 1 Header at 0\n", CAPTURE_HINT),
+    Run(["show", "--coverage", "good.log"], 3, errors=FOR_CHECK_ALONE),
+    Run(["check", "--coverage", "--coverage", "good.log"], 3, errors=TWICE),
     # Without a file, or with `-`, standard input is.
     Run(["check"], 0, PASS, stdin=GOOD),
     Run(["check"], 1, FAIL, stdin=FAULTY),
@@ -434,6 +474,8 @@ RUNS = [
 # Where standard output takes nothing: the words. On a full disk a line says so; a reader that has gone needs none.
 UNWRITTEN = [
     ["check", "good.log"],
+    ["check", "--coverage", "good.log"],
+    ["check", "--coverage", "nested.log"],
     ["check", "faulty.log"],
     ["check", "nested.log"],
     ["show", "good.log"],
@@ -460,6 +502,7 @@ UNTOLD = [
     (["convert", "good.log", "good.log"], 4),
     (["convert", "good.log", "kept.log"], 4),
     (["check", "missing.log"], 4),
+    (["check", "--coverage", "missing.log"], 4),
     (["check", "good.log"], 0),
     (["check", "a.pcap"], 2),
 ]
@@ -583,7 +626,8 @@ def kept(path: Path) -> tuple[bytes, int, int, int]:
 
 
 # Nothing but `convert` changes a file; these read one.
-READING = [["check"], ["check", "--json"], ["check", "--summary"], ["show"], ["show", "--long"], ["show", "--faults"]]
+CHECKS = [["check"], ["check", "--json"], ["check", "--summary"], ["check", "--coverage"]]
+READING = [*CHECKS, ["show"], ["show", "--long"], ["show", "--faults"]]
 
 
 def changes(program: Path) -> Iterator[tuple[str, tuple, tuple]]:

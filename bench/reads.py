@@ -29,7 +29,7 @@ from pathlib import Path
 sys.dont_write_bytecode = True  # the repository stays as it is
 import kinds
 from judges import BUILT
-from program import FAULTY, GOOD, HEADER, MANY, MANY_2, NESTED, TIMED, Tally, unread
+from program import CHECKS, FAULTY, GOOD, HEADER, MANY, MANY_2, NESTED, TIMED, Tally, unread
 
 HERE = Path(__file__).resolve().parent
 COMPILER = "cc"
@@ -39,7 +39,6 @@ MEGABYTES = 10
 LEAST_READ, LEAST_WRITE, FEW_MORE = 8_192, 4_096, 20
 LOG, MADE = "a.log", "made.log"
 
-CHECKS = [["check"], ["check", "--json"], ["check", "--summary"]]
 SHOWS = [["show"], ["show", "--long"]]
 AGAIN = [["show", "--faults", "--around", "0"]]  # it reads the log twice, so it needs a file
 CONVERTS = [["convert"]]

@@ -9,7 +9,7 @@ program judged the logs. The two logs of a statement differ in one record, which
 What each log tests is written by occasions.py: each has to test its own statement, also if it keeps it.
 
 With --check (or without options) it compares the files with the rows, byte by byte, and the reports with reference.py's. With
---program that program has to give the same reports for the files, as text and as JSON, with the right status. The logs are of
+--program that program has to give the same reports for the files, as text, as JSON and with what was tested, with the right status. The logs are of
 version 1; each must get the same report converted to version 2 by converting.py. --write makes the files.
 
 usage: bench/suite.py [--check] [--program PATH]
@@ -39,7 +39,8 @@ HERE = Path(__file__).resolve().parent
 ROWS = check_rows.FOLDER / "suite.rt"
 FOLDER = HERE.parent / "examples/suite"
 BROKEN, KEPT = "broken", "kept"
-FORMS: tuple[tuple[list[str], str], ...] = (([], "report"), (["--json"], "json"))  # words, and which file has the report
+# Words, and which file has the report.
+FORMS: tuple[tuple[list[str], str], ...] = (([], "report"), (["--json"], "json"), (["--coverage"], "places"))
 
 ABOUT = """\
 # The conformance suite
@@ -251,7 +252,9 @@ def wrong_answers(program: Path) -> Iterator[str]:
             second.write_bytes(in_second_version(row))
             for log, words, kind in ((log, *form) for log in (path, second) for form in FORMS):
                 ran = subprocess.run([program, "check", *words, log], stdin=subprocess.DEVNULL, capture_output=True, check=False)
-                wanted = (STATUSES[row.report.splitlines()[-1].split()[0]], path.with_suffix(f".{kind}").read_bytes(), b"")
+                said = path.with_suffix(f".{kind}").read_text()
+                said = occasions.as_counted(said) if kind == "places" else said
+                wanted = (STATUSES[row.report.splitlines()[-1].split()[0]], said.encode(), b"")
                 if (ran.returncode, ran.stdout, ran.stderr) != wanted:
                     name = path.name if log is path else f"{path.name} in version 2"
                     yield f"{name}, {kind}: wanted {wanted}, {program} says {(ran.returncode, ran.stdout, ran.stderr)}"

@@ -22,6 +22,7 @@ from pathlib import Path
 
 sys.dont_write_bytecode = True  # the repository stays as it is
 import make_log
+import occasions
 from check_forms import as_json, in_short
 from judges import BUILT
 from make_log import CONNACK, CONNECT, HEADER, OPEN, RECV, SENT, record, varint
@@ -117,11 +118,19 @@ def report_on(log: list[bytes]) -> str:
     return f"{''.join(faults)}fail {len(faults)} faults {position} events\n"
 
 
+def with_coverage(text: str) -> str:
+    """The same report with what was tested."""
+    *faults, last = text.splitlines()
+    used = len(faults) + 1
+    return occasions.covering(text, occasions.of_publishes(used, int(last.split()[-2]) - 3 - used))
+
+
 def try_slowly(program: Path, tally: Tally) -> None:
     """What is shown while a log comes, and that the line ends before the report."""
     given = pieces()
     text = report_on(given)
-    for words, report in ((["check"], text), (["check", "--json"], as_json(text)), (["check", "--summary"], in_short(text))):
+    reports = (["check"], text), (["check", "--json"], as_json(text)), (["check", "--summary"], in_short(text))
+    for words, report in (*reports, (["check", "--coverage"], with_coverage(text))):
         for is_output_shown in (False, True):
             title = f"{' '.join(words)}, {'all on the terminal' if is_output_shown else 'its output in a pipe'}"
             waiting = Waiting(program, words, is_output_shown)
