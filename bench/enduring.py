@@ -25,6 +25,7 @@ from pathlib import Path
 
 sys.dont_write_bytecode = True  # the repository stays as it is
 import make_log
+import occasions
 import session_logs
 from check_forms import as_json, in_short
 from judges import BUILT
@@ -42,7 +43,7 @@ LARGEST_PACKET = 16_777_216
 EVENTS_OF_A_KIND = 100_100
 
 Task = tuple[str, ...]
-CHECKS: list[Task] = [("check",), ("check", "--json"), ("check", "--summary")]
+CHECKS: list[Task] = [("check",), ("check", "--json"), ("check", "--summary"), ("check", "--coverage")]
 CONVERT: Task = ("convert",)
 
 
@@ -59,6 +60,7 @@ class Log:
     faults: list[tuple[int, int]] = field(default_factory=list)
     header: bytes = HEADER
     lines: Callable[[], Iterable[str]] | None = None  # as `show` prints them
+    tested: list[str] = field(default_factory=list)  # as `check --coverage` says it
     by_pipe: list[Task] = field(default_factory=list)
     by_name: list[Task] = field(default_factory=list)
 
@@ -111,7 +113,8 @@ def of_bytes() -> Log:
         yield line_of_used(events)
 
     return Log("900 MB", [(CONNECTED + USED, 1), (record(SENT, packet), count), (USED, 1)], events, [(events, events)],
-               lines=lines, by_pipe=[*CHECKS, CONVERT], by_name=[*CHECKS, ("show",), ("show", "--faults"), CONVERT])
+               lines=lines, tested=occasions.of_publishes(2, count),
+               by_pipe=[*CHECKS, CONVERT], by_name=[*CHECKS, ("show",), ("show", "--faults"), CONVERT])
 
 
 def of_events() -> Log:
@@ -119,7 +122,7 @@ def of_events() -> Log:
     block, count = record(SENT, PINGREQ * (LARGEST_BODY // len(PINGREQ))), 20
     events = count * LARGEST_BODY // len(PINGREQ) + 5
     return Log("10 million pings", [(CONNECTED + USED, 1), (block, count), (USED, 1)], events, [(events, count + 5)],
-               by_pipe=CHECKS[:2], by_name=CHECKS[:1])
+               tested=occasions.of_publishes(2, pings=events - 5), by_pipe=[*CHECKS[:2], CHECKS[-1]], by_name=CHECKS[:1])
 
 
 def of_lines() -> Log:
@@ -165,7 +168,8 @@ def of_faults() -> Log:
             yield f"{first + size - 1} record {first + size - 1} CLOSE\n"
 
     return Log("150,000 faults", [(CONNECTED + USED * (count + 1) + record(CLOSE), connections)], size * connections,
-               [(at, at) for at in at_fault], lines=lines, by_pipe=[*CHECKS, ("show",)], by_name=[*CHECKS, ("show", "--faults")])
+               [(at, at) for at in at_fault], lines=lines, tested=occasions.of_publishes(count + 1, connections=connections),
+               by_pipe=[*CHECKS, ("show",)], by_name=[*CHECKS, ("show", "--faults")])
 
 
 def of_early(header: bytes, toward: int, back: int) -> Log:
@@ -307,6 +311,8 @@ class Runner:
                 text = as_json(log.report())
             case ("check", "--summary"):
                 text = in_short(log.report())
+            case ("check", "--coverage"):
+                text = occasions.covering(log.report(), log.tested)
             case ("show",):
                 text = "".join(log.lines())
             case _:

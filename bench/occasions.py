@@ -562,13 +562,14 @@ def sum_of(rows: list[str]) -> str:
     return f"covered {sum(not row.endswith(' places 0') for row in rows)} of {len(rows)} statements"
 
 
-def of_publishes(used: int, others: int = 0, connections: int = 1) -> list[str]:
+def of_publishes(used: int, others: int = 0, pings: int = 0, connections: int = 1) -> list[str]:
     """What a client tests that on each connection sends a CONNECT without properties, so many PUBLISHes of QoS 1 under one identifier,
-    which isn't acknowledged, and so many of QoS 0: by S01 each under the identifier but the first."""
-    connects = dict.fromkeys(("W01", "W18", "W19", "C02", "C03"), 1)
-    packets = dict.fromkeys(("W02", "W03", "W04", "W05", "W06", "C01"), 1 + used + others)
+    of which none is acknowledged, so many of QoS 0, and so many PINGREQs. By S01 it is each under the identifier but the first."""
+    connects = dict.fromkeys(("W18", "W19", "C02", "C03"), 1)
+    packets = dict.fromkeys(("W02", "W03", "W06", "C01"), 1 + used + others + pings)
+    texts = dict.fromkeys(("W04", "W05"), 1 + used + others)
     publishes = dict.fromkeys(("W07", "W14", "C18"), used + others)
-    counts = connects | packets | publishes | {"W08": others, "W09": used, "S01": max(used - 1, 0)}
+    counts = connects | packets | texts | publishes | {"W01": 1 + pings, "W08": others, "W09": used, "S01": max(used - 1, 0)}
     return coverage_of("client", True, {rule: count * connections for rule, count in counts.items()})
 
 
