@@ -92,7 +92,8 @@ With what was tested, the last line comes after a line `tested <code> <citation>
 statement on the tested end, in the order of reports: at so many events it was put to the test, kept
 or broken. W15 to W19 are about packets that only a client sends, and W20 about those of a server:
 for the other end they are listed only if they have a place. Then comes
-`covered <m> of <n> statements`: so many of the listed ones have a place.
+`covered <m> of <n> statements`: so many of the listed ones have a place. (`mqjudge` leaves S06 out,
+whose places it doesn't count yet.)
 
 ## The logs
 
