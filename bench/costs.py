@@ -1,4 +1,6 @@
-"""What version 2 of the log costs `check` and `show`, what `convert` costs, and whether an event takes more instructions than it may."""
+"""What version 2 of the log costs `check` and `show`, what `--coverage` costs `check`, what `convert` costs, and whether an event takes
+more instructions than it may.
+"""
 import tempfile
 from collections.abc import Iterator
 from pathlib import Path
@@ -15,8 +17,13 @@ COLUMNS = "{:<24} {:<6} {:>12} {:>12} {:>6}  {}"
 
 
 def words_for(mqjudge: Path, task: str, log: Path) -> list[str]:
-    """The command that does a task with a log."""
-    return [str(mqjudge), task, str(log)] if task != "convert" else [str(mqjudge), task, "--force", str(log), str(log.with_suffix(".out"))]
+    """The command that does a task with a log: `coverage` is a `check` with that."""
+    match task:
+        case "convert":
+            return [str(mqjudge), task, "--force", str(log), str(log.with_suffix(".out"))]
+        case "coverage":
+            return [str(mqjudge), "check", "--coverage", str(log)]
+    return [str(mqjudge), task, str(log)]
 
 
 def cost(kind: str, version: int, mqjudge: Path, task: str, amount: int, folder: Path, bounds: Bounds) -> float | None:
@@ -78,6 +85,25 @@ def print_versions(mqjudge: Path, chosen: list[str], messages: int, bounds: Boun
                 print(COLUMNS.format(kind, task, *figures, f"more than {MOST_OF_VERSION_2}" if is_above else "").rstrip(), flush=True)
     print(f"{above} above {MOST_OF_VERSION_2}")
     return above == 0
+
+
+def print_coverage(mqjudge: Path, chosen: list[str], messages: int, bounds: Bounds) -> bool:
+    """Prints how many instructions an event takes `check` and `check --coverage`, and says whether they could be counted."""
+    if counter() is None:
+        print("instructions can't be counted: perf can't, and there is no valgrind")
+        return False
+    unknown, columns = 0, "{:<24} {:>12} {:>12} {:>6}  {}"
+    print(columns.format("log", "check", "--coverage", "ratio", f"instructions an event, by {counter()}"), flush=True)
+    with tempfile.TemporaryDirectory(prefix="mqjudge-bench-") as name:
+        for kind in chosen:
+            amount = min(messages, 8) if kind == "large" else messages
+            costs = [cost(kind, 1, mqjudge, task, amount, Path(name), bounds) for task in ("check", "coverage")]
+            is_known = None not in costs
+            unknown += not is_known
+            figures = [*(f"{one:,.0f}" for one in costs), f"{costs[1] / max(costs[0], 1e-9):.2f}"] if is_known else ["-"] * 3
+            print(columns.format(kind, *figures, "").rstrip(), flush=True)
+    print(f"{unknown} couldn't be counted")
+    return unknown == 0
 
 
 def quickest(command: list[str], rounds: int, folder: Path, bounds: Bounds) -> Measure:
