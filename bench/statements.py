@@ -728,21 +728,21 @@ def levels_match(filter: list[bytes], name: list[bytes]) -> bool:
     return filter[0] in (b"+", name[0]) and levels_match(filter[1:], name[1:])
 
 
+def standing_from(log: Log, k: int, j: int) -> list[tuple[bytes, int]]:
+    """The standing filters at k of a SUBSCRIBE received at j, with their ceilings."""
+    p = log.received_packet(j, SUBSCRIBE)
+    if p is None:
+        return []
+    later = [m for m in log.connection_positions[log.places[j]] if m > j]
+    at = next((m for m in later if log.sends(m, SUBACK, p.identifier)), None)
+    granted = log.sent_packet(at).codes if at is not None and at < k else []
+    ceilings = [granted[n] if n < len(granted) else options & 3 for n, (_, options) in enumerate(p.filters)]
+    return [(filter, ceiling) for (filter, _), ceiling in zip(p.filters, ceilings, strict=True) if ceiling < 0x80]
+
+
 def standing(log: Log, k: int) -> list[tuple[bytes, int]]:
     """The standing filters at k, with their ceilings."""
-    out = []
-    for j in log.before_in(k):
-        p = log.received_packet(j, SUBSCRIBE)
-        if p is None:
-            continue
-        later = [m for m in log.connection_positions[log.places[j]] if m > j]
-        at = next((m for m in later if log.sends(m, SUBACK, p.identifier)), None)
-        granted = log.sent_packet(at).codes if at is not None and at < k else []
-        for n, (filter, options) in enumerate(p.filters):
-            ceiling = granted[n] if n < len(granted) else options & 3
-            if ceiling < 0x80:
-                out.append((filter, ceiling))
-    return out
+    return [one for j in log.before_in(k) for one in standing_from(log, k, j)]
 
 
 def topic_of(log: Log, k: int) -> bytes | None:

@@ -1,0 +1,490 @@
+#!/usr/bin/env python3
+"""Says of each fault of a log what it conflicts with: its evidence.
+
+That is the position of an earlier event, or none, and at most two numbers. It is a second opinion, and no part of the program: it was
+written from the words of the statements, which are the sentences of the functions here too. Like occasions.py it looks back over the
+whole log for each fault, and keeps no state from one position to the next. Whether there is a fault is reference.py's.
+
+For each log it prints its report, as `mqjudge check` does, and under each fault a line `because POSITION CODE event POSITION numbers N N`:
+`event -` where no event is to blame, and no numbers where there are none. With --words it says in words what the event is, or why
+there is none. With --self-test it checks worked logs (worked_because.py), those of the suite, and laws on these and many others.
+
+usage: bench/because.py [--words] LOG..
+       bench/because.py --self-test [--made 150]
+"""
+import argparse
+import sys
+from collections.abc import Callable, Iterable
+from dataclasses import dataclass
+from pathlib import Path
+
+sys.dont_write_bytecode = True  # the repository stays as it is
+import reference
+from reading import (
+    CONNACK, CONNECT, DISCONNECT, NAMES, PINGREQ, PINGRESP, PUBREC, PUBREL, RELEASE, Recording, SUBACK, SUBSCRIBE, UNSUBACK,
+    UNSUBSCRIBE,
+)
+from sessions import Log, MAXIMUM_PACKET_SIZE, MAXIMUM_QOS, NEW, RECEIVE_MAXIMUM, TOPIC_ALIAS_MAXIMUM
+from statements import (
+    CITATIONS, EXCHANGES, OF_PUBLISHES, closer, ender, first_unanswered, is_brought, is_owed_again, is_release, latest_opener,
+    matches, may_be_discarded, not_ended, open_by, opener, publish_id, resend, standing, standing_from, stretches_used, topic_of,
+    type_of,
+)
+
+# ---- what each fault conflicts with: each answers for a fault at position k of the log
+
+
+@dataclass(frozen=True)
+class Evidence:
+    """Words, in which {0} and {1} are the numbers; a position, or None; the numbers."""
+
+    words: str
+    because: int | None = None
+    numbers: tuple[int, ...] = ()
+
+    def said(self) -> str:
+        return self.words.format(*self.numbers)
+
+
+Reason = Callable[[Log, int], Evidence]
+REASONS: dict[str, Reason] = {}
+
+
+def says(*rules: str) -> Callable[[Reason], Reason]:
+    def kept(reason: Reason) -> Reason:
+        REASONS.update(dict.fromkeys(rules, reason))
+        return reason
+
+    return kept
+
+
+def by_itself(words: str, *rules: str) -> None:
+    """Nothing earlier is to blame for these."""
+    REASONS.update(dict.fromkeys(rules, lambda log, k: Evidence(words)))
+
+
+Positions = Iterable[int]
+Test = Callable[[int], bool]
+
+
+def earliest(positions: Positions, test: Test) -> int | None:
+    return next((j for j in positions if test(j)), None)
+
+
+def latest(positions: list[int], test: Test) -> int | None:
+    return earliest(reversed(positions), test)
+
+
+# -- W, on a packet's bytes: they are at fault by themselves, whatever came before
+
+by_itself("in its own bytes", *(rule for rule in CITATIONS if rule[0] == "W"))
+
+# -- C, on the past of a connection. Of several events that forbid to go on it is the first: from then on it was wrong.
+
+
+def name_at(log: Log, k: int) -> str:
+    """The name of the packet that is there."""
+    return NAMES[type_of(log.event(k).item)]
+
+
+def first_sent(log: Log, k: int, type: int) -> int | None:
+    """The first packet of this type that was sent before k on its connection, or bytes that break a rule and have the type."""
+    return earliest(log.before_on(k), lambda j: type_of(log.sent(j)) == type)
+
+
+def connect_of(log: Log, k: int) -> int | None:
+    """The CONNECT of k's connection."""
+    return log.first_connect(log.places[k])
+
+
+def announcer(log: Log, k: int, identifier: int) -> int | None:
+    """The peer's CONNACK or CONNECT on k's connection, if it came before k and announces this."""
+    c = log.places[k]
+    if not log.announced(identifier, c, k):
+        return None
+    return log.first_connacks[c] if log.role == "client" else log.first_connect(c)
+
+
+# The type that only the other end sends says it all; so do a CONNACK that refuses with Session Present 1, a Subscription Identifier
+# that a client sends, and a Session Expiry Interval that a server sends.
+by_itself("by its type alone", "C01")
+by_itself("by what it has itself", "C09", "C18", "C19")
+# Something is missing before: nothing that is there is to blame.
+by_itself("no CONNECT was sent before", "C02")
+by_itself("no CONNECT was received", "C04")
+by_itself("no CONNACK was sent before", "C05")
+
+
+@says("C03")
+def second_connect(log: Log, k: int) -> Evidence:
+    """The CONNECT with which the client began the connection."""
+    return Evidence("the first CONNECT", first_sent(log, k, CONNECT))
+
+
+@says("C06")
+def second_connack(log: Log, k: int) -> Evidence:
+    """The CONNACK with which the server had answered already."""
+    return Evidence("the first CONNACK", first_sent(log, k, CONNACK))
+
+
+@says("C07")
+def present_at_a_clean_start(log: Log, k: int) -> Evidence:
+    """The CONNECT, which asks for a new session by Clean Start 1."""
+    return Evidence("the CONNECT, with Clean Start 1", connect_of(log, k))
+
+
+@says("C08")
+def present_without_a_session(log: Log, k: int) -> Evidence:
+    """The CONNACK of the last connection that was accepted: its session ended with it. If there was none, no session was begun."""
+    last = log.latest_accepted(log.places[k])
+    if last is None:
+        return Evidence("no session was begun")
+    return Evidence("the CONNACK of the last session, which ended with its connection", log.first_connacks[last])
+
+
+@says("C10")
+def assigns_no_identifier(log: Log, k: int) -> Evidence:
+    """The CONNECT, whose Client Identifier is empty."""
+    return Evidence("the CONNECT, with an empty Client Identifier", connect_of(log, k))
+
+
+@says("C11")
+def goes_on_after_disconnect(log: Log, k: int) -> Evidence:
+    """The DISCONNECT, after which the end may send nothing."""
+    return Evidence("the DISCONNECT", earliest(log.before_on(k), lambda j: log.sent_packet(j, DISCONNECT) is not None))
+
+
+def is_refusal(log: Log, j: int) -> bool:
+    p = log.sent_packet(j, CONNACK)
+    return p is not None and p.code >= 0x80
+
+
+@says("C12")
+def goes_on_after_refusing(log: Log, k: int) -> Evidence:
+    """The CONNACK that refuses, after which the server may send nothing."""
+    return Evidence("the CONNACK that refuses", earliest(log.before_on(k), lambda j: is_refusal(log, j)))
+
+
+@says("C13")
+def goes_on_with_a_wrong_session(log: Log, k: int) -> Evidence:
+    """The CONNACK, which resumes a session that the client hasn't."""
+    return Evidence("the CONNACK, with Session Present 1", log.first_connacks[log.places[k]])
+
+
+@says("C14")
+def too_large(log: Log, k: int) -> Evidence:
+    """The CONNACK or CONNECT in which the peer announced its Maximum Packet Size; the packet's size, and that."""
+    numbers = log.sent_packet(k).size, log.parameter(MAXIMUM_PACKET_SIZE, k)
+    return Evidence("announced there: {0} bytes, {1} allowed", announcer(log, k, MAXIMUM_PACKET_SIZE), numbers)
+
+
+@says("C15")
+def too_high_an_alias(log: Log, k: int) -> Evidence:
+    """That in which the peer announced its Topic Alias Maximum; the alias, and that. Not announced, it is 0."""
+    at, numbers = announcer(log, k, TOPIC_ALIAS_MAXIMUM), (log.sent_packet(k).get(0x23), log.parameter(TOPIC_ALIAS_MAXIMUM, k))
+    return Evidence(f"{announced(at)}: Topic Alias {{0}}, {{1}} allowed", at, numbers)
+
+
+def announced(at: int | None) -> str:
+    return "not announced, so by default" if at is None else "announced there"
+
+
+@says("C16")
+def unset_alias(log: Log, k: int) -> Evidence:
+    """The alias, which wasn't set on this connection: what an earlier one set doesn't count."""
+    return Evidence("Topic Alias {0} wasn't set on this connection", None, (log.sent_packet(k).get(0x23),))
+
+
+@says("C17")
+def too_high_a_qos(log: Log, k: int) -> Evidence:
+    """The CONNACK in which the server announced its Maximum QoS; the PUBLISH's QoS, and that."""
+    numbers = log.sent_packet(k).qos, log.parameter(MAXIMUM_QOS, k)
+    return Evidence("announced there: QoS {0}, {1} allowed", announcer(log, k, MAXIMUM_QOS), numbers)
+
+
+@says("C20")
+def revives_its_session(log: Log, k: int) -> Evidence:
+    """The CONNECT, whose Session Expiry Interval is 0 or absent; and that of the DISCONNECT, in seconds."""
+    return Evidence("the CONNECT, with none or 0: {0} seconds", connect_of(log, k), (log.sent_packet(k).get(0x11),))
+
+
+@says("C21")
+def explains_unasked(log: Log, k: int) -> Evidence:
+    """The CONNECT, which asks for no explanations."""
+    return Evidence("the CONNECT, with Request Problem Information 0", connect_of(log, k))
+
+
+@says("C22")
+def informs_unasked(log: Log, k: int) -> Evidence:
+    """The CONNECT, which doesn't ask for Response Information."""
+    return Evidence("the CONNECT, without Request Response Information 1", connect_of(log, k))
+
+
+@says("C23")
+def stays_open(log: Log, k: int) -> Evidence:
+    """The DISCONNECT, or a server's CONNACK that refuses, after which the end had to close the connection."""
+    may_refuse = log.role == "server"
+    at = earliest(log.before_on(k), lambda j: log.sent_packet(j, DISCONNECT) is not None or (may_refuse and is_refusal(log, j)))
+    return Evidence(f"the {name_at(log, at)}, after which it had to close", at)
+
+
+# -- S, on packet identifiers
+
+
+def new_session(log: Log, k: int, test: Test) -> int | None:
+    """The CONNACK that began k's session, if it comes before k, and something that passes the test came before the session."""
+    first = log.sessions[k]
+    if first is None or log.fates[first] != NEW or log.first_connacks[first] >= k:
+        return None
+    before = range(1, log.connection_positions[first][0])
+    return log.first_connacks[first] if earliest(before, test) is not None else None
+
+
+@says("S01")
+def takes_a_used_identifier(log: Log, k: int) -> Evidence:
+    """What holds the identifier: the PUBLISH that opened it, or a SUBSCRIBE or UNSUBSCRIBE that waits for its answer; of these the last."""
+    i, before = log.sent_packet(k).identifier, log.before_on(k)
+
+    def waits(j: int, asked: int, answered: int) -> bool:
+        return log.sends(j, asked, i) and not any(log.receives(m, answered, i) for m in before if m > j)
+
+    holders = [j for j in before if waits(j, SUBSCRIBE, SUBACK) or waits(j, UNSUBSCRIBE, UNSUBACK)]
+    by = open_by(log, k, i)
+    if by is not None and not may_be_discarded(log, by, k, i):
+        holders.append(by)
+    return Evidence(f"the {name_at(log, max(holders))} that holds the identifier", max(holders))
+
+
+@says("S02")
+def resends_what_is_not_open(log: Log, k: int) -> Evidence:
+    """What acknowledged it in this session. If it wasn't sent in this session, but in an earlier one, the CONNACK that began this one.
+    Else it was never sent."""
+    i = resend(log, k)
+    if latest_opener(log, k, i) is not None:
+        at = latest(log.before_in(k), lambda j: closer(log, j) == i)
+        return Evidence(f"the {name_at(log, at)} that acknowledged it", at)
+    at = new_session(log, k, lambda j: publish_id(log, j) == i)
+    return Evidence("never sent in this session" if at is None else "the CONNACK that began a new session", at)
+
+
+@says("S03")
+def resends_on_one_connection(log: Log, k: int) -> Evidence:
+    """The PUBLISH that sent it before on this connection, the last one if there are several."""
+    i = resend(log, k)
+    return Evidence("the PUBLISH before, on this connection", latest(log.before_on(k), lambda j: publish_id(log, j) == i))
+
+
+@says("S04")
+def resends_after_pubrel(log: Log, k: int) -> Evidence:
+    """The last PUBREL that was sent for it: from then on only that may be sent again."""
+    i = resend(log, k)
+    return Evidence("the PUBREL", latest(log.before_in(k), lambda j: log.sends(j, PUBREL, i)))
+
+
+@says("S05")
+def resends_out_of_order(log: Log, k: int) -> Evidence:
+    """The first PUBLISH that was sent again too early, before this one; where that was first sent, and where this one was."""
+    own = open_by(log, k, resend(log, k))
+
+    def first_sent_at(j: int) -> int:
+        other = resend(log, j)
+        return 0 if other is None else open_by(log, j, other) or 0
+
+    at = earliest(log.before_on(k), lambda j: first_sent_at(j) > own)
+    words = "the PUBLISH that came too early, first sent as event {0}, and this one as event {1}"
+    return Evidence(words, at, (first_sent_at(at), own))
+
+
+@says("S06")
+def does_not_send_again(log: Log, k: int) -> Evidence:
+    """The CONNACK that resumed the session, on the connection whose REST shows that the PUBLISH wasn't sent again."""
+    i = opener(log, k)
+    rests = (t for t in range(k + 1, log.last + 1) if log.is_rest(t))
+    t = earliest(rests, lambda t: is_owed_again(log, k, i, t))
+    return Evidence("the CONNACK that resumed the session", log.first_connacks[log.places[t]])
+
+
+@says("S07")
+def passes_the_quota(log: Log, k: int) -> Evidence:
+    """That in which the peer announced its Receive Maximum; how many PUBLISHes are in flight with this one, and that. Not announced, it
+    is 65,535."""
+    at, numbers = announcer(log, k, RECEIVE_MAXIMUM), (stretches_used(log, k), log.parameter(RECEIVE_MAXIMUM, k))
+    return Evidence(f"{announced(at)}: {{0}} in flight, {{1}} allowed", at, numbers)
+
+
+# -- E, on exchanges
+
+
+def is_refused(log: Log, j: int, i: int) -> bool:
+    """A PUBREC of 0x80 or more is received: it asks for no PUBREL, but ends the exchange."""
+    return log.receives(j, PUBREC, i) and log.received_packet(j).code >= 0x80
+
+
+def answered_unasked(exchange: str) -> Reason:
+    cause, answer = EXCHANGES[exchange]
+
+    def reason(log: Log, k: int) -> Evidence:
+        """What answered it already: the last answer on this connection, if it was asked for in this session. For a PUBREL also a PUBREC
+        that asked for none, if that came later. If it was asked for in an earlier session, the CONNACK that began this one. Else it was
+        never asked for."""
+        i, before = answer(log, k), log.before_in(k)
+        was_asked = earliest(before, lambda j: cause(log, j) == i) is not None
+        answered = latest(log.before_on(k), lambda j: answer(log, j) == i) if was_asked else None
+        refused = latest(before, lambda j: is_refused(log, j, i)) if exchange == "E3" else None
+        if refused is not None and refused > (answered or 0):
+            return Evidence("the PUBREC of 0x80 or more, which asks for no answer", refused)
+        if answered is not None:
+            return Evidence(f"the {name_at(log, answered)} before", answered)
+        at = new_session(log, k, lambda j: cause(log, j) == i)
+        return Evidence("never asked for in this session" if at is None else "the CONNACK that began a new session", at)
+
+    return reason
+
+
+def unanswered(log: Log, k: int) -> Evidence:
+    """The REST, at which the answer was still missing: what isn't sent by then is never sent."""
+    return Evidence("the REST, with no answer before it", earliest(log.connection_positions[log.places[k]], lambda t: t > k and log.is_binding(t)))
+
+
+def answered_out_of_order(exchange: str) -> Reason:
+    cause, answer = EXCHANGES[exchange]
+
+    def reason(log: Log, k: int) -> Evidence:
+        """What came first of all that waits for an answer: it had to be answered before."""
+        others = {cause(log, j) for j in log.before_on(k)} - {None, answer(log, k)}
+        firsts = [first_unanswered(log, exchange, k, other) for other in others]
+        at = min(first for first in firsts if first is not None)
+        return Evidence(f"the {name_at(log, at)} that came first, and waits for its answer", at)
+
+    return reason
+
+
+for exchange in EXCHANGES:
+    REASONS[exchange + "A"] = answered_unasked(exchange)
+    REASONS[exchange + "R"] = unanswered
+    if exchange in OF_PUBLISHES:
+        REASONS[exchange + "O"] = answered_out_of_order(exchange)
+
+
+@says("E7R")
+def leaves_pings_unanswered(log: Log, k: int) -> Evidence:
+    """The last PINGREQ; how many came on the connection, and how many PINGRESPs were sent."""
+    before = log.before_on(k)
+    asked = [j for j in before if log.received_packet(j, PINGREQ) is not None]
+    answered = [j for j in before if log.sent_packet(j, PINGRESP) is not None]
+    return Evidence("the last PINGREQ: {0} asked, {1} answered", asked[-1], (len(asked), len(answered)))
+
+
+# -- L, on releases
+
+
+@says("L1")
+def releases_nothing(log: Log, k: int) -> Evidence:
+    """What ended the exchange of the message in this session: a PUBCOMP, or a PUBREC that refuses. If it wasn't received in this session,
+    but in an earlier one, the CONNACK that began this one. Else it was never received."""
+    i, before = log.event(k).released, log.before_in(k)
+    if earliest(before, lambda j: is_brought(log, j, i)) is not None:
+        at = latest(before, lambda j: ender(log, j) == i)
+        return Evidence(f"the {name_at(log, at)} that ended its exchange", at)
+    at = new_session(log, k, lambda j: is_brought(log, j, i))
+    return Evidence("never received in this session" if at is None else "the CONNACK that began a new session", at)
+
+
+@says("L2")
+def releases_twice(log: Log, k: int) -> Evidence:
+    """The last RELEASE of the message before this one."""
+    return Evidence("the RELEASE before", latest(log.before_in(k), lambda j: is_release(log, j, log.event(k).released)))
+
+
+@says("L3")
+def completes_unreleased(log: Log, k: int) -> Evidence:
+    """The PUBLISH that brought the message, and for which there was no RELEASE."""
+    i = log.sent_packet(k).identifier
+    return Evidence("the PUBLISH that brought it, and wasn't released", earliest(not_ended(log, k, i), lambda j: is_brought(log, j, i)))
+
+
+# -- B, on subscriptions
+
+
+@says("B01")
+def sends_what_nobody_asked_for(log: Log, k: int) -> Evidence:
+    """How many filters stand in this session, of which none matches. One that was asked for twice counts once."""
+    return Evidence("{0} filters stand, and none matches", None, (len({filter for filter, _ in standing(log, k)}),))
+
+
+@says("B02")
+def sends_above_the_granted_qos(log: Log, k: int) -> Evidence:
+    """The last SUBSCRIBE of which a filter stands that matches; the PUBLISH's QoS, and the greatest one that was granted for any filter
+    that matches."""
+    topic = topic_of(log, k)
+
+    def ceilings(filters: list[tuple[bytes, int]]) -> list[int]:
+        return [ceiling for filter, ceiling in filters if matches(filter, topic)]
+
+    at = latest(log.before_in(k), lambda j: ceilings(standing_from(log, k, j)) != [])
+    numbers = log.sent_packet(k).qos, max(ceilings(standing(log, k)))
+    return Evidence("the last SUBSCRIBE that matches: QoS {0}, at most {1} was granted", at, numbers)
+
+
+def counts_wrongly(exchange: str) -> Reason:
+    def reason(log: Log, k: int) -> Evidence:
+        """The request that is answered; how many filters that has, and how many Reason Codes the answer has."""
+        p = log.sent_packet(k)
+        at = first_unanswered(log, exchange, k, p.identifier)
+        numbers = len(log.received_packet(at).filters), len(p.codes)
+        return Evidence(f"the {name_at(log, at)}: {{0}} filters, {{1}} Reason Codes", at, numbers)
+
+    return reason
+
+
+REASONS["B03"] = counts_wrongly("E5")
+REASONS["B04"] = counts_wrongly("E6")
+assert set(REASONS) == set(CITATIONS)
+
+# ---- what is said
+
+
+def evidence(log: Log, k: int, rule: str) -> Evidence:
+    """Of a fault."""
+    return REASONS[rule](log, k)
+
+
+def line(k: int, rule: str, found: Evidence) -> str:
+    numbers = "".join(f" {number}" for number in found.numbers)
+    return f"because {k} {rule} event {found.because or '-'}{' numbers' + numbers if numbers else ''}"
+
+
+def lines(recording: Recording, with_words: bool = False) -> list[str]:
+    """The report on a log, with a line under each fault."""
+    log, out = Log(recording.events, recording.role, recording.releases), []
+    for said in reference.reported(recording).splitlines():
+        out.append(said)
+        if said.startswith("fault "):
+            _, at, rule, *_ = said.split()
+            found = evidence(log, int(at), rule)
+            out.append(line(int(at), rule, found) + (f" ({found.said()})" if with_words else ""))
+    return out
+
+
+def main() -> int:
+    arguments = argparse.ArgumentParser(description="Says of each fault of logs what it conflicts with.")
+    arguments.add_argument("logs", nargs="*", type=Path, metavar="LOG")
+    arguments.add_argument("--words", action="store_true", help="say it in words too")
+    arguments.add_argument("--self-test", action="store_true", help="check worked logs, the suite and laws")
+    arguments.add_argument("--made", type=int, default=150, help="how many logs of each kind it makes")
+    given = arguments.parse_args()
+    if given.self_test == bool(given.logs):
+        arguments.error("name logs, or give --self-test")
+    if given.self_test:
+        import worked_because
+
+        return worked_because.self_test(given.made)
+    for path in given.logs:
+        if len(given.logs) > 1:
+            print(f"{path}:")
+        print(*lines(Recording(path.read_bytes()), given.words), sep="\n")
+    return 0
+
+
+if __name__ == "__main__":
+    sys.exit(main())
