@@ -27,7 +27,7 @@ from reading import (
 from sessions import Log, MAXIMUM_PACKET_SIZE, MAXIMUM_QOS, NEW, RECEIVE_MAXIMUM, TOPIC_ALIAS_MAXIMUM
 from statements import (
     CITATIONS, EXCHANGES, OF_PUBLISHES, closer, ender, first_unanswered, is_brought, is_owed_again, is_release, latest_opener,
-    matches, may_be_discarded, not_ended, open_by, opener, publish_id, resend, standing, standing_from, stretches_used, topic_of,
+    matches, not_ended, open_by, opener, publish_id, resend, standing, standing_from, stretches_used, topic_of,
     type_of,
 )
 
@@ -77,7 +77,7 @@ def latest(positions: list[int], test: Test) -> int | None:
 
 # -- W, on a packet's bytes: they are at fault by themselves, whatever came before
 
-by_itself("in its own bytes", *(rule for rule in CITATIONS if rule[0] == "W"))
+by_itself("its own bytes", *(rule for rule in CITATIONS if rule[0] == "W"))
 
 # -- C, on the past of a connection. Of several events that forbid to go on it is the first: from then on it was wrong.
 
@@ -107,8 +107,8 @@ def announcer(log: Log, k: int, identifier: int) -> int | None:
 
 # The type that only the other end sends says it all; so do a CONNACK that refuses with Session Present 1, a Subscription Identifier
 # that a client sends, and a Session Expiry Interval that a server sends.
-by_itself("by its type alone", "C01")
-by_itself("by what it has itself", "C09", "C18", "C19")
+by_itself("its own type", "C01")
+by_itself("its own fields", "C09", "C18", "C19")
 # Something is missing before: nothing that is there is to blame.
 by_itself("no CONNECT was sent before", "C02")
 by_itself("no CONNECT was received", "C04")
@@ -248,10 +248,9 @@ def takes_a_used_identifier(log: Log, k: int) -> Evidence:
     def waits(j: int, asked: int, answered: int) -> bool:
         return log.sends(j, asked, i) and not any(log.receives(m, answered, i) for m in before if m > j)
 
+    # A PUBLISH that may have been discarded is on an earlier connection: where it holds nothing, what waits here comes after it.
     holders = [j for j in before if waits(j, SUBSCRIBE, SUBACK) or waits(j, UNSUBSCRIBE, UNSUBACK)]
-    by = open_by(log, k, i)
-    if by is not None and not may_be_discarded(log, by, k, i):
-        holders.append(by)
+    holders.append(open_by(log, k, i) or 0)
     return Evidence(f"the {name_at(log, max(holders))} that holds the identifier", max(holders))
 
 
