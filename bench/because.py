@@ -24,7 +24,7 @@ from reading import (
     CONNACK, CONNECT, DISCONNECT, NAMES, PINGREQ, PINGRESP, PUBREC, PUBREL, RELEASE, Recording, SUBACK, SUBSCRIBE, UNSUBACK,
     UNSUBSCRIBE,
 )
-from sessions import Log, MAXIMUM_PACKET_SIZE, MAXIMUM_QOS, NEW, RECEIVE_MAXIMUM, TOPIC_ALIAS_MAXIMUM
+from sessions import Log, MAXIMUM_PACKET_SIZE, MAXIMUM_QOS, RECEIVE_MAXIMUM, TOPIC_ALIAS_MAXIMUM
 from statements import (
     CITATIONS, EXCHANGES, OF_PUBLISHES, closer, ender, first_unanswered, is_brought, is_owed_again, is_release, latest_opener,
     matches, not_ended, open_by, opener, publish_id, resend, standing, standing_from, stretches_used, topic_of,
@@ -232,12 +232,12 @@ def stays_open(log: Log, k: int) -> Evidence:
 
 
 def new_session(log: Log, k: int, test: Test) -> int | None:
-    """The CONNACK that began k's session, if it comes before k, and something that passes the test came before the session."""
-    first = log.sessions[k]
-    if first is None or log.fates[first] != NEW or log.first_connacks[first] >= k:
+    """The CONNACK that began k's session, if it comes before k, and something in an earlier session passes the test."""
+    session = log.sessions[k]
+    if session is None or log.first_connacks[session] >= k:
         return None
-    before = range(1, log.connection_positions[first][0])
-    return log.first_connacks[first] if earliest(before, test) is not None else None
+    before = (j for j in range(1, k) if log.sessions[j] not in (None, session))
+    return log.first_connacks[session] if earliest(before, test) is not None else None
 
 
 @says("S01")
@@ -262,7 +262,7 @@ def resends_what_is_not_open(log: Log, k: int) -> Evidence:
     if latest_opener(log, k, i) is not None:
         at = latest(log.before_in(k), lambda j: closer(log, j) == i)
         return Evidence(f"the {name_at(log, at)} that acknowledged it", at)
-    at = new_session(log, k, lambda j: publish_id(log, j) == i)
+    at = new_session(log, k, lambda j: opener(log, j) == i)
     return Evidence("never sent in this session" if at is None else "the CONNACK that began a new session", at)
 
 
