@@ -21,14 +21,12 @@ from pathlib import Path
 sys.dont_write_bytecode = True  # the repository stays as it is
 import reference
 from reading import (
-    CONNACK, CONNECT, DISCONNECT, NAMES, PINGREQ, PINGRESP, PUBREC, PUBREL, RELEASE, Recording, SUBACK, SUBSCRIBE, UNSUBACK,
-    UNSUBSCRIBE,
+    CONNACK, CONNECT, DISCONNECT, NAMES, PINGREQ, PINGRESP, PUBREC, PUBREL, Recording, SUBACK, SUBSCRIBE, UNSUBACK, UNSUBSCRIBE,
 )
 from sessions import Log, MAXIMUM_PACKET_SIZE, MAXIMUM_QOS, RECEIVE_MAXIMUM, TOPIC_ALIAS_MAXIMUM
 from statements import (
     CITATIONS, EXCHANGES, OF_PUBLISHES, closer, ender, first_unanswered, is_brought, is_owed_again, is_release, latest_opener,
-    matches, not_ended, open_by, opener, publish_id, resend, standing, standing_from, stretches_used, topic_of,
-    type_of,
+    matches, not_ended, open_by, opener, publish_id, resend, standing, standing_from, stretches_used, topic_of, type_of,
 )
 
 # ---- what each fault conflicts with: each answers for a fault at position k of the log
@@ -105,11 +103,11 @@ def announcer(log: Log, k: int, identifier: int) -> int | None:
     return log.first_connacks[c] if log.role == "client" else log.first_connect(c)
 
 
-# The type that only the other end sends says it all; so do a CONNACK that refuses with Session Present 1, a Subscription Identifier
-# that a client sends, and a Session Expiry Interval that a server sends.
+# Only the other end sends this type.
 by_itself("its own type", "C01")
+# A CONNACK that refuses has Session Present 1; a client's PUBLISH a Subscription Identifier; a server's DISCONNECT an interval.
 by_itself("its own fields", "C09", "C18", "C19")
-# Something is missing before: nothing that is there is to blame.
+# What should have come first didn't come: the client's CONNECT; the one that a CONNACK answers; the server's CONNACK.
 by_itself("no CONNECT was sent before", "C02")
 by_itself("no CONNECT was received", "C04")
 by_itself("no CONNACK was sent before", "C05")
@@ -139,7 +137,7 @@ def present_without_a_session(log: Log, k: int) -> Evidence:
     last = log.latest_accepted(log.places[k])
     if last is None:
         return Evidence("no session was begun")
-    return Evidence("the CONNACK of the last session, which ended with its connection", log.first_connacks[last])
+    return Evidence("the last CONNACK that accepted, whose session has ended", log.first_connacks[last])
 
 
 @says("C10")

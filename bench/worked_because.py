@@ -145,6 +145,7 @@ S02 | {KEPT} >PUBLISH2:1 <PUBREC:1 >PUBREL:1 <PUBCOMP:1 {AGAIN} >RESEND2:1 | 12 
 S02 | {KEPT} <PUBACK:1 >RESEND1:1 | 5 event -
 S02 | {KEPT} >PUBLISH1:1 {ANEW} >RESEND1:1 | 9 event 8
 S02 | {KEPT} >PUBLISH1:1 {ANEW} >RESEND1:2 | 9 event -
+S02 | {KEPT} >RESEND1:1 {ANEW} >RESEND1:1 | 4 event -; 9 event -
 S02 | {KEPT} >PUBLISH1:1 {ANEW} >RESEND1:1 >RESEND1:1 {ANEW} >RESEND1:1 | 9 event 8; 10 event 8; 15 event 14
 S02 | {KEPT} >PUBLISH1:1 {ANEW} >PINGREQ {AGAIN} >RESEND1:1 | 14 event 8
 S02 | {KEPT} >PUBLISH1:1 CLOSE OPEN >CONNECT-KEPT >RESEND1:1 <CONNACK | 8 event -
@@ -276,13 +277,12 @@ class Laws:
             self.faults += 1
             found, shown = evidence(log, k, rule), decided(log, k, rule)
             self.words.add((rule, found.words))
-            wrong = [*self.wrong_event(log, k, rule, shown), *self.wrong_numbers(rule, found.numbers)]
+            wrong = [*self.wrong_event(log, k, rule, found.because, shown), *self.wrong_numbers(rule, found.numbers)]
             lengths = {shown, *(draw.randint(shown, log.last) for _ in range(LENGTHS))}
             wrong += [f"is {one} in the first {n} events" for n in lengths if (one := evidence(beginning(log, n), k, rule)) != found]
             yield from (f"{line(k, rule, found)}: it {one}" for one in wrong)
 
-    def wrong_event(self, log: Log, k: int, rule: str, shown: int) -> Iterator[str]:
-        at = evidence(log, k, rule).because
+    def wrong_event(self, log: Log, k: int, rule: str, at: int | None, shown: int) -> Iterator[str]:
         if (at is None and rule in ALWAYS) or (at is not None and rule in NEVER):
             yield "has an event, or none"
         if at is None:
@@ -291,6 +291,8 @@ class Laws:
             yield f"isn't before {k}, or after {shown}, where the fault is decided"
         if rule in HERE and log.places[at] != log.places[k]:
             yield "is on another connection"
+        if rule[0] in "SELB" and log.sessions[at] != log.sessions[k]:
+            yield "is in another session"
         if not is_of_kind(log, k, at, rule):
             yield "is an event of another kind, or under another identifier"
 
