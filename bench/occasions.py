@@ -585,22 +585,9 @@ def with_lines(report: str, tested: list[str]) -> str:
     return "".join(f"{line}\n" for line in [*faults, *tested, last])
 
 
-# The program doesn't count the places of these yet: which those of S06 are turns out on later connections.
-NOT_COUNTED = {"S06"}
-
-
-def as_counted(report: str) -> str:
-    """A report with what was tested, as the program prints it."""
-    rows = [line for line in report.splitlines() if line.startswith("tested ")]
-    kept = [row for row in rows if row.split()[1] not in NOT_COUNTED]
-    for row in set(rows) - set(kept):
-        report = report.replace(f"{row}\n", "")
-    return report.replace(sum_of(rows), sum_of(kept))
-
-
 def covering(report: str, tested: list[str]) -> str:
     """A report as `check --coverage` is to print it, given what was tested."""
-    return as_counted(with_lines(report, tested))
+    return with_lines(report, tested)
 
 
 def reported(recording: Recording) -> str:

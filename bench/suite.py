@@ -92,8 +92,7 @@ With what was tested, the last line comes after a line `tested <code> <citation>
 statement on the tested end, in the order of reports: at so many events it was put to the test, kept
 or broken. W15 to W19 are about packets that only a client sends, and W20 about those of a server:
 for the other end they are listed only if they have a place. Then comes
-`covered <m> of <n> statements`: so many of the listed ones have a place. (`mqjudge` leaves S06 out,
-whose places it doesn't count yet.)
+`covered <m> of <n> statements`: so many of the listed ones have a place.
 
 ## The logs
 
@@ -254,7 +253,6 @@ def wrong_answers(program: Path) -> Iterator[str]:
             for log, words, kind in ((log, *form) for log in (path, second) for form in FORMS):
                 ran = subprocess.run([program, "check", *words, log], stdin=subprocess.DEVNULL, capture_output=True, check=False)
                 said = path.with_suffix(f".{kind}").read_text()
-                said = occasions.as_counted(said) if kind == "places" else said
                 wanted = (STATUSES[row.report.splitlines()[-1].split()[0]], said.encode(), b"")
                 if (ran.returncode, ran.stdout, ran.stderr) != wanted:
                     name = path.name if log is path else f"{path.name} in version 2"

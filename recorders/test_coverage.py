@@ -363,8 +363,7 @@ class Judged(WithStandIn):
     def test_an_example(self) -> None:
         log = TOP / "examples/pass.log"
         _, printed, _ = self.judged(log, "--coverage", program=judge_program())
-        # (It is 53 once the places of S06 are counted.)
-        self.assertIn("tested: client 15 of 52 statements; never: W08 W10 ", printed)
+        self.assertIn("tested: client 15 of 53 statements; never: W08 W10 ", printed)
 
     def test_each_line_of_json_has_what_the_program_says(self) -> None:
         log = TOP / "examples/sessions/server-window.log"
