@@ -4,6 +4,7 @@ use Rattle.std.specs.Prelude.{ℕ, ◌%◌, ◌==◌, nat_le, Bool, ◌&&◌, no
 use Rattle.std.specs.Option.{option_and_then, option_or}
 use Rattle.std.specs.Str.{bytes_eq}
 use Rattle.std.specs.List.{list_any}
+pub use Rattle.mq_topic.specs.Ceilings.{Standing}
 use Rattle.mq_topic.specs.Matching.{matches}
 use Rattle.mq_rules.specs.declared.role.Role.{Role}
 use Rattle.mq_rules.specs.declared.fate.Fate.{Fate}
@@ -19,11 +20,6 @@ use Rattle.mq_rules.specs.Identifiers.{session_before}
 use Rattle.mq_rules.specs.Exchanges.{subscribe_suback, unsubscribe_unsuback, first_unanswered}
 
 -- ---- standing filters
-
--- A filter, with the greatest QoS at which a server may send for it.
-pub record Standing : Type 0 where
-  pub filter : List ℕ
-  pub ceiling : ℕ
 
 -- the Maximum QoS that a filter's options ask for (MQTT 5.0, section 3.8.3.1)
 abbrev pub requested : NotedFilter → ℕ

@@ -1,3 +1,4 @@
 pub mod Levels
 pub mod Matching
 pub mod WorkedMatches
+pub mod Ceilings
