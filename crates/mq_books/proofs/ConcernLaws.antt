@@ -30,6 +30,7 @@ use Rattle.mq_rules.specs.FaultKeys.{FaultMap}
 use Rattle.mq_rules.specs.Under.{IsUnder, fate_before, turns_with}
 use Rattle.mq_rules.specs.Growing.{Gains}
 use Rattle.mq_rules.proofs.Exports.{and_false, gains_either, option_or-none, or_false}
+use Rattle.mq_filters.specs.Standings.{allows}
 use Rattle.mq_books.specs.declared.ordering.Debt.{Debt}
 use Rattle.mq_books.specs.declared.quota.Quota.{Quota}
 use Rattle.mq_books.specs.declared.pings.Pings.{Pings}
@@ -43,7 +44,7 @@ use Rattle.mq_books.specs.Pingings.{ends_by, counted, unanswered, is_server, IsP
 use Rattle.mq_books.specs.Quotas.{announced, may_count, flown, exceeds, IsQuota}
 use Rattle.mq_books.specs.Releasing as releasing
 use Rattle.mq_books.specs.Releasing.{IsReleasing, is_inside, starts_over, kept_next, lasting}
-use Rattle.mq_books.specs.Standings.{Waits, IsStanding, allows, weighed, asked, is_answered, goes_on, grants_some, judged_topic, delivers_so, is_unasked as unasked, is_above}
+use Rattle.mq_books.specs.Standings.{Waits, IsStanding, weighed, asked, is_answered, goes_on, grants_some, judged_topic, delivers_so, is_unasked as unasked, is_above}
 use Rattle.mq_books.specs.Knowing.{excused, is_placed}
 use Rattle.mq_books.proofs.AskedLaws.{asked-next, asked-gains}
 use Rattle.mq_books.proofs.CountLaws.{counted-next, counted-gains}

@@ -1,25 +1,25 @@
 -- What was found for topics, and what it says of a delivery.
-use Rattle.std.proofs.Common.{◌≡◌, ℕ, nat_le, arith, Bool, true, false, cond, if◌then◌else◌, ◌&&◌, ◌||◌, not, List, [], ◌∷◌, ◌++◌, length, Option, Some, None, append-nil, refl, ap, sym, ◌∙◌, subst}
+use Rattle.std.proofs.Common.{◌≡◌, ℕ, nat_le, arith, Bool, true, false, cond, if◌then◌else◌, ◌&&◌, ◌||◌, not, List, [], ◌∷◌, Option, Some, None, refl, ap, sym, ◌∙◌, subst}
 use Rattle.std.specs.Prelude.{is_some, is_none}
 use Rattle.std.specs.declared.string.String.{String}
 use Rattle.std.specs.String.{string_bytes, string_eq}
 use Rattle.std.specs.Str.{bytes_eq}
-use Rattle.std.specs.List.{list_any, list_all}
+use Rattle.std.specs.List.{list_any}
 use Rattle.std.specs.Map.{lookup}
 use Rattle.std.proofs.lemmas.Slice.Eq.{bytes_eq-Decides}
 use Rattle.std.proofs.lemmas.Bool.Decides.{nat_tests}
 use Rattle.indexmap.specs.IndexMap.{insert_entry}
 use Rattle.mq_packet.specs.declared.packet.Qos.{Qos}
-use Rattle.mq_topic.specs.Levels.{is_name}
 use Rattle.mq_topic.specs.Matching.{matches}
 use Rattle.mq_rules.specs.Words.{is_some_and, only}
 use Rattle.mq_rules.specs.Notes.{qos_number}
 use Rattle.mq_rules.specs.Subscriptions.{Standing}
-use Rattle.mq_books.specs.Standings.{Waits, standings, AllFilters, any_kept, is_unasked, is_above, allows_topic, Remembers}
+use Rattle.mq_filters.specs.Standings.{has_ceiling}
+use Rattle.mq_books.specs.Standings.{Waits, any_kept, is_unasked, is_above, allows_topic, Remembers}
 
 -- it allows just the QoS that is allowed for the topic
 abbrev pub IsFound : List Standing → List Waits → List ℕ → Option ℕ → Type 0
-IsFound settled waiting topic o = (qos : ℕ) → is_some_and (nat_le qos) o ≡ allows_topic settled waiting topic qos
+IsFound settled waiting topic o = (qos : ℕ) → has_ceiling (nat_le qos) o ≡ allows_topic settled waiting topic qos
 
 module _ {Y : Type 0} where
   pub remembered : (settled : List Standing) (waiting : List Waits) (topic : List ℕ) (v : Option ℕ) (es : List (String Y × Option ℕ)) → lookup (λ k. bytes_eq topic (string_bytes k)) es ≡ Some v → Remembers settled waiting es → IsFound settled waiting topic v
@@ -40,15 +40,6 @@ module _ {Y : Type 0} where
       go : (b : Bool) → string_eq k e.0 ≡ b → Remembers settled waiting (insert_entry string_eq es k v) → Remembers settled waiting (if b then (e.0, v) ∷ es else e ∷ insert_entry string_eq es k v)
       go true n rest = (subst (λ (t : List ℕ). IsFound settled waiting t v) ((bytes_eq-Decides (string_bytes k) (string_bytes e.0)).0 n) found, all.1)
       go false n rest = (all.0, rest)
-
-  -- filters none of which has a wildcard
-  pub all-names : (literal : List (String Y × ℕ)) → AllFilters is_name literal → list_all (λ s. is_name s.filter) (standings literal) ≡ true
-  all-names [] h = refl
-  all-names (e ∷ es) h = ap (λ b. b && list_all (λ s. is_name s.filter) (standings es)) h.0 ∙ all-names es h.1
-
-  pub all-literal : (literal wild : List (String Y × ℕ)) → length wild ≡ 0 → AllFilters is_name literal → list_all (λ s. is_name s.filter) (standings literal ++ standings wild) ≡ true
-  all-literal literal [] h named = ap (list_all (λ s. is_name s.filter)) (append-nil (standings literal)) ∙ all-names literal named
-  all-literal literal (e ∷ es) h named = absurd (omega (arith, h))
 
 -- ---- what a delivery breaks
 
@@ -77,7 +68,7 @@ found-named settled waiting topic o found =
     ∙ ap (λ b. b || list_any (λ w. list_any (λ s. matches s.filter topic && nat_le 0 s.ceiling) w.filters) waiting) (each-allows topic settled)
     ∙ ap (λ b. list_any (λ s. matches s.filter topic) settled || b) (each-waits topic waiting)
   where
-    least : (o : Option ℕ) → is_some o ≡ is_some_and (nat_le 0) o
+    least : (o : Option ℕ) → is_some o ≡ has_ceiling (nat_le 0) o
     least None = refl
     least (Some c) = let l : nat_le 0 c ≡ true = grind (arith, nat_tests) in sym l
 
@@ -88,9 +79,9 @@ found-unasked settled waiting topic o found = turned o ∙ ap not (found-named s
     turned None = refl
     turned (Some c) = refl
 
-pub found-above : (settled : List Standing) (waiting : List Waits) (qos : Qos) (topic : List ℕ) (o : Option ℕ) → IsFound settled waiting topic o → (is_some o && not (is_some_and (nat_le (qos_number qos)) o)) ≡ is_above settled waiting qos topic
+pub found-above : (settled : List Standing) (waiting : List Waits) (qos : Qos) (topic : List ℕ) (o : Option ℕ) → IsFound settled waiting topic o → (is_some o && not (has_ceiling (nat_le (qos_number qos)) o)) ≡ is_above settled waiting qos topic
 found-above settled waiting qos topic o found =
-    ap (λ b. b && not (is_some_and (nat_le (qos_number qos)) o)) (found-named settled waiting topic o found)
+    ap (λ b. b && not (has_ceiling (nat_le (qos_number qos)) o)) (found-named settled waiting topic o found)
     ∙ ap (λ b. any_kept (λ s. matches s.filter topic) settled waiting && not b) (found (qos_number qos))
 
 -- in three parts

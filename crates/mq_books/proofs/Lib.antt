@@ -41,12 +41,8 @@ pub mod MovingLaws
 pub mod SelectingLaws
 pub mod SizeLaws
 pub mod QueueSizeLaws
-pub mod LiteralLaws
-pub mod NearLaws
-pub mod PatternLaws
 pub mod FilterLaws
 pub mod AwaitedLaws
-pub mod StandLaws
 pub mod StandingSizeLaws
 pub mod AskingSizeLaws
 pub mod BurdenLaws

@@ -19,7 +19,8 @@ use Rattle.mq_rules.specs.Connections.{begun, number, is_connected, of_connectio
 use Rattle.mq_rules.specs.Subscriptions.{Standing, granted, codes_under, standing_from, standing_of, asks_to_share, is_shared, topic_set, last_set}
 use Rattle.mq_rules.proofs.Exports.{among-within, and_false, begun-least, begun-open, begun-same, has_item, none-first_found, on_open-fold, option_or-none, or_false, session-members, those-among}
 use Rattle.mq_rules.specs.Under.{fate_before}
-use Rattle.mq_books.specs.Standings.{allows, Waits, asked, total, weighed, sum_next, is_on_open, codes_in, waits_by, standing_by, settled_by, waiting_by, settled_from, waiting_from, with_codes, goes_on, is_answered, grants_some, settled_next, waiting_next, sharing_next, topic_next, IsStanding, any_kept}
+use Rattle.mq_filters.specs.Standings.{allows}
+use Rattle.mq_books.specs.Standings.{Waits, asked, total, weighed, sum_next, is_on_open, codes_in, waits_by, standing_by, settled_by, waiting_by, settled_from, waiting_from, with_codes, goes_on, is_answered, grants_some, settled_next, waiting_next, sharing_next, topic_next, IsStanding, any_kept}
 
 -- ---- one SUBSCRIBE
 

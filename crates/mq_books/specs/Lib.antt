@@ -22,7 +22,6 @@ pub mod Grouping
 pub mod Requesting
 pub mod Concerns
 pub mod Selecting
-pub mod Patterning
 pub mod Burden
 pub mod Weights
 pub mod Tried

@@ -1,13 +1,11 @@
 -- What the book of deliveries keeps: filters that stand, SUBSCRIBEs that wait for their SUBACK, topics by their Topic Alias.
-use Rattle.std.specs.Prelude.{ℕ, ◌≡◌, ◌+◌, ◌==◌, nat_le, Bool, true, false, ◌&&◌, ◌||◌, not, cond, List, [], ◌∷◌, ◌++◌, length, Option, Some, None, is_none, is_some, unwrap_or, option_map}
+use Rattle.std.specs.Prelude.{ℕ, ◌≡◌, ◌+◌, ◌==◌, nat_le, Bool, false, ◌&&◌, ◌||◌, not, cond, List, [], ◌∷◌, ◌++◌, length, Option, Some, None, is_none, is_some, unwrap_or, option_map}
 use Rattle.std.specs.Option.{option_or, option_and_then}
-use Rattle.std.specs.List.{list_any, sum_by, IsDistinct}
-use Rattle.std.specs.Map.{keys_of}
-use Rattle.std.specs.String.{string_bytes, string_eq}
+use Rattle.std.specs.List.{list_any, sum_by}
+use Rattle.std.specs.String.{string_bytes}
 use Rattle.std.specs.declared.string.String.{String}
 use Rattle.mq_packet.specs.declared.packet.Qos.{Qos}
-use Rattle.mq_topic.specs.Levels.{is_name}
-use Rattle.mq_topic.specs.Matching.{matches, is_empty}
+use Rattle.mq_topic.specs.Matching.{matches}
 use Rattle.mq_rules.specs.declared.role.Tested.{Tested}
 use Rattle.mq_rules.specs.declared.fate.Fate.{Fate}
 use Rattle.mq_rules.specs.declared.note.Note.{Note}
@@ -18,30 +16,7 @@ use Rattle.mq_rules.specs.Notes.{is_open, is_boundary, Subscription, Grant, rece
 use Rattle.mq_rules.specs.Moments.{Moment, note, is_after, some, those, first_found}
 use Rattle.mq_rules.specs.Connections.{begun, number, is_connected, of_connection, on_open, accepts, begins, session}
 use Rattle.mq_rules.specs.Subscriptions.{Standing, granted, codes_under, asks_to_share, is_shared, topic_set, last_set}
-
--- ---- filters that stand
-
--- the filter passes the test, and something may be sent for it at this QoS
-abbrev pub allows : (List ℕ → Bool) → ℕ → Standing → Bool
-allows among qos s = among s.filter && nat_le qos s.ceiling
-
--- the standing filters that a map from filters to the greatest QoS keeps
-abbrev pub standings : {Y : Type 0} → List (String Y × ℕ) → List Standing
-standings [] = []
-standings (e ∷ es) = record { filter = string_bytes e.0; ceiling = e.1 } ∷ standings es
-
--- all filters of a map pass the test
-abbrev pub AllFilters : {Y : Type 0} → (List ℕ → Bool) → List (String Y × ℕ) → Type 0
-AllFilters test [] = Unit {0}
-AllFilters test (e ∷ es) = (test (string_bytes e.0) ≡ true) × AllFilters test es
-
--- the first map has filters without a wildcard, each once, and the second has others
-abbrev pub IsSplit : {Y : Type 0} → List (String Y × ℕ) → List (String Y × ℕ) → Type 0
-IsSplit literal wild = AllFilters is_name literal × AllFilters (λ f. not (is_name f)) wild × IsDistinct string_eq (keys_of literal)
-
--- one of them allows this
-abbrev pub stands_any : {Y : Type 0} → (List ℕ → Bool) → ℕ → List (String Y × ℕ) → Bool
-stands_any among qos es = list_any (allows among qos) (standings es)
+use Rattle.mq_filters.specs.Standings.{allows, has_ceiling}
 
 -- ---- SUBSCRIBEs that wait
 
@@ -206,19 +181,6 @@ is_unasked settled waiting topic = not (any_kept (λ s. matches s.filter topic) 
 abbrev pub is_above : List Standing → List Waits → Qos → List ℕ → Bool
 is_above settled waiting qos topic = any_kept (λ s. matches s.filter topic) settled waiting && not (any_kept (λ s. matches s.filter topic && nat_le (qos_number qos) s.ceiling) settled waiting)
 
--- ---- filters that may match (MQTT 5.0, section 4.7); 35 is `#`, 43 is `+`, 47 is `/`
-
--- what follows the first level of a name
-abbrev pub after_level : List ℕ → List ℕ
-after_level [] = []
-after_level (b ∷ bytes) = cond (b == 47) (b ∷ bytes) (after_level bytes)
-
--- a filter and a name are alike up to a `#` or to the end of one of them, where a `+` stands for a level
-abbrev pub is_near : List ℕ → List ℕ → Bool
-is_near [] name = is_empty name
-is_near (f ∷ filter) [] = true
-is_near (f ∷ filter) (b ∷ name) = cond (f == b) (is_near filter name) (cond (f == 43) (is_near filter (after_level (b ∷ name))) (f == 35))
-
 -- ---- what was found for topics
 
 -- the event may change which filters stand or wait
@@ -242,4 +204,4 @@ said_by f = (f.settled, f.waiting)
 -- each topic of a map has the greatest ceiling of the filters that match it
 abbrev pub Remembers : {Y : Type 0} → List Standing → List Waits → List (String Y × Option ℕ) → Type 0
 Remembers settled waiting [] = Unit {0}
-Remembers settled waiting (e ∷ es) = ((qos : ℕ) → is_some_and (nat_le qos) e.1 ≡ allows_topic settled waiting (string_bytes e.0) qos) × Remembers settled waiting es
+Remembers settled waiting (e ∷ es) = ((qos : ℕ) → has_ceiling (nat_le qos) e.1 ≡ allows_topic settled waiting (string_bytes e.0) qos) × Remembers settled waiting es

@@ -5,13 +5,12 @@ ghost use Rattle.std.specs.Map.{keys_of};
 ghost use Rattle.indexmap.specs.IndexMap.{values};
 ghost use Rattle.mq_topic.specs.Matching.{matches as is_match};
 ghost use Rattle.mq_rules.specs.Subscriptions.{Standing, granted};
-ghost use Rattle.mq_rules.specs.Words.{is_some_and};
 ghost use Rattle.mq_rules.specs.Weights.{in_word};
-ghost use Rattle.mq_books.specs.Standings.{allows, Waits, waits_weight, first_code, other_codes, with_code, with_codes, under, waits_of, taken};
+ghost use Rattle.mq_filters.specs.Standings.{has_ceiling, allows};
+ghost use Rattle.mq_books.specs.Standings.{Waits, waits_weight, first_code, other_codes, with_code, with_codes, under, waits_of, taken};
 
-use crate::ceilings::{higher, raised_by};
-use crate::stands::StandingFilters;
 use indexmap::IndexMap;
+use mq_filters::{StandingFilters, higher, raised_by};
 use mq_rules::{Memory, NotedFilter, Text};
 use std::alloc::Global;
 use std::marker::Model;
@@ -171,7 +170,7 @@ fn settle(
 
 // The greatest ceiling of the filters that match a topic.
 fn ceiling_among(filters: &[Kept], topic: &str) -> Option<u8>
-    ensures { (qos : ℕ) → is_some_and (nat_le qos) result ≡ list_any (λ s. is_match s.filter topic.now && nat_le qos s.ceiling) filters.now }
+    ensures { (qos : ℕ) → has_ceiling (nat_le qos) result ≡ list_any (λ s. is_match s.filter topic.now && nat_le qos s.ceiling) filters.now }
 {
     let mut best = None;
     for kept in filters {
@@ -205,7 +204,7 @@ impl Request {
 
     // The greatest ceiling of its filters that match a topic.
     fn ceiling_for(&self, topic: &str) -> Option<u8>
-        ensures { (qos : ℕ) → is_some_and (nat_le qos) result ≡ list_any (λ s. is_match s.filter topic.now && nat_le qos s.ceiling) self.now }
+        ensures { (qos : ℕ) → has_ceiling (nat_le qos) result ≡ list_any (λ s. is_match s.filter topic.now && nat_le qos s.ceiling) self.now }
     {
         ceiling_among(self.filters.as_slice(), topic)
     }
@@ -220,7 +219,7 @@ impl Request {
 
 // The greatest ceiling of the filters that match a topic, of these SUBSCRIBEs.
 fn ceiling_of_all(requests: &[Request], topic: &str) -> Option<u8>
-    ensures { (qos : ℕ) → is_some_and (nat_le qos) result ≡ list_any (λ filters. list_any (λ s. is_match s.filter topic.now && nat_le qos s.ceiling) filters) requests.now }
+    ensures { (qos : ℕ) → has_ceiling (nat_le qos) result ≡ list_any (λ filters. list_any (λ s. is_match s.filter topic.now && nat_le qos s.ceiling) filters) requests.now }
 {
     let mut best = None;
     for request in requests {
@@ -284,7 +283,7 @@ impl Requests {
 
     // The greatest ceiling of their filters that match a topic.
     fn ceiling_for(&self, topic: &str) -> Option<u8>
-        ensures { (qos : ℕ) → is_some_and (nat_le qos) result ≡ list_any (λ filters. list_any (λ s. is_match s.filter topic.now && nat_le qos s.ceiling) filters) self.now }
+        ensures { (qos : ℕ) → has_ceiling (nat_le qos) result ≡ list_any (λ filters. list_any (λ s. is_match s.filter topic.now && nat_le qos s.ceiling) filters) self.now }
     {
         higher(
             self.first.ceiling_for(topic),
@@ -349,7 +348,7 @@ fn settle_values(
 
 // The greatest ceiling of the filters that match a topic, of all SUBSCRIBEs that wait.
 fn ceiling_of_values(all: &IndexMap<u16, Requests>, topic: &str) -> Option<u8>
-    ensures { (qos : ℕ) → is_some_and (nat_le qos) result ≡ list_any (λ requests. list_any (λ filters. list_any (λ s. is_match s.filter topic.now && nat_le qos s.ceiling) filters) requests) (values all.now) }
+    ensures { (qos : ℕ) → has_ceiling (nat_le qos) result ≡ list_any (λ requests. list_any (λ filters. list_any (λ s. is_match s.filter topic.now && nat_le qos s.ceiling) filters) requests) (values all.now) }
 {
     let mut best = None;
     for requests in all.values() {
@@ -411,7 +410,7 @@ impl Awaited {
 
     /// The greatest ceiling of the filters that match a topic.
     pub fn ceiling_for(&self, topic: &str) -> Option<u8>
-        ensures { (qos : ℕ) → is_some_and (nat_le qos) result ≡ list_any (λ w. list_any (λ s. is_match s.filter topic.now && nat_le qos s.ceiling) w.filters) self.now }
+        ensures { (qos : ℕ) → has_ceiling (nat_le qos) result ≡ list_any (λ w. list_any (λ s. is_match s.filter topic.now && nat_le qos s.ceiling) w.filters) self.now }
     {
         ceiling_of_values(&self.requests, topic)
     }

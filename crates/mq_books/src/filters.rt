@@ -3,19 +3,20 @@
 ghost use Rattle.std.specs.Prelude.{◌≡◌, ◌≤◌, ◌+◌, ◌*◌, ◌==◌, ◌&&◌, ◌||◌, nat_le, ℕ, Bool, true, List, [], Some, cond, not, option_map, OnOk, IfOk};
 ghost use Rattle.std.specs.List.{list_any, sum_by};
 ghost use Rattle.std.specs.Str.{bytes_eq};
+ghost use Rattle.std.specs.String.{string_bytes};
 ghost use Rattle.std.specs.Set.{distinct_count};
 ghost use Rattle.indexmap.specs.IndexMap.{index_map_len};
 ghost use Rattle.mq_rules.specs.Words.{is_some_and};
 ghost use Rattle.mq_rules.specs.Notes.{received_subscription, sent_grant};
 ghost use Rattle.mq_rules.specs.Subscriptions.{Standing};
 ghost use Rattle.mq_rules.specs.Weights.{in_word};
+ghost use Rattle.mq_filters.specs.Standings.{has_ceiling, allows};
 ghost use Rattle.mq_books.specs.Weights.{filters_weigh};
-ghost use Rattle.mq_books.specs.Standings.{goes_on as keeps_session, allows, Waits, waits_weight, asked, weighed, sum_next, with_codes, is_answered, grants_some, settled_next, waiting_next, allows_topic, changes_filters, said_by, Remembers};
+ghost use Rattle.mq_books.specs.Standings.{goes_on as keeps_session, Waits, waits_weight, asked, weighed, sum_next, with_codes, is_answered, grants_some, settled_next, waiting_next, allows_topic, changes_filters, said_by, Remembers};
 
 use crate::awaited::{Awaited, Request};
-use crate::ceilings::higher;
-use crate::stands::{StandingFilters, copy_of};
 use indexmap::IndexMap;
+use mq_filters::{StandingFilters, higher};
 use mq_rules::{Fate, ItemNote, Memory, Note, PacketFields};
 use std::alloc::Global;
 use std::marker::Model;
@@ -147,10 +148,19 @@ fn search(
     waiting: &Awaited,
     topic: &str,
 ) -> Result<Option<u8>, Memory>
-    ensures { IfOk result (λ ceiling. (qos : ℕ) → is_some_and (nat_le qos) ceiling ≡ allows_topic settled.now waiting.now topic.now qos) }
+    ensures { IfOk result (λ ceiling. (qos : ℕ) → has_ceiling (nat_le qos) ceiling ≡ allows_topic settled.now waiting.now topic.now qos) }
 {
     let standing = settled.ceiling_for(alloc, topic)?;
     Ok(higher(standing, waiting.ceiling_for(topic)))
+}
+
+// A copy of a text.
+fn copy_of(alloc: Global, text: &str) -> Result<String, Memory>
+    ensures { IfOk result (λ copy. string_bytes copy ≡ text.now) }
+{
+    let mut copy = String::with_capacity(alloc, text.len())?;
+    copy.push_str(text)?;
+    Ok(copy)
 }
 
 // Keeps what was found for a topic, unless there are twice as many as there are filters.
@@ -161,7 +171,7 @@ fn keep(
     topic: &str,
     ceiling: Option<u8>,
 ) -> Result<(), Memory>
-    ensures remembers { (settled : List Standing) (waiting : List Waits) → ((qos : ℕ) → is_some_and (nat_le qos) ceiling ≡ allows_topic settled waiting topic.now qos) → Remembers settled waiting found.old.entries → Remembers settled waiting found.new.entries }
+    ensures remembers { (settled : List Standing) (waiting : List Waits) → ((qos : ℕ) → has_ceiling (nat_le qos) ceiling ≡ allows_topic settled waiting topic.now qos) → Remembers settled waiting found.old.entries → Remembers settled waiting found.new.entries }
     ensures few { index_map_len found.old ≤ 2 * filters → index_map_len found.new ≤ 2 * filters }
 {
     if found.len() / 2 >= filters {
@@ -241,7 +251,7 @@ impl Filters {
     /// `Memory` if there is no memory to keep it.
     pub fn ceiling_for(&mut self, alloc: Global, topic: &str) -> Result<Option<u8>, Memory>
         ensures unchanged { said_by self.new ≡ said_by self.old }
-        ensures greatest { IfOk result (λ ceiling. (qos : ℕ) → is_some_and (nat_le qos) ceiling ≡ allows_topic self.old.settled self.old.waiting topic.now qos) }
+        ensures greatest { IfOk result (λ ceiling. (qos : ℕ) → has_ceiling (nat_le qos) ceiling ≡ allows_topic self.old.settled self.old.waiting topic.now qos) }
     {
         if self.settled.is_literal() && self.waiting.is_empty() {
             return search(alloc, &self.settled, &self.waiting, topic);

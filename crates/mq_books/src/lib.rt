@@ -8,7 +8,6 @@
 
 mod asked;
 mod awaited;
-mod ceilings;
 mod counting;
 mod counts;
 mod debts;
@@ -22,7 +21,6 @@ mod known;
 mod messages;
 mod ordering;
 mod owed;
-mod patterns;
 mod pings;
 mod quota;
 mod releases;
@@ -30,7 +28,6 @@ mod requests;
 mod selective;
 mod sessions;
 mod sizes;
-mod stands;
 mod subs;
 mod subs_all;
 mod watchers;

@@ -18,6 +18,7 @@ ghost use Rattle.mq_rules.specs.Subscriptions.{is_shared as begins_shared};
 ghost use Rattle.mq_rules.specs.Rules.{same_rule, binds as is_bound};
 ghost use Rattle.mq_rules.specs.Under.{seen, Follows, IsKnown, turns_known};
 ghost use Rattle.mq_rules.specs.Growing.{Gains, GainsWithin};
+ghost use Rattle.mq_filters.specs.Standings.{has_ceiling};
 ghost use Rattle.mq_books.specs.Burden.{standing_count, asked_filters, aliased_ids};
 ghost use Rattle.mq_books.specs.Weights.{deliveries_weigh};
 ghost use Rattle.mq_books.specs.Standings.{sharing_next, topic_next, IsStanding, topic_kept, delivers_so, judged_topic as topic_judged, named_topic as topic_named, IsDelivery, is_unasked as unasked, is_above as above, said_by};
@@ -25,7 +26,6 @@ ghost use Rattle.mq_books.specs.Concerns.{concerns_deliveries};
 
 mod asking;
 
-use crate::ceilings::is_within;
 use crate::fated::Fated;
 use crate::filters::{Filters, goes_on};
 use crate::known::judge_by;
@@ -33,6 +33,7 @@ use crate::selective::Selective;
 use crate::sizes::map_size;
 pub use asking::DeliveryPlaces;
 use indexmap::IndexMap;
+use mq_filters::is_within;
 use mq_log::{Direction, Place3};
 use mq_packet::Qos;
 use mq_rules::{
@@ -167,7 +168,7 @@ const NOTHING_BROKEN: Broken = Broken {
 // topic.
 fn broken_by(ceiling: Option<u8>, qos: Qos) -> Broken
     ensures unasked { result.unasked ≡ is_none ceiling }
-    ensures above { result.above ≡ (is_some ceiling && not (is_some_and (nat_le (number_of qos)) ceiling)) }
+    ensures above { result.above ≡ (is_some ceiling && not (has_ceiling (nat_le (number_of qos)) ceiling)) }
 {
     Broken {
         unasked: ceiling.is_none(),

@@ -1,6 +1,7 @@
 use Rattle.std.proofs.Common.{◌≡◌, ◌||◌, ℕ, Bool, List, length}
 use Rattle.std.specs.List.{list_any}
-use Rattle.mq_books.specs.Standings.{allows, with_codes}
+use Rattle.mq_filters.specs.Standings.{allows}
+use Rattle.mq_books.specs.Standings.{with_codes}
 use Rattle.mq_books.proofs.awaited.settle_each.Given as goal
 
 -- with the SUBSCRIBEs that are left, all come to be settled

@@ -1,7 +1,7 @@
 use Rattle.std.proofs.Common.{◌≡◌, ◌||◌, ℕ, Bool, List}
 use Rattle.std.specs.List.{list_any}
 use Rattle.indexmap.specs.IndexMap.{values}
-use Rattle.mq_books.specs.Standings.{allows}
+use Rattle.mq_filters.specs.Standings.{allows}
 use Rattle.mq_books.proofs.awaited.settle_values.Given as goal
 
 -- with those that are left, all come to be settled

@@ -2,7 +2,8 @@ use Rattle.std.proofs.Common.{◌≡◌, ◌||◌, Bool, true, false, List, [], 
 use Rattle.std.specs.Prelude.{unwrap_or}
 use Rattle.std.specs.List.{list_any}
 use Rattle.mq_rules.specs.Subscriptions.{Standing}
-use Rattle.mq_books.specs.Standings.{allows, with_codes}
+use Rattle.mq_filters.specs.Standings.{allows}
+use Rattle.mq_books.specs.Standings.{with_codes}
 use Rattle.mq_books.proofs.filters.answer.Goals as goal
 
 right-none : (b : Bool) → b ≡ (b || false)

@@ -1,6 +1,6 @@
 use Rattle.std.proofs.Common.{◌||◌, sym, ap, ◌∙◌}
 use Rattle.std.specs.List.{list_any}
-use Rattle.mq_books.specs.Standings.{allows}
+use Rattle.mq_filters.specs.Standings.{allows}
 use Rattle.mq_books.proofs.AwaitedLaws.{values-any}
 use Rattle.mq_books.proofs.awaited.Awaited.settle_all.Goals as goal
 

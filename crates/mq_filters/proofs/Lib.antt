@@ -1,0 +1,4 @@
+pub mod LiteralLaws
+pub mod NearLaws
+pub mod PatternLaws
+pub mod StandLaws
