@@ -163,7 +163,6 @@ ran_with form coverage remaining left old new result asked ran =
     rw asked (for_log remaining (λ log. RunsCoveredOver form log left result old new) (λ log. RunsFor form true log left result old new)
     (λ log h. covered_is_for form log left old new result h) ran)
 
-
 -- a status for a refusal says which one it is, and that it was written and nothing else
 pub refusal_is_printed : {E : Type 0} (form : Form) (coverage : Bool) (remaining left old middle new : Option (List ℕ)) (refusal : Refusal) (status : Result ℕ E)
     → IfSome remaining (λ log. RunsFor form coverage log left (Err (run_faults.Refused refusal)) old middle) → middle ≡ old

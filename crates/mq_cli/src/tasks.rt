@@ -27,8 +27,8 @@ use mq_host::{
     PASSED, REFUSED, Trouble, flush, read_text, write_out,
 };
 use mq_judge::{
-    Faults, Form, Outcome, Progress, Refusal, RunFault, run_covered, run_watched, show, show_faults, show_long,
-    write_long_packet, write_packet, write_refused,
+    Faults, Form, Outcome, Progress, Refusal, RunFault, run_covered, run_watched, show,
+    show_faults, show_long, write_long_packet, write_packet, write_refused,
 };
 use mq_rules::{Role, Rule};
 use std::alloc::Global;

@@ -27,7 +27,15 @@ returns-in-Ok c =
       for_ever = if_none old.refusal _ (sym c.is_some.ensures ∙ c.if-is_some.false);
       taken = λ log told. let verdict = c.in-Ok.ensures.verdict log told.follows in
           let follows = subst (λ (j : Judge). Follows j log) (sym c.in-Ok.ensures.same) told.follows in
-          ends_from old.source log old new (Ok c.in-Ok.events) (sym c.has_ended.ensures ∙ c.if-has_ended.false)
-          (verdict.0, verdict.1, record { follows = follows; unrefused = told.unrefused; first = λ e. absurd (ended_is_last e);
-              counting = ap is_counting c.in-Ok.ensures.same ∙ told.counting }, refl);
+          ends_from old.source log old new (Ok c.in-Ok.events) (sym c.has_ended.ensures ∙ c.if-has_ended.false) (
+            verdict.0,
+            verdict.1,
+            record {
+              follows = follows;
+              unrefused = told.unrefused;
+              first = λ e. absurd (ended_is_last e);
+              counting = ap is_counting c.in-Ok.ensures.same ∙ told.counting;
+            },
+            refl,
+          );
     }
