@@ -390,7 +390,8 @@ impl<K: End> Sink for Judging<K> {
         publish: Publish<'_>,
     ) -> Result<(), Refusal> {
         if self.watching.is_counting() {
-            return self.packet(place, direction, size, Packet::Publish(publish));
+            let packet = Packet::Publish(publish);
+            return self.event(place, item_event(direction, Item::Packet(packet)));
         }
         match self
             .watching

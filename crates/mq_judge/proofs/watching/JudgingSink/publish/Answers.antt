@@ -1,12 +1,27 @@
-use Rattle.std.proofs.Common.{refl, ap, sym, ◌∙◌}
+use Rattle.std.proofs.Common.{◌≡◌, ◌∷◌, refl, ap, subst, sym, ◌∙◌}
+use Rattle.std.specs.Prelude.{OnOk}
 use Rattle.mq_packet.specs.Reading.{view}
 use Rattle.mq_packet.specs.declared.packet.Packet.TheVariants as packets
-use Rattle.mq_log.specs.Events.{packet}
+use Rattle.mq_log.specs.Events.{Event, Placed, packet}
 use Rattle.mq_log.specs.Flows.{item_event}
-use Rattle.mq_log.specs.Reception.{packet_event_at}
+use Rattle.mq_log.specs.Reception.{AreEvents, packet_event_at, placed_at}
 use Rattle.mq_rules.specs.Notes.{note_of}
+use Rattle.mq_judge.specs.Watching.{IsJudging}
 use Rattle.mq_judge.proofs.WatchingLaws.{found-still, still-uncounted, watched-next}
 use Rattle.mq_judge.proofs.watching.JudgingSink.publish.Goals as goal
+
+pub returns-then-is_counting-clause-receives : goal.returns-then-is_counting-clause-receives
+returns-then-is_counting-clause-receives g c = λ earlier was are.
+    let same : placed_at c.args.place c.item_event.result ≡ packet_event_at c.args.place c.args.direction (packets.Publish c.args.publish) =
+    ap (λ (e : Event). record { place = c.args.place; event = e }) c.item_event.ensures in
+    subst (λ (p : Placed). OnOk c.event.result (IsJudging g.K.End.tested g.K.End.counting c.event.new.self.watching (p ∷ earlier))) same
+    (c.event.ensures.receives earlier was (subst (λ (p : Placed). AreEvents (p ∷ earlier)) (sym same) are))
+
+pub returns-then-is_counting-clause-refused : goal.returns-then-is_counting-clause-refused
+returns-then-is_counting-clause-refused g c = λ earlier was are.
+    let same : placed_at c.args.place c.item_event.result ≡ packet_event_at c.args.place c.args.direction (packets.Publish c.args.publish) =
+    ap (λ (e : Event). record { place = c.args.place; event = e }) c.item_event.ensures in
+    c.event.ensures.refused earlier was (subst (λ (p : Placed). AreEvents (p ∷ earlier)) (sym same) are)
 
 pub returns-in-Ok-clause-receives : goal.returns-in-Ok-clause-receives
 returns-in-Ok-clause-receives g c = λ earlier was are.
