@@ -7,7 +7,8 @@ use mq_log::Refusal;
 use mq_trace::Feed;
 use std::marker::{Brand, PhantomData};
 
-/// What had been told before, and whether places are counted. Each call of `feed_judge` picks it.
+/// What had been told before, and whether places are counted. Each call of `judge_telling` or of
+/// `cover_telling` picks it.
 pub trait Before {
     ghost use Rattle.std.specs.Prelude.{Bool};
     ghost use Rattle.mq_judge.specs.Telling.{SaidSoFar};
