@@ -1,9 +1,9 @@
 """Worked logs, with all places of one statement in each, for places.py.
 
-Those of mq_rules are read from its source: there their places are computed from the definitions, in proofs. They have all
+Those of mq_rules_tests are read from its source: there their places are computed from the definitions, in proofs. They have all
 statements but W01 to W21. The rows here have these, and more of the others; they were written from the words.
 
-The events of mq_rules are written in the words of crates/mq_rules/specs/Worked.antt, each of which is a function here. A packet
+Their events are written in the words of crates/mq_rules/specs/Worked.antt, each of which is a function here. A packet
 has 10 bytes there, if nothing else is said.
 """
 import re
@@ -18,7 +18,7 @@ from reading import (
 )
 from sessions import Log
 
-PROVED = Path(__file__).resolve().parent.parent / "crates/mq_rules/src/worked_places.rt"
+PROVED = Path(__file__).resolve().parent.parent / "crates/mq_rules_tests/src/worked_places.rt"
 CLAUSE = re.compile(r"ensures (\w+) \{ applying (\w+) (\w+) \((.*)\) ≡ (.*) \}")
 TOKEN = re.compile(r"[()]|[^()\s]+")
 CONS, NIL = "∷", "[]"
@@ -251,7 +251,7 @@ def read(text: str) -> list:
 
 
 def proved() -> Iterator[Worked]:
-    """The worked logs of mq_rules."""
+    """The worked logs of mq_rules_tests."""
     text = PROVED.read_text()
     clauses = CLAUSE.findall(text)
     assert len(clauses) == text.count(" ensures "), "a worked log that can't be read"

@@ -1,5 +1,4 @@
 pub mod FaultKeyLaws
-pub mod WorkedLaws
 pub mod TableLaws
 pub mod ConnLaws
 pub mod BoolLaws

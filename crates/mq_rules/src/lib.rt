@@ -37,8 +37,6 @@ mod table_laws;
 mod text;
 mod trial_laws;
 mod watch;
-mod worked;
-mod worked_places;
 
 pub use bare::{Bare, BareFields, is_bare};
 pub use byte_tally::ByteTally;
