@@ -1,7 +1,7 @@
 -- The send quota by a counter says the same as the stretches of a connection.
-use Rattle.std.proofs.Common.{◌≡◌, ℕ, zero, suc, ◌+◌, ◌-◌, ◌<◌, ◌≤◌, ◌==◌, Bool, true, false, cond, ◌&&◌, ◌||◌, not, nat_lt, nat_le, List, [], ◌∷◌, refl, ap, sym, ◌∙◌, arith, ◌⊎◌, inl, inr}
+use Rattle.std.proofs.Common.{◌≡◌, ℕ, zero, suc, ◌+◌, ◌-◌, ◌<◌, ◌≤◌, Bool, true, false, cond, ◌&&◌, ◌||◌, nat_lt, nat_le, List, [], ◌∷◌, refl, ap, sym, ◌∙◌, arith, ◌⊎◌, inl, inr}
 use Rattle.std.specs.Prelude.{is_some}
-use Rattle.std.proofs.lemmas.Bool.{eq-eqb, eqb-true, lt-ltb, ltb-true, ltb-false, le-ltb, le-leb, leb-true}
+use Rattle.std.proofs.lemmas.Bool.{lt-ltb, ltb-true, le-leb, leb-true}
 use Rattle.mq_rules.specs.declared.role.Role.{Role}
 use Rattle.mq_rules.specs.declared.note.Note.{Note}
 use Rattle.mq_rules.specs.declared.note.Note.TheVariants as notes
@@ -10,8 +10,8 @@ use Rattle.mq_rules.specs.Moments.{Moment, note, those, count, some_stretch}
 use Rattle.mq_rules.specs.Connections.{connection}
 use Rattle.mq_rules.specs.Pasts.{peer_receive_maximum}
 use Rattle.mq_rules.specs.Identifiers.{is_delivery, is_closer, counts, passes, applies_S07, breaks_S07, is_used_up}
-use Rattle.mq_rules.specs.Counter.{in_flight, in_flight_before, quota, keeps_quota}
-use Rattle.mq_rules.proofs.BoolLaws.{both_true, same_test, or_parts, or_left, or_right}
+use Rattle.mq_rules.specs.Counter.{in_flight, in_flight_before}
+use Rattle.mq_rules.proofs.BoolLaws.{same_test, or_parts, or_left, or_right}
 
 -- ---- tests on numbers
 
@@ -116,35 +116,3 @@ S07-tried role k = ap (λ b. is_delivery k && (counts role k && b)) (full-counte
 
 pub used_up-counted : (role : Role) (t : Moment) → is_used_up role t ≡ nat_le (peer_receive_maximum role t) (in_flight_before role t)
 used_up-counted role t = full-counted (peer_receive_maximum role t) (those (counts role) (connection t.past))
-
--- ---- the quota
-
--- one event more, which sends nothing where the quota is 0
-after_one : (d c : Bool) (most left old : ℕ) → not (d && (left == 0)) ≡ true → left + old ≡ most
-    → cond d (left - 1) (cond c (cond (nat_lt left most) (left + 1) most) left) + cond d (old + 1) (cond c (old - 1) old) ≡ most
-after_one true c most zero old keeps all = absurd (cc)
-after_one true c most (suc left) old keeps all = omega arith
-after_one false true most left old keeps all = go (nat_lt left most) refl
-  where
-    go : (b : Bool) → nat_lt left most ≡ b → cond b (left + 1) most + (old - 1) ≡ most
-    go true is = let lt : left < most = ltb-true left most is in omega arith
-    go false is = let le : most ≤ left = ltb-false left most is in omega arith
-after_one false false most left old keeps all = all
-
--- until a PUBLISH is sent where the quota is 0, it is what the Receive Maximum leaves beside those in flight
-pub quota-left : (most : ℕ) (ms : List Moment) → keeps_quota most ms ≡ true → quota most ms + in_flight ms ≡ most
-quota-left most [] keeps = omega arith
-quota-left most (m ∷ ms) keeps =
-    let p = both_true (not (is_delivery m && (quota most ms == 0))) (keeps_quota most ms) keeps in
-    after_one (is_delivery m) (is_closer m) most (quota most ms) (in_flight ms) p.0 (quota-left most ms p.1)
-
--- so the first PUBLISH that passes is the first one that is sent where the quota is 0
-pub quota-passes : (most : ℕ) (m : Moment) (ms : List Moment) → keeps_quota most ms ≡ true → passes most (m ∷ ms) ≡ (is_delivery m && (quota most ms == 0))
-quota-passes most m ms keeps = passes-counted most (m ∷ ms) ∙ go (is_delivery m) (is_closer m) (quota most ms) (in_flight ms) (quota-left most ms keeps)
-  where
-    go : (d c : Bool) (left old : ℕ) → left + old ≡ most → nat_lt most (cond d (old + 1) (cond c (old - 1) old)) ≡ (d && (left == 0))
-    go true c left old all = same_test (nat_lt most (old + 1)) (left == 0)
-        (λ t. let lt : most < old + 1 = ltb-true most (old + 1) t in eq-eqb left 0 (omega arith))
-        (λ t. let is : left ≡ 0 = eqb-true left 0 t in lt-ltb most (old + 1) (omega arith))
-    go false true left old all = le-ltb most (old - 1) (omega arith)
-    go false false left old all = le-ltb most old (omega arith)

@@ -1,7 +1,7 @@
 -- Where a pair is decided, and its fault, in a log that grows.
-use Rattle.std.proofs.Common.{◌≡◌, ℕ, ◌+◌, ◌<◌, ◌≤◌, nat_le, Bool, true, false, cond, ◌||◌, List, [], ◌∷◌, ◌++◌, length, Option, Some, None, is_some, refl, ap, sym, ◌∙◌, arith, length-append, nat_lt}
+use Rattle.std.proofs.Common.{◌≡◌, ℕ, ◌+◌, ◌<◌, ◌≤◌, Bool, true, false, cond, ◌||◌, List, [], ◌∷◌, length, Option, Some, None, is_some, refl, ap, sym, ◌∙◌, arith, nat_lt}
 use Rattle.std.specs.Prelude.{option_map}
-use Rattle.std.proofs.lemmas.Bool.{leb-true, le-leb, ltb-true, ltb-false}
+use Rattle.std.proofs.lemmas.Bool.{ltb-true, ltb-false}
 use Rattle.std.specs.Option.{option_or}
 use Rattle.mq_rules.specs.declared.role.Tested.{Tested}
 use Rattle.mq_rules.specs.declared.rule.Rule.{Rule}
@@ -30,16 +30,6 @@ decided-fails tested (e ∷ past) k rule =
     some_or (decided tested past k rule) (fails tested (e ∷ past) k rule) (length past + 1)
     ∙ ap (λ b. b || fails tested (e ∷ past) k rule) (decided-fails tested past k rule)
     ∙ either (fails tested past k rule) (fails tested (e ∷ past) k rule) (fails-kept tested past e k rule)
-
--- and has a fault exactly there
-pub fault_in-fails : (tested : Tested) (log : List Seen) (k : ℕ) (rule : Rule) → is_some (fault_in tested log k rule) ≡ fails tested log k rule
-unfolding fault_in
-fault_in-fails tested log k rule = go (fails tested log k rule) (decided tested log k rule) (decided-fails tested log k rule)
-  where
-    go : (b : Bool) (o : Option ℕ) → is_some o ≡ b → is_some (cond b (option_map (reported tested.role (moment log k) rule) o) None) ≡ b
-    go true (Some n) h = refl
-    go true None h = h
-    go false o h = refl
 
 -- a position without a moment has no fault
 pub fault_in-nowhere : (tested : Tested) (log : List Seen) (k : ℕ) (rule : Rule) → moment log k ≡ None → fault_in tested log k rule ≡ None
@@ -78,11 +68,6 @@ fault_in-start tested k rule = fault_in-nowhere tested [] k rule refl
 
 -- ---- the shortest beginning
 
--- what fails in a beginning fails in all longer ones
-pub fails-later : (tested : Tested) (later past : List Seen) (k : ℕ) (rule : Rule) → fails tested past k rule ≡ true → fails tested (later ++ past) k rule ≡ true
-fails-later tested [] past k rule h = h
-fails-later tested (e ∷ later) past k rule h = fails-kept tested (later ++ past) e k rule (fails-later tested later past k rule h)
-
 -- what fails is at a position of the log
 pub fails-within : (tested : Tested) (log : List Seen) (k : ℕ) (rule : Rule) → fails tested log k rule ≡ true → k ≤ length log
 fails-within tested log k rule h = go (nat_lt (length log) k) refl
@@ -107,23 +92,3 @@ decided-within tested (e ∷ past) n k rule h = go (decided tested past k rule) 
         let le : k ≤ length (e ∷ past) = fails-within tested (e ∷ past) k rule f in
         (omega arith, omega arith)
     go None is false f h rest = absurd (cc)
-
--- a pair that is decided at a position fails in exactly the beginnings of the log that reach that position
-pub decided-reached : (tested : Tested) (later past : List Seen) (n k : ℕ) (rule : Rule) → decided tested (later ++ past) k rule ≡ Some n → fails tested past k rule ≡ nat_le n (length past)
-decided-reached tested [] past n k rule h = sym (decided-fails tested past k rule) ∙ ap is_some h ∙ sym (le-leb n (length past) (decided-within tested past n k rule h).1)
-decided-reached tested (e ∷ later) past n k rule h = go (decided tested (later ++ past) k rule) refl (fails tested (e ∷ (later ++ past)) k rule) h (decided-reached tested later past n k rule)
-  where
-    before : is_some (decided tested (later ++ past) k rule) ≡ false → fails tested past k rule ≡ false
-    before none = not_true (fails tested past k rule) (λ t.
-        let p : fails tested (later ++ past) k rule ≡ true = fails-later tested later past k rule t in
-        let q = decided-fails tested (later ++ past) k rule in
-        absurd (cc))
-
-    go : (o : Option ℕ) → decided tested (later ++ past) k rule ≡ o → (b : Bool) → option_or o (cond b (Some (length (later ++ past) + 1)) None) ≡ Some n
-        → (decided tested (later ++ past) k rule ≡ Some n → fails tested past k rule ≡ nat_le n (length past)) → fails tested past k rule ≡ nat_le n (length past)
-    go (Some x) is b h rest = rest (is ∙ h)
-    go None is true h rest =
-        let at : length (later ++ past) + 1 ≡ n = cc in
-        let sum : length (later ++ past) ≡ length later + length past = length-append later past in
-        before (ap is_some is) ∙ sym (not_true (nat_le n (length past)) (λ t. let le : n ≤ length past = leb-true n (length past) t in omega arith))
-    go None is false h rest = absurd (cc)

@@ -1,5 +1,5 @@
 -- Connections and their fates, in a log that grows.
-use Rattle.std.proofs.Common.{◌≡◌, ℕ, ◌+◌, ◌<◌, ◌≤◌, ◌==◌, Bool, true, false, cond, ◌&&◌, ◌||◌, not, List, [], ◌∷◌, ◌++◌, Option, Some, None, refl, ap, sym, ◌∙◌, arith, zero-add}
+use Rattle.std.proofs.Common.{◌≡◌, ℕ, ◌+◌, ◌<◌, ◌≤◌, ◌==◌, Bool, true, false, cond, ◌&&◌, ◌||◌, not, List, [], ◌∷◌, Option, Some, None, refl, ap, sym, ◌∙◌, arith, zero-add}
 use Rattle.std.specs.Prelude.{is_some, option_map}
 use Rattle.std.proofs.lemmas.Bool.{eq-eqb}
 use Rattle.std.specs.Option.{option_or}
@@ -73,30 +73,11 @@ fate-next role c e past = first_fate-next (gives_fate role) c e past
 pub outcome-next : (role : Role) (c : ℕ) (e : Seen) (past : List Seen) → outcome role c (e ∷ past) ≡ option_or (outcome role c past) (cond (begun (e ∷ past) == c) (decides role e.note) None)
 outcome-next role c e past = first_fate-next (λ m. decides role (note m)) c e past
 
-pub fate-kept : (role : Role) (c : ℕ) (f : Fate) (e : Seen) (past : List Seen) → fate role c past ≡ Some f → fate role c (e ∷ past) ≡ Some f
-fate-kept role c f e past h = fate-next role c e past ∙ ap (λ o. option_or o (cond (begun (e ∷ past) == c) (gives_fate role (newest e past)) None)) h
-
--- a fate, once decided, is the same in every longer log
-pub fate-stays : (role : Role) (c : ℕ) (f : Fate) (later past : List Seen) → fate role c past ≡ Some f → fate role c (later ++ past) ≡ Some f
-fate-stays role c f [] past h = h
-fate-stays role c f (e ∷ later) past h = fate-kept role c f e (later ++ past) (fate-stays role c f later past h)
-
 -- no event is on a connection before the latest
 pub fate-elsewhere : (role : Role) (c : ℕ) (e : Seen) (past : List Seen) → c < begun (e ∷ past) → fate role c (e ∷ past) ≡ fate role c past
 fate-elsewhere role c e past h =
     let other : (begun (e ∷ past) == c) ≡ false = differ (begun (e ∷ past)) c (λ q. omega arith) in
     fate-next role c e past ∙ ap (λ b. option_or (fate role c past) (cond b (gives_fate role (newest e past)) None)) other ∙ option_or-none (fate role c past)
-
-pub begun-later : (later past : List Seen) → begun past ≤ begun (later ++ past)
-begun-later [] past = omega arith
-begun-later (e ∷ later) past = let least = begun-least e (later ++ past) in let before = begun-later later past in omega arith
-
--- so is that of a connection that another has followed
-pub fate-followed : (role : Role) (c : ℕ) (later past : List Seen) → c < begun past → fate role c (later ++ past) ≡ fate role c past
-fate-followed role c [] past h = refl
-fate-followed role c (e ∷ later) past h =
-    let least = begun-later (e ∷ later) past in
-    fate-elsewhere role c e (later ++ past) (omega arith) ∙ fate-followed role c later past h
 
 -- a connection that has not begun has no fate
 first_fate-none : (gives : Moment → Option Fate) (c : ℕ) (log : List Seen) → begun log < c → first_fate gives c log ≡ None

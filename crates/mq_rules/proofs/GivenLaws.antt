@@ -20,16 +20,7 @@ use Rattle.mq_rules.proofs.FateLaws.{open-gives}
 
 -- ---- one event
 
--- no OPEN decides, and none needs a session
-pub open-undecided : (role : Role) (n : Note) → is_open n ≡ true → decides role n ≡ None
-open-undecided Client notes.Open h = refl
-open-undecided Server notes.Open h = refl
-open-undecided role (notes.Close cuts) h = absurd (cc)
-open-undecided role notes.Rest h = absurd (cc)
-open-undecided role (notes.Release i) h = absurd (cc)
-open-undecided role (notes.Sent item) h = absurd (cc)
-open-undecided role (notes.Recv item) h = absurd (cc)
-
+-- no OPEN needs a session
 pub open-sessionless : (n : Note) → is_open n ≡ true → needs_session n ≡ false
 open-sessionless notes.Open h = refl
 open-sessionless (notes.Close cuts) h = absurd (cc)

@@ -1,7 +1,6 @@
 -- Statements that are judged at their own position, as soon as its event is there.
 use Rattle.std.proofs.Common.{◌≡◌, ℕ, ◌+◌, Bool, true, false, cond, ◌&&◌, ◌||◌, not, nat_lt, List, [], ◌∷◌, length, Option, Some, None, is_some, refl, ap, sym, ◌∙◌}
 use Rattle.std.specs.Option.{option_or}
-use Rattle.mq_packet.specs.declared.rule.PacketRule.{PacketRule}
 use Rattle.mq_rules.specs.declared.role.Role.{Role}
 use Rattle.mq_rules.specs.declared.role.Tested.{Tested}
 use Rattle.mq_rules.specs.declared.fate.Fate.{Fate}
@@ -12,28 +11,13 @@ use Rattle.mq_rules.specs.Notes.{is_open, is_rest, needs_session, is_sent_pingre
 use Rattle.mq_rules.specs.Moments.{Moment, newest, note, moment, is_next, some, count}
 use Rattle.mq_rules.specs.Connections.{begun, number, connection, fate, latest_fate, gives_fate, accepts, accepted, ends_binding, is_binding, IsInOrder}
 use Rattle.mq_rules.specs.Rules.{binds}
-use Rattle.mq_rules.specs.Statements.{on_bytes, on_past, in_session, at_release, statement, breaks_bytes, is_so_under, where_accepted}
+use Rattle.mq_rules.specs.Statements.{in_session, at_release, statement, is_so_under, where_accepted}
 use Rattle.mq_rules.specs.Steps.{given, shows_under, shows, turns, JudgedAtOnce, IsLate}
 use Rattle.mq_rules.specs.Exchanges.{breaks_E7R}
 use Rattle.mq_rules.proofs.BoolLaws.{both_true, not_true, or_false, and-past}
 use Rattle.mq_rules.proofs.StepLaws.{moment-stays, moment-newest}
 use Rattle.mq_rules.proofs.FateLaws.{latest_fate-next}
 use Rattle.mq_rules.proofs.GivenLaws.{open-sessionless, rest-opens-nothing, begun-closed, fate-from, given-gives}
-
--- ---- what looks at the past alone
-
--- a statement on a packet's bytes, and one on the past of a connection
-pub bytes-turns : (tested : Tested) (rule : Rule) (bytes : PacketRule) (e : Seen) (past : List Seen) → statement tested.role rule ≡ on_bytes bytes
-    → JudgedAtOnce tested rule e past (binds rule tested && breaks_bytes bytes (newest e past))
-unfolding turns
-bytes-turns tested rule bytes e past is = λ k.
-    ap (λ s. binds rule tested && shows tested.role s e past k) is ∙ and-past (binds rule tested) (is_next past k) (breaks_bytes bytes (newest e past))
-
-pub past-turns : (tested : Tested) (rule : Rule) (breaks : Moment → Bool) (e : Seen) (past : List Seen) → statement tested.role rule ≡ on_past breaks
-    → JudgedAtOnce tested rule e past (binds rule tested && breaks (newest e past))
-unfolding turns
-past-turns tested rule breaks e past is = λ k.
-    ap (λ s. binds rule tested && shows tested.role s e past k) is ∙ and-past (binds rule tested) (is_next past k) (breaks (newest e past))
 
 -- ---- what depends on the fate, where that is decided before
 

@@ -1,20 +1,18 @@
 -- The places of a statement in a log that grows.
-use Rattle.std.proofs.Common.{◌≡◌, ℕ, ◌+◌, ◌≤◌, arith, Bool, true, false, cond, ◌&&◌, ◌||◌, not, List, [], ◌∷◌, length, Option, Some, None, refl, ap, sym, ◌∙◌, inl, inr}
+use Rattle.std.proofs.Common.{◌≡◌, ℕ, ◌+◌, ◌≤◌, arith, Bool, true, false, cond, ◌&&◌, ◌||◌, not, List, [], ◌∷◌, length, Option, Some, None, refl, ap, ◌∙◌}
 use Rattle.std.proofs.lemmas.Bool.{eq-eqb}
 use Rattle.mq_rules.specs.declared.role.Role.{Role}
 use Rattle.mq_rules.specs.declared.role.Tested.{Tested}
 use Rattle.mq_rules.specs.declared.fate.Fate.{Fate}
 use Rattle.mq_rules.specs.declared.rule.Rule.{Rule}
 use Rattle.mq_rules.specs.declared.note.Seen.{Seen}
-use Rattle.mq_rules.specs.Moments.{Moment, newest, position, moments, moment, is_next, count, Among}
+use Rattle.mq_rules.specs.Moments.{Moment, newest, position, moments, moment, is_next, count}
 use Rattle.mq_rules.specs.Connections.{fate}
 use Rattle.mq_rules.specs.Rules.{binds}
-use Rattle.mq_rules.specs.Statements.{Statement, on_past, is_on_bytes, fails}
+use Rattle.mq_rules.specs.Statements.{Statement, on_past}
 use Rattle.mq_rules.specs.Occasions.{occasion, occurs, applies, places, comes, adds_place}
-use Rattle.mq_rules.proofs.BoolLaws.{and_false, and-over, and-past, or_false, or_left, differ}
-use Rattle.mq_rules.proofs.StepLaws.{moment-beyond, false-step, false-nowhere, fails-nowhere}
-use Rattle.mq_rules.proofs.PositionLaws.{moment-among, moment-beginning}
-use Rattle.mq_rules.proofs.OccasionLaws.{fails-applies}
+use Rattle.mq_rules.proofs.BoolLaws.{and_false, and-over, and-past, or_false, differ}
+use Rattle.mq_rules.proofs.StepLaws.{moment-beyond, false-step, false-nowhere}
 
 -- ---- what is put to the test
 
@@ -29,10 +27,6 @@ unfolding applies adds_place
 applies-step tested e past k rule =
     ap (λ b. binds rule tested && b) (occurs-step tested.role (occasion tested.role rule) e past k)
     ∙ and-over (binds rule tested) (occurs tested.role (λ c. fate tested.role c past) (occasion tested.role rule) past k) (comes tested.role (occasion tested.role rule) e past k)
-
--- it stays so
-pub applies-kept : (tested : Tested) (past : List Seen) (e : Seen) (k : ℕ) (rule : Rule) → applies tested past k rule ≡ true → applies tested (e ∷ past) k rule ≡ true
-applies-kept tested past e k rule h = applies-step tested e past k rule ∙ or_left (applies tested past k rule) (adds_place tested e past k rule) h
 
 pub occurs-nowhere : (role : Role) (fates : ℕ → Option Fate) (o : Option Statement) (log : List Seen) (k : ℕ) → moment log k ≡ None → occurs role fates o log k ≡ false
 occurs-nowhere role fates None log k none = refl
@@ -55,29 +49,6 @@ count-most test [] = omega arith
 count-most test (e ∷ past) = go (test (newest e past)) (count-most test past)
   where
     go : (b : Bool) → count test (moments past) ≤ length past → cond b 1 0 + count test (moments past) ≤ length (e ∷ past)
-    go true h = omega arith
-    go false h = omega arith
-
-count-wider : (a b : Moment → Bool) → ((m : Moment) → a m ≡ true → b m ≡ true) → (ms : List Moment) → count a ms ≤ count b ms
-count-wider a b each [] = omega arith
-count-wider a b each (m ∷ ms) = go (a m) refl (b m) refl (count-wider a b each ms)
-  where
-    go : (x : Bool) → a m ≡ x → (y : Bool) → b m ≡ y → count a ms ≤ count b ms → cond x 1 0 + count a ms ≤ cond y 1 0 + count b ms
-    go true is true at h = omega arith
-    go true is false at h = absurd (let passed : b m ≡ true = each m is in cc)
-    go false is true at h = omega arith
-    go false is false at h = omega arith
-
-count-one : (test : Moment → Bool) (ms : List Moment) (m : Moment) → Among m ms → test m ≡ true → 1 ≤ count test ms
-count-one test [] m h passes = absurd h
-count-one test (n ∷ ms) m (inl is) passes = go (test n) (ap test (sym is) ∙ passes)
-  where
-    go : (b : Bool) → b ≡ true → 1 ≤ cond b 1 0 + count test ms
-    go true h = omega arith
-    go false h = absurd (cc)
-count-one test (n ∷ ms) m (inr h) passes = go (test n) (count-one test ms m h passes)
-  where
-    go : (b : Bool) → 1 ≤ count test ms → 1 ≤ cond b 1 0 + count test ms
     go true h = omega arith
     go false h = omega arith
 
@@ -131,11 +102,6 @@ places-step tested e past rule =
     adds : Moment → Bool
     adds m = adds_place tested e past (position m) rule
 
-pub places-kept : (tested : Tested) (e : Seen) (past : List Seen) (rule : Rule) → places tested past rule ≤ places tested (e ∷ past) rule
-places-kept tested e past rule =
-    let more = places-step tested e past rule in
-    omega arith
-
 -- at most the event itself may be one more
 pub places-once : (tested : Tested) (rule : Rule) (e : Seen) (past : List Seen) (here : Bool) → ((k : ℕ) → adds_place tested e past k rule ≡ (is_next past k && here))
     → places tested (e ∷ past) rule ≡ cond here 1 0 + places tested past rule
@@ -162,24 +128,6 @@ places-once tested rule e past here once =
         ∙ or_false (applies tested past (position m) rule)
 
 -- ---- places and faults
-
--- a statement has as many places as faults
-pub places-faults : (tested : Tested) (log : List Seen) (rule : Rule) → is_on_bytes tested rule ≡ false → count (λ m. fails tested log (position m) rule) (moments log) ≤ places tested log rule
-unfolding places
-places-faults tested log rule by_bytes =
-    count-wider (λ m. fails tested log (position m) rule) (λ m. applies tested log (position m) rule) (λ m h. fails-applies tested log (position m) rule by_bytes h) (moments log)
-
--- and at least one if it has a fault anywhere
-pub places-fault : (tested : Tested) (log : List Seen) (k : ℕ) (rule : Rule) → is_on_bytes tested rule ≡ false → fails tested log k rule ≡ true → 1 ≤ places tested log rule
-unfolding places
-places-fault tested log k rule by_bytes h = go (moment log k) refl
-  where
-    go : (o : Option Moment) → moment log k ≡ o → 1 ≤ count (λ m. applies tested log (position m) rule) (moments log)
-    go None is = absurd (let nothing : fails tested log k rule ≡ false = fails-nowhere tested log k rule is in cc)
-    go (Some m) is =
-        let at : k ≡ position m = (moment-beginning log k m is).at in
-        count-one (λ m. applies tested log (position m) rule) (moments log) m (moment-among log k m is)
-        (ap (λ n. applies tested log n rule) (sym at) ∙ fails-applies tested log k rule by_bytes h)
 
 -- a statement that doesn't bind the tested end has none
 pub places-unbound : (tested : Tested) (log : List Seen) (rule : Rule) → binds rule tested ≡ false → places tested log rule ≡ 0

@@ -1,8 +1,0 @@
-use Rattle.mq_rules.proofs.ListingLaws.{listed-ascends, listed-there}
-use Rattle.mq_rules.proofs.laws.listed_is_failing.Goals as goal
-
-pub returns-clause-ordered : goal.returns-clause-ordered
-returns-clause-ordered c = listed-ascends
-
-pub returns-clause-each : goal.returns-clause-each
-returns-clause-each c = listed-there

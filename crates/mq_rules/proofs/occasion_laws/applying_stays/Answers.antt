@@ -1,5 +1,0 @@
-use Rattle.mq_rules.proofs.PlacesLaws.{applies-kept}
-use Rattle.mq_rules.proofs.occasion_laws.applying_stays.Goals as goal
-
-pub returns : goal.returns
-returns c = applies-kept

@@ -1,8 +1,0 @@
-use Rattle.mq_rules.proofs.PlacesLaws.{places-once, places-past}
-use Rattle.mq_rules.proofs.occasion_laws.places_by_one.Goals as goal
-
-pub returns-clause-once : goal.returns-clause-once
-returns-clause-once c = places-once
-
-pub returns-clause-past : goal.returns-clause-past
-returns-clause-past c = places-past

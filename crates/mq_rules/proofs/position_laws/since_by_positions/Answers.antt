@@ -1,5 +1,0 @@
-use Rattle.mq_rules.proofs.PositionLaws.{since-stands, stands-since}
-use Rattle.mq_rules.proofs.position_laws.since_by_positions.Goals as goal
-
-pub returns : goal.returns
-returns c = λ starts ends ms d. (since-stands starts ends ms d, stands-since starts ends ms d)

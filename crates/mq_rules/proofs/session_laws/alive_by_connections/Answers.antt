@@ -1,5 +1,0 @@
-use Rattle.mq_rules.proofs.AliveLaws.{alive-is, is-alive}
-use Rattle.mq_rules.proofs.session_laws.alive_by_connections.Goals as goal
-
-pub returns : goal.returns
-returns c = λ role n log. (alive-is role n log, is-alive role n log)

@@ -1,5 +1,0 @@
-use Rattle.mq_rules.proofs.FateLaws.{connection-next}
-use Rattle.mq_rules.proofs.session_laws.connection_goes_on.Goals as goal
-
-pub returns : goal.returns
-returns c = connection-next

@@ -1,8 +1,0 @@
-use Rattle.mq_rules.proofs.FateLaws.{fate-stays, fate-followed}
-use Rattle.mq_rules.proofs.session_laws.fate_stays.Goals as goal
-
-pub returns-clause-decided : goal.returns-clause-decided
-returns-clause-decided c = fate-stays
-
-pub returns-clause-followed : goal.returns-clause-followed
-returns-clause-followed c = fate-followed

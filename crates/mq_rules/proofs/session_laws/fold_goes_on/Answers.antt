@@ -1,8 +1,0 @@
-use Rattle.mq_rules.proofs.FoldLaws.{under-next, folded-next}
-use Rattle.mq_rules.proofs.session_laws.fold_goes_on.Goals as goal
-
-pub returns-clause-under : goal.returns-clause-under
-returns-clause-under c at_start = under-next
-
-pub returns-clause-in_order : goal.returns-clause-in_order
-returns-clause-in_order c at_start = folded-next

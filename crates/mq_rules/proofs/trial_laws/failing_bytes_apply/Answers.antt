@@ -1,5 +1,0 @@
-use Rattle.mq_rules.proofs.TrialLaws.{fails-tried}
-use Rattle.mq_rules.proofs.trial_laws.failing_bytes_apply.Goals as goal
-
-pub returns : goal.returns
-returns c = fails-tried

@@ -1,0 +1,12 @@
+pub mod FateLaws
+pub mod DecidedLaws
+pub mod LateLaws
+pub mod PositionLaws
+pub mod FoldLaws
+pub mod AliveLaws
+pub mod CounterLaws
+pub mod FirstRestLaws
+pub mod WiderLaws
+pub mod OccasionLaws
+pub mod PlacesLaws
+pub mod TrialLaws
