@@ -15,15 +15,11 @@ use Rattle.mq_log.specs.Flows.{flow_refused, flow_after_bytes, flow_events}
 use Rattle.mq_log.specs.Reception.{AreEvents}
 use Rattle.mq_trace.specs.Deframing.{flow_of, FlowComes, FlowStops}
 use Rattle.mq_trace.specs.Keeping.{state_in, IsUnfinished, IsSound, Advances, Comes, StepStops}
-use Rattle.mq_trace.specs.Stepping.{IsBodyHead, context_for, deframer_for, flow_for, redirected, leaving}
+use Rattle.mq_trace.specs.Stepping.{IsBodyHead, begun_body, context_for, deframer_for, flow_for, redirected, leaving}
 use Rattle.mq_trace.proofs.ReadingLaws.{stops_longer}
 use Rattle.mq_trace.proofs.HeadLaws.{head_taken, head_sound, comes_after_head, stops_after_head}
 use Rattle.mq_trace.proofs.BodyLaws.{body_comes, body_sound, body_stops}
 use Rattle.mq_trace.proofs.DeframerLaws.{stops_front}
-
--- What of a record's body of this length is there, after a head of this length.
-abbrev pub begun_body : ℕ → ℕ → List ℕ → List ℕ
-begun_body ahead number bytes = take (min (length (drop ahead bytes)) number) (drop ahead bytes)
 
 -- how long it is
 pub begun_few : (ahead left : ℕ) (bytes : List ℕ) → length (begun_body ahead left bytes) ≤ left

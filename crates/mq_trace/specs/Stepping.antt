@@ -1,5 +1,5 @@
 -- The steps of a log's reader: its state after the bytes of one.
-use Rattle.std.specs.Prelude.{◌≡◌, ℕ, ◌+◌, ◌<◌, ◌≤◌, ◌==◌, List, length, slice_index, Bool, true, false, cond, if◌then◌else◌, [], ◌∷◌, ◌++◌, Option, Some, None, Result, Ok, Err}
+use Rattle.std.specs.Prelude.{◌≡◌, ℕ, ◌+◌, ◌<◌, ◌≤◌, ◌==◌, List, length, min, take, drop, slice_index, Bool, true, false, cond, if◌then◌else◌, [], ◌∷◌, ◌++◌, Option, Some, None, Result, Ok, Err}
 use Rattle.std.specs.Int.{w32, from_be_bytes}
 use Rattle.mq_log.specs.declared.kind.RecordKind.{RecordKind}
 use Rattle.mq_log.specs.declared.kind.RecordKind.TheVariants as kinds
@@ -81,6 +81,10 @@ pub record IsBodyHead (r : Reading) (bytes : List ℕ) (direction : Direction) (
   pub spelled : number ≡ from_be_bytes w32 (slice_index bytes 1 ∷ slice_index bytes 2 ∷ slice_index bytes 3 ∷ slice_index bytes 4 ∷ [])
   pub allowed : number ≤ longest_body r.header.version
   pub timed : moment_in (head_length r.header.version) bytes ≡ moment
+
+-- What of a record's body of this length is there, after a head of this length.
+abbrev pub begun_body : ℕ → ℕ → List ℕ → List ℕ
+begun_body ahead number bytes = take (min (length (drop ahead bytes)) number) (drop ahead bytes)
 
 -- after a whole length of a record that has a moment
 abbrev pub in_moment : Reading → ℕ → RecordKind → ℕ → ℕ → ℕ → Reading

@@ -12,12 +12,13 @@ ghost use Rattle.mq_log.specs.Events.{Placed};
 ghost use Rattle.mq_log.specs.Reception.{AreEvents, Declines, event_of};
 ghost use Rattle.mq_trace.specs.Emission.{effect_of, event_refusal, next_placed, NotEmitted};
 ghost use Rattle.mq_log.specs.Context.{fresh};
-ghost use Rattle.mq_trace.specs.Stepping.{err_of, after_header_byte, kind_refusal, kind_for, IsBodyHead, BeginsRecord, EndsHead, is_in_body, refused_first, in_head, in_moment, in_record_of, marked, leaving};
+ghost use Rattle.mq_trace.specs.Settling.{IsStep};
+ghost use Rattle.mq_trace.specs.Stepping.{err_of, after_header_byte, kind_refusal, kind_for, IsBodyHead, BeginsRecord, begun_body, deframer_for, EndsHead, is_in_body, refused_first, in_head, in_moment, in_record_of, marked, leaving};
 
 mod bodies;
 
 use super::connections::{Connections, Effect, emit};
-use super::deframer::Deframer;
+use super::deframer::{Deframer, Step};
 use super::sink::Sink;
 use super::stage::Stage;
 use mq_log::{
@@ -122,8 +123,8 @@ impl Reading {
         }
     }
 
-    // As `consume_record`, in two steps: the head, and then the body, which may be any. It is a
-    // function of its own, since most bodies begin with a whole packet.
+    // As `consume_record`, in two steps: the head, and then the body, whose bytes are this and don't
+    // begin with a whole packet. It is a function of its own, since those of most bodies do.
     //
     // Errors: As `consume`.
     #[inline(never)]
@@ -132,11 +133,13 @@ impl Reading {
         direction: Direction,
         left: u32,
         moment: u64,
+        step: Step,
         bytes: &[u8],
         sink: &mut S,
     ) -> Result<usize, Refusal>
         requires sound { IsSound self.old }
         requires head { IsBodyHead self.old bytes.now direction left moment }
+        requires step { IsStep (state_in (deframer_for self.old direction)) self.old.limit (begun_body (head_length self.old.header.version) left bytes.now) step }
         ensures count { IfOk result (λ n. (1 ≤ n) × (n ≤ length bytes.now)) }
         ensures sound { OnOk result (IsSound self.new) }
         ensures comes { IfOk result (λ n. Comes S.agrees self.old self.new (take n bytes.now) sink.old sink.new) }
@@ -148,7 +151,7 @@ impl Reading {
         if left == 0 || bytes.len() == head {
             return Ok(head);
         }
-        match self.consume_body(direction, left, &bytes[head..], sink) {
+        match self.consume_part(direction, left, step, &bytes[head..], sink) {
             Ok(count) => Ok(head + count),
             Err(refusal) => Err(refusal),
         }
@@ -158,13 +161,14 @@ impl Reading {
     // direction.
     #[inline(always)]
     fn skip_head(&mut self, direction: Direction, left: u32, moment: u64)
+        requires between { self.old.stage ≡ stages.Between }
         requires room { self.old.at + head_length self.old.header.version < 2 ^ 64 }
         requires numbered { self.old.records < 4294967295 }
         ensures { self.new ≡ leaving (record self.old { at = self.old.at + head_length self.old.header.version; moment = moment }) direction left }
     {
         self.at += head_length(self.header.version) as u64;
         self.moment = moment;
-        self.leave(direction, left);
+        self.enter(direction, left);
     }
 
     // The direction and the length of the body, and the record's moment, where the next bytes are
@@ -660,17 +664,15 @@ impl Reading {
         self.leave(direction, length);
     }
 
-    // Sets the state with `left` bytes of a record's body still to come.
+    // Sets the state, which is that inside of a record, with `left` bytes of its body still to come.
     #[inline(always)]
     fn leave(&mut self, direction: Direction, left: u32)
         requires numbered { self.old.records < 4294967295 }
         ensures { self.new ≡ leaving self.old direction left }
     {
         if left == 0 {
-            self.records += 1;
             self.stage = Stage::Between;
-        } else {
-            self.stage = Stage::Body { direction, left };
         }
+        self.enter(direction, left);
     }
 }

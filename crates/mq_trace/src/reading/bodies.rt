@@ -1,11 +1,11 @@
 //! Passing the bytes of a body on to their direction.
 
-ghost use Rattle.std.specs.Prelude.{◌≡◌, ◌+◌, ◌^◌, ◌<◌, ◌≤◌, ◌++◌, [], List, false, None, OnOk, IfOk, IfErr, IfSome, IsTrue, is_some, length, take, OnErr};
+ghost use Rattle.std.specs.Prelude.{◌≡◌, ◌+◌, ◌^◌, ◌<◌, ◌≤◌, ◌++◌, [], List, false, None, OnOk, IfOk, IfErr, IsTrue, length, take, OnErr};
 ghost use Rattle.mq_trace.specs.Keeping.{state_in, IsUnfinished, IsSound, Comes, StepStops, HoldsHeader};
 ghost use Rattle.mq_trace.specs.declared.stage.Stage.TheVariants as stages;
 ghost use Rattle.mq_log.specs.Events.{Placed};
 ghost use Rattle.mq_log.specs.Reception.{AreEvents, Declines};
-ghost use Rattle.mq_trace.specs.Stepping.{IsBodyHead, leaving, in_record_of, context_for, deframer_for, flow_for, redirected};
+ghost use Rattle.mq_trace.specs.Stepping.{IsBodyHead, begun_body, leaving, in_record_of, context_for, deframer_for, flow_for, redirected};
 ghost use Rattle.mq_log.specs.Flows.{flow_refused, flow_events, flow_after_bytes};
 ghost use Rattle.mq_trace.specs.Deframing.{flow_of, FlowStops};
 ghost use Rattle.mq_trace.specs.Settling.{IsStep, IsWhole};
@@ -47,44 +47,44 @@ impl Reading {
         let head = head_length(self.header.version);
         let rest = &bytes[head..];
         let body = &rest[..rest.len().min(left as usize)];
-        let Some((header, size)) = self.front_packet(direction, body) else {
-            return self.consume_parts(direction, left, moment, bytes, sink);
-        };
-        let at = self.at + head as u64;
-        let context = self.body_context(direction, moment);
-        let frame = Frame::new(&body[..size], header);
-        match consume_whole(context, &mut self.connections, at, frame, sink) {
-            Ok(()) => {
-                self.at = at + size as u64;
-                self.moment = moment;
-                self.enter(direction, left - size as u32);
-                Ok(head + size)
+        match self.front_packet(direction, body) {
+            Ok((header, size)) => {
+                let at = self.at + head as u64;
+                let context = self.body_context(direction, moment);
+                let frame = Frame::new(&body[..size], header);
+                match consume_whole(context, &mut self.connections, at, frame, sink) {
+                    Ok(()) => {
+                        self.at = at + size as u64;
+                        self.moment = moment;
+                        self.enter(direction, left - size as u32);
+                        Ok(head + size)
+                    }
+                    Err(refusal) => Err(refusal),
+                }
             }
-            Err(refusal) => Err(refusal),
+            Err(step) => self.consume_parts(direction, left, moment, step, bytes, sink),
         }
     }
 
     // The lengths of the fixed header and of the packet, if the direction is neither lost nor
-    // inside a packet and the body begins with a whole one.
+    // inside a packet and the body begins with a whole one; else what the body's bytes are.
     #[inline(always)]
-    fn front_packet(&self, direction: Direction, body: &[u8]) -> Option<(usize, usize)>
-        ensures idle { IsTrue (is_some result) → state_in (deframer_for self.now direction) ≡ record { unfinished = []; lost = false } }
-        ensures whole { IfSome result (λ lengths. IsWhole self.now.limit body.now lengths.0 lengths.1) }
+    fn front_packet(&self, direction: Direction, body: &[u8]) -> Result<(usize, usize), Step>
+        ensures idle { OnOk result (state_in (deframer_for self.now direction) ≡ record { unfinished = []; lost = false }) }
+        ensures whole { IfOk result (λ lengths. IsWhole self.now.limit body.now lengths.0 lengths.1) }
+        ensures step { IfErr result (λ step. IsStep (state_in (deframer_for self.now direction)) self.now.limit body.now step) }
     {
         if !self.is_idle(direction) {
-            return None;
+            return Err(Step::Other);
         }
-        match whole_packet(self.limit, body) {
-            Ok(lengths) => Some(lengths),
-            Err(_) => None,
-        }
+        whole_packet(self.limit, body)
     }
 
-    // Sets the state, which is that between two records, to that with `left` bytes of a record's
-    // body still to come.
+    // Sets the state with `left` bytes of a record's body still to come. With none, the state is
+    // already that between two records.
     #[inline(always)]
-    fn enter(&mut self, direction: Direction, left: u32)
-        requires between { self.old.stage ≡ stages.Between }
+    pub fn enter(&mut self, direction: Direction, left: u32)
+        requires between { left ≡ 0 → self.old.stage ≡ stages.Between }
         requires numbered { self.old.records < 4294967295 }
         ensures { self.new ≡ leaving self.old direction left }
     {
@@ -124,6 +124,38 @@ impl Reading {
         }
     }
 
+    /// Takes in bytes of a body, of which `left` are still to come: those of one packet. They are
+    /// this, and don't begin with a whole packet.
+    #[inline(always)]
+    pub fn consume_part<S: Sink>(
+        &mut self,
+        direction: Direction,
+        left: u32,
+        step: Step,
+        bytes: &[u8],
+        sink: &mut S,
+    ) -> Result<usize, Refusal>
+        requires some { 1 ≤ length bytes.now }
+        requires sound { IsSound self.old }
+        requires within { self.old.stage ≡ stages.Body direction left }
+        requires step { IsStep (state_in (deframer_for self.old direction)) self.old.limit (begun_body 0 left bytes.now) step }
+        ensures count { IfOk result (λ n. (1 ≤ n) × (n ≤ length bytes.now)) }
+        ensures sound { OnOk result (IsSound self.new) }
+        ensures comes { IfOk result (λ n. Comes S.agrees self.old self.new (take n bytes.now) sink.old sink.new) }
+        ensures stops { IfErr result (λ refusal. StepStops (Declines S.agrees S.refuses) self.old bytes.now sink.old sink.new refusal) }
+        ensures stays { OnErr result (HoldsHeader self.old self.new) }
+    {
+        let body = &bytes[..bytes.len().min(left as usize)];
+        match self.pass_part(direction, step, body, sink) {
+            Ok(count) => {
+                self.at += count as u64;
+                self.leave(direction, left - count as u32);
+                Ok(count)
+            }
+            Err(refusal) => Err(refusal),
+        }
+    }
+
     // Passes bytes of a body on to their direction: those of one packet. Returns how many.
     #[inline(always)]
     fn pass_on<S: Sink>(
@@ -146,10 +178,7 @@ impl Reading {
         ensures sound { OnOk result (IsUnfinished self.old.limit (state_in (deframer_for self.new direction))) }
         ensures stops { IfErr result (λ refusal. FlowStops (Declines S.agrees S.refuses) self.old.limit (context_for self.old direction) (flow_for self.old direction) body.now sink.old sink.new refusal) }
     {
-        if !self.is_idle(direction) {
-            return self.pass_part(direction, Step::Other, body, sink);
-        }
-        match whole_packet(self.limit, body) {
+        match self.front_packet(direction, body) {
             Ok((header, size)) => self.pass_whole(direction, header, size, body, sink),
             Err(step) => self.pass_part(direction, step, body, sink),
         }

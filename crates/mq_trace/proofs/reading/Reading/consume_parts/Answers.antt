@@ -33,7 +33,7 @@ returns-in-Ok-clause-comes g c =
     let bytes = c.args.bytes.now in
     let n = c.head_length-head.result in
     let is : n ≡ head_length r.header.version = c.head_length-head.ensures in
-    comes_after_head g.S.Sink.agrees r c.skip_head.new.self c.consume_body.new.self n c.in-Ok.count bytes _ c.args.sink.now c.consume_body.new.sink
+    comes_after_head g.S.Sink.agrees r c.skip_head.new.self c.consume_part.new.self n c.in-Ok.count bytes _ c.args.sink.now c.consume_part.new.sink
     (rest_same n bytes)
     (subst (λ (k : ℕ). Advances r c.skip_head.new.self (take k bytes) []) (sym is) (head_taken r c.skip_head.new.self c.args.direction c.args.left c.args.moment bytes c.requires.head c.skip_head.ensures))
     c.in-Ok.ensures.comes
@@ -45,7 +45,7 @@ returns-in-Err-clause-stops g c =
     let n = c.head_length-head.result in
     let is : n ≡ head_length r.header.version = c.head_length-head.ensures in
     let there : head_length r.header.version ≤ length bytes = c.requires.head.whole in
-    stops_after_head (Declines g.S.Sink.agrees g.S.Sink.refuses) r c.skip_head.new.self n bytes _ c.args.sink.now c.consume_body.new.sink c.in-Err.refusal
+    stops_after_head (Declines g.S.Sink.agrees g.S.Sink.refuses) r c.skip_head.new.self n bytes _ c.args.sink.now c.consume_part.new.sink c.in-Err.refusal
     (rest_same n bytes) (omega (arith, is, there))
     (subst (λ (k : ℕ). Advances r c.skip_head.new.self (take k bytes) []) (sym is) (head_taken r c.skip_head.new.self c.args.direction c.args.left c.args.moment bytes c.requires.head c.skip_head.ensures))
     (ap (λ (x : Reading). x.at) c.skip_head.ensures ∙ ap (λ k. r.at + k) (sym is)) c.in-Err.ensures.stops
@@ -62,6 +62,6 @@ pub returns-then-left-eq0-clause-sound : goal.returns-then-left-eq0-clause-sound
 returns-then-left-eq0-clause-sound g c =
     head_sound c.args.self.now c.skip_head.new.self c.args.direction c.args.left c.args.moment c.args.bytes.now c.requires.sound c.requires.head c.skip_head.ensures
 
-pub consume_body-requires-clause-sound : goal.consume_body-requires-clause-sound
-consume_body-requires-clause-sound g c =
+pub consume_part-requires-clause-sound : goal.consume_part-requires-clause-sound
+consume_part-requires-clause-sound g c =
     head_sound c.args.self.now c.skip_head.new.self c.args.direction c.args.left c.args.moment c.args.bytes.now c.requires.sound c.requires.head c.skip_head.ensures
