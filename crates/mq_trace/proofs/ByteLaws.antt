@@ -5,7 +5,7 @@ use Rattle.std.proofs.lemmas.Bool.{eqb-true}
 use Rattle.mq_packet.specs.declared.header.FixedHeader.{FixedHeader}
 use Rattle.mq_packet.specs.declared.header.FixedHeader.TheVariants as headers
 use Rattle.mq_packet.specs.Stream.{fixed_header_of, is_lost}
-use Rattle.mq_packet.proofs.Exports.{whole_stays, header_lost, frame_from_header, ends_header}
+use Rattle.mq_packet.proofs.Exports.{whole_stays, header_lost, ends_header}
 use Rattle.mq_log.specs.declared.refusal.Refusal.{Refusal}
 use Rattle.mq_trace.specs.declared.connections.Connections.{Connections}
 use Rattle.mq_trace.specs.declared.deframer.BodyContext.{BodyContext as ContextInMemory}
@@ -50,11 +50,11 @@ below n size up other =
 
 -- A byte with which a fixed header is whole, and gives no size over the limit, is its packet's last if the packet has no more bytes, ..
 pub ends_byte : (limit : ℕ) (u : List ℕ) (byte header size : ℕ) → IsShort limit u (fixed_header_of u) → fixed_header_of (u ++ byte ∷ []) ≡ headers.Whole header size
-    → 2 ≤ header → header ≤ size → (header ≡ length (u ++ byte ∷ []) → size ≤ limit) → size ≡ length (u ++ byte ∷ []) → IsByteStep limit u byte byte_steps.Ends
-ends_byte limit u byte header size short whole two above may all =
+    → 2 ≤ header → header ≤ size → size ≤ header + 268435455 → (header ≡ length (u ++ byte ∷ []) → size ≤ limit) → size ≡ length (u ++ byte ∷ []) → IsByteStep limit u byte (byte_steps.Ends header)
+ends_byte limit u byte header size short whole two above fits may all =
     let known : Fits limit (u ++ byte ∷ []) size = fits_by limit u byte header size (fixed_header_of u) refl short whole above may in
     let longer : length (u ++ byte ∷ []) ≡ length u + 1 = length-append u (byte ∷ []) in
-    (omega (arith, longer, two, above, all), frame_from_header (u ++ byte ∷ []) header size whole (omega (arith, all)) ∙ ap Some all, omega (arith, known.within, all))
+    (omega (arith, longer, two, above, all), whole ∙ ap (headers.Whole header) all, omega (arith, fits, all), omega (arith, known.within, all))
 
 -- .. and else more of it is to come.
 pub goes_byte : (limit : ℕ) (u : List ℕ) (byte header size : ℕ) → IsShort limit u (fixed_header_of u) → fixed_header_of (u ++ byte ∷ []) ≡ headers.Whole header size

@@ -6,7 +6,7 @@ use Rattle.std.proofs.lemmas.List.{take-append-drop}
 use Rattle.mq_packet.specs.declared.header.FixedHeader.{FixedHeader}
 use Rattle.mq_packet.specs.declared.header.FixedHeader.TheVariants as headers
 use Rattle.mq_packet.specs.Stream.{fixed_header_of, frame_size, is_lost}
-use Rattle.mq_packet.proofs.Exports.{header_from_frame, frame_from_header, whole_stays, lost_stays, frame_bounds, frame_stood, short_few, short_no_frame, no_frame_yet}
+use Rattle.mq_packet.proofs.Exports.{header_from_frame, whole_stays, lost_stays, frame_bounds, frame_stood, short_few, short_no_frame, no_frame_yet}
 use Rattle.mq_log.specs.declared.kind.Direction.{Direction}
 use Rattle.mq_log.specs.declared.kind.Direction.TheVariants as directions
 use Rattle.mq_log.specs.declared.refusal.Refusal.{Refusal}
@@ -345,11 +345,11 @@ stays_unfinished limit state new_state bytes open_yet kept short =
     subst (IsUnfinished limit) (sym kept) (short, λ (is : state.lost ≡ true). (let never : false ≡ true = sym open_yet ∙ is in absurd (cc)))
 
 -- The bytes that an unfinished packet lacks make it whole.
-pub whole_with : (u bytes : List ℕ) (header size : ℕ) → fixed_header_of u ≡ headers.Whole header size → length u + length bytes ≡ size → frame_size (u ++ bytes) ≡ Some (length (u ++ bytes))
+pub whole_with : (u bytes : List ℕ) (header size : ℕ) → fixed_header_of u ≡ headers.Whole header size → length u + length bytes ≡ size → fixed_header_of (u ++ bytes) ≡ headers.Whole header (length (u ++ bytes))
 whole_with u bytes header size e all =
     (let longer : length (u ++ bytes) ≡ length u + length bytes = length-append u bytes in
     let same : size ≡ length (u ++ bytes) = omega arith in
-    frame_from_header (u ++ bytes) header size (whole_stays u bytes header size e) (omega arith) ∙ ap Some same)
+    whole_stays u bytes header size e ∙ ap (headers.Whole header) same)
 
 -- What stops the first of some bytes stops them.
 pub stops_front : {S : Type 0} (declines : S → S → List Placed → Refusal → Type 0) (limit : ℕ) (context : BodyContext) (f : Flow) (n : ℕ) (bytes : List ℕ) (old new : S) (refusal : Refusal)

@@ -25,7 +25,7 @@ use Rattle.mq_trace.specs.Emission.{event_refusal, connections_with, next_placed
 use Rattle.mq_trace.specs.Deframing.{flow_of, frame_event, frame_refusal, connections_then}
 
 -- What is known of a frame.
-pub framed : (frame : List ℕ) (header size : ℕ) → frame_size frame ≡ Some (length frame) → Whole header size ≡ fixed_header_of frame → (length frame ≡ size) × (1 ≤ header) × (header ≤ size)
+framed : (frame : List ℕ) (header size : ℕ) → frame_size frame ≡ Some (length frame) → Whole header size ≡ fixed_header_of frame → (length frame ≡ size) × (1 ≤ header) × (header ≤ size)
 framed frame header size whole e =
     (let known : (header' : ℕ) × (fixed_header_of frame ≡ Whole header' (length frame)) × (length frame ≤ length frame) = header_from_frame frame (length frame) whole in
     let same : Whole header size ≡ Whole known.0 (length frame) = e ∙ known.1 in
@@ -33,12 +33,7 @@ framed frame header size whole e =
     let above : (1 ≤ header) × (header ≤ size) = size_above frame header size (sym e) in
     (sym size_is, above.0, above.1))
 
--- Where there is a frame, its fixed header is whole.
-pub frame_header : (frame : List ℕ) → frame_size frame ≡ Some (length frame) → (header : ℕ) × (size : ℕ) × (fixed_header_of frame ≡ Whole header size)
-frame_header frame whole =
-    (let known : (header' : ℕ) × (fixed_header_of frame ≡ Whole header' (length frame)) × (length frame ≤ length frame) = header_from_frame frame (length frame) whole in
-    (known.0, length frame, known.1))
-
+-- Where a fixed header is whole and gives the size of all bytes, they are a frame.
 pub frame_by_header : (frame : List ℕ) (header : ℕ) → fixed_header_of frame ≡ Whole header (length frame) → frame_size frame ≡ Some (length frame)
 frame_by_header frame header e = frame_from_header frame header (length frame) e (omega arith)
 

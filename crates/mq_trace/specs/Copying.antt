@@ -147,12 +147,6 @@ is_between parts.Between = true
 is_between (parts.Head kind count number) = false
 is_between (parts.Body left) = false
 
--- the copier's part is a body
-abbrev pub is_body : Part → Bool
-is_body parts.Between = false
-is_body (parts.Head kind count number) = false
-is_body (parts.Body left) = true
-
 -- Why copying stops in these bytes after a log: a byte is refused, and all before it was written; or a write failed, and a beginning was written.
 pub record RefusesByte (log bytes : List ℕ) (old new : Option (List ℕ)) (refusal : Refusal) : Type 0 where
   pub taken : List ℕ

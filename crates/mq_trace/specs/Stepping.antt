@@ -38,14 +38,6 @@ after_header_byte r byte = record r {
   };
 }
 
--- it is inside the body of a SENT or RECV
-abbrev pub is_in_body : Stage → Bool
-is_in_body stages.Between = false
-is_in_body (stages.Head kind count length_so_far) = false
-is_in_body (stages.Moment kind number count) = false
-is_in_body (stages.Body direction left) = true
-is_in_body (stages.Release first) = false
-
 -- the refusal that applies at the first byte of a record of this kind
 abbrev pub kind_refusal : Reading → RecordKind → Option Refusal
 kind_refusal r kind = first_byte_refusal r.at r.header.releases r.connections.connected r.records kind

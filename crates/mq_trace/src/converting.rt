@@ -2,7 +2,7 @@
 ghost use Rattle.std.specs.Prelude.{◌≡◌, ◌+◌, ◌*◌, ◌<◌, ◌≤◌, ◌^◌, ◌∷◌, ◌++◌, [], ℕ, List, IfOk, IfErr, IfSome, OnOk, None, Some, true, false, length, take};
 ghost use Rattle.std.specs.Io.KnownBytes.{Appends};
 ghost use Rattle.mq_trace.specs.Converting.{Converts, first_version_refusal, unconverted_at};
-ghost use Rattle.mq_trace.specs.Copying.{Adds, BeginsCopy, IsCopyOf, IsSound, StopsCopying, WritesMore, added_bytes, connected_after, fault_of, header_addition, in_length, is_between, is_body, past_body, past_header_byte, past_length, refused_begin};
+ghost use Rattle.mq_trace.specs.Copying.{Adds, BeginsCopy, IsCopyOf, IsSound, StopsCopying, WritesMore, added_bytes, connected_after, fault_of, header_addition, in_length, is_between, past_body, past_header_byte, past_length, refused_begin};
 ghost use Rattle.mq_log.specs.Framing.{kind_named};
 ghost use Rattle.mq_log.specs.Refusals.{allows_length, is_cut_short};
 ghost use Rattle.mq_trace.specs.Writing.{AppendsBeginning};
@@ -217,12 +217,11 @@ impl Copying {
         }
     }
 
-    // Takes in a byte that isn't of a body, and returns what it adds to what is written.
+    // Takes in a byte, and returns what it adds to what is written.
     //
     // Errors: The refusal that applies at the byte.
     fn take_byte(&mut self, byte: u8) -> Result<Addition, Refusal>
         requires sound { IsSound self.old }
-        requires bodiless { is_body self.old.part ≡ false }
         ensures sound { IsSound self.new }
         ensures copied { (log : List ℕ) → IsCopyOf self.old log → IfOk result (λ addition. IsCopyOf self.new (log ++ byte ∷ []) × Adds log (byte ∷ []) (added_bytes addition)) }
         ensures refused { (log : List ℕ) → IsCopyOf self.old log → IfErr result (λ refusal. unconverted_at log byte ≡ Some refusal) }
@@ -237,7 +236,10 @@ impl Copying {
                 count,
                 length,
             } => self.extend_length(kind, count, length, byte),
-            Part::Body(_) => unreachable!(),
+            Part::Body(left) => {
+                self.skip_body(left, 1);
+                Ok(Addition::Byte(byte))
+            }
         }
     }
 

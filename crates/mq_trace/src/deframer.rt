@@ -66,7 +66,10 @@ pub enum ByteStep {
     /// More of the packet is to come.
     GoesOn,
     /// It is the packet's last byte.
-    Ends,
+    Ends {
+        /// How many of the packet's bytes are its fixed header.
+        header: usize,
+    },
     /// It ends a fixed header that gives a size over the limit.
     TooLarge,
     /// It makes the Remaining Length invalid (MQTT 5.0, section 1.5.5).
@@ -150,8 +153,8 @@ impl Deframer {
                 Err(refusal) => Err(refusal),
             },
             Step::Other => match fixed_header(self.unfinished.as_slice()) {
-                FixedHeader::Whole { size, .. } => {
-                    self.go_on(context, connections, at, size, bytes, sink)
+                FixedHeader::Whole { length, size } => {
+                    self.go_on(context, connections, at, length, size, bytes, sink)
                 }
                 _ => match self.consume_byte(context, connections, at, bytes[0], sink) {
                     Ok(()) => Ok(1),
@@ -161,8 +164,8 @@ impl Deframer {
         }
     }
 
-    // Takes in more of an unfinished packet of this size, whose fixed header is whole. Returns how
-    // many bytes it took.
+    // Takes in more of an unfinished packet of this size, whose fixed header is whole and has
+    // `header` bytes. Returns how many bytes it took.
     //
     // Errors: The refusal that applies at the packet's last byte; the sink's own refusal; `Memory`.
     #[inline(never)]
@@ -171,6 +174,7 @@ impl Deframer {
         context: BodyContext,
         connections: &mut Connections,
         at: u64,
+        header: usize,
         size: usize,
         bytes: &[u8],
         sink: &mut S,
@@ -179,7 +183,8 @@ impl Deframer {
         requires room { at + length bytes.now < 2 ^ 64 }
         requires unfinished { IsUnfinished context.limit (state_in self.old) }
         requires kept { self.old.lost ≡ false }
-        requires begun { (header : ℕ) × (fixed_header_of self.old.unfinished.items ≡ headers.Whole header size) }
+        requires begun { fixed_header_of self.old.unfinished.items ≡ headers.Whole header size }
+        requires fits { size ≤ header + 268435455 }
         ensures count { IfOk result (λ n. (1 ≤ n) × (n ≤ length bytes.now)) }
         ensures comes { IfOk result (λ n. FlowComes S.agrees context.limit (body_context context) (flow_of at (state_in self.old) connections.old)
             (flow_of (at + n) (state_in self.new) connections.new) (take n bytes.now) sink.old sink.new) }
@@ -196,7 +201,7 @@ impl Deframer {
             let last = &bytes[..lacks];
             match self
                 .unfinished
-                .complete(context, connections, at, last, sink)
+                .complete(context, connections, at, header, last, sink)
             {
                 Ok(()) => Ok(lacks),
                 Err(refusal) => Err(refusal),
@@ -245,9 +250,9 @@ impl Deframer {
     {
         match self.byte_step(context.limit, byte) {
             ByteStep::GoesOn => self.buffer(at, &[byte]),
-            ByteStep::Ends => {
+            ByteStep::Ends { header } => {
                 self.unfinished
-                    .complete(context, connections, at, &[byte], sink)
+                    .complete(context, connections, at, header, &[byte], sink)
             }
             ByteStep::TooLarge => Err(Refusal::TooLarge(at)),
             ByteStep::Loses => self.mark_lost(context, connections, at, sink),
@@ -268,7 +273,7 @@ impl Deframer {
                 if length == count && size > limit as usize {
                     ByteStep::TooLarge
                 } else if size == count {
-                    ByteStep::Ends
+                    ByteStep::Ends { header: length }
                 } else {
                     ByteStep::GoesOn
                 }
@@ -288,8 +293,7 @@ impl Deframer {
             [a] => fixed_header(&[a, byte]),
             [a, b] => fixed_header(&[a, b, byte]),
             [a, b, c] => fixed_header(&[a, b, c, byte]),
-            [a, b, c, d] => fixed_header(&[a, b, c, d, byte]),
-            _ => unreachable!(),
+            [a, b, c, d, ..] => fixed_header(&[a, b, c, d, byte]),
         }
     }
 

@@ -1,15 +1,13 @@
 //! A whole packet, split after its fixed header.
 
 ghost use Rattle.std.specs.Prelude.{◌≡◌, ◌+◌, ◌≤◌, Some, length, slice_index};
-ghost use Rattle.mq_packet.specs.Stream.{frame_size, fixed_header_of};
+ghost use Rattle.mq_packet.specs.Stream.{fixed_header_of};
 ghost use Rattle.mq_packet.specs.declared.header.FixedHeader.TheVariants as headers;
 ghost use Rattle.mq_packet.specs.Decoding.{decoded};
 ghost use Rattle.mq_packet.specs.Sizes.{size_with, remaining_length};
 ghost use Rattle.mq_packet.specs.declared.packet.Packet.{Packet};
 ghost use Rattle.mq_log.specs.Events.{read_frame};
 ghost use Rattle.mq_trace.specs.Settling.{IsFrame};
-
-use mq_packet::{FixedHeader, fixed_header};
 
 /// A whole packet.
 #[derive(Drop)]
@@ -31,18 +29,6 @@ impl<'a> Frame<'a> {
         ensures frame { IsFrame result }
     {
         Frame { bytes, header }
-    }
-
-    /// The packet that these bytes are.
-    pub fn of(bytes: &'a [u8]) -> Self
-        requires { frame_size bytes.now ≡ Some (length bytes.now) }
-        ensures bytes { result.bytes.now ≡ bytes.now }
-        ensures frame { IsFrame result }
-    {
-        let FixedHeader::Whole { length, .. } = fixed_header(bytes) else {
-            unreachable!()
-        };
-        Frame::new(bytes, length)
     }
 
     /// Its first byte.

@@ -13,7 +13,7 @@ ghost use Rattle.mq_log.specs.Reception.{AreEvents, Declines, event_of};
 ghost use Rattle.mq_trace.specs.Emission.{effect_of, event_refusal, next_placed, NotEmitted};
 ghost use Rattle.mq_log.specs.Context.{fresh};
 ghost use Rattle.mq_trace.specs.Settling.{IsStep};
-ghost use Rattle.mq_trace.specs.Stepping.{err_of, after_header_byte, kind_refusal, kind_for, IsBodyHead, BeginsRecord, begun_body, deframer_for, EndsHead, is_in_body, refused_first, in_head, in_moment, in_record_of, marked, leaving};
+ghost use Rattle.mq_trace.specs.Stepping.{err_of, after_header_byte, kind_refusal, kind_for, IsBodyHead, BeginsRecord, begun_body, deframer_for, EndsHead, refused_first, in_head, in_moment, in_record_of, marked, leaving};
 
 mod bodies;
 
@@ -223,15 +223,14 @@ impl Reading {
         }
     }
 
-    // Takes in the next bytes outside of the body of a SENT or RECV: of the header, of a record's
-    // head or of a RELEASE.
+    // Takes in the next bytes, whatever they are: of the header, of a record's head, of the body of
+    // a SENT or RECV or of a RELEASE.
     //
     // Errors: As `consume`.
     #[inline(never)]
     fn go_on<S: Sink>(&mut self, bytes: &[u8], sink: &mut S) -> Result<usize, Refusal>
         requires some { 1 ≤ length bytes.now }
         requires sound { IsSound self.old }
-        requires bodiless { is_in_body self.old.stage ≡ false }
         ensures count { IfOk result (λ n. (1 ≤ n) × (n ≤ length bytes.now)) }
         ensures sound { OnOk result (IsSound self.new) }
         ensures comes { IfOk result (λ n. Comes S.agrees self.old self.new (take n bytes.now) sink.old sink.new) }
@@ -263,7 +262,7 @@ impl Reading {
                 Ok(()) => Ok(1),
                 Err(refusal) => Err(refusal),
             },
-            Stage::Body { .. } => unreachable!(),
+            Stage::Body { direction, left } => self.go_on_body(direction, left, bytes, sink),
             Stage::Release(None) => {
                 self.at += 1;
                 self.stage = Stage::Release(Some(bytes[0]));
@@ -274,6 +273,30 @@ impl Reading {
                 Err(refusal) => Err(refusal),
             },
         }
+    }
+
+    // As `consume_body`. It is a function of its own, so that `go_on` has no room for it: `resume`
+    // takes in bodies before.
+    //
+    // Errors: As `consume`.
+    #[inline(never)]
+    fn go_on_body<S: Sink>(
+        &mut self,
+        direction: Direction,
+        left: u32,
+        bytes: &[u8],
+        sink: &mut S,
+    ) -> Result<usize, Refusal>
+        requires some { 1 ≤ length bytes.now }
+        requires sound { IsSound self.old }
+        requires within { self.old.stage ≡ stages.Body direction left }
+        ensures count { IfOk result (λ n. (1 ≤ n) × (n ≤ length bytes.now)) }
+        ensures sound { OnOk result (IsSound self.new) }
+        ensures comes { IfOk result (λ n. Comes S.agrees self.old self.new (take n bytes.now) sink.old sink.new) }
+        ensures stops { IfErr result (λ refusal. StepStops (Declines S.agrees S.refuses) self.old bytes.now sink.old sink.new refusal) }
+        ensures stays { OnErr result (HoldsHeader self.old self.new) }
+    {
+        self.consume_body(direction, left, bytes, sink)
     }
 
     // Takes in a byte of the header.
@@ -512,8 +535,8 @@ impl Reading {
     }
 
     // Takes in the last byte of the head of a record of this kind and moment, whose body has this
-    // length.
-    #[inline(always)]
+    // length. It is a function of its own, so that its events take no stack while packets are read.
+    #[inline(never)]
     fn end_head<S: Sink>(
         &mut self,
         kind: RecordKind,
@@ -538,30 +561,6 @@ impl Reading {
                 self.begin_body(Direction::Recv, length, moment);
                 Ok(())
             }
-            _ => self.end_other(kind, length, moment, byte, sink),
-        }
-    }
-
-    // Takes in the last byte of the head of a record that carries no packets. It is a function of
-    // its own, so that its events take no stack while packets are read.
-    #[inline(never)]
-    fn end_other<S: Sink>(
-        &mut self,
-        kind: RecordKind,
-        length: u32,
-        moment: u64,
-        byte: u8,
-        sink: &mut S,
-    ) -> Result<(), Refusal>
-        requires sound { IsSound self.old }
-        requires ends { EndsHead self.old kind length moment byte }
-        requires packetless { (kind ≢ kinds.Sent) × (kind ≢ kinds.Recv) }
-        ensures sound { OnOk result (IsSound self.new) }
-        ensures comes { OnOk result (Comes S.agrees self.old self.new (byte ∷ []) sink.old sink.new) }
-        ensures stops { IfErr result (λ refusal. StepStops (Declines S.agrees S.refuses) self.old (byte ∷ []) sink.old sink.new refusal) }
-        ensures stays { OnErr result (HoldsHeader self.old self.new) }
-    {
-        match kind {
             RecordKind::Open => self.end_mark(Effect::Begins, Event::Open, moment, sink),
             RecordKind::Close => {
                 let begun = self.sent.begun();
@@ -572,7 +571,6 @@ impl Reading {
                 self.begin_release(moment);
                 Ok(())
             }
-            RecordKind::Sent | RecordKind::Recv => unreachable!(),
         }
     }
 

@@ -1,7 +1,8 @@
 //! The bytes of an unfinished packet.
 
 ghost use Rattle.std.specs.Prelude.{◌≡◌, ◌==◌, ◌+◌, ◌<◌, ◌≤◌, ◌^◌, ◌++◌, [], Some, OnOk, OnErr, IfErr, length, false};
-ghost use Rattle.mq_packet.specs.Stream.{frame_size};
+ghost use Rattle.mq_packet.specs.Stream.{fixed_header_of};
+ghost use Rattle.mq_packet.specs.declared.header.FixedHeader.TheVariants as headers;
 ghost use Rattle.mq_log.specs.Reception.{Declines};
 ghost use Rattle.mq_trace.specs.Deframing.{body_context, flow_of, FlowStops, FlowComes};
 
@@ -90,7 +91,7 @@ impl Unfinished {
     }
 
     /// Appends the packet's last bytes, the first of which has this offset in the log, emits the
-    /// packet, and drops its bytes.
+    /// packet, whose fixed header has so many bytes, and drops its bytes.
     ///
     /// # Errors
     ///
@@ -102,13 +103,15 @@ impl Unfinished {
         context: BodyContext,
         connections: &mut Connections,
         at: u64,
+        header: usize,
         bytes: &[u8],
         sink: &mut S,
     ) -> Result<(), Refusal>
         requires begun { 1 ≤ length self.old.items }
         requires some { 1 ≤ length bytes.now }
         requires room { at + length bytes.now < 2 ^ 64 }
-        requires whole { frame_size (self.old.items ++ bytes.now) ≡ Some (length (self.old.items ++ bytes.now)) }
+        requires whole { fixed_header_of (self.old.items ++ bytes.now) ≡ headers.Whole header (length (self.old.items ++ bytes.now)) }
+        requires fits { length (self.old.items ++ bytes.now) ≤ header + 268435455 }
         requires within { length (self.old.items ++ bytes.now) ≤ context.limit }
         ensures comes { OnOk result (FlowComes S.agrees context.limit (body_context context) (flow_of at (record { unfinished = self.old.items; lost = false }) connections.old)
             (flow_of (at + length bytes.now) (record { unfinished = []; lost = false }) connections.new) bytes.now sink.old sink.new) }
@@ -118,7 +121,7 @@ impl Unfinished {
         let last = at + (bytes.len() - 1) as u64;
         match self.bytes.extend_from_slice(bytes) {
             Ok(()) => {
-                let frame = Frame::of(self.bytes.as_slice());
+                let frame = Frame::new(self.bytes.as_slice(), header);
                 let emitted = emit_frame(&context, connections, last, &frame, sink);
                 self.bytes.clear();
                 emitted

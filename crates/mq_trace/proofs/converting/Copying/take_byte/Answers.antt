@@ -1,5 +1,6 @@
-use Rattle.std.proofs.Common.{rules}
-use Rattle.mq_trace.proofs.CopyLaws.{begin_err, begin_ok, extend_err, extend_ok, header_err, header_ok}
+use Rattle.std.proofs.Common.{◌++◌, ◌∷◌, [], rules, sym, subst}
+use Rattle.mq_trace.specs.Copying.{IsCopyOf}
+use Rattle.mq_trace.proofs.CopyLaws.{begin_err, begin_ok, body_copied, extend_err, extend_ok, header_err, header_ok}
 use Rattle.mq_trace.proofs.converting.Copying.take_byte.Goals as goal
 
 pub returns-then-self-lt-HEADER_LENGTH-clause-copied : goal.returns-then-self-lt-HEADER_LENGTH-clause-copied
@@ -19,3 +20,8 @@ returns-in-Head-clause-copied c = λ log was. extend_ok _ _ log _ _ _ _ c.extend
 
 pub returns-in-Head-clause-refused : goal.returns-in-Head-clause-refused
 returns-in-Head-clause-refused c = λ log was. extend_err _ _ log _ _ _ _ c.extend_length.result was c.if-self-lt-HEADER_LENGTH.false c.in-Head.is c.extend_length.ensures.refused
+
+pub returns-in-Body-clause-copied : goal.returns-in-Body-clause-copied
+returns-in-Body-clause-copied c = λ log was.
+    let one = body_copied c.args.self.now log _ c.args.byte was c.if-self-lt-HEADER_LENGTH.false (search rules) in
+    (subst (λ copying. IsCopyOf copying (log ++ c.args.byte ∷ [])) (sym c.skip_body.ensures.is) one.0, one.1)

@@ -20,7 +20,7 @@ returns-then-size-count c =
       | else-length-count-via-then-length-count+else-size-limit w ↦ omega (arith, w.if-size-limit.false)
       | else-length-count-via-else-length-count w ↦ absurd (w.if-length-count.false (omega (arith, ends, longer, c.len-count.ensures.value)))
     ] in
-    ends_byte c.args.limit u c.args.byte c.in-Whole.length c.in-Whole.size c.requires.unfinished.0 (sym c.in-Whole.ensures.exact) c.in-Whole.ensures.bounds.0 c.in-Whole.ensures.bounds.2 may
+    ends_byte c.args.limit u c.args.byte c.in-Whole.length c.in-Whole.size c.requires.unfinished.0 (sym c.in-Whole.ensures.exact) c.in-Whole.ensures.bounds.0 c.in-Whole.ensures.bounds.2 c.in-Whole.ensures.bounds.3 may
     (omega (arith, c.if-size-count.true, longer, c.len-count.ensures.value))
 
 pub returns-else-size-count : goal.returns-else-size-count
