@@ -80,8 +80,8 @@ impl Reading {
         whole_packet(self.limit, body)
     }
 
-    // Sets the state with `left` bytes of a record's body still to come. With none, the state is
-    // already that between two records.
+    /// Sets the state with `left` bytes of a record's body still to come. With none, the state is
+    /// already that between two records.
     #[inline(always)]
     pub fn enter(&mut self, direction: Direction, left: u32)
         requires between { left ≡ 0 → self.old.stage ≡ stages.Between }
@@ -114,19 +114,22 @@ impl Reading {
         ensures stays { OnErr result (HoldsHeader self.old self.new) }
     {
         let body = &bytes[..bytes.len().min(left as usize)];
-        match self.pass_on(direction, body, sink) {
-            Ok(count) => {
-                self.at += count as u64;
-                self.leave(direction, left - count as u32);
-                Ok(count)
-            }
-            Err(refusal) => Err(refusal),
+        match self.front_packet(direction, body) {
+            Ok((header, size)) => match self.pass_whole(direction, header, size, body, sink) {
+                Ok(count) => {
+                    self.at += count as u64;
+                    self.leave(direction, left - count as u32);
+                    Ok(count)
+                }
+                Err(refusal) => Err(refusal),
+            },
+            Err(step) => self.consume_part(direction, left, step, bytes, sink),
         }
     }
 
     /// Takes in bytes of a body, of which `left` are still to come: those of one packet. They are
     /// this, and don't begin with a whole packet.
-    #[inline(always)]
+    #[inline(never)]
     pub fn consume_part<S: Sink>(
         &mut self,
         direction: Direction,
@@ -153,34 +156,6 @@ impl Reading {
                 Ok(count)
             }
             Err(refusal) => Err(refusal),
-        }
-    }
-
-    // Passes bytes of a body on to their direction: those of one packet. Returns how many.
-    #[inline(always)]
-    fn pass_on<S: Sink>(
-        &mut self,
-        direction: Direction,
-        body: &[u8],
-        sink: &mut S,
-    ) -> Result<usize, Refusal>
-        requires some { 1 ≤ length body.now }
-        requires room { self.old.at + length body.now < 2 ^ 64 }
-        requires numbered { self.old.records < 4294967295 }
-        requires unfinished { IsUnfinished self.old.limit (state_in (deframer_for self.old direction)) }
-        ensures is { self.new ≡ record (redirected self.old direction (deframer_for self.new direction)) { connections = self.new.connections } }
-        ensures count { IfOk result (λ n. (1 ≤ n) × (n ≤ length body.now)) }
-        ensures unrefused { IfOk result (λ n. flow_refused self.old.limit (context_for self.old direction) (flow_for self.old direction) (take n body.now) ≡ None) }
-        ensures kept { IfOk result (λ n. flow_after_bytes (context_for self.old direction) (flow_for self.old direction) (take n body.now) ≡ flow_of (self.old.at + n) (state_in (deframer_for self.new direction)) self.new.connections) }
-        ensures receives { (earlier : List Placed) → S.agrees sink.old earlier → IfOk result (λ n.
-            AreEvents (flow_events (context_for self.old direction) (flow_for self.old direction) (take n body.now) ++ earlier)
-            → S.agrees sink.new (flow_events (context_for self.old direction) (flow_for self.old direction) (take n body.now) ++ earlier)) }
-        ensures sound { OnOk result (IsUnfinished self.old.limit (state_in (deframer_for self.new direction))) }
-        ensures stops { IfErr result (λ refusal. FlowStops (Declines S.agrees S.refuses) self.old.limit (context_for self.old direction) (flow_for self.old direction) body.now sink.old sink.new refusal) }
-    {
-        match self.front_packet(direction, body) {
-            Ok((header, size)) => self.pass_whole(direction, header, size, body, sink),
-            Err(step) => self.pass_part(direction, step, body, sink),
         }
     }
 
@@ -230,7 +205,7 @@ impl Reading {
     }
 
     // Passes on bytes that are this, and don't begin with a whole packet.
-    #[inline(never)]
+    #[inline(always)]
     fn pass_part<S: Sink>(
         &mut self,
         direction: Direction,

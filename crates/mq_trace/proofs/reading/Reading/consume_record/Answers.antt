@@ -1,5 +1,5 @@
 -- A record's head and the whole packet that its body begins with.
-use Rattle.std.proofs.Common.{arith, ◌≡◌, ℕ, ◌+◌, ◌-◌, ◌≤◌, List, length, min, take, drop, refl, sym, subst, ap, ◌∙◌}
+use Rattle.std.proofs.Common.{arith, ◌≡◌, ℕ, ◌+◌, ◌-◌, ◌≤◌, List, length, min, take, drop, sym, subst, ap, ◌∙◌}
 use Rattle.mq_log.specs.Framing.{head_length}
 use Rattle.mq_log.specs.Context.{emptied}
 use Rattle.mq_log.specs.Reception.{Declines}
