@@ -15,18 +15,18 @@ use Rattle.mq_trace.specs.declared.converting.Copying.{Copying}
 use Rattle.mq_trace.specs.declared.converting.Part.{Part}
 use Rattle.mq_trace.specs.declared.converting.Part.TheVariants as parts
 use Rattle.mq_log.specs.Pieces.{Pieces}
-use Rattle.mq_log.specs.Framing.{header_by, kind_named, kind_of, body_length, head_length, longest_body, length_end, spelled_from, record_size, records, ahead_in}
+use Rattle.mq_log.specs.Framing.{header_by, kind_named, kind_of, body_length, head_length, longest_body, length_end, record_size, records, ahead_in}
 use Rattle.mq_log.specs.Events.{Event, Item, sent, received, released, item_at, event_by, event_in, event_of_head, events}
 use Rattle.mq_log.specs.Refusals.{situation, header_refusal, first_that_applies, allows_length, is_open_kind, needs_connection, is_release_kind, is_cut_short}
 use Rattle.mq_log.specs.Connections.{has_open_connection}
 use Rattle.mq_log.specs.Context.{Context, ahead_of, begun_of, context, so_far_for, situated, event_for, with_completed, after_part}
 use Rattle.mq_trace.specs.Writing.{bit_byte, header_bytes}
 use Rattle.mq_trace.specs.Converting.{first_version_refusal, record_conditions, unconverted_at, unconverted, no_moment, with_moment, second_header, timed}
-use Rattle.mq_trace.specs.Copying.{Adds, BeginsCopy, IsCopyOf, IsIn, IsSound, added_bytes, begun_in, connected_after, has_body, header_addition, in_length, is_between, past_body, past_header_byte, past_length, refused_begin}
+use Rattle.mq_trace.specs.Copying.{Adds, BeginsCopy, IsCopyOf, IsIn, IsSound, IsWithin, added_bytes, begun_in, connected_after, has_body, header_addition, in_length, is_between, past_body, past_header_byte, past_length, refused_begin}
+use Rattle.mq_trace.specs.Heads.{IsHead, head_of}
 use Rattle.mq_log.proofs.Exports.{header-unchanged, records-header, rest-grow, whole-grow, body_length-append, kind_of-append}
 use Rattle.mq_log.proofs.Exports.{context-grow, context-after_header, events-header, header_context, part_context, at_context, situation-kept}
-use Rattle.mq_trace.proofs.StageLaws.{spelled_more}
-use Rattle.mq_trace.proofs.MomentLaws.{fourth}
+use Rattle.mq_trace.proofs.LengthLaws.{head_size, longer_head, longer_within, whole_length}
 use Rattle.mq_trace.proofs.StepLaws.{header_after, first_event, middle_event, last_event, headed_record, both_none}
 use Rattle.mq_trace.proofs.ConvertingLaws.{timed_known, timed_grown, unconverted-grow, nothing_converted, option_parts, no_bytes}
 
@@ -198,26 +198,12 @@ begin_err c c' log b (Err refusal) was h is met = begins_refused c log b refusal
 
 -- ---- the length of a record
 
--- where the log is, inside a length
-record InLength (c : Copying) (log : List ℕ) (kind : RecordKind) (count number : ℕ) : Type 0 where
-  first : ℕ
-  bytes : List ℕ
-  is : (records log).rest ≡ first ∷ bytes
-  kind_is : kind_of (records log).rest ≡ Some kind
-  count_is : length bytes ≡ count
-  number_is : number ≡ spelled_from 0 bytes
-
-in_length_of : (c : Copying) (log : List ℕ) (kind : RecordKind) (count number : ℕ) → IsCopyOf c log → c.part ≡ parts.Head kind count number → InLength c log kind count number
-in_length_of c log kind count number was within =
-    let h : IsIn (parts.Head kind count number) (records log).rest = subst (λ p. IsIn p (records log).rest) within was.part in
-    record { first = h.0; bytes = h.1; is = h.2; kind_is = h.3; count_is = h.4; number_is = h.5 }
-
 module _ (c : Copying) (log : List ℕ) (b : ℕ) (kind : RecordKind) (count number : ℕ) (was : IsCopyOf c log) (past : 8 ≤ c.at) (within : c.part ≡ parts.Head kind count number) where
   abbrev part : List ℕ
   part = (records log).rest ++ b ∷ []
 
-  stands : InLength c log kind count number
-  stands = in_length_of c log kind count number was within
+  stands : IsHead (head_of kind count number) (records log).rest
+  stands = subst (λ p. IsIn p (records log).rest) within was.part
 
   long : 8 ≤ length log
   long = long_copy c log was past
@@ -229,13 +215,13 @@ module _ (c : Copying) (log : List ℕ) (b : ℕ) (kind : RecordKind) (count num
   ahead = first_ahead c log was long
 
   rest_long : length (records log).rest ≡ count + 1
-  rest_long = ap length stands.is ∙ (let n = stands.count_is in omega arith)
+  rest_long = let n = head_size kind count number (records log).rest stands in omega arith
 
   part_long : length part ≡ count + 2
   part_long = length-append (records log).rest (b ∷ []) ∙ (let r = rest_long in omega arith)
 
   kind_now : kind_of part ≡ Some kind
-  kind_now = kind_of-append (records log).rest (b ∷ []) (let r = rest_long in omega arith) ∙ stands.kind_is
+  kind_now = kind_of-append (records log).rest (b ∷ []) (let r = rest_long in omega arith) ∙ stands.3
 
   kept_long : length (context log).part ≡ count + 1
   kept_long = ap length (part_context log) ∙ rest_long
@@ -252,8 +238,6 @@ module _ (c : Copying) (log : List ℕ) (b : ℕ) (kind : RecordKind) (count num
       let p = part_long in
       let r = rest_long in
       let k = kept_long in
-      let l = length-append stands.bytes (b ∷ []) in
-      let n = stands.count_is in
       let d_ahead : ahead_of (context log) ≡ 5 = ap (λ (t : Header). head_length t.version) (header_context log) ∙ ahead in (
         copies_on c (in_length c kind (count + 1) (number * 256 + b)) log b false (has_open_connection (events log)) was
             (record {
@@ -263,16 +247,13 @@ module _ (c : Copying) (log : List ℕ) (b : ℕ) (kind : RecordKind) (count num
               opened = connected_grow log b None long (middle_event (context log) b at (omega (arith, d_ahead))) ∙ ap (λ (x : Context). x.connected) (kept_parts log);
             })
             refl refl refl was.connected
-            (stands.first, stands.bytes ++ b ∷ [], ap (λ (q : List ℕ). q ++ b ∷ []) stands.is, kind_now, omega arith, ap (λ m. m * 256 + b) stands.number_is ∙ sym (spelled_more 0 stands.bytes b)),
+            (longer_head kind count number b (records log).rest stands),
         adds_byte log b false long (ne_eqb (length (records log).rest) 4 (λ e. omega arith)),
       )
 
   -- at its last byte
   length_is : count ≡ 3 → body_length part ≡ number * 256 + b
-  length_is last =
-      ap (λ (q : List ℕ). body_length (q ++ b ∷ [])) stands.is
-      ∙ fourth stands.first stands.bytes b (stands.count_is ∙ last)
-      ∙ ap (λ m. m * 256 + b) (sym stands.number_is)
+  length_is last = whole_length kind count number b (records log).rest last stands
 
   refusal_last : count ≡ 3 → (allowed : Bool) → allows_length 1 (Some kind) (number * 256 + b) ≡ allowed → unconverted_at log b ≡ cond allowed None (Some (refusals.Length (length log)))
   refusal_last last allowed is =
@@ -304,7 +285,7 @@ module _ (c : Copying) (log : List ℕ) (b : ℕ) (kind : RecordKind) (count num
   connects last =
       let k = kept_long in
       let d_ahead : ahead_of (context log) ≡ 5 = ap (λ (t : Header). head_length t.version) (header_context log) ∙ ahead in
-      connected_grow log b (event_of_head (begun_of (context log)) kind) long (last_event (context log) b kind at (omega (arith, d_ahead)) (ap kind_of (part_context log) ∙ stands.kind_is))
+      connected_grow log b (event_of_head (begun_of (context log)) kind) long (last_event (context log) b kind at (omega (arith, d_ahead)) (ap kind_of (part_context log) ∙ stands.3))
       ∙ by kind
       ∙ ap (λ (x : Context). connected_after kind x.connected) (kept_parts log)
     where
@@ -598,7 +579,7 @@ allowed_most kinds.Release n allowed = let e = eqb-true n 2 allowed in omega ari
 allowed_most kinds.Sent n allowed = leb-true n 1048576 allowed
 allowed_most kinds.Recv n allowed = leb-true n 1048576 allowed
 
-past_length_sound : (c : Copying) (kind : RecordKind) (count number n : ℕ) → IsSound c → c.part ≡ parts.Head kind count number → count ≡ 3 → allows_length 1 (Some kind) n ≡ true → IsSound (past_length c kind n)
+pub past_length_sound : (c : Copying) (kind : RecordKind) (count number n : ℕ) → IsSound c → c.part ≡ parts.Head kind count number → count ≡ 3 → allows_length 1 (Some kind) n ≡ true → IsSound (past_length c kind n)
 past_length_sound c kind count number n sound within last allowed = by (n == 0) refl
   where
     some : begun_in c.part ≡ 1 + count
@@ -632,10 +613,19 @@ past_length_sound c kind count number n sound within last allowed = by (n == 0) 
           header_first = λ h. absurd (omega (arith, h, past));
         }
 
-pub length_sound : {A : Type 0} (c c' : Copying) (kind : RecordKind) (count number n : ℕ) (result : Result A Refusal) (P : A → Type 0) (Q : Refusal → Type 0) → IsSound c → c.part ≡ parts.Head kind count number → count ≡ 3
-    → IfErr result (λ refusal. (allows_length 1 (Some kind) n ≡ false) × (Q refusal) × (c' ≡ c)) → IfOk result (λ a. (allows_length 1 (Some kind) n ≡ true) × (c' ≡ past_length c kind n) × P a) → IsSound c'
-length_sound c c' kind count number n (Err refusal) P Q sound within last met kept = subst IsSound (sym met.2) sound
-length_sound c c' kind count number n (Ok a) P Q sound within last met kept = subst IsSound (sym kept.1) (past_length_sound c kind count number n sound within last kept.0)
+pub longer_sound : (c : Copying) (kind : RecordKind) (count number b : ℕ) → IsSound c → c.part ≡ parts.Head kind count number → count < 3 → b < 256 → IsSound (in_length c kind (count + 1) (number * 256 + b))
+longer_sound c kind count number b sound within less byte =
+    let some : begun_in c.part ≡ 1 + count = ap begun_in within in
+    let few = sound.begun (omega arith) in
+    let past = sound.past_header (omega arith) in
+    record {
+      counted = omega (arith, sound.counted);
+      few = sound.few;
+      begun = λ h. few;
+      within = longer_within kind count number b (subst IsWithin within sound.within) less byte;
+      past_header = λ h. omega arith;
+      header_first = λ h. absurd (omega arith);
+    }
 
 -- ---- the whole of a log
 

@@ -9,6 +9,7 @@ pub mod EndLaws
 pub mod FeedingLaws
 pub mod FlowLaws
 pub mod ItemLaws
+pub mod LengthLaws
 pub mod JoinedLaws
 pub mod LiftLaws
 pub mod MomentLaws

@@ -1,7 +1,7 @@
 -- The moment of a record: what its bytes spell, and the states of a log's reader within it.
 use Rattle.std.proofs.Common.{◌≡◌, ℕ, ◌+◌, ◌*◌, ◌<◌, ◌≤◌, Bool, true, false, List, [], ◌∷◌, ◌++◌, length, take, drop, Some, refl, sym, ◌∙◌, ap, subst, arith, zero, suc, length-append}
 use Rattle.std.specs.Prelude.{◌==◌, if◌then◌else◌, slice_index}
-use Rattle.std.specs.Int.{w32, w64, from_be_bytes}
+use Rattle.std.specs.Int.{w64, from_be_bytes}
 use Rattle.std.proofs.lemmas.List.{drop_all, drop-append-le, take_all, take-append-le, length-take}
 use Rattle.mq_log.specs.declared.kind.RecordKind.{RecordKind}
 use Rattle.mq_trace.specs.declared.stage.Stage.TheVariants as stages
@@ -11,10 +11,12 @@ use Rattle.mq_log.specs.Framing.{kind_of, body_length, opens, spelled_from, mome
 use Rattle.mq_log.specs.Refusals.{allows_length}
 use Rattle.mq_log.specs.Context.{emptied, refusal_for, put}
 use Rattle.mq_trace.specs.Keeping.{state_in, IsAt, StandsAt, opens_in, spellings, begun_in, context_of, IsWithin, IsSound, Advances}
+use Rattle.mq_trace.specs.Heads.{head_of}
 use Rattle.mq_trace.specs.Stepping.{in_moment, EndsHead}
 use Rattle.mq_log.proofs.Exports.{body_length-append, kind_of-append}
-use Rattle.mq_trace.proofs.StepLaws.{placed_none, fifth_length, length_refusal, middle_refusal, middle_event, middle_after}
-use Rattle.mq_trace.proofs.StageLaws.{one_step, spelled_more, opens_moment, begun_some, head_after, head_room, head_opening, head_is, head_long, head_opens}
+use Rattle.mq_trace.proofs.StepLaws.{placed_none, length_refusal, middle_refusal, middle_event, middle_after}
+use Rattle.mq_trace.proofs.StageLaws.{one_step, begun_some, head_after, head_room, head_opening, head_is, head_long, head_opens}
+use Rattle.mq_trace.proofs.LengthLaws.{spelled_more, whole_length}
 
 pub head_with : (version : ℕ) → (version == 2) ≡ true → head_length version ≡ 13
 unfolding head_length
@@ -62,23 +64,13 @@ spellings_few (suc (suc (suc (suc (suc (suc zero)))))) h = omega arith
 spellings_few (suc (suc (suc (suc (suc (suc (suc zero))))))) h = omega arith
 spellings_few (suc (suc (suc (suc (suc (suc (suc (suc count)))))))) h = absurd (omega arith)
 
--- The length that the four bytes after a record's first one say.
-pub fourth : (first : ℕ) (bytes : List ℕ) (b : ℕ) → length bytes ≡ 3 → body_length ((first ∷ bytes) ++ b ∷ []) ≡ spelled_from 0 bytes * 256 + b
-fourth first [] b e = absurd (omega arith)
-fourth first (x ∷ []) b e = absurd (omega arith)
-fourth first (x ∷ y ∷ []) b e = absurd (omega arith)
-fourth first (x ∷ y ∷ z ∷ []) b e = fifth_length first x y z b ∙ (let same : from_be_bytes w32 (x ∷ y ∷ z ∷ b ∷ []) ≡ (((0 * 256 + x) * 256 + y) * 256 + z) * 256 + b = omega arith in same)
-fourth first (x ∷ y ∷ z ∷ w ∷ bytes) b e = absurd (omega arith)
-
 -- the last byte of a record's length
-module _ (r : Reading) (kind : RecordKind) (number b : ℕ) (sound : IsSound r) (staged : r.stage ≡ stages.Head kind 3 number) where
+module _ (r : Reading) (kind : RecordKind) (number b : ℕ) (sound : IsSound r) (staged : r.stage ≡ stages.Head (head_of kind 3 number)) where
   abbrev emitted : ℕ
   emitted = number * 256 + b
 
   ended_length : (part : List ℕ) → StandsAt r part → body_length (part ++ b ∷ []) ≡ emitted
-  ended_length part at =
-      let h = head_is r kind 3 number sound staged part at in
-      ap (λ p. body_length (p ++ b ∷ [])) h.2 ∙ fourth h.0 h.1 b h.4 ∙ ap (λ m. m * 256 + b) (sym h.5)
+  ended_length part at = whole_length kind 3 number b part refl (head_is r kind 3 number sound staged part at)
 
   ended_kind : (part : List ℕ) → StandsAt r part → kind_of (part ++ b ∷ []) ≡ Some kind
   ended_kind part at =
@@ -119,7 +111,7 @@ module _ (r : Reading) (kind : RecordKind) (number b : ℕ) (sound : IsSound r) 
         within = (omega arith, omega arith, long, allowed);
         past_header = λ begun. omega arith;
         header_first = λ less. absurd (omega arith);
-        emptied = λ e. head_opening r kind 3 number sound staged (sym (opens_moment kind emitted 0) ∙ e);
+        emptied = λ e. head_opening r kind 3 number sound staged e;
         sent = sound.sent;
         recv = sound.recv;
       }
@@ -164,7 +156,7 @@ module _ (r : Reading) (kind : RecordKind) (number count : ℕ) (sound : IsSound
   moment_is part at = subst (λ s. IsAt (head_length r.header.version) r.moment s part) staged at
 
   moment_opening : opens (Some kind) ≡ true → (state_in r.sent ≡ emptied) × (state_in r.recv ≡ emptied)
-  moment_opening e = sound.emptied (ap opens_in staged ∙ opens_moment kind number count ∙ e)
+  moment_opening e = sound.emptied (ap opens_in staged ∙ e)
 
   pub moment_advances : (b : ℕ) → count < 7 → Advances r (in_moment r (r.at + 1) kind number (count + 1) (r.moment * 256 + b)) (b ∷ []) []
   moment_advances b few = one_step r (in_moment r (r.at + 1) kind number (count + 1) (r.moment * 256 + b)) b [] refl (λ part at. (
@@ -200,7 +192,7 @@ module _ (r : Reading) (kind : RecordKind) (number count : ℕ) (sound : IsSound
         within = (omega arith, omega (arith, more, small, byte), bounds.2, bounds.3);
         past_header = λ begun. omega arith;
         header_first = λ less. absurd (omega arith);
-        emptied = λ e. moment_opening (sym (opens_moment kind number (count + 1)) ∙ e);
+        emptied = λ e. moment_opening e;
         sent = sound.sent;
         recv = sound.recv;
       }

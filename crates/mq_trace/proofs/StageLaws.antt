@@ -1,16 +1,15 @@
 -- The states of a log's reader, from one byte to the next.
-use Rattle.std.proofs.Common.{◌≡◌, ℕ, ◌+◌, ◌*◌, ◌<◌, ◌≤◌, Bool, true, false, cond, nat_lt, List, [], ◌∷◌, ◌++◌, length, Option, Some, None, refl, sym, ◌∙◌, ap, subst, inl, inr, arith, zero, suc, length-append}
+use Rattle.std.proofs.Common.{◌≡◌, ℕ, ◌+◌, ◌*◌, ◌<◌, ◌≤◌, Bool, true, false, cond, nat_lt, List, [], ◌∷◌, ◌++◌, length, Option, Some, None, refl, sym, ◌∙◌, ap, subst, inl, inr, arith}
 use Rattle.std.specs.Prelude.{◌&&◌, not, is_none}
 use Rattle.std.specs.Int.{w32, from_be_bytes}
 use Rattle.std.specs.Option.{option_or}
 use Rattle.mq_packet.specs.Stream.{fixed_header_of}
 use Rattle.mq_log.specs.declared.kind.RecordKind.{RecordKind}
-use Rattle.mq_log.specs.declared.kind.RecordKind.TheVariants as kinds
 use Rattle.mq_trace.specs.declared.stage.Stage.TheVariants as stages
 use Rattle.mq_log.specs.declared.refusal.Refusal.{Refusal}
 use Rattle.mq_log.specs.declared.refusal.Refusal.TheVariants as refusals
 use Rattle.mq_trace.specs.declared.reading.Reading.{Reading}
-use Rattle.mq_log.specs.Framing.{kind_named, kind_of, opens, head_length, spelled_from}
+use Rattle.mq_log.specs.Framing.{kind_named, kind_of, opens, head_length}
 use Rattle.mq_log.specs.Events.{Placed}
 use Rattle.mq_log.specs.Refusals.{header_refusal, first_that_applies, is_open_kind, needs_connection, is_release_kind}
 use Rattle.mq_log.specs.Context.{StreamState, Context, emptied, so_far_for, refusal_for, placed_for, put, after}
@@ -18,10 +17,12 @@ use Rattle.mq_trace.specs.Runs.{refused_in, events_by}
 use Rattle.mq_trace.specs.Emission.{NotEmitted, RefusedBySink}
 use Rattle.mq_trace.specs.Deframing.{FlowWhy}
 use Rattle.mq_trace.specs.Keeping.{state_in, IsAt, StandsAt, opens_in, context_of, begun_in, IsWithin, IsUnfinished, IsSound, Advances, StepStops}
+use Rattle.mq_trace.specs.Heads.{head_of}
 use Rattle.mq_trace.specs.Stepping.{after_header_byte, kind_refusal, refused_first, BeginsRecord, in_head}
 use Rattle.mq_trace.proofs.StepLaws.{header_refused, header_after, header_placed, first_refusal, first_event, first_after, middle_refusal, middle_event, middle_after, placed_none}
-use Rattle.mq_log.proofs.Exports.{head_least, kind_of-append}
+use Rattle.mq_log.proofs.Exports.{head_least}
 use Rattle.mq_trace.proofs.ReadingLaws.{advanced}
+use Rattle.mq_trace.proofs.LengthLaws.{head_size, longer_head, longer_within}
 
 -- One byte's step.
 pub one_step : (r r' : Reading) (b : ℕ) (completed : List Placed) → r'.limit ≡ r.limit
@@ -171,7 +172,7 @@ pub first_advances : (r r' : Reading) (b : ℕ) (kind : RecordKind) → 8 ≤ r.
 first_advances r r' b kind past_header between named met begins = one_step r r' b [] (ap (λ (x : Reading). x.limit) begins.is) (λ part at. (
     let c = context_of r part in
     let nothing : part ≡ [] = between_is r part between at in
-    let staged : stages.Head kind 0 0 ≡ r'.stage = sym (ap (λ (x : Reading). x.stage) begins.is) in (
+    let staged : stages.Head (head_of kind 0 0) ≡ r'.stage = sym (ap (λ (x : Reading). x.stage) begins.is) in (
       b ∷ [],
       subst (λ s. IsAt (head_length r'.header.version) r'.moment s (b ∷ [])) staged (b, [], refl, kind_first b ∙ named, refl, refl),
       named_refusal r part b kind past_header nothing named ∙ met,
@@ -190,28 +191,12 @@ within_limit limit opening state state' unfinished is = subst (IsUnfinished limi
     either true = nothing_unfinished limit
     either false = unfinished
 
-pub opens_head : (kind : RecordKind) (count number : ℕ) → opens_in (stages.Head kind count number) ≡ opens (Some kind)
-opens_head kinds.Open count number = refl
-opens_head kinds.Sent count number = refl
-opens_head kinds.Recv count number = refl
-opens_head kinds.Close count number = refl
-opens_head kinds.Rest count number = refl
-opens_head kinds.Release count number = refl
-
-pub opens_moment : (kind : RecordKind) (number count : ℕ) → opens_in (stages.Moment kind number count) ≡ opens (Some kind)
-opens_moment kinds.Open number count = refl
-opens_moment kinds.Sent number count = refl
-opens_moment kinds.Recv number count = refl
-opens_moment kinds.Close number count = refl
-opens_moment kinds.Rest number count = refl
-opens_moment kinds.Release number count = refl
-
 no_others : (opening : Bool) (m state state' : StreamState) → opening ≡ true → state' ≡ cond opening m state → state' ≡ m
 no_others opening m state state' e is = is ∙ ap (λ t. cond t m state) e
 
 pub first_sound : (r r' : Reading) (kind : RecordKind) → IsSound r → 8 ≤ r.at → r.stage ≡ stages.Between → r.records < 4294967295 → BeginsRecord r r' kind → IsSound r'
 first_sound r r' kind sound past_header between room begins =
-    let staged : r'.stage ≡ stages.Head kind 0 0 = ap (λ (x : Reading). x.stage) begins.is in
+    let staged : r'.stage ≡ stages.Head (head_of kind 0 0) = ap (λ (x : Reading). x.stage) begins.is in
     let placed : r'.at ≡ r.at + 1 = ap (λ (x : Reading). x.at) begins.is in
     let numbered : r'.records ≡ r.records = ap (λ (x : Reading). x.records) begins.is in
     let limited : r'.limit ≡ r.limit = ap (λ (x : Reading). x.limit) begins.is in
@@ -224,20 +209,15 @@ first_sound r r' kind sound past_header between room begins =
       past_header = λ some. omega arith;
       header_first = λ less. absurd (omega arith);
       emptied = λ e. (
-        no_others (opens (Some kind)) emptied (state_in r.sent) (state_in r'.sent) (sym (opens_head kind 0 0) ∙ ap opens_in (sym staged) ∙ e) begins.sent,
-        no_others (opens (Some kind)) emptied (state_in r.recv) (state_in r'.recv) (sym (opens_head kind 0 0) ∙ ap opens_in (sym staged) ∙ e) begins.recv,
+        no_others (opens (Some kind)) emptied (state_in r.sent) (state_in r'.sent) (ap opens_in (sym staged) ∙ e) begins.sent,
+        no_others (opens (Some kind)) emptied (state_in r.recv) (state_in r'.recv) (ap opens_in (sym staged) ∙ e) begins.recv,
       );
       sent = subst (λ limit. IsUnfinished limit (state_in r'.sent)) (sym limited) (within_limit r.limit (opens (Some kind)) (state_in r.sent) (state_in r'.sent) sound.sent begins.sent);
       recv = subst (λ limit. IsUnfinished limit (state_in r'.recv)) (sym limited) (within_limit r.limit (opens (Some kind)) (state_in r.recv) (state_in r'.recv) sound.recv begins.recv);
     }
 
--- The bytes of a record's length.
-pub spelled_more : (number : ℕ) (bytes : List ℕ) (b : ℕ) → spelled_from number (bytes ++ b ∷ []) ≡ spelled_from number bytes * 256 + b
-spelled_more number [] b = refl
-spelled_more number (x ∷ bytes) b = spelled_more (number * 256 + x) bytes b
-
 -- within a record's head
-module _ (r : Reading) (kind : RecordKind) (count number : ℕ) (sound : IsSound r) (staged : r.stage ≡ stages.Head kind count number) where
+module _ (r : Reading) (kind : RecordKind) (count number : ℕ) (sound : IsSound r) (staged : r.stage ≡ stages.Head (head_of kind count number)) where
   pub begun_some : begun_in r.stage ≡ 1 + count
   begun_some = ap begun_in staged
 
@@ -247,30 +227,25 @@ module _ (r : Reading) (kind : RecordKind) (count number : ℕ) (sound : IsSound
   pub head_room : r.records < 4294967295
   head_room = let some = begun_some in sound.begun (omega arith)
 
-  pub head_bounds : IsWithin r.header.version r.moment (stages.Head kind count number)
+  pub head_bounds : IsWithin r.header.version r.moment (stages.Head (head_of kind count number))
   head_bounds = subst (IsWithin r.header.version r.moment) staged sound.within
 
   pub head_opening : opens (Some kind) ≡ true → (state_in r.sent ≡ emptied) × (state_in r.recv ≡ emptied)
-  head_opening e = sound.emptied (ap opens_in staged ∙ opens_head kind count number ∙ e)
+  head_opening e = sound.emptied (ap opens_in staged ∙ e)
 
-  pub head_is : (part : List ℕ) → StandsAt r part → IsAt (head_length r.header.version) r.moment (stages.Head kind count number) part
+  pub head_is : (part : List ℕ) → StandsAt r part → IsAt (head_length r.header.version) r.moment (stages.Head (head_of kind count number)) part
   head_is part at = subst (λ s. IsAt (head_length r.header.version) r.moment s part) staged at
 
   pub head_long : (part : List ℕ) → StandsAt r part → length part ≡ 1 + count
-  head_long part at = let h = head_is part at in let l : length part ≡ length (h.0 ∷ h.1) = ap length h.2 in let n : length h.1 ≡ count = h.4 in omega arith
+  head_long part at = head_size kind count number part (head_is part at)
 
   pub head_opens : (part : List ℕ) → StandsAt r part → opens (kind_of part) ≡ true → (state_in r.sent ≡ emptied) × (state_in r.recv ≡ emptied)
   head_opens part at e = head_opening (ap opens (sym (head_is part at).3) ∙ e)
 
-  pub head_longer : (part : List ℕ) (b : ℕ) → StandsAt r part → IsAt (head_length r.header.version) r.moment (stages.Head kind (count + 1) (number * 256 + b)) (part ++ b ∷ [])
-  head_longer part b at =
-      let h = head_is part at in
-      let l = head_long part at in
-      let n : length h.1 ≡ count = h.4 in
-      let more = length-append h.1 (b ∷ []) in
-      (h.0, h.1 ++ b ∷ [], ap (λ p. p ++ b ∷ []) h.2, kind_of-append part (b ∷ []) (omega arith) ∙ h.3, omega arith, ap (λ m. m * 256 + b) h.5 ∙ sym (spelled_more 0 h.1 b))
+  pub head_longer : (part : List ℕ) (b : ℕ) → StandsAt r part → IsAt (head_length r.header.version) r.moment (stages.Head (head_of kind (count + 1) (number * 256 + b))) (part ++ b ∷ [])
+  head_longer part b at = longer_head kind count number b part (head_is part at)
 
-pub length_advances : (r : Reading) (kind : RecordKind) (count number b : ℕ) → IsSound r → r.stage ≡ stages.Head kind count number → count < 3
+pub length_advances : (r : Reading) (kind : RecordKind) (count number b : ℕ) → IsSound r → r.stage ≡ stages.Head (head_of kind count number) → count < 3
     → Advances r (in_head r (r.at + 1) kind (count + 1) (number * 256 + b)) (b ∷ []) []
 length_advances r kind count number b sound staged few = one_step r (in_head r (r.at + 1) kind (count + 1) (number * 256 + b)) b [] refl (λ part at. (
     let c = context_of r part in
@@ -284,33 +259,26 @@ length_advances r kind count number b sound staged few = one_step r (in_head r (
       ap (λ o. put o []) (placed_none c b (middle_event c b past_header (omega arith))),
     )))
 
-small_of : (count number : ℕ) → count < 3 → (count ≡ 0 → number ≡ 0) → (count ≡ 1 → number < 256) → (count ≡ 2 → number < 65536) → number < 65536
-small_of zero number few a b c = let is = a refl in omega arith
-small_of (suc zero) number few a b c = let is = b refl in omega arith
-small_of (suc (suc zero)) number few a b c = c refl
-small_of (suc (suc (suc count))) number few a b c = absurd (omega arith)
-
-pub length_sound : (r : Reading) (kind : RecordKind) (count number b : ℕ) → IsSound r → r.stage ≡ stages.Head kind count number → count < 3 → b < 256
+pub length_sound : (r : Reading) (kind : RecordKind) (count number b : ℕ) → IsSound r → r.stage ≡ stages.Head (head_of kind count number) → count < 3 → b < 256
     → IsSound (in_head r (r.at + 1) kind (count + 1) (number * 256 + b))
 length_sound r kind count number b sound staged few byte =
     let some = begun_some r kind count number sound staged in
     let past_header = head_after r kind count number sound staged in
     let room = head_room r kind count number sound staged in
     let bounds = head_bounds r kind count number sound staged in
-    let small : number < 65536 = small_of count number few bounds.1.0 bounds.1.1 bounds.1.2 in
     record {
       counted = omega (arith, sound.counted);
       begun = λ begun. room;
-      within = (omega arith, (λ e. absurd (omega arith), λ e. (let none : number ≡ 0 = bounds.1.0 (omega arith) in omega arith), λ e. (let less : number < 256 = bounds.1.1 (omega arith) in omega arith), omega arith));
+      within = longer_within kind count number b bounds few byte;
       past_header = λ begun. omega arith;
       header_first = λ less. absurd (omega arith);
-      emptied = λ e. head_opening r kind count number sound staged (sym (opens_head kind (count + 1) (number * 256 + b)) ∙ e);
+      emptied = λ e. head_opening r kind count number sound staged e;
       sent = sound.sent;
       recv = sound.recv;
     }
 
 -- Three bytes of it at once.
-pub three_advance : (r : Reading) (kind : RecordKind) (x y z : ℕ) → IsSound r → r.stage ≡ stages.Head kind 0 0 → x < 256 → y < 256
+pub three_advance : (r : Reading) (kind : RecordKind) (x y z : ℕ) → IsSound r → r.stage ≡ stages.Head (head_of kind 0 0) → x < 256 → y < 256
     → Advances r (in_head r (r.at + 3) kind 3 (from_be_bytes w32 (0 ∷ x ∷ y ∷ z ∷ []))) (x ∷ y ∷ z ∷ []) []
 three_advance r kind x y z sound staged x_byte y_byte =
     let r1 : Reading = in_head r (r.at + 1) kind 1 (0 * 256 + x) in
@@ -327,7 +295,7 @@ three_advance r kind x y z sound staged x_byte y_byte =
     subst (λ n. Advances r (in_head r n kind 3 (from_be_bytes w32 (0 ∷ x ∷ y ∷ z ∷ []))) (x ∷ y ∷ z ∷ []) []) placed
     (subst (λ m. Advances r (in_head r (((r.at + 1) + 1) + 1) kind 3 m) (x ∷ y ∷ z ∷ []) []) spelled steps)
 
-pub three_sound : (r : Reading) (kind : RecordKind) (x y z : ℕ) → IsSound r → r.stage ≡ stages.Head kind 0 0 → x < 256 → y < 256 → z < 256
+pub three_sound : (r : Reading) (kind : RecordKind) (x y z : ℕ) → IsSound r → r.stage ≡ stages.Head (head_of kind 0 0) → x < 256 → y < 256 → z < 256
     → IsSound (in_head r (r.at + 3) kind 3 (from_be_bytes w32 (0 ∷ x ∷ y ∷ z ∷ [])))
 three_sound r kind x y z sound staged x_byte y_byte z_byte =
     let some = begun_some r kind 0 0 sound staged in
@@ -339,7 +307,7 @@ three_sound r kind x y z sound staged x_byte y_byte z_byte =
       within = (omega arith, (λ e. absurd (omega arith), λ e. absurd (omega arith), λ e. absurd (omega arith), omega arith));
       past_header = λ begun. omega arith;
       header_first = λ less. absurd (omega arith);
-      emptied = λ e. head_opening r kind 0 0 sound staged (sym (opens_head kind 3 (from_be_bytes w32 (0 ∷ x ∷ y ∷ z ∷ []))) ∙ e);
+      emptied = λ e. head_opening r kind 0 0 sound staged e;
       sent = sound.sent;
       recv = sound.recv;
     }

@@ -255,7 +255,7 @@ kept_header r log keeps = ap (λ (c : Context). c.header) (sym keeps.kept ∙ co
 -- a part of a record is there, or none is, as the stage says
 part_there : (ahead moment : ℕ) (stage : Stage) (part : List ℕ) → length_end ≤ ahead → IsAt ahead moment stage part → nat_lt 0 (length part) ≡ not (is_between stage)
 part_there ahead moment stages.Between part least at = ap (λ (p : List ℕ). nat_lt 0 (length p)) at
-part_there ahead moment (stages.Head kind count length_so_far) part least at = ap (λ (p : List ℕ). nat_lt 0 (length p)) at.2 ∙ lt-ltb 0 (length (at.0 ∷ at.1)) (omega arith)
+part_there ahead moment (stages.Head head) part least at = ap (λ (p : List ℕ). nat_lt 0 (length p)) at.2 ∙ lt-ltb 0 (length (at.0 ∷ at.1)) (omega arith)
 part_there ahead moment (stages.Moment kind number count) part least at = lt-ltb 0 (length part) (omega (arith, at.2))
 part_there ahead moment (stages.Body direction left) part least at = lt-ltb 0 (length part) (omega (arith, at.3, least))
 part_there ahead moment (stages.Release None) part least at = lt-ltb 0 (length part) (omega (arith, at.1, least))

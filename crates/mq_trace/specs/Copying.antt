@@ -14,10 +14,11 @@ use Rattle.mq_trace.specs.declared.converting.Part.TheVariants as parts
 use Rattle.mq_trace.specs.declared.converting.Addition.{Addition}
 use Rattle.mq_trace.specs.declared.converting.Addition.TheVariants as additions
 use Rattle.mq_trace.specs.declared.converting.Copying.{Copying}
-use Rattle.mq_log.specs.Framing.{header_by, kind_named, kind_of, body_length, length_end, longest_record, records, spelled_from}
+use Rattle.mq_log.specs.Framing.{header_by, kind_named, kind_of, body_length, length_end, longest_record, records}
 use Rattle.mq_log.specs.Events.{events}
 use Rattle.mq_log.specs.Connections.{has_open_connection}
 use Rattle.mq_log.specs.Refusals.{first_byte_refusal}
+use Rattle.mq_trace.specs.Heads.{IsHead, IsWithinHead, begin_refusal, head_of}
 use Rattle.mq_trace.specs.Writing.{AppendsBeginning, header_bytes}
 use Rattle.mq_trace.specs.Converting.{no_moment, timed, unconverted, unconverted_at}
 
@@ -31,7 +32,7 @@ has_body _ = false
 -- The unfinished record is this part, and the copier is there in it.
 abbrev pub IsIn : Part → List ℕ → Type 0
 IsIn parts.Between part = part ≡ []
-IsIn (parts.Head kind count number) part = (first : ℕ) × (bytes : List ℕ) × (part ≡ first ∷ bytes) × (kind_of part ≡ Some kind) × (length bytes ≡ count) × (number ≡ spelled_from 0 bytes)
+IsIn (parts.Head kind count number) part = IsHead (head_of kind count number) part
 IsIn (parts.Body left) part = (length_end ≤ length part) × (length part + left ≡ length_end + body_length part) × (1 ≤ left) × (has_body (kind_of part) ≡ true)
 
 -- What is copied so far is this log, and none of it is refused.
@@ -53,7 +54,7 @@ begun_in (parts.Body left) = longest_record - left
 -- its numbers are within their bounds
 abbrev pub IsWithin : Part → Type 0
 IsWithin parts.Between = ⊤
-IsWithin (parts.Head kind count number) = (count ≤ 3) × ((count ≡ 0 → number ≡ 0) × (count ≡ 1 → number < 256) × (count ≡ 2 → number < 65536) × (number < 16777216))
+IsWithin (parts.Head kind count number) = IsWithinHead (head_of kind count number)
 IsWithin (parts.Body left) = (1 ≤ left) × (left ≤ 1048576)
 
 -- What holds of all that may be kept.
@@ -93,8 +94,7 @@ refused_kind c kind = first_byte_refusal c.at c.header.releases c.connected c.re
 
 -- the refusal that applies at the first byte of a record, whose kind, if it names one, is this
 abbrev pub refused_begin : Copying → Option RecordKind → Option Refusal
-refused_begin c None = Some (refusals.Kind c.at)
-refused_begin c (Some kind) = refused_kind c kind
+refused_begin c kind = begin_refusal c.at c.header.releases c.connected c.records kind
 
 -- with the first byte of a record of this kind, or with more of its length
 abbrev pub in_length : Copying → RecordKind → ℕ → ℕ → Copying

@@ -9,10 +9,11 @@ use Rattle.mq_trace.specs.declared.reading.Reading.{Reading}
 use Rattle.mq_packet.specs.declared.header.FixedHeader.{FixedHeader}
 use Rattle.mq_packet.specs.declared.header.FixedHeader.TheVariants as headers
 use Rattle.mq_packet.specs.Stream.{fixed_header_of}
-use Rattle.mq_log.specs.Framing.{kind_of, direction_of, body_length, spelled_from, moment_in, length_end, head_length, longest_record}
+use Rattle.mq_log.specs.Framing.{kind_of, opens, direction_of, body_length, spelled_from, moment_in, length_end, head_length, longest_record}
 use Rattle.mq_log.specs.Refusals.{allows_length}
 use Rattle.mq_log.specs.Events.{Placed}
 use Rattle.mq_log.specs.Context.{StreamState, Context, so_far_for}
+use Rattle.mq_trace.specs.Heads.{IsHead, IsWithinHead}
 use Rattle.mq_trace.specs.Runs.{after_bytes, refused_in, events_by}
 use Rattle.mq_log.specs.Reception.{AreEvents}
 use Rattle.mq_trace.specs.Deframing.{FlowWhy}
@@ -25,8 +26,7 @@ state_in d = record { unfinished = d.unfinished.items; lost = d.lost }
 -- The unfinished record is this part, and the stage says so, given the length of a record's head, and the moment so far.
 abbrev pub IsAt : ℕ → ℕ → Stage → List ℕ → Type 0
 IsAt ahead moment stages.Between part = part ≡ []
-IsAt ahead moment (stages.Head kind count length_so_far) part = (first : ℕ) × (bytes : List ℕ) × (part ≡ first ∷ bytes)
-    × (kind_of part ≡ Some kind) × (length bytes ≡ count) × (length_so_far ≡ spelled_from 0 bytes)
+IsAt ahead moment (stages.Head head) part = IsHead head part
 IsAt ahead moment (stages.Moment kind number count) part = (kind_of part ≡ Some kind) × (body_length part ≡ number) × (length part ≡ length_end + count) × (moment ≡ spelled_from 0 (drop length_end part))
 IsAt ahead moment (stages.Body direction left) part =
     (kind : RecordKind) × (kind_of part ≡ Some kind) × (direction_of (Some kind) ≡ Some direction) × (ahead ≤ length part) × (length part + left ≡ ahead + body_length part) × (moment_in ahead part ≡ moment)
@@ -55,7 +55,7 @@ context_of r part = record {
 -- A bound on how many bytes of the unfinished record came.
 abbrev pub begun_in : Stage → ℕ
 begun_in stages.Between = 0
-begun_in (stages.Head kind count length_so_far) = 1 + count
+begun_in (stages.Head head) = 1 + head.count
 begun_in (stages.Body direction left) = longest_record - left
 begun_in (stages.Moment kind number count) = length_end + count
 begun_in (stages.Release None) = 13
@@ -69,15 +69,15 @@ spellings (suc count) = spellings count * 256
 -- the stage's numbers, and the moment so far, are within their bounds, in this version
 abbrev pub IsWithin : ℕ → ℕ → Stage → Type 0
 IsWithin version moment stages.Between = Unit {0}
-IsWithin version moment (stages.Head kind count length_so_far) = (count ≤ 3) × ((count ≡ 0 → length_so_far ≡ 0) × (count ≡ 1 → length_so_far < 256) × (count ≡ 2 → length_so_far < 65536) × (length_so_far < 16777216))
+IsWithin version moment (stages.Head head) = IsWithinHead head
 IsWithin version moment (stages.Moment kind number count) = (count ≤ 7) × (moment < spellings count) × (head_length version ≡ 13) × (allows_length version (Some kind) number ≡ true)
 IsWithin version moment (stages.Body direction left) = (1 ≤ left) × (left ≤ 16777216)
 IsWithin version moment (stages.Release first) = Unit {0}
 
 -- it is inside the head of an OPEN
 abbrev pub opens_in : Stage → Bool
-opens_in (stages.Head kinds.Open count length_so_far) = true
-opens_in (stages.Moment kinds.Open number count) = true
+opens_in (stages.Head head) = opens (Some head.kind)
+opens_in (stages.Moment kind number count) = opens (Some kind)
 opens_in _ = false
 
 -- A packet whose fixed header is whole isn't larger than the limit, and isn't whole.

@@ -2,6 +2,7 @@ pub mod Converting
 pub mod Copying
 pub mod Deframing
 pub mod Feeding
+pub mod Heads
 pub mod Joined
 pub mod Keeping
 pub mod Rows

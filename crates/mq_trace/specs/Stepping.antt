@@ -1,12 +1,11 @@
 -- The steps of a log's reader: its state after the bytes of one.
-use Rattle.std.specs.Prelude.{◌≡◌, ℕ, ◌+◌, ◌<◌, ◌≤◌, ◌==◌, List, length, min, take, drop, slice_index, Bool, true, false, cond, if◌then◌else◌, [], ◌∷◌, ◌++◌, Option, Some, None, Result, Ok, Err}
+use Rattle.std.specs.Prelude.{◌≡◌, ℕ, ◌+◌, ◌*◌, ◌<◌, ◌≤◌, ◌==◌, List, length, min, take, drop, slice_index, true, cond, if◌then◌else◌, [], ◌∷◌, ◌++◌, Option, Some, None, Result, Ok, Err}
 use Rattle.std.specs.Int.{w32, from_be_bytes}
 use Rattle.mq_log.specs.declared.kind.RecordKind.{RecordKind}
 use Rattle.mq_log.specs.declared.kind.RecordKind.TheVariants as kinds
 use Rattle.mq_log.specs.declared.kind.Direction.{Direction}
 use Rattle.mq_log.specs.declared.place.InRecord.{InRecord}
 use Rattle.mq_log.specs.declared.refusal.Refusal.{Refusal}
-use Rattle.mq_log.specs.declared.refusal.Refusal.TheVariants as refusals
 use Rattle.mq_trace.specs.declared.stage.Stage.{Stage}
 use Rattle.mq_trace.specs.declared.stage.Stage.TheVariants as stages
 use Rattle.mq_trace.specs.declared.reading.Reading.{Reading}
@@ -21,6 +20,7 @@ use Rattle.mq_trace.specs.Emission.{connections_with}
 use Rattle.mq_log.specs.Flows.{BodyContext, Flow}
 use Rattle.mq_trace.specs.Deframing.{flow_of}
 use Rattle.mq_trace.specs.Keeping.{state_in, StandsAt, begun_in}
+use Rattle.mq_trace.specs.Heads.{begin_refusal, head_of}
 
 -- the refusal that a result holds, if it holds one
 abbrev pub err_of : {A : Type 0} → Result A Refusal → Option Refusal
@@ -44,18 +44,24 @@ kind_refusal r kind = first_byte_refusal r.at r.header.releases r.connections.co
 
 -- after the first byte of a record of this kind
 pub record BeginsRecord (r r' : Reading) (kind : RecordKind) : Type 0 where
-  pub is : r' ≡ record r { at = r.at + 1; stage = stages.Head kind 0 0; sent = r'.sent; recv = r'.recv }
+  pub is : r' ≡ record r { at = r.at + 1; stage = stages.Head (head_of kind 0 0); sent = r'.sent; recv = r'.recv }
   pub sent : state_in r'.sent ≡ cond (opens (Some kind)) emptied (state_in r.sent)
   pub recv : state_in r'.recv ≡ cond (opens (Some kind)) emptied (state_in r.recv)
 
 -- the refusal of a record's first byte
 abbrev pub refused_first : Reading → Option RecordKind → Option Refusal
-refused_first r None = Some (refusals.Kind r.at)
-refused_first r (Some kind) = kind_refusal r kind
+refused_first r kind = begin_refusal r.at r.header.releases r.connections.connected r.records kind
 
 -- after more bytes of a record's head
 abbrev pub in_head : Reading → ℕ → RecordKind → ℕ → ℕ → Reading
-in_head r at kind count number = record r { at = at; stage = stages.Head kind count number }
+in_head r at kind count number = record r { at = at; stage = stages.Head (head_of kind count number) }
+
+-- The next byte is the last one of the length of a record of this kind, which is this number and is allowed.
+pub record EndsLength (r : Reading) (kind : RecordKind) (number byte : ℕ) : Type 0 where
+  pub so_far : ℕ
+  pub within : r.stage ≡ stages.Head (head_of kind 3 so_far)
+  pub is : number ≡ so_far * 256 + byte
+  pub allowed : allows_length r.header.version (Some kind) number ≡ true
 
 -- the kind of the records that carry packets this way
 abbrev pub kind_for : Direction → RecordKind

@@ -12,6 +12,7 @@ ghost use Rattle.mq_trace.specs.declared.converting.Part.TheVariants as parts;
 ghost use Rattle.mq_log.specs.declared.refusal.Refusal.TheVariants as refusals;
 
 use super::feeding::{Feed, Halt, feed_all};
+use super::head::{Head, HeadStep};
 use super::writer::{WriteFault, bytes_of, write_bytes};
 use mq_log::{
     HEADER_LENGTH, Header, RecordKind, Refusal, VERSION_AT, header_after, header_refusal,
@@ -35,14 +36,14 @@ enum Part {
     /// Between two records.
     Between,
     /// Inside a record's kind and length: its kind came, and 0 to 3 of the four bytes of its body's
-    /// length.
+    /// length: the fields of a `Head`, which is quicker than the struct.
     Head {
         /// The kind that the record's first byte names.
         kind: RecordKind,
         /// How many bytes of the length came: 0 to 3.
         count: u8,
         /// The number that they spell, the most significant byte first.
-        length: u32,
+        number: u32,
     },
     /// Inside a body, of which so many bytes are still to come.
     Body(u32),
@@ -234,8 +235,15 @@ impl Copying {
             Part::Head {
                 kind,
                 count,
-                length,
-            } => self.extend_length(kind, count, length, byte),
+                number,
+            } => {
+                let head = Head {
+                    kind,
+                    count,
+                    number,
+                };
+                self.extend_length(head, byte)
+            }
             Part::Body(left) => {
                 self.skip_body(left, 1);
                 Ok(Addition::Byte(byte))
@@ -282,69 +290,56 @@ impl Copying {
         ensures refused { IfErr result (λ refusal. (refused_begin self.old (kind_named byte) ≡ Some refusal) × (self.new ≡ self.old)) }
         ensures kept { IfOk result (λ addition. BeginsCopy self.old self.new byte addition) }
     {
-        let Some(kind) = RecordKind::from_byte(byte) else {
-            return Err(Refusal::Kind(self.at));
-        };
-        if let Some(refusal) = kind.refusal(
-            self.at,
-            self.header.releases,
-            self.connected,
-            self.records,
-        ) {
-            return Err(refusal);
+        let releases = self.header.releases;
+        match Head::from_byte(byte, self.at, releases, self.connected, self.records) {
+            Ok(head) => {
+                self.at += 1;
+                self.part = Part::Head {
+                    kind: head.kind,
+                    count: head.count,
+                    number: head.number,
+                };
+                Ok(Addition::Byte(byte))
+            }
+            Err(refusal) => Err(refusal),
         }
-        self.at += 1;
-        self.part = Part::Head {
-            kind,
-            count: 0,
-            length: 0,
-        };
-        Ok(Addition::Byte(byte))
     }
 
-    // Takes in the next byte of the length of a record of this kind, after `count` bytes of it,
-    // which spell this number.
+    // Takes in the next byte of a record's length, after this much of its head.
     //
-    // Errors: The refusal that applies at the byte.
-    fn extend_length(
-        &mut self,
-        kind: RecordKind,
-        count: u8,
-        length: u32,
-        byte: u8,
-    ) -> Result<Addition, Refusal>
+    // Errors: `Length`, at the byte, if it is the last one and the kind doesn't allow the length.
+    fn extend_length(&mut self, head: Head, byte: u8) -> Result<Addition, Refusal>
         requires sound { IsSound self.old }
-        requires within { self.old.part ≡ parts.Head kind count length }
+        requires within { self.old.part ≡ parts.Head head.kind head.count head.number }
         ensures sound { IsSound self.new }
-        ensures refused { IfErr result (λ refusal. (count ≡ 3) × (allows_length 1 (Some kind) (length * 256 + byte) ≡ false) × (refusal ≡ refusals.Length self.old.at) × (self.new ≡ self.old)) }
-        ensures more { count < 3 → IfOk result (λ addition. (self.new ≡ in_length self.old kind (count + 1) (length * 256 + byte)) × (addition ≡ additions.Byte byte)) }
-        ensures last { count ≡ 3 → IfOk result (λ addition. (allows_length 1 (Some kind) (length * 256 + byte) ≡ true) × (self.new ≡ past_length self.old kind (length * 256 + byte)) × (addition ≡ additions.Moment byte)) }
+        ensures refused { IfErr result (λ refusal. (head.count ≡ 3) × (allows_length 1 (Some head.kind) (head.number * 256 + byte) ≡ false) × (refusal ≡ refusals.Length self.old.at) × (self.new ≡ self.old)) }
+        ensures more { head.count < 3 → IfOk result (λ addition. (self.new ≡ in_length self.old head.kind (head.count + 1) (head.number * 256 + byte)) × (addition ≡ additions.Byte byte)) }
+        ensures last { head.count ≡ 3 → IfOk result (λ addition. (allows_length 1 (Some head.kind) (head.number * 256 + byte) ≡ true) × (self.new ≡ past_length self.old head.kind (head.number * 256 + byte)) × (addition ≡ additions.Moment byte)) }
     {
-        let length = length * 256 + u32::from(byte);
-        if count == 3 {
-            return self.end_length(kind, length, byte);
+        match head.step(1, byte) {
+            HeadStep::GoesOn { count, number } => {
+                self.at += 1;
+                self.part = Part::Head {
+                    kind: head.kind,
+                    count,
+                    number,
+                };
+                Ok(Addition::Byte(byte))
+            }
+            HeadStep::Ends(length) => {
+                self.end_length(head.kind, length);
+                Ok(Addition::Moment(byte))
+            }
+            HeadStep::Barred => Err(Refusal::Length(self.at)),
         }
-        self.at += 1;
-        self.part = Part::Head {
-            kind,
-            count: count + 1,
-            length,
-        };
-        Ok(Addition::Byte(byte))
     }
 
     // Takes in the last byte of the length of a record of this kind, which is this number.
-    //
-    // Errors: `Length` if its kind doesn't allow it.
-    fn end_length(&mut self, kind: RecordKind, length: u32, byte: u8) -> Result<Addition, Refusal>
+    fn end_length(&mut self, kind: RecordKind, length: u32)
         requires room { self.old.at + 1 < 2 ^ 64 }
         requires numbered { self.old.records < 4294967295 }
-        ensures refused { IfErr result (λ refusal. (allows_length 1 (Some kind) length ≡ false) × (refusal ≡ refusals.Length self.old.at) × (self.new ≡ self.old)) }
-        ensures kept { IfOk result (λ addition. (allows_length 1 (Some kind) length ≡ true) × (self.new ≡ past_length self.old kind length) × (addition ≡ additions.Moment byte)) }
+        ensures { self.new ≡ past_length self.old kind length }
     {
-        if !kind.allows(1, length) {
-            return Err(Refusal::Length(self.at));
-        }
         self.at += 1;
         self.connected = connected_after(kind, self.connected);
         if length == 0 {
@@ -353,7 +348,6 @@ impl Copying {
         } else {
             self.part = Part::Body(length);
         }
-        Ok(Addition::Moment(byte))
     }
 
     // Whether the log is cut short: it ends inside its header or a record.

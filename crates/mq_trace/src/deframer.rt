@@ -4,7 +4,7 @@
 //! The path of a whole packet to the sink is inlined, so that the packet isn't moved; rare cases
 //! are functions of their own.
 
-ghost use Rattle.std.specs.Prelude.{◌≡◌, ◌==◌, ◌+◌, ◌<◌, ◌≤◌, ◌^◌, ◌++◌, ℕ, ◌∷◌, [], List, Some, None, OnOk, OnErr, IfOk, IfErr, IsTrue, Ok, Err, length, take, slice_index, true, false};
+ghost use Rattle.std.specs.Prelude.{◌≡◌, ◌==◌, ◌+◌, ◌<◌, ◌≤◌, ◌^◌, ◌++◌, ◌∷◌, [], List, Some, None, OnOk, OnErr, IfOk, IfErr, IsTrue, Ok, Err, length, take, slice_index, true, false};
 ghost use Rattle.mq_packet.specs.Stream.{fixed_header_of, HasBounds};
 ghost use Rattle.mq_packet.specs.Reading.{view};
 ghost use Rattle.mq_packet.specs.Sizes.{size_with, remaining_length};

@@ -9,6 +9,7 @@ mod deframer;
 mod feeding;
 mod frame;
 mod framing_laws;
+mod head;
 mod joined_laws;
 mod reading;
 mod sink;

@@ -5,20 +5,21 @@ ghost use Rattle.mq_trace.specs.Keeping.{state_in, context_of, IsSound, Comes, S
 ghost use Rattle.mq_log.specs.Refusals.{header_refusal};
 ghost use Rattle.mq_log.specs.Refusing.{refusal_offset};
 ghost use Rattle.std.specs.Int.{w32, from_be_bytes};
-ghost use Rattle.mq_log.specs.declared.kind.RecordKind.TheVariants as kinds;
 ghost use Rattle.mq_trace.specs.declared.stage.Stage.TheVariants as stages;
 ghost use Rattle.mq_log.specs.Framing.{kind_named, opens, moment_in, head_length};
 ghost use Rattle.mq_log.specs.Events.{Placed};
 ghost use Rattle.mq_log.specs.Reception.{AreEvents, Declines, event_of};
 ghost use Rattle.mq_trace.specs.Emission.{effect_of, event_refusal, next_placed, NotEmitted};
 ghost use Rattle.mq_log.specs.Context.{fresh};
+ghost use Rattle.mq_trace.specs.Heads.{head_of};
 ghost use Rattle.mq_trace.specs.Settling.{IsStep};
-ghost use Rattle.mq_trace.specs.Stepping.{err_of, after_header_byte, kind_refusal, kind_for, IsBodyHead, BeginsRecord, begun_body, deframer_for, EndsHead, refused_first, in_head, in_moment, in_record_of, marked, leaving};
+ghost use Rattle.mq_trace.specs.Stepping.{err_of, after_header_byte, kind_refusal, kind_for, IsBodyHead, BeginsRecord, begun_body, deframer_for, EndsHead, EndsLength, refused_first, in_moment, in_record_of, marked, leaving};
 
 mod bodies;
 
 use super::connections::{Connections, Effect, emit};
 use super::deframer::{Deframer, Step};
+use super::head::{Head, HeadStep};
 use super::sink::Sink;
 use super::stage::Stage;
 use mq_log::{
@@ -246,11 +247,7 @@ impl Reading {
         }
         match self.stage {
             Stage::Between => self.consume_head(bytes, sink),
-            Stage::Head {
-                kind,
-                count,
-                length,
-            } => match self.go_on_head(kind, count, length, bytes[0], sink) {
+            Stage::Head(head) => match self.go_on_head(head, bytes[0], sink) {
                 Ok(()) => Ok(1),
                 Err(refusal) => Err(refusal),
             },
@@ -356,14 +353,14 @@ impl Reading {
         sink: &mut S,
     ) -> Result<(), Refusal>
         requires sound { IsSound self.old }
-        requires within { self.old.stage ≡ stages.Head kind 0 0 }
+        requires within { self.old.stage ≡ stages.Head (head_of kind 0 0) }
         ensures sound { OnOk result (IsSound self.new) }
         ensures comes { OnOk result (Comes S.agrees self.old self.new (a ∷ b ∷ c ∷ d ∷ []) sink.old sink.new) }
         ensures stops { IfErr result (λ refusal. StepStops (Declines S.agrees S.refuses) self.old (a ∷ b ∷ c ∷ d ∷ []) sink.old sink.new refusal) }
         ensures stays { OnErr result (HoldsHeader self.old self.new) }
     {
-        let length = self.skip_length(kind, a, b, c);
-        self.end_length(kind, length, d, sink)
+        let head = self.skip_length(kind, a, b, c);
+        self.go_on_head(head, d, sink)
     }
 
     // Takes in a record's first byte.
@@ -380,89 +377,76 @@ impl Reading {
         ensures refused { IfErr result (λ refusal. refused_first self.old (kind_named byte) ≡ Some refusal) }
         ensures same { OnErr result (self.new ≡ self.old) }
     {
-        let Some(kind) = RecordKind::from_byte(byte) else {
-            return Err(Refusal::Kind(self.at));
-        };
+        let releases = self.header.releases;
         let connected = self.connections.connected;
-        if let Some(refusal) = kind.refusal(
-            self.at,
-            self.header.releases,
-            connected,
-            self.records,
-        ) {
-            return Err(refusal);
+        match Head::from_byte(byte, self.at, releases, connected, self.records) {
+            Ok(head) => {
+                self.begin(head);
+                Ok(head.kind)
+            }
+            Err(refusal) => Err(refusal),
         }
-        self.begin(kind);
-        Ok(kind)
     }
 
-    // Sets the state after the first byte of a record of this kind.
+    // Sets the state after the first byte of a record, with which its head is this.
     #[inline(always)]
-    fn begin(&mut self, kind: RecordKind)
+    fn begin(&mut self, head: Head)
         requires { self.old.at + 1 < 2 ^ 64 }
-        ensures is { self.new ≡ record self.old { at = self.old.at + 1; stage = stages.Head kind 0 0; sent = self.new.sent; recv = self.new.recv } }
-        ensures sent { state_in self.new.sent ≡ cond (opens (Some kind)) (record { unfinished = []; lost = false }) (state_in self.old.sent) }
-        ensures recv { state_in self.new.recv ≡ cond (opens (Some kind)) (record { unfinished = []; lost = false }) (state_in self.old.recv) }
+        ensures is { self.new ≡ record self.old { at = self.old.at + 1; stage = stages.Head head; sent = self.new.sent; recv = self.new.recv } }
+        ensures sent { state_in self.new.sent ≡ cond (opens (Some head.kind)) (record { unfinished = []; lost = false }) (state_in self.old.sent) }
+        ensures recv { state_in self.new.recv ≡ cond (opens (Some head.kind)) (record { unfinished = []; lost = false }) (state_in self.old.recv) }
     {
-        if kind == RecordKind::Open {
+        if head.kind == RecordKind::Open {
             self.sent.clear();
             self.recv.clear();
         }
         self.at += 1;
-        self.stage = Stage::Head {
-            kind,
-            count: 0,
-            length: 0,
-        };
+        self.stage = Stage::Head(head);
     }
 
-    // Takes in the first three bytes of a record's length, and returns the number that they spell.
+    // Takes in the first three bytes of a record's length, and returns its head.
     #[inline(always)]
-    fn skip_length(&mut self, kind: RecordKind, a: u8, b: u8, c: u8) -> u32
+    fn skip_length(&mut self, kind: RecordKind, a: u8, b: u8, c: u8) -> Head
         requires { self.old.at + 3 < 2 ^ 64 }
-        ensures number { result ≡ from_be_bytes w32 (0 ∷ a ∷ b ∷ c ∷ []) }
-        ensures kept { self.new ≡ in_head self.old (self.old.at + 3) kind 3 result }
+        ensures head { result ≡ head_of kind 3 (from_be_bytes w32 (0 ∷ a ∷ b ∷ c ∷ [])) }
+        ensures kept { self.new ≡ record self.old { at = self.old.at + 3; stage = stages.Head result } }
     {
-        let length = u32::from_be_bytes([0, a, b, c]);
-        self.at += 3;
-        self.stage = Stage::Head {
+        let head = Head {
             kind,
             count: 3,
-            length,
+            number: u32::from_be_bytes([0, a, b, c]),
         };
-        length
+        self.at += 3;
+        self.stage = Stage::Head(head);
+        head
     }
 
-    // Takes in the next byte of a record's length, after `count` bytes of it.
-    fn go_on_head<S: Sink>(
-        &mut self,
-        kind: RecordKind,
-        count: u8,
-        length: u32,
-        byte: u8,
-        sink: &mut S,
-    ) -> Result<(), Refusal>
+    // Takes in the next byte of a record's length, after this much of its head.
+    #[inline(always)]
+    fn go_on_head<S: Sink>(&mut self, head: Head, byte: u8, sink: &mut S) -> Result<(), Refusal>
         requires sound { IsSound self.old }
-        requires within { self.old.stage ≡ stages.Head kind count length }
+        requires within { self.old.stage ≡ stages.Head head }
         ensures sound { OnOk result (IsSound self.new) }
         ensures comes { OnOk result (Comes S.agrees self.old self.new (byte ∷ []) sink.old sink.new) }
         ensures stops { IfErr result (λ refusal. StepStops (Declines S.agrees S.refuses) self.old (byte ∷ []) sink.old sink.new refusal) }
         ensures stays { OnErr result (HoldsHeader self.old self.new) }
     {
-        if count == 3 {
-            return self.end_length(kind, length, byte, sink);
+        match head.step(self.header.version, byte) {
+            HeadStep::GoesOn { count, number } => {
+                self.at += 1;
+                self.stage = Stage::Head(Head {
+                    kind: head.kind,
+                    count,
+                    number,
+                });
+                Ok(())
+            }
+            HeadStep::Ends(length) => self.end_length(head.kind, length, byte, sink),
+            HeadStep::Barred => Err(Refusal::Length(self.at)),
         }
-        self.at += 1;
-        self.stage = Stage::Head {
-            kind,
-            count: count + 1,
-            length: length * 256 + u32::from(byte),
-        };
-        Ok(())
     }
 
-    // Takes in the last byte of a record's length, after three bytes of it, which spell this
-    // number.
+    // Takes in the last byte of the length of a record of this kind, which is this number.
     #[inline(always)]
     fn end_length<S: Sink>(
         &mut self,
@@ -472,21 +456,17 @@ impl Reading {
         sink: &mut S,
     ) -> Result<(), Refusal>
         requires sound { IsSound self.old }
-        requires within { self.old.stage ≡ stages.Head kind 3 length }
+        requires ends { EndsLength self.old kind length byte }
         ensures sound { OnOk result (IsSound self.new) }
         ensures comes { OnOk result (Comes S.agrees self.old self.new (byte ∷ []) sink.old sink.new) }
         ensures stops { IfErr result (λ refusal. StepStops (Declines S.agrees S.refuses) self.old (byte ∷ []) sink.old sink.new refusal) }
         ensures stays { OnErr result (HoldsHeader self.old self.new) }
     {
-        let whole = length * 256 + u32::from(byte);
-        if !kind.allows(self.header.version, whole) {
-            return Err(Refusal::Length(self.at));
-        }
         if has_moments(self.header.version) {
-            self.begin_moment(kind, whole);
+            self.begin_moment(kind, length);
             return Ok(());
         }
-        self.end_head(kind, whole, 0, byte, sink)
+        self.end_head(kind, length, 0, byte, sink)
     }
 
     // Sets the state after the length of a record that has a moment.

@@ -3,6 +3,7 @@
 ghost use Rattle.std.specs.Prelude.{◌≡◌};
 ghost use Rattle.mq_trace.specs.Tracing.{is_between};
 
+use super::head::Head;
 use mq_log::{Direction, RecordKind};
 
 /// Where a reader is among the records of a log.
@@ -11,14 +12,7 @@ pub enum Stage {
     /// Between two records.
     Between,
     /// Inside a record's head: its kind came, and 0 to 3 of the four bytes of its body's length.
-    Head {
-        /// The kind that the record's first byte names.
-        kind: RecordKind,
-        /// How many bytes of the length came: 0 to 3.
-        count: u8,
-        /// The number that they spell, the most significant byte first.
-        length: u32,
-    },
+    Head(Head),
     /// Inside a record's moment, after the length of its body.
     Moment {
         /// The kind that the record's first byte names.
@@ -46,8 +40,7 @@ impl Stage {
     {
         match self {
             Stage::Between => true,
-            Stage::Head { .. } | Stage::Moment { .. } | Stage::Body { .. } | Stage::Release(_) =>
-                false,
+            Stage::Head(_) | Stage::Moment { .. } | Stage::Body { .. } | Stage::Release(_) => false,
         }
     }
 }

@@ -1,6 +1,6 @@
 //! The bytes of an unfinished packet.
 
-ghost use Rattle.std.specs.Prelude.{◌≡◌, ◌==◌, ◌+◌, ◌<◌, ◌≤◌, ◌^◌, ◌++◌, [], Some, OnOk, OnErr, IfErr, length, false};
+ghost use Rattle.std.specs.Prelude.{◌≡◌, ◌==◌, ◌+◌, ◌<◌, ◌≤◌, ◌^◌, ◌++◌, [], OnOk, OnErr, IfErr, length, false};
 ghost use Rattle.mq_packet.specs.Stream.{fixed_header_of};
 ghost use Rattle.mq_packet.specs.declared.header.FixedHeader.TheVariants as headers;
 ghost use Rattle.mq_log.specs.Reception.{Declines};

@@ -16,10 +16,10 @@ pub returns-in-Between-clause-refused : goal.returns-in-Between-clause-refused
 returns-in-Between-clause-refused c = λ log was. begin_err _ _ log _ c.begin_record.result was c.if-self-lt-HEADER_LENGTH.false c.in-Between.is c.begin_record.ensures.refused
 
 pub returns-in-Head-clause-copied : goal.returns-in-Head-clause-copied
-returns-in-Head-clause-copied c = λ log was. extend_ok _ _ log _ _ _ _ c.extend_length.result was c.if-self-lt-HEADER_LENGTH.false c.in-Head.is (search rules) c.extend_length.ensures.more c.extend_length.ensures.last
+returns-in-Head-clause-copied c = λ log was. extend_ok _ _ log _ c.in-Head.kind c.in-Head.count c.in-Head.number c.extend_length.result was c.if-self-lt-HEADER_LENGTH.false c.in-Head.is (search rules) c.extend_length.ensures.more c.extend_length.ensures.last
 
 pub returns-in-Head-clause-refused : goal.returns-in-Head-clause-refused
-returns-in-Head-clause-refused c = λ log was. extend_err _ _ log _ _ _ _ c.extend_length.result was c.if-self-lt-HEADER_LENGTH.false c.in-Head.is c.extend_length.ensures.refused
+returns-in-Head-clause-refused c = λ log was. extend_err _ _ log _ c.in-Head.kind c.in-Head.count c.in-Head.number c.extend_length.result was c.if-self-lt-HEADER_LENGTH.false c.in-Head.is c.extend_length.ensures.refused
 
 pub returns-in-Body-clause-copied : goal.returns-in-Body-clause-copied
 returns-in-Body-clause-copied c = λ log was.
