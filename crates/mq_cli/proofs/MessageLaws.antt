@@ -85,7 +85,7 @@ explanation_stops code input left old new (Err (obstacles.Misused misuse)) h = (
 -- memory may run out for it
 memory_stops : (task : Task) (input left old new : Option (List ℕ)) (line : List ℕ) → IsMisnamed task input line → Keeps old new
     → StopsTask failures.Memory task input left old new
-memory_stops (Check file json summary coverage) input left old new line misnamed kept = absurd misnamed
+memory_stops (Check file form coverage) input left old new line misnamed kept = absurd misnamed
 memory_stops (Show file long) input left old new line misnamed kept = absurd misnamed
 memory_stops (Packet hex long) input left old new line misnamed kept = packet_lacks long (string_bytes hex) input old new kept
 memory_stops (Rules role) input left old new line misnamed kept = kept

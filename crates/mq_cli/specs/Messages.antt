@@ -21,6 +21,8 @@ use Rattle.mq_log.specs.Refusals.{refused}
 use Rattle.mq_explain.specs.Citing.{explained_for}
 use Rattle.mq_command.specs.Digits.{OfDigits, by_operand, bytes_of, most_text, oddity_in, oddity_line}
 use Rattle.mq_explain.specs.Listing.{listed_for}
+use Rattle.mq_command.specs.declared.command_line.Form.{Form as AskedForm}
+use Rattle.mq_command.specs.declared.command_line.Form.TheVariants as asked
 use Rattle.mq_command.specs.declared.command_line.Task.{Task}
 use Rattle.mq_command.specs.declared.command_line.Task.TheVariants.{Check, Show, Packet, Rules, Explain}
 use Rattle.mq_cli.specs.declared.tasks.EventView.{EventView}
@@ -84,11 +86,11 @@ pub record IsRefusedBy (log : List ℕ) (refusal : Refusal) : Type 0 where
   pub unrefused : refused default_limit taken ≡ None
   pub why : IsRefusedNext default_limit taken later refusal
 
--- the form of the report that these flags ask for, JSON and summary: both together ask for JSON, which has everything
-abbrev pub form_of : Bool → Bool → Form
-form_of true summary = Json
-form_of false true = Summary
-form_of false false = Text
+-- the judge's form of report for the one that the words ask for
+abbrev pub form_of : AskedForm → Form
+form_of asked.Text = Text
+form_of asked.Json = Json
+form_of asked.Summary = Summary
 
 -- the report on a log in this form, with how often each statement was put to the test, or without
 abbrev pub report_for : Form → (coverage : Bool) → List ℕ → List ℕ
@@ -203,7 +205,7 @@ PrintsPart text old new = IsSomeAnd text (λ printed. AppendsPart old new printe
 
 -- 0: the log is judged and has no fault; the log that is shown can be judged; the bytes are one packet; the word names an end, or a statement
 abbrev pub HasPassed : Task → Option (List ℕ) → Type 0
-HasPassed (Check file json summary coverage) input = IfSome input (λ log. IsJudged log × IsFaultless log)
+HasPassed (Check file form coverage) input = IfSome input (λ log. IsJudged log × IsFaultless log)
 HasPassed (Show file long) input = IfSome input IsJudged
 HasPassed (Packet hex long) input = OfDigits (string_bytes hex) input SpellsPacket
 HasPassed (Rules role) input = IsSome (listed_for (option_map string_bytes role))
@@ -211,7 +213,7 @@ HasPassed (Explain code) input = IsSome (explained_for (string_bytes code))
 
 -- 1: the log is judged and has faults; the bytes aren't exactly one packet
 abbrev pub HasFailed : Task → Option (List ℕ) → Type 0
-HasFailed (Check file json summary coverage) input = IfSome input (λ log. IsJudged log × (¬ IsFaultless log))
+HasFailed (Check file form coverage) input = IfSome input (λ log. IsJudged log × (¬ IsFaultless log))
 HasFailed (Show file long) input = ⊥
 HasFailed (Packet hex long) input = OfDigits (string_bytes hex) input SpellsNoPacket
 HasFailed (Rules role) input = ⊥
@@ -219,7 +221,7 @@ HasFailed (Explain code) input = ⊥
 
 -- 0 and 1: the report was written, or the lines of the log's events, the line on the packet, the lines of the statements, or the explanation of one, and nothing else
 abbrev pub IsReportedOn : Task → Option (List ℕ) → Option (List ℕ) → Option (List ℕ) → Type 0
-IsReportedOn (Check file json summary coverage) input old new = IfSome input (λ log. Appends old new (report_for (form_of json summary) coverage log))
+IsReportedOn (Check file form coverage) input old new = IfSome input (λ log. Appends old new (report_for (form_of form) coverage log))
 IsReportedOn (Show file long) input old new = IfSome input (λ log. Appends old new (text_for (is_timed log) long (events log)))
 IsReportedOn (Packet hex long) input old new = OfDigits (string_bytes hex) input (λ text. AppendsReportOf long text old new)
 IsReportedOn (Rules role) input old new = Prints (listed_for (option_map string_bytes role)) old new
@@ -227,7 +229,7 @@ IsReportedOn (Explain code) input old new = Prints (explained_for (string_bytes 
 
 -- 2: the log is refused, and the line that says so was written: alone by a check, after the lines of the preceding events if the log is shown
 abbrev pub IsRefusedOn : Task → (input old new : Option (List ℕ)) → Type 0
-IsRefusedOn (Check file json summary coverage) input old new = IfSome input (λ log. RefusesCheck (form_of json summary) log old new)
+IsRefusedOn (Check file form coverage) input old new = IfSome input (λ log. RefusesCheck (form_of form) log old new)
 IsRefusedOn (Show file long) input old new = IfSome input (λ log. RefusesShow (text_for (is_timed log) long) log old new)
 IsRefusedOn (Packet hex long) input old new = ⊥
 IsRefusedOn (Rules role) input old new = ⊥
@@ -235,7 +237,7 @@ IsRefusedOn (Explain code) input old new = ⊥
 
 -- 3: the digits of a packet spell no bytes or are too many, or a word isn't an end, or is neither the code of a statement nor a citation; and this line says so
 abbrev pub IsMisnamed : Task → (input : Option (List ℕ)) → (line : List ℕ) → Type 0
-IsMisnamed (Check file json summary coverage) input line = ⊥
+IsMisnamed (Check file form coverage) input line = ⊥
 IsMisnamed (Show file long) input line = ⊥
 IsMisnamed (Packet hex long) input line = IsMisgiven (string_bytes hex) input line
 IsMisnamed (Rules role) input line = (listed_for (option_map string_bytes role) ≡ None) × (line ≡ no_role_line (unwrap_or (option_map string_bytes role) []))
@@ -272,7 +274,7 @@ StopsText text line old new (obstacles.Misused misuse) = (text ≡ None) × (mis
 
 -- 4: what failed, and what had been written
 abbrev pub StopsTask : Failure → Task → (input left old new : Option (List ℕ)) → Type 0
-StopsTask failure (Check file json summary coverage) input left old new = IfSome input (λ log. StopsCheck (form_of json summary) coverage failure log left old new)
+StopsTask failure (Check file form coverage) input left old new = IfSome input (λ log. StopsCheck (form_of form) coverage failure log left old new)
 StopsTask failure (Show file long) input left old new = IfSome input (λ log. StopsShow (text_for (is_timed log) long) failure log left old new)
 StopsTask failure (Packet hex long) input left old new = StopsGiven long (string_bytes hex) input old new (obstacles.Failed failure)
 StopsTask failure (Rules role) input left old new = StopsPrinting failure (listed_for (option_map string_bytes role)) old new

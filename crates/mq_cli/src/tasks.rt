@@ -20,7 +20,7 @@ ghost use Rattle.mq_log.specs.Events.{events};
 ghost use Rattle.mq_trace.specs.Writing.{AppendsBeginning};
 
 use hex::{FromHexError, decode};
-use mq_command::{EarlyExit, Task, first_oddity, is_dash, packed};
+use mq_command::{EarlyExit, Form as AskedForm, Task, first_oddity, is_dash, packed};
 use mq_explain::{explanation, explanations_cited, role_named, statement_list};
 use mq_host::{
     ErrorStream, FAILED, FAULTY, Failure, MISUSED, MOST_TEXT, Misuse, NoText, Obstacle, Output,
@@ -88,14 +88,9 @@ pub fn attempt<'a, R: Read, W: Write, P: Progress>(
     ensures statuses { IfOk result (λ status. status ≤ REFUSED) }
 {
     match task {
-        Task::Check {
-            json,
-            summary,
-            coverage,
-            ..
-        } => match check(
+        Task::Check { form, coverage, .. } => match check(
             alloc,
-            form_of(*json, *summary),
+            form_of(*form),
             *coverage,
             input,
             output,
@@ -120,14 +115,15 @@ pub fn attempt<'a, R: Read, W: Write, P: Progress>(
     }
 }
 
-// The form of the report that these flags ask for.
-fn form_of(json: bool, summary: bool) -> Form
-    ensures { result ≡ form_of json summary }
+// The judge's form of report for the one that the words ask for.
+fn form_of(form: AskedForm) -> Form
+    ensures { result ≡ form_of form }
 {
-    if json {
-        return Form::Json;
+    match form {
+        AskedForm::Text => Form::Text,
+        AskedForm::Json => Form::Json,
+        AskedForm::Summary => Form::Summary,
     }
-    if summary { Form::Summary } else { Form::Text }
 }
 
 // Judges a log, with a report in this form, which says how often each statement was put to the test

@@ -17,12 +17,14 @@ use Rattle.std.specs.Box.{box_value}
 use Rattle.clap.specs.declared.error.Error.{Error}
 use Rattle.clap.specs.declared.error.kind.ErrorKind.{ErrorKind}
 use Rattle.clap.specs.declared.error.kind.ErrorKind.TheVariants.{OutOfMemory}
+use Rattle.mq_command.specs.declared.command_line.Form.{Form}
+use Rattle.mq_command.specs.declared.command_line.Form.TheVariants as forms
 use Rattle.mq_command.specs.declared.command_line.EarlyExit.{EarlyExit}
 use Rattle.mq_command.specs.declared.command_line.EarlyExit.TheVariants.{Help, Memory, Usage}
 use Rattle.clap.specs.Kinds.{FailsBy, HasKind, IsAmong, Kinds, or_else}
 use Rattle.clap.specs.Faults.{defaults_fault, turn_fault, walk_fault, word_fault, step_fault, entered_fault, settle_fault, check_fault, other_fault}
 use Rattle.clap.specs.declared.builder.range.ValueRange.{ValueRange}
-use Rattle.mq_command.specs.CommandLine.{several, IsHelpOrVersion, StopsFor, check_request, convert_request, explain_request, word_faults, is_true, mqjudge, packet_request, request_in, request_of, rules_request, show_request}
+use Rattle.mq_command.specs.CommandLine.{several, IsHelpOrVersion, StopsFor, check_request, convert_request, explain_request, form_in, word_faults, is_true, mqjudge, packet_request, request_in, request_of, rules_request, show_request}
 
 -- ---- lists of kinds
 
@@ -238,11 +240,22 @@ met_by : (words : List Text) (m sub : ArgMatches) (name : Text) → subcommand_r
 met_by words m sub name same named rows =
     sym same ∙ both_met (subcommand_rows_of m) name (rows_of (found_of sub)) (name_met (out-ArgMatches m).subcommand ∙ named) rows
 
-pub same_check : {file file' : Option Text} {json json' summary summary' coverage coverage' : Bool} → file ≡ file' → json ≡ json' → summary ≡ summary' → coverage ≡ coverage'
-    → Some (check_request file json summary coverage) ≡ Some (check_request file' json' summary' coverage')
-same_check {file} {file'} {json} {json'} {summary} {summary'} {coverage} {coverage'} f j s v = ap (λ (x : Option Text). Some (check_request x json summary coverage)) f
-    ∙ ap (λ (x : Bool). Some (check_request file' x summary coverage)) j ∙ ap (λ (x : Bool). Some (check_request file' json' x coverage)) s
-    ∙ ap (λ (x : Bool). Some (check_request file' json' summary' x)) v
+-- the form that the flags' values ask for
+pub form_with_json : (check : ArgMatches) → is_true (first_value (found_of check) (codes "json")) ≡ true → forms.Json ≡ form_in (rows_of (found_of check))
+form_with_json check j = rw (sym (first_value-rows (found_of check) (codes "json")), j) refl
+
+pub form_with_summary : (check : ArgMatches) → is_true (first_value (found_of check) (codes "json")) ≡ false → is_true (first_value (found_of check) (codes "summary")) ≡ true
+    → forms.Summary ≡ form_in (rows_of (found_of check))
+form_with_summary check j s = rw (sym (first_value-rows (found_of check) (codes "json")), j, sym (first_value-rows (found_of check) (codes "summary")), s) refl
+
+pub form_with_neither : (check : ArgMatches) → is_true (first_value (found_of check) (codes "json")) ≡ false → is_true (first_value (found_of check) (codes "summary")) ≡ false
+    → forms.Text ≡ form_in (rows_of (found_of check))
+form_with_neither check j s = rw (sym (first_value-rows (found_of check) (codes "json")), j, sym (first_value-rows (found_of check) (codes "summary")), s) refl
+
+pub same_check : {file file' : Option Text} {form form' : Form} {coverage coverage' : Bool} → file ≡ file' → form ≡ form' → coverage ≡ coverage'
+    → Some (check_request file form coverage) ≡ Some (check_request file' form' coverage')
+same_check {file} {file'} {form} {form'} {coverage} {coverage'} f r v = ap (λ (x : Option Text). Some (check_request x form coverage)) f
+    ∙ ap (λ (x : Form). Some (check_request file' x coverage)) r ∙ ap (λ (x : Bool). Some (check_request file' form' x)) v
 
 pub same_show : {file file' : Option Text} {long long' faults faults' : Bool} {around around' : Option Text} → file ≡ file' → long ≡ long' → faults ≡ faults' → around ≡ around'
     → Some (show_request file long faults around) ≡ Some (show_request file' long' faults' around')
@@ -252,12 +265,10 @@ same_show {file} {file'} {long} {long'} {faults} {faults'} {around} {around'} f 
 
 pub request_is_check : (words : List Text) (m check : ArgMatches) → subcommand_rows_of m ≡ subcommand_of mqjudge words → subcommand_name_of m ≡ Some (codes "check")
     → option_map (λ p. p.1) (subcommand_rows_of m) ≡ Some (rows_of (found_of check)) → request_of words ≡ Some (check_request (first_value (found_of check) (codes "FILE"))
-    (is_true (first_value (found_of check) (codes "json"))) (is_true (first_value (found_of check) (codes "summary")))
-    (is_true (first_value (found_of check) (codes "coverage"))))
+    (form_in (rows_of (found_of check))) (is_true (first_value (found_of check) (codes "coverage"))))
 request_is_check words m check same named rows =
     ap (option_map request_in) (met_by words m check (codes "check") same named rows)
-    ∙ same_check (sym (first_value-rows (found_of check) (codes "FILE"))) (ap is_true (sym (first_value-rows (found_of check) (codes "json"))))
-    (ap is_true (sym (first_value-rows (found_of check) (codes "summary")))) (ap is_true (sym (first_value-rows (found_of check) (codes "coverage"))))
+    ∙ same_check (sym (first_value-rows (found_of check) (codes "FILE"))) refl (ap is_true (sym (first_value-rows (found_of check) (codes "coverage"))))
 
 pub request_is_show : (words : List Text) (m shown : ArgMatches) → subcommand_rows_of m ≡ subcommand_of mqjudge words → subcommand_name_of m ≡ Some (codes "show")
     → option_map (λ p. p.1) (subcommand_rows_of m) ≡ Some (rows_of (found_of shown)) → request_of words ≡ Some (show_request (first_value (found_of shown) (codes "FILE"))

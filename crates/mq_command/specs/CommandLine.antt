@@ -12,6 +12,8 @@ use Rattle.clap.specs.declared.error.kind.ErrorKind.TheVariants.{DisplayHelp, Di
 use Rattle.std.specs.declared.alloc.Global.{Global}
 use Rattle.mq_command.specs.Digits.{is_dash, spaced}
 use Rattle.mq_command.specs.Operands.{EndsWith, many_logs_line, names_many_logs}
+use Rattle.mq_command.specs.declared.command_line.Form.{Form}
+use Rattle.mq_command.specs.declared.command_line.Form.TheVariants as forms
 use Rattle.mq_command.specs.declared.command_line.Work.{Work}
 use Rattle.mq_command.specs.declared.command_line.Work.TheVariants.{Once, Twice, Convert}
 use Rattle.mq_command.specs.declared.command_line.Task.{Task}
@@ -77,12 +79,11 @@ mqjudge = with_subcommand
     explain_command.top)
     convert_command.top
 
--- what a command line asks for: a subcommand, its operand, its flags, the number after `--around`, the end that it is for, the file that it makes, and whether one that is there may be emptied
+-- what a command line asks for: a subcommand, its operand, the form of the report, its other flags, the number after `--around`, the end that it is for, the file that it makes, and whether one that is there may be emptied
 pub record Request : Type 0 where
   pub subcommand : Text
   pub operand : Option Text
-  pub json : Bool
-  pub summary : Bool
+  pub form : Form
   pub coverage : Bool
   pub long : Bool
   pub faults : Bool
@@ -97,8 +98,7 @@ plain_request subcommand operand =
     record {
       subcommand = subcommand;
       operand = operand;
-      json = false;
-      summary = false;
+      form = forms.Text;
       coverage = false;
       long = false;
       faults = false;
@@ -108,9 +108,9 @@ plain_request subcommand operand =
       force = false;
     }
 
--- `check` on this file, with these flags
-abbrev pub check_request : Option Text → (json summary coverage : Bool) → Request
-check_request file json summary coverage = record (plain_request (codes "check") file) { json = json; summary = summary; coverage = coverage }
+-- `check` on this file, with a report in this form, with coverage or without
+abbrev pub check_request : Option Text → Form → (coverage : Bool) → Request
+check_request file form coverage = record (plain_request (codes "check") file) { form = form; coverage = coverage }
 
 -- `show` of this file, with these flags and this number
 abbrev pub show_request : Option Text → (long faults : Bool) → (around : Option Text) → Request
@@ -141,10 +141,14 @@ abbrev pub is_true : Option Text → Bool
 is_true None = false
 is_true (Some value) = bytes_eq value (codes "true")
 
+-- the form of the report that matches of `check` ask for: `--json` goes before `--summary`, since JSON has everything
+abbrev pub form_in : List Row → Form
+form_in rows = if is_true (first_of (codes "json") rows) then forms.Json
+    else (if is_true (first_of (codes "summary") rows) then forms.Summary else forms.Text)
+
 -- the request in a subcommand's name and matches
 abbrev pub request_in : Text × List Row → Request
-request_in met = if bytes_eq met.0 (codes "check") then check_request (first_of (codes "FILE") met.1) (is_true (first_of (codes "json") met.1)) (is_true (first_of (codes "summary") met.1))
-    (is_true (first_of (codes "coverage") met.1))
+request_in met = if bytes_eq met.0 (codes "check") then check_request (first_of (codes "FILE") met.1) (form_in met.1) (is_true (first_of (codes "coverage") met.1))
     else (if bytes_eq met.0 (codes "show") then show_request (first_of (codes "FILE") met.1) (is_true (first_of (codes "long") met.1))
     (is_true (first_of (codes "faults") met.1)) (first_of (codes "N") met.1)
     else (if bytes_eq met.0 (codes "packet") then packet_request (all_of (codes "HEX") met.1) (is_true (first_of (codes "long") met.1))
@@ -162,7 +166,7 @@ word_faults words = fault_of mqjudge words
 
 -- the request that corresponds to some work
 abbrev pub request_by : Work → Request
-request_by (Once (Check file json summary coverage)) = check_request (option_map string_bytes file) json summary coverage
+request_by (Once (Check file form coverage)) = check_request (option_map string_bytes file) form coverage
 request_by (Once (Show file long)) = show_request (option_map string_bytes file) long false None
 request_by (Once (Packet hex long)) = digits_request (string_bytes hex) long
 request_by (Once (Rules role)) = rules_request (option_map string_bytes role)
@@ -207,7 +211,7 @@ path_named (Some operand) = if bytes_eq operand (codes "-") then None else Some 
 
 -- the path of the log that a task reads: none if it reads standard input, or nothing
 abbrev pub path_of : Task → Option Text
-path_of (Check file json summary coverage) = path_named (option_map string_bytes file)
+path_of (Check file form coverage) = path_named (option_map string_bytes file)
 path_of (Show file long) = path_named (option_map string_bytes file)
 path_of (Packet hex long) = None
 path_of (Rules role) = None
@@ -215,7 +219,7 @@ path_of (Explain code) = None
 
 -- a task reads its input: a log, or the digits of a packet if the operand is `-`. Others need no input.
 abbrev pub reads_input : Task → Bool
-reads_input (Check file json summary coverage) = true
+reads_input (Check file form coverage) = true
 reads_input (Show file long) = true
 reads_input (Packet hex long) = is_dash (string_bytes hex)
 reads_input (Rules role) = false

@@ -1,9 +1,9 @@
 //! Parsing the words of a command line into a task.
 ghost use Rattle.std.specs.Prelude.{◌≡◌, List, [], Some, codes, false, IfOk, IfErr, map, option_map, string_bytes, unwrap_or};
-ghost use Rattle.clap.specs.Words.{HasKind, Kinds, Text, app_of, new_rule, rule_of, subcommand_of, subcommand_rows_of, with_subcommand};
+ghost use Rattle.clap.specs.Words.{HasKind, Kinds, Text, app_of, found_of, new_rule, rows_of, rule_of, subcommand_of, subcommand_rows_of, with_subcommand};
 ghost use Rattle.clap.specs.declared.builder.command.Command.TheViews.{out-Command};
 ghost use Rattle.mq_command.specs.CommandLine.{ReadsAsAsked, StopsFor, around_option, check_command, check_request, convert_command, convert_request, explain_command};
-ghost use Rattle.mq_command.specs.CommandLine.{explain_request, word_faults, flag, is_true, mqjudge, packet_command, packet_request};
+ghost use Rattle.mq_command.specs.CommandLine.{explain_request, word_faults, flag, form_in, is_true, mqjudge, packet_command, packet_request};
 ghost use Rattle.mq_command.specs.CommandLine.{path_named, path_of, reads_input, request_by, request_of, required_operand, rules_command};
 ghost use Rattle.mq_command.specs.CommandLine.{IsUsage, TellsOfMany, rules_request, show_command, show_request};
 ghost use Rattle.mq_command.specs.Operands.{names_many_logs};
@@ -90,6 +90,17 @@ pub struct Review {
     pub long: bool,
 }
 
+/// The form of the report that a check writes.
+#[derive(Clone, Copy, Debug, PartialEq, Eq)]
+pub enum Form {
+    /// A line for each fault.
+    Text,
+    /// One line of JSON.
+    Json,
+    /// A line for each statement that has faults.
+    Summary,
+}
+
 /// What is done with one reading of a log, or with none.
 #[derive(Debug, Drop)]
 pub enum Task {
@@ -97,10 +108,8 @@ pub enum Task {
     Check {
         /// The log's path.
         file: Option<String>,
-        /// Report as JSON, whatever `summary` says.
-        json: bool,
-        /// Report a line for each statement that has faults, in place of one for each fault.
-        summary: bool,
+        /// The form of the report.
+        form: Form,
         /// Report how often each statement was put to the test too.
         coverage: bool,
     },
@@ -196,8 +205,7 @@ pub fn parse<S: AsStr>(alloc: Global, words: &[S]) -> Result<Work, EarlyExit>
             Some(check) => check_task(
                 alloc,
                 check.get_str("FILE"),
-                is_true(check.get_str("json")),
-                is_true(check.get_str("summary")),
+                form_in(check),
                 is_true(check.get_str("coverage")),
             ),
             None => match matches.subcommand_matches("show") {
@@ -482,24 +490,36 @@ fn is_true(value: Option<&str>) -> bool
     }
 }
 
-// The task of `check` on this operand and these flags.
+// The form of the report that matches of `check` ask for: JSON, whatever `--summary` says.
+fn form_in(check: &ArgMatches<'_>) -> Form
+    ensures { result ≡ form_in (rows_of (found_of check.now)) }
+{
+    if is_true(check.get_str("json")) {
+        return Form::Json;
+    }
+    if is_true(check.get_str("summary")) {
+        Form::Summary
+    } else {
+        Form::Text
+    }
+}
+
+// The task of `check` on this operand, with a report in this form, with coverage or without.
 fn check_task(
     alloc: Global,
     file: Option<&str>,
-    json: bool,
-    summary: bool,
+    form: Form,
     coverage: bool,
 ) -> Result<Work, EarlyExit>
     ensures work { IfOk result (λ work.
-        request_by work ≡ check_request (option_map (λ path. path.now) file.entry) json summary coverage) }
+        request_by work ≡ check_request (option_map (λ path. path.now) file.entry) form coverage) }
     ensures readings { IfOk result ReadsAsAsked }
     ensures stop { IfErr result (λ stop. stop ≡ EarlyExit.Memory) }
 {
     let file = copy_word(alloc, file)?;
     Ok(Work::Once(Task::Check {
         file,
-        json,
-        summary,
+        form,
         coverage,
     }))
 }

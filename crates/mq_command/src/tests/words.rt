@@ -13,64 +13,72 @@ fn task_of(alloc: Global, words: &[&str]) -> Result<Task, EarlyExit> {
     }
 }
 
-// Whether these words ask for a check of this file, or of the input, with these flags.
+// Whether these words ask for a check of this file, or of the input, with a report in this form, with
+// coverage or without.
 fn is_check_of(
     alloc: Global,
     words: &[&str],
     wanted: Option<&str>,
-    flags: (bool, bool, bool),
+    report: (Form, bool),
 ) -> Result<bool, EarlyExit> {
     let Task::Check {
         file,
-        json,
-        summary,
+        form,
         coverage,
     } = task_of(alloc, words)?
     else {
         return Ok(false);
     };
     let path = file.as_ref().map(|path| path.as_str());
-    Ok(path == wanted && (json, summary, coverage) == flags)
+    Ok(path == wanted && (form, coverage) == report)
 }
 
 #[test]
 fn reads_the_words_of_a_check(rt: HostRuntime) -> Result<(), Fail> {
-    let rows: [(&[&str], Option<&str>, (bool, bool, bool)); 8] = [
-        (&["mqjudge", "check"], None, (false, false, false)),
+    let rows: [(&[&str], Option<&str>, (Form, bool)); 9] = [
+        (&["mqjudge", "check"], None, (Form::Text, false)),
         (
             &["mqjudge", "check", "a.log"],
             Some("a.log"),
-            (false, false, false),
+            (Form::Text, false),
         ),
         (
             &["mqjudge", "check", "--", "--help"],
             Some("--help"),
-            (false, false, false),
+            (Form::Text, false),
         ),
-        (&["mqjudge", "check", "--json"], None, (true, false, false)),
+        (&["mqjudge", "check", "--json"], None, (Form::Json, false)),
+        (
+            &["mqjudge", "check", "--summary", "a.log"],
+            Some("a.log"),
+            (Form::Summary, false),
+        ),
         (
             &["mqjudge", "check", "--summary", "a.log", "--json"],
             Some("a.log"),
-            (true, true, false),
+            (Form::Json, false),
         ),
         (
             &["mqjudge", "check", "--coverage"],
             None,
-            (false, false, true),
+            (Form::Text, true),
         ),
         (
             &["mqjudge", "check", "a.log", "--coverage", "--json"],
             Some("a.log"),
-            (true, false, true),
+            (Form::Json, true),
         ),
         (
             &["mqjudge", "check", "--coverage", "--summary", "-"],
             Some("-"),
-            (false, true, true),
+            (Form::Summary, true),
         ),
     ];
-    for (words, wanted, flags) in rows {
-        assert!(rt; is_check_of(rt.alloc(), words, wanted, flags)?, "{words:?}");
+    for (words, wanted, report) in rows {
+        assert!(rt;
+            is_check_of(rt.alloc(), words, wanted, report)?,
+            "{words:?}"
+        );
     }
     Ok(())
 }

@@ -21,10 +21,8 @@ pub returns-in-Some-clause-work : goal.returns-in-Some-clause-work
 returns-in-Some-clause-work g c =
     let words = map g.S.AsStr.text c.args.words.now in
     let asked = request_is_check words c.in-Ok.matches c.in-Some.check.now c.in-Ok.ensures.met (c.in-Some.ensures.found.0 refl) c.in-Some.ensures.rows in
-    let json = c.is_true.ensures ∙ ap is_true c.get_str-in-Some.ensures in
-    let summary = c.is_true-in-Some.ensures ∙ ap is_true c.get_str-in-Some-2.ensures in
-    let coverage = c.is_true-in-Some-2.ensures ∙ ap is_true c.get_str-in-Some-3.ensures in
-    IfOk-weaker c.check_task.result _ _ (λ work h. asked ∙ same_check (sym c.get_str.ensures) (sym json) (sym summary) (sym coverage) ∙ ap Some (sym h)) c.check_task.ensures.work
+    let coverage = c.is_true.ensures ∙ ap is_true c.get_str-in-Some.ensures in
+    IfOk-weaker c.check_task.result _ _ (λ work h. asked ∙ same_check (sym c.get_str.ensures) (sym c.form_in.ensures) (sym coverage) ∙ ap Some (sym h)) c.check_task.ensures.work
 
 pub returns-in-Some-subcommand_matches-clause-work : goal.returns-in-Some-subcommand_matches-clause-work
 returns-in-Some-subcommand_matches-clause-work g c =
