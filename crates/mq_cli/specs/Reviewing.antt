@@ -40,7 +40,7 @@ pub record Plan : Type 0 where
 
 -- a plan as the source has it
 abbrev pub plan_view : SourcePlan → Plan
-plan_view plan = record { path = plan.path.now; around = plan.around; long = plan.long }
+plan_view plan = record { path = plan.path.now; around = plan.extent.around; long = plan.extent.long }
 
 -- what to show of the log in a file, if a file is named that can be read twice; else the message
 abbrev pub plan_on : (path : Option Text) → (around : Option ℕ) → (long : Bool) → Result Plan Text

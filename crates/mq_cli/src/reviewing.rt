@@ -13,7 +13,7 @@ use mq_host::{
     ErrorStream, FAILED, Failure, Host, MISUSED, Misuse, Noting, Output, PASSED, REFUSED, Trouble,
     give_hint, read_start,
 };
-use mq_judge::{Form, judge_reader};
+use mq_judge::{Extent, Form, judge_reader};
 use std::alloc::Global;
 use std::io::{Read, Write};
 
@@ -22,10 +22,8 @@ use std::io::{Read, Write};
 pub struct Plan<'a> {
     /// The log's path.
     pub path: &'a str,
-    /// Only events within this many positions of a fault are shown; with `None` all are.
-    pub around: Option<u32>,
-    /// Whether lines are long.
-    pub long: bool,
+    /// How much of it is shown.
+    pub extent: Extent,
 }
 
 /// Shows a log with the faults at its events, and returns the status to exit with.
@@ -99,7 +97,10 @@ fn plan_on<'a>(
     ensures err { IfErr result (λ why. plan_on (path_named (option_map string_bytes file.now)) around long ≡ Err (misuse_line why)) }
 {
     match path_named(file) {
-        Some(path) => Ok(Plan { path, around, long }),
+        Some(path) => Ok(Plan {
+            path,
+            extent: Extent { around, long },
+        }),
         None => Err(Misuse::NoFile),
     }
 }
@@ -229,8 +230,7 @@ pub fn show_twice<R: Read, S: Read, W: Write>(
             let view = EventView::Faults {
                 faults: &verdict.faults,
                 role,
-                around: plan.around,
-                long: plan.long,
+                extent: plan.extent,
             };
             show_log(alloc, view, shown, output)
         }

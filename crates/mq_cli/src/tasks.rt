@@ -27,7 +27,7 @@ use mq_host::{
     PASSED, REFUSED, Trouble, flush, read_text, write_out,
 };
 use mq_judge::{
-    Faults, Form, Outcome, Progress, Refusal, RunFault, run_covered, run_watched, show,
+    Extent, Faults, Form, Outcome, Progress, Refusal, RunFault, run_covered, run_watched, show,
     show_faults, show_long, write_long_packet, write_packet, write_refused,
 };
 use mq_rules::{Role, Rule};
@@ -48,10 +48,8 @@ pub enum EventView<'a> {
         faults: &'a Faults,
         /// The role of the end whose faults they are.
         role: Role,
-        /// Only events within this many positions of a fault are shown; with `None` all are.
-        around: Option<u32>,
-        /// Whether lines are long.
-        long: bool,
+        /// How much is shown.
+        extent: Extent,
     },
 }
 
@@ -222,9 +220,8 @@ fn show_lines<R: Read, W: Write>(
         EventView::Faults {
             faults,
             role,
-            around,
-            long,
-        } => show_faults(alloc, faults, role, around, long, input, output),
+            extent,
+        } => show_faults(alloc, faults, role, extent, input, output),
     }
 }
 

@@ -9,7 +9,7 @@ use Rattle.mq_report.specs.Display.{Annotation, annotated, begins_gap, is_timed,
 
 -- what a view of faults shows
 abbrev pub annotation_of : AnnotatedView → Annotation
-annotation_of a = record { role = a.role; faults = map.entries a.faults.now; around = a.around; long = a.long }
+annotation_of a = record { role = a.role; faults = map.entries a.faults.now; around = a.extent.around; long = a.extent.long }
 
 -- the text of events, which are given the newest first
 abbrev pub text_by : (timed : Bool) → View → List Placed → List ℕ
@@ -21,7 +21,7 @@ text_by timed (Annotated a) = annotated timed (annotation_of a)
 abbrev pub IsStateAfter : List Placed → View → Type 0
 IsStateAfter earlier Brief = ⊤
 IsStateAfter earlier Long = ⊤
-IsStateAfter earlier (Annotated a) = a.begins_gap ≡ begins_gap a.around (map.entries a.faults.now) earlier
+IsStateAfter earlier (Annotated a) = a.begins_gap ≡ begins_gap a.extent.around (map.entries a.faults.now) earlier
 
 -- The log that a reader still has to give, if that is known, is timed. Nothing is foreseen of a log that isn't known.
 abbrev pub is_timed_if_known : Option (List ℕ) → Bool

@@ -9,13 +9,13 @@ ghost use Rattle.mq_log.specs.Refusals.{is_cut_short};
 ghost use Rattle.mq_trace.specs.Tracing.{IsTracedTo};
 ghost use Rattle.mq_log.specs.declared.refusal.Refusal.TheVariants as refusals;
 
-mod annotated;
+pub mod annotated;
 mod calendar;
 pub mod details;
 pub mod outgoing;
 mod view;
 
-use self::annotated::Annotated;
+use self::annotated::{Annotated, Extent};
 use self::outgoing::Outgoing;
 use self::view::View;
 use super::feeding::{DEFAULT_LIMIT, feed_log};
@@ -283,20 +283,18 @@ pub fn show_faults<R: Read, W: Write>(
     alloc: Global,
     faults: &Faults,
     role: Role,
-    around: Option<u32>,
-    long: bool,
+    extent: Extent,
     reader: &mut R,
     writer: &mut W,
 ) -> Result<(), RunFault>
     ensures { IfSome (R.remaining reader.old)
-        (λ log. Shows (annotated (is_timed log) (record { role = role; faults = map.entries faults.now; around = around; long = long }))
+        (λ log. Shows (annotated (is_timed log) (record { role = role; faults = map.entries faults.now; around = extent.around; long = extent.long }))
         log (R.remaining reader.new) result (W.contents writer.old) (W.contents writer.new)) }
 {
     let view = View::Annotated(Annotated {
         faults,
         role,
-        around,
-        long,
+        extent,
         begins_gap: true,
     });
     let mut out = Outgoing::to(writer);

@@ -11,6 +11,7 @@ mod long_packet;
 mod report;
 mod sentences;
 
+pub use display::annotated::Extent;
 pub use display::{show, show_faults, show_long};
 pub use feeding::{DEFAULT_LIMIT, feed_log};
 pub use finding::write_packet;

@@ -2,6 +2,7 @@
 use super::harness::{CONNECTED, CONNECTED_LINES, NESTED, Narrow, Trickle, add_record};
 use crate::reviewing::{Plan, show_twice};
 use mq_host::{Failure, PASSED, REFUSED};
+use mq_judge::Extent;
 use std::alloc::{AllocError, Global};
 use std::fmt::Write as _;
 use std::io::Cursor;
@@ -79,8 +80,7 @@ static ROWS: [(&[u8], Option<u32>, bool, &str); 9] = [
 fn plan(around: Option<u32>, long: bool) -> Plan<'static> {
     Plan {
         path: "a.log",
-        around,
-        long,
+        extent: Extent { around, long },
     }
 }
 

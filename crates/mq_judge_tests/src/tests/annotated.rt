@@ -4,7 +4,7 @@ use mq_harness::{
     CLIENT, CONNACK, CONNECT, HEADER, PINGREQ, PINGRESP, PUBACK, PUBLISH_ONCE,
     PUBLISH_UNIDENTIFIED, Part, add_record, log_of,
 };
-use mq_judge::{RunFault, judge_reader, show_faults, show_long};
+use mq_judge::{Extent, RunFault, judge_reader, show_faults, show_long};
 use mq_log::Refusal;
 use std::alloc::{AllocError, Global};
 use std::fmt::Write as _;
@@ -80,8 +80,10 @@ fn is_shown(alloc: Global, log: &[u8], around: Option<u32>, text: &[u8]) -> Resu
         alloc,
         &verdict.faults,
         role,
-        around,
-        false,
+        Extent {
+            around,
+            long: false,
+        },
         &mut &log[..],
         &mut written,
     );

@@ -1,6 +1,6 @@
 //! Logs of version 2, whose records have moments, as they are shown.
 use mq_harness::Pieces;
-use mq_judge::{RunFault, judge_reader, show, show_faults, show_long};
+use mq_judge::{Extent, RunFault, judge_reader, show, show_faults, show_long};
 use mq_log::Refusal;
 use std::alloc::Global;
 use std::fmt::Write as _;
@@ -107,8 +107,10 @@ fn is_shown_around(alloc: Global, log: &[u8], around: Option<u32>, text: &str) -
         alloc,
         &verdict.faults,
         role,
-        around,
-        false,
+        Extent {
+            around,
+            long: false,
+        },
         &mut &log[..],
         &mut written,
     );

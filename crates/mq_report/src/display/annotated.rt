@@ -16,6 +16,15 @@ use mq_log::{Event, Place3};
 use mq_rules::{Fault, FaultKey, Faults, Role, Rule};
 use std::io::Write;
 
+/// How much of a log is shown with its faults.
+#[derive(Clone, Copy)]
+pub struct Extent {
+    /// Only events within this many positions of a fault are shown; with `None` all are.
+    pub around: Option<u32>,
+    /// Whether the lines of events are long.
+    pub long: bool,
+}
+
 /// The line of each event near to a fault, with a line for each fault at it, and a line `..` for
 /// each run of events that are left out.
 #[derive(Clone, Copy)]
@@ -24,10 +33,8 @@ pub struct Annotated<'a> {
     pub faults: &'a Faults,
     /// The role of the end whose faults they are.
     pub role: Role,
-    /// Only events within this many positions of a fault are shown; with `None` all are.
-    pub around: Option<u32>,
-    /// Whether the lines of events are long.
-    pub long: bool,
+    /// How much is shown.
+    pub extent: Extent,
     /// Whether an event that is left out begins a run of them: it is the first one, or the one
     /// before it is shown.
     pub begins_gap: bool,
@@ -45,11 +52,11 @@ impl Annotated<'_> {
         event: &Event<'_>,
     )
         ensures same { annotation_of self.new ≡ annotation_of self.old }
-        ensures gap { self.new.begins_gap ≡ is_near self.old.around (map.entries self.old.faults.now) place.position }
+        ensures gap { self.new.begins_gap ≡ is_near self.old.extent.around (map.entries self.old.faults.now) place.position }
         ensures puts { Puts W.contents out.old
             (event_text_after timed (annotation_of self.old) self.old.begins_gap (placed_at place event.now)) out.new }
     {
-        let shown = is_near(self.faults, self.around, place.position);
+        let shown = is_near(self.faults, self.extent.around, place.position);
         put_event(out, self, shown, timed, place, event);
         self.begins_gap = shown;
     }
@@ -84,7 +91,7 @@ fn put_noted_line<W: Write>(
 )
     ensures { Puts W.contents out.old (noted_line timed (annotation_of view.now) (placed_at place event.now)) out.new }
 {
-    put_shown_line(out, timed, view.long, place, event);
+    put_shown_line(out, timed, view.extent.long, place, event);
     put_notes(out, view.faults, view.role, timed, place);
 }
 
