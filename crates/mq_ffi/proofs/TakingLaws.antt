@@ -9,7 +9,7 @@ use Rattle.mq_judge.specs.Judging.{Follows, RefusesIn, HasRefused}
 use Rattle.mq_report.specs.Stopping.{StopsIn, IsRefusedByte}
 use Rattle.mq_ffi.specs.declared.answer.Trouble.{Trouble}
 use Rattle.mq_ffi.specs.Living.{Answer, TakesIn}
-use Rattle.mq_ffi.specs.Telling.{in_parts, full_before, in_records}
+use Rattle.mq_ffi.specs.Telling.{in_parts, full_before, in_records, most_bytes}
 
 -- what is refused in the first of two pieces is refused in both
 abbrev earlier : (limit : ℕ) (judge : Judge) (log front back : List ℕ) (refusal : Refusal) → RefusesIn limit judge log front refusal → RefusesIn limit judge log (front ++ back) refusal
@@ -86,34 +86,34 @@ pub record HasTaken (written : List ℕ → List ℕ) (bytes rest : List ℕ) (o
 pub taken_none : (written : List ℕ → List ℕ) (bytes : List ℕ) (judge : Judge) (refusal : Option Refusal) → HasTaken written bytes bytes judge judge refusal refusal
 taken_none written bytes judge refusal = record { front = []; parts = refl; taken = takes_nothing judge refusal }
 
-one_more : (size : ℕ) → 1048576 < size → full_before size ≡ full_before (size - 1048576) + 1
+one_more : (size : ℕ) → most_bytes < size → full_before size ≡ full_before (size - most_bytes) + 1
 one_more size many =
-    let e : size - 1 ≡ (size - 1048576 - 1) + 1048576 = omega (arith, many) in
-    ap (λ n. n / 1048576) e ∙ add-div_right (size - 1048576 - 1) {k = 1048576} (omega arith)
+    let e : size - 1 ≡ (size - most_bytes - 1) + most_bytes = omega (arith, many) in
+    ap (λ n. n / most_bytes) e ∙ add-div_right (size - most_bytes - 1) {k = most_bytes} (omega arith)
 
-by_one : (written : List ℕ → List ℕ) (full n : ℕ) (rest : List ℕ) → n ≡ full + 1 → in_parts written n rest ≡ written (take 1048576 rest) ++ in_parts written full (drop 1048576 rest)
+by_one : (written : List ℕ → List ℕ) (full n : ℕ) (rest : List ℕ) → n ≡ full + 1 → in_parts written n rest ≡ written (take most_bytes rest) ++ in_parts written full (drop most_bytes rest)
 by_one written full n rest is =
     let next : n ≡ suc full = omega (arith, is) in
     ap (λ m. in_parts written m rest) next
 
 -- a full record, and those of what comes after it
-pub first_part : (written : List ℕ → List ℕ) (rest : List ℕ) → 1048576 < length rest → in_records written rest ≡ written (take 1048576 rest) ++ in_records written (drop 1048576 rest)
+pub first_part : (written : List ℕ → List ℕ) (rest : List ℕ) → most_bytes < length rest → in_records written rest ≡ written (take most_bytes rest) ++ in_records written (drop most_bytes rest)
 first_part written rest many =
-    by_one written (full_before (length rest - 1048576)) (full_before (length rest)) rest (one_more (length rest) many)
-    ∙ ap (λ size. written (take 1048576 rest) ++ in_parts written (full_before size) (drop 1048576 rest)) (sym (length-drop 1048576 rest))
+    by_one written (full_before (length rest - most_bytes)) (full_before (length rest)) rest (one_more (length rest) many)
+    ∙ ap (λ size. written (take most_bytes rest) ++ in_parts written (full_before size) (drop most_bytes rest)) (sym (length-drop most_bytes rest))
 
 -- the last record
-pub last_part : (written : List ℕ → List ℕ) (rest : List ℕ) → length rest ≤ 1048576 → in_records written rest ≡ written rest
+pub last_part : (written : List ℕ → List ℕ) (rest : List ℕ) → length rest ≤ most_bytes → in_records written rest ≡ written rest
 last_part written rest few = ap (λ n. in_parts written n rest) (none (length rest) few) where
-  none : (size : ℕ) → size ≤ 1048576 → full_before size ≡ 0
+  none : (size : ℕ) → size ≤ most_bytes → full_before size ≡ 0
   none size few = omega (arith, few)
 
-parted : (written : List ℕ → List ℕ) (rest part later : List ℕ) → 1048576 < length rest → part ≡ take 1048576 rest → later ≡ drop 1048576 rest → in_records written rest ≡ written part ++ in_records written later
+parted : (written : List ℕ → List ℕ) (rest part later : List ℕ) → most_bytes < length rest → part ≡ take most_bytes rest → later ≡ drop most_bytes rest → in_records written rest ≡ written part ++ in_records written later
 parted written rest part later many is_part is_later =
-    first_part written rest many ∙ ap (λ p. written p ++ in_records written (drop 1048576 rest)) (sym is_part) ∙ ap (λ l. written part ++ in_records written l) (sym is_later)
+    first_part written rest many ∙ ap (λ p. written p ++ in_records written (drop most_bytes rest)) (sym is_part) ∙ ap (λ l. written part ++ in_records written l) (sym is_later)
 
 pub taken_more : (written : List ℕ → List ℕ) (bytes rest part later : List ℕ) (old middle new : Judge) (before between after : Option Refusal)
-    → HasTaken written bytes rest old middle before between → 1048576 < length rest → part ≡ take 1048576 rest → later ≡ drop 1048576 rest
+    → HasTaken written bytes rest old middle before between → most_bytes < length rest → part ≡ take most_bytes rest → later ≡ drop most_bytes rest
     → TakesIn (written part) middle new between after (Ok tt) → HasTaken written bytes later old new before after
 taken_more written bytes rest part later old middle new before between after had many is_part is_later more = record {
   front = had.front ++ written part;
@@ -122,7 +122,7 @@ taken_more written bytes rest part later old middle new before between after had
 }
 
 pub taken_stops : (written : List ℕ → List ℕ) (bytes rest part later : List ℕ) (old middle new : Judge) (before between after : Option Refusal) (trouble : Trouble)
-    → HasTaken written bytes rest old middle before between → 1048576 < length rest → part ≡ take 1048576 rest → later ≡ drop 1048576 rest
+    → HasTaken written bytes rest old middle before between → most_bytes < length rest → part ≡ take most_bytes rest → later ≡ drop most_bytes rest
     → TakesIn (written part) middle new between after (Err trouble) → TakesIn (in_records written bytes) old new before after (Err trouble)
 taken_stops written bytes rest part later old middle new before between after trouble had many is_part is_later stops =
     subst (λ (piece : List ℕ). TakesIn piece old new before after (Err trouble)) (sym (had.parts ∙ ap (λ back. had.front ++ back) (parted written rest part later many is_part is_later)))
@@ -130,7 +130,7 @@ taken_stops written bytes rest part later old middle new before between after tr
     (takes_first (written part) (in_records written later) middle new between after trouble stops))
 
 pub taken_last : (written : List ℕ → List ℕ) (bytes rest : List ℕ) (old middle new : Judge) (before between after : Option Refusal) (answer : Answer)
-    → HasTaken written bytes rest old middle before between → length rest ≤ 1048576
+    → HasTaken written bytes rest old middle before between → length rest ≤ most_bytes
     → TakesIn (written rest) middle new between after answer → TakesIn (in_records written bytes) old new before after answer
 taken_last written bytes rest old middle new before between after answer had few ends =
     subst (λ (piece : List ℕ). TakesIn piece old new before after answer) (sym (had.parts ∙ ap (λ back. had.front ++ back) (last_part written rest few)))

@@ -56,9 +56,20 @@ BeginsWith server releases = BeginsIf (nat_lt 1 server || nat_lt 1 releases) (he
 abbrev pub BeginsAs : ℕ → ℕ → Live → Live → ℕ → Type 0
 BeginsAs server releases = ByCode (BeginsWith server releases)
 
+-- the largest packet that is read if the caller names no limit, in bytes
+abbrev pub default_limit : ℕ
+default_limit = 16777216
+
+-- the least limit, and the greatest: that of the largest packet of the standard
+abbrev pub least_limit : ℕ
+least_limit = 5
+
+abbrev pub greatest_limit : ℕ
+greatest_limit = 268435460
+
 -- the limit that a number stands for, if it stands for one
 abbrev pub limit_by : ℕ → Option ℕ
-limit_by limit = if limit == 0 then Some 16777216 else (if nat_lt limit 5 then None else (if nat_lt 268435460 limit then None else Some limit))
+limit_by limit = if limit == 0 then Some default_limit else (if nat_lt limit least_limit then None else (if nat_lt greatest_limit limit then None else Some limit))
 
 -- A judge with this limit is made, which was told nothing, and has given no fault, if there is memory.
 abbrev pub MakesWith : ℕ → Option Live → ℕ → Type 0
@@ -79,21 +90,21 @@ abbrev pub Frees : Option Live → Option Live → ℕ → Type 0
 Frees (Some old) new code = (code ≡ 0) × (new ≡ None)
 Frees None new code = (code ≡ 2) × (new ≡ None)
 
--- The refusal is told, if there is one; nothing else is written.
-abbrev pub TellsRefusal : Option Refusal → ℕ → ℕ → ℕ → ℕ → ℕ → Type 0
-TellsRefusal (Some refusal) number number' byte byte' code = (code ≡ 0) × (number' ≡ number_of refusal) × (byte' ≡ refusal_offset refusal)
-TellsRefusal None number number' byte byte' code = (code ≡ 9) × (number' ≡ number) × (byte' ≡ byte)
+-- The refusal is written, if there is one; nothing else is written.
+abbrev pub WritesRefusal : Option Refusal → ℕ → ℕ → ℕ → ℕ → ℕ → Type 0
+WritesRefusal (Some refusal) number number' byte byte' code = (code ≡ 0) × (number' ≡ number_of refusal) × (byte' ≡ refusal_offset refusal)
+WritesRefusal None number number' byte byte' code = (code ≡ 9) × (number' ≡ number) × (byte' ≡ byte)
 
 abbrev pub AsksRefusal : ℕ → ℕ → ℕ → ℕ → Live → Live → ℕ → Type 0
-AsksRefusal number number' byte byte' old new code = (new ≡ old) × TellsRefusal old.refusal number number' byte byte' code
+AsksRefusal number number' byte byte' old new code = (new ≡ old) × WritesRefusal old.refusal number number' byte byte' code
 
 -- its name likewise
-abbrev pub TellsName : Option Refusal → List ℕ → List ℕ → ℕ → ℕ → ℕ → Type 0
-TellsName (Some refusal) before after count count' code = PutsTextAs (name_of refusal) before after count' code
-TellsName None before after count count' code = (code ≡ 9) × (after ≡ before) × (count' ≡ count)
+abbrev pub WritesName : Option Refusal → List ℕ → List ℕ → ℕ → ℕ → ℕ → Type 0
+WritesName (Some refusal) before after count count' code = PutsTextAs (name_of refusal) before after count' code
+WritesName None before after count count' code = (code ≡ 9) × (after ≡ before) × (count' ≡ count)
 
 abbrev pub AsksName : List ℕ → List ℕ → ℕ → ℕ → Live → Live → ℕ → Type 0
-AsksName before after count count' old new code = (new ≡ old) × TellsName old.refusal before after count count' code
+AsksName before after count count' old new code = (new ≡ old) × WritesName old.refusal before after count count' code
 
 -- A count is written if there is one.
 abbrev pub WritesCount : Result ℕ Trouble → ℕ → ℕ → ℕ → Type 0

@@ -4,16 +4,20 @@ use Rattle.mq_trace.specs.Writing.{Record, open_record, close_record, rest_recor
 use Rattle.mq_ffi.specs.declared.event.Event.{Event}
 use Rattle.mq_ffi.specs.declared.event.Event.TheVariants as happened
 
--- These bytes in records, each written so: so many that have 1,048,576 of them, the most that a record of version 1 may have, and one with what is left.
+-- the most bytes that a record of version 1 may have
+abbrev pub most_bytes : ℕ
+most_bytes = 1048576
+
+-- These bytes in records, each written so: so many that have as many of them as one may have, and one with what is left.
 abbrev pub in_parts : (List ℕ → List ℕ) → ℕ → List ℕ → List ℕ
 in_parts written zero bytes = written bytes
-in_parts written (suc full) bytes = written (take 1048576 bytes) ++ in_parts written full (drop 1048576 bytes)
+in_parts written (suc full) bytes = written (take most_bytes bytes) ++ in_parts written full (drop most_bytes bytes)
 
 -- how many full records come before the last one, if there are so many bytes
 abbrev pub full_before : ℕ → ℕ
-full_before size = (size - 1) / 1048576
+full_before size = (size - 1) / most_bytes
 
--- these bytes in as few records as can have them: one for up to 1,048,576 of them, also for none
+-- these bytes in as few records as can have them: one for up to so many, also for none
 abbrev pub in_records : (List ℕ → List ℕ) → List ℕ → List ℕ
 in_records written bytes = in_parts written (full_before (length bytes)) bytes
 

@@ -18,13 +18,13 @@ pub record PutsTextAs (text old new : List ℕ) (count code : ℕ) : Type 0 wher
   pub code_is : code ≡ answer_code answer
   pub puts : PutsText text old new count answer
 
--- The text that was asked for, if there is one. If there is none, this number says so, and nothing is written.
-abbrev pub TellsText : Option (List ℕ) → ℕ → List ℕ → List ℕ → ℕ → ℕ → ℕ → Type 0
-TellsText (Some text) none old new before after code = PutsTextAs text old new after code
-TellsText None none old new before after code = (code ≡ none) × (new ≡ old) × (after ≡ before)
+-- The text that was asked for, if there is one. If there is none, the answer says so, and nothing is written.
+abbrev pub PutsTextIfSome : Option (List ℕ) → List ℕ → List ℕ → ℕ → ℕ → ℕ → Type 0
+PutsTextIfSome (Some text) old new before after code = PutsTextAs text old new after code
+PutsTextIfSome None old new before after code = (code ≡ answer_code (Err troubles.Absent)) × (new ≡ old) × (after ≡ before)
 
 -- the same of the citation of a statement for an end
-abbrev pub TellsCitation : Option Rule → Option Role → List ℕ → List ℕ → ℕ → ℕ → ℕ → Type 0
-TellsCitation None role old new before after code = (code ≡ 9) × (new ≡ old) × (after ≡ before)
-TellsCitation (Some rule) None old new before after code = (code ≡ 4) × (new ≡ old) × (after ≡ before)
-TellsCitation (Some rule) (Some role) old new before after code = PutsTextAs (citation_of rule role) old new after code
+abbrev pub PutsCitation : Option Rule → Option Role → List ℕ → List ℕ → ℕ → ℕ → ℕ → Type 0
+PutsCitation None role old new before after code = (code ≡ answer_code (Err troubles.Absent)) × (new ≡ old) × (after ≡ before)
+PutsCitation (Some rule) None old new before after code = (code ≡ answer_code (Err troubles.Value)) × (new ≡ old) × (after ≡ before)
+PutsCitation (Some rule) (Some role) old new before after code = PutsTextAs (citation_of rule role) old new after code

@@ -1,7 +1,7 @@
 //! Texts in a caller's buffer.
 ghost use Rattle.std.specs.Prelude.{option_map};
 ghost use Rattle.mq_ffi.specs.Asking.{statement_at as statement_of, role_at as role_of};
-ghost use Rattle.mq_ffi.specs.Texts.{PutsText, TellsText, TellsCitation};
+ghost use Rattle.mq_ffi.specs.Texts.{PutsText, PutsTextIfSome, PutsCitation};
 
 use crate::answer::{Trouble, code_of};
 use crate::fault::{role_at, statement_at};
@@ -22,8 +22,8 @@ pub fn put_text(text: &str, buffer: &mut [u8], length: &mut usize) -> Result<(),
 }
 
 /// Puts a text, if there is one.
-pub fn tell_text(text: Option<&'static str>, buffer: &mut [u8], length: &mut usize) -> u32
-    ensures { TellsText (option_map (λ t. t.now) text.entry) 9 buffer.old buffer.new length.old length.new result }
+pub fn put_text_if_some(text: Option<&'static str>, buffer: &mut [u8], length: &mut usize) -> u32
+    ensures { PutsTextIfSome (option_map (λ t. t.now) text.entry) buffer.old buffer.new length.old length.new result }
 {
     match text {
         Some(text) => code_of(put_text(text, buffer, length)),
@@ -32,8 +32,8 @@ pub fn tell_text(text: Option<&'static str>, buffer: &mut [u8], length: &mut usi
 }
 
 /// Puts the citation of a statement for an end, by their numbers.
-pub fn tell_citation(statement: u32, server: u32, buffer: &mut [u8], length: &mut usize) -> u32
-    ensures { TellsCitation (statement_of statement) (role_of server) buffer.old buffer.new length.old length.new result }
+pub fn put_citation(statement: u32, server: u32, buffer: &mut [u8], length: &mut usize) -> u32
+    ensures { PutsCitation (statement_of statement) (role_of server) buffer.old buffer.new length.old length.new result }
 {
     let Some(rule) = statement_at(statement) else {
         return code_of(Err(Trouble::Absent));

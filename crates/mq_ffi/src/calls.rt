@@ -113,8 +113,8 @@ pub fn tell(alloc: Global, judge: &mut Handle, event: Event<'_>) -> u32
     code_of(answer)
 }
 
-/// Counts the faults that are known.
-pub fn count(alloc: Global, judge: &mut Handle, faults: &mut usize) -> u32
+/// How many faults are known.
+pub fn fault_count(alloc: Global, judge: &mut Handle, faults: &mut usize) -> u32
     ensures { AskedInto (faults.new ≡ faults.old) (CountsFaults faults.new) (held judge.old) (held judge.new) result }
 {
     let Some(live) = judge.take(alloc) else {
@@ -125,32 +125,32 @@ pub fn count(alloc: Global, judge: &mut Handle, faults: &mut usize) -> u32
     code_of(Ok(()))
 }
 
-/// Asks for one fault.
-pub fn ask_fault(alloc: Global, judge: &mut Handle, choice: Choice, fault: &mut FaultRow) -> u32
+/// The fault that is asked for.
+pub fn asked_fault(alloc: Global, judge: &mut Handle, choice: Choice, fault: &mut FaultRow) -> u32
     ensures { AskedInto (fault.new ≡ fault.old) (AsksFault (chosen_fault choice) fault.old fault.new) (held judge.old) (held judge.new) result }
 {
     let Some(live) = judge.take(alloc) else {
         return code_of(Err(Trouble::NoJudge));
     };
-    let answer = show(choose(live.known(), choice), fault);
+    let answer = write_found(choose(live.known(), choice), fault);
     judge.put(live);
     answer
 }
 
-/// Asks for the fault that comes after those that were asked for so.
-pub fn ask_next(alloc: Global, judge: &mut Handle, fault: &mut FaultRow) -> u32
+/// The fault that comes after those that were asked for so.
+pub fn next_fault(alloc: Global, judge: &mut Handle, fault: &mut FaultRow) -> u32
     ensures { AskedInto (fault.new ≡ fault.old) (AsksNext fault.old fault.new) (held judge.old) (held judge.new) result }
 {
     let Some(mut live) = judge.take(alloc) else {
         return code_of(Err(Trouble::NoJudge));
     };
-    let answer = show(live.next_fault(), fault);
+    let answer = write_found(live.next_fault(), fault);
     judge.put(live);
     answer
 }
 
-/// Weighs what the judge keeps.
-pub fn weigh(alloc: Global, judge: &mut Handle, weight: &mut usize) -> u32
+/// How much the judge keeps.
+pub fn weight_of(alloc: Global, judge: &mut Handle, weight: &mut usize) -> u32
     ensures { AskedInto (weight.new ≡ weight.old) (Weighs weight.new) (held judge.old) (held judge.new) result }
 {
     let Some(live) = judge.take(alloc) else {
@@ -161,8 +161,8 @@ pub fn weigh(alloc: Global, judge: &mut Handle, weight: &mut usize) -> u32
     code_of(Ok(()))
 }
 
-/// Counts the places of the statement with this number.
-pub fn count_places(alloc: Global, judge: &mut Handle, statement: u32, places: &mut u32) -> u32
+/// How many places the statement with this number has.
+pub fn place_count(alloc: Global, judge: &mut Handle, statement: u32, places: &mut u32) -> u32
     ensures { AskedInto (places.new ≡ places.old) (AsksPlaces (statement_of statement) places.old places.new) (held judge.old) (held judge.new) result }
 {
     let Some(live) = judge.take(alloc) else {
@@ -189,8 +189,8 @@ fn places_of(live: &Live, statement: u32) -> Result<u32, Trouble>
     }
 }
 
-/// Asks why the log is refused.
-pub fn refuse(alloc: Global, judge: &mut Handle, number: &mut u32, byte: &mut u64) -> u32
+/// Why the log is refused.
+pub fn refusal(alloc: Global, judge: &mut Handle, number: &mut u32, byte: &mut u64) -> u32
     ensures { AskedInto ((number.new ≡ number.old) × (byte.new ≡ byte.old)) (AsksRefusal number.old number.new byte.old byte.new) (held judge.old) (held judge.new) result }
 {
     let Some(live) = judge.take(alloc) else {
@@ -208,8 +208,8 @@ pub fn refuse(alloc: Global, judge: &mut Handle, number: &mut u32, byte: &mut u6
     }
 }
 
-/// Asks for the refusal's name.
-pub fn name(alloc: Global, judge: &mut Handle, buffer: &mut [u8], length: &mut usize) -> u32
+/// The refusal's name.
+pub fn refusal_name(alloc: Global, judge: &mut Handle, buffer: &mut [u8], length: &mut usize) -> u32
     ensures { AskedInto ((buffer.new ≡ buffer.old) × (length.new ≡ length.old)) (AsksName buffer.old buffer.new length.old length.new) (held judge.old) (held judge.new) result }
 {
     let Some(live) = judge.take(alloc) else {
@@ -263,7 +263,7 @@ fn begin_with(live: &mut Live, server: u32, releases: u32) -> Result<(), Trouble
 }
 
 // Writes a fault for the caller, if there is one.
-fn show(found: Option<FaultRow>, fault: &mut FaultRow) -> u32
+fn write_found(found: Option<FaultRow>, fault: &mut FaultRow) -> u32
     ensures { ShowsFound found fault.old fault.new result }
 {
     match found {

@@ -10,13 +10,13 @@ ghost use Rattle.mq_ffi.specs.Asking.{AsksFault, CountsFaults, Weighs, first_fau
 ghost use Rattle.mq_ffi.specs.Calling.{Asked, AskedInto, Makes, Frees, FeedsAs, BeginsAs, TellsAs, AsksPlaces, AsksRefusal, AsksName, FinishesAs};
 ghost use Rattle.mq_ffi.specs.Giving.{AsksNext};
 ghost use Rattle.mq_ffi.specs.Holding.{held};
-ghost use Rattle.mq_ffi.specs.Texts.{TellsText, TellsCitation};
+ghost use Rattle.mq_ffi.specs.Texts.{PutsTextIfSome, PutsCitation};
 
-use crate::about::{tell_citation, tell_text};
+use crate::about::{put_citation, put_text_if_some};
 use crate::asking::Choice;
 use crate::calls::{
-    ask_fault, ask_next, begin, count, count_places, feed, finish, free, make, name, refuse, tell,
-    weigh,
+    asked_fault, begin, fault_count, feed, finish, free, make, next_fault, place_count, refusal,
+    refusal_name, tell, weight_of,
 };
 use crate::event::Event;
 use crate::fault::{FaultRow, statement_at};
@@ -115,7 +115,7 @@ pub extern "C" fn mqjudge_release(alloc: Global, judge: &mut Handle, identifier:
 pub extern "C" fn mqjudge_faults(alloc: Global, judge: &mut Handle, faults: &mut usize) -> u32
     ensures { AskedInto (faults.new ≡ faults.old) (CountsFaults faults.new) (held judge.old) (held judge.new) result }
 {
-    count(alloc, judge, faults)
+    fault_count(alloc, judge, faults)
 }
 
 /// The fault at an index, in the order of reports.
@@ -128,7 +128,7 @@ pub extern "C" fn mqjudge_fault(
 ) -> u32
     ensures { AskedInto (fault.new ≡ fault.old) (AsksFault (λ faults. nth faults index) fault.old fault.new) (held judge.old) (held judge.new) result }
 {
-    ask_fault(alloc, judge, Choice::At(index), fault)
+    asked_fault(alloc, judge, Choice::At(index), fault)
 }
 
 /// The fault at an index among those at a position.
@@ -142,7 +142,7 @@ pub extern "C" fn mqjudge_fault_at(
 ) -> u32
     ensures { AskedInto (fault.new ≡ fault.old) (AsksFault (λ faults. nth (faults_at position faults) index) fault.old fault.new) (held judge.old) (held judge.new) result }
 {
-    ask_fault(alloc, judge, Choice::Beside(position, index), fault)
+    asked_fault(alloc, judge, Choice::Beside(position, index), fault)
 }
 
 /// The first fault at a position or after it, in the order of reports.
@@ -155,16 +155,16 @@ pub extern "C" fn mqjudge_fault_from(
 ) -> u32
     ensures { AskedInto (fault.new ≡ fault.old) (AsksFault (first_fault_from position) fault.old fault.new) (held judge.old) (held judge.new) result }
 {
-    ask_fault(alloc, judge, Choice::From(position), fault)
+    asked_fault(alloc, judge, Choice::From(position), fault)
 }
 
-/// The fault that comes after those that this call has told: by the event that shows them, and
-/// those that one event shows in the order of reports. So each is told once.
+/// The fault that comes after those that this call has given: by the event that shows them, and
+/// those that one event shows in the order of reports. So each is given once.
 #[unsafe(no_mangle)]
 pub extern "C" fn mqjudge_next_fault(alloc: Global, judge: &mut Handle, fault: &mut FaultRow) -> u32
     ensures { AskedInto (fault.new ≡ fault.old) (AsksNext fault.old fault.new) (held judge.old) (held judge.new) result }
 {
-    ask_next(alloc, judge, fault)
+    next_fault(alloc, judge, fault)
 }
 
 /// How much the judge keeps of the log.
@@ -172,7 +172,7 @@ pub extern "C" fn mqjudge_next_fault(alloc: Global, judge: &mut Handle, fault: &
 pub extern "C" fn mqjudge_weight(alloc: Global, judge: &mut Handle, weight: &mut usize) -> u32
     ensures { AskedInto (weight.new ≡ weight.old) (Weighs weight.new) (held judge.old) (held judge.new) result }
 {
-    weigh(alloc, judge, weight)
+    weight_of(alloc, judge, weight)
 }
 
 /// How many places a statement has: at how many events it was put to the test.
@@ -185,7 +185,7 @@ pub extern "C" fn mqjudge_places(
 ) -> u32
     ensures { AskedInto (places.new ≡ places.old) (AsksPlaces (statement_of statement) places.old places.new) (held judge.old) (held judge.new) result }
 {
-    count_places(alloc, judge, statement, places)
+    place_count(alloc, judge, statement, places)
 }
 
 /// Why the log is refused: the number of the refusal, and the offset in the log of the refused
@@ -199,7 +199,7 @@ pub extern "C" fn mqjudge_refusal(
 ) -> u32
     ensures { AskedInto ((number.new ≡ number.old) × (byte.new ≡ byte.old)) (AsksRefusal number.old number.new byte.old byte.new) (held judge.old) (held judge.new) result }
 {
-    refuse(alloc, judge, number, byte)
+    refusal(alloc, judge, number, byte)
 }
 
 /// The name of the refusal.
@@ -212,10 +212,10 @@ pub extern "C" fn mqjudge_refusal_name(
 ) -> u32
     ensures { AskedInto ((buffer.new ≡ buffer.old) × (length.new ≡ length.old)) (AsksName buffer.old buffer.new length.old length.new) (held judge.old) (held judge.new) result }
 {
-    name(alloc, judge, buffer, length)
+    refusal_name(alloc, judge, buffer, length)
 }
 
-/// Ends the log, and tells how many events it has.
+/// Ends the log. How many events it has.
 #[unsafe(no_mangle)]
 pub extern "C" fn mqjudge_finish(alloc: Global, judge: &mut Handle, events: &mut u32) -> u32
     ensures { AskedInto (events.new ≡ events.old) (FinishesAs events.old events.new) (held judge.old) (held judge.new) result }
@@ -226,9 +226,9 @@ pub extern "C" fn mqjudge_finish(alloc: Global, judge: &mut Handle, events: &mut
 /// The code of a statement.
 #[unsafe(no_mangle)]
 pub extern "C" fn mqjudge_code(statement: u32, buffer: &mut [u8], length: &mut usize) -> u32
-    ensures { TellsText (option_map code_text (statement_of statement)) 9 buffer.old buffer.new length.old length.new result }
+    ensures { PutsTextIfSome (option_map code_text (statement_of statement)) buffer.old buffer.new length.old length.new result }
 {
-    tell_text(
+    put_text_if_some(
         statement_at(statement).map(|rule| rule.code()),
         buffer,
         length,
@@ -238,9 +238,9 @@ pub extern "C" fn mqjudge_code(statement: u32, buffer: &mut [u8], length: &mut u
 /// What a statement says, in one sentence.
 #[unsafe(no_mangle)]
 pub extern "C" fn mqjudge_sentence(statement: u32, buffer: &mut [u8], length: &mut usize) -> u32
-    ensures { TellsText (option_map sentence_of (statement_of statement)) 9 buffer.old buffer.new length.old length.new result }
+    ensures { PutsTextIfSome (option_map sentence_of (statement_of statement)) buffer.old buffer.new length.old length.new result }
 {
-    tell_text(
+    put_text_if_some(
         statement_at(statement).map(|rule| rule.sentence()),
         buffer,
         length,
@@ -255,7 +255,7 @@ pub extern "C" fn mqjudge_citation(
     buffer: &mut [u8],
     length: &mut usize,
 ) -> u32
-    ensures { TellsCitation (statement_of statement) (role_of server) buffer.old buffer.new length.old length.new result }
+    ensures { PutsCitation (statement_of statement) (role_of server) buffer.old buffer.new length.old length.new result }
 {
-    tell_citation(statement, server, buffer, length)
+    put_citation(statement, server, buffer, length)
 }

@@ -3,7 +3,7 @@
 ghost use Rattle.std.specs.Prelude.{◌≡◌, ◌≤◌, ◌++◌, length};
 ghost use Rattle.mq_trace.specs.Writing.{framed};
 ghost use Rattle.mq_ffi.specs.Living.{TakesIn};
-ghost use Rattle.mq_ffi.specs.Telling.{bytes_of, in_records};
+ghost use Rattle.mq_ffi.specs.Telling.{bytes_of, in_records, most_bytes};
 
 use crate::answer::Trouble;
 use crate::event::Event;
@@ -91,7 +91,7 @@ fn take_record(
     kind: u8,
     body: &[u8],
 ) -> Result<(), Trouble>
-    requires { length body.now ≤ 1048576 }
+    requires { length body.now ≤ most_bytes }
     ensures { TakesIn (framed 1 0 kind body.now) judge.old judge.new refused.old refused.new result }
 {
     let head = head_of(kind, body.len() as u32);

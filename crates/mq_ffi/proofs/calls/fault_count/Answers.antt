@@ -4,7 +4,7 @@ use Rattle.mq_ffi.specs.declared.live.Live.{Live}
 use Rattle.mq_ffi.specs.Asking.{CountsFaults}
 use Rattle.mq_ffi.specs.Calling.{AskedInto}
 use Rattle.mq_ffi.specs.Holding.{held}
-use Rattle.mq_ffi.proofs.calls.count.Goals as goal
+use Rattle.mq_ffi.proofs.calls.fault_count.Goals as goal
 
 pub returns : goal.returns
 returns c =
