@@ -3,6 +3,7 @@
 
 mod commands;
 mod converting;
+mod coverage;
 mod desk;
 mod harness;
 mod large;

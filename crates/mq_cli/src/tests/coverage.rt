@@ -1,0 +1,157 @@
+//! `check --coverage`.
+use super::desk::{Desk, FAULTY, GOOD, does};
+use super::harness::NESTED;
+use std::alloc::Global;
+use std::fmt::Write as _;
+use std::test::Fail;
+
+// The code and the citation of each statement on a client whose log has releases, and at how many
+// events it is put to the test in `GOOD` and in `FAULTY`. Bytes that break a rule put only that one
+// to the test.
+static PLACES: [(&str, &str, u32, u32); 53] = [
+    ("W01", "MQTT-2.1.3-1", 1, 1),
+    ("W02", "sec-2.1.2", 2, 1),
+    ("W03", "MQTT-1.5.5-1", 2, 1),
+    ("W04", "MQTT-1.5.4-1", 2, 1),
+    ("W05", "MQTT-1.5.4-2", 2, 1),
+    ("W06", "sec-2.1.4", 2, 1),
+    ("W07", "MQTT-3.3.1-4", 1, 0),
+    ("W08", "MQTT-3.3.1-2", 0, 0),
+    ("W09", "sec-2.2.1", 1, 1),
+    ("W10", "sec-2.2.2.2", 0, 0),
+    ("W11", "sec-2.2.2.2", 0, 0),
+    ("W12", "sec-2.2.2.2", 0, 0),
+    ("W13", "sec-2.4", 0, 0),
+    ("W14", "sec-3.3.2", 1, 0),
+    ("W15", "sec-4.7", 0, 0),
+    ("W16", "MQTT-3.8.3-2,MQTT-3.10.3-2", 0, 0),
+    ("W17", "sec-3.8.3", 0, 0),
+    ("W18", "sec-3.1.2", 1, 1),
+    ("W19", "sec-3.1.2", 1, 1),
+    ("W21", "sec-3.3.2", 0, 0),
+    ("C01", "sec-2.1.2", 2, 2),
+    ("C02", "MQTT-3.1.0-1", 1, 1),
+    ("C03", "sec-3.1", 1, 1),
+    ("C11", "MQTT-3.14.4-1", 0, 0),
+    ("C13", "MQTT-3.2.2-4", 0, 0),
+    ("C14", "MQTT-3.2.2-15", 0, 0),
+    ("C15", "MQTT-3.2.2-17", 0, 0),
+    ("C16", "sec-3.3.2", 0, 0),
+    ("C17", "MQTT-3.2.2-11", 0, 0),
+    ("C18", "MQTT-3.3.4-6", 1, 0),
+    ("C20", "sec-3.14.2", 0, 0),
+    ("C23", "MQTT-3.14.4-2", 0, 0),
+    ("S01", "MQTT-2.2.1-3", 0, 0),
+    ("S02", "MQTT-4.3.2-2,MQTT-4.3.3-2", 0, 0),
+    ("S03", "MQTT-4.4.0-1", 0, 0),
+    ("S04", "MQTT-4.3.3-6", 0, 0),
+    ("S05", "MQTT-4.6.0-1", 0, 0),
+    ("S06", "MQTT-4.4.0-1", 0, 0),
+    ("S07", "MQTT-4.9.0-2", 0, 0),
+    ("E1A", "MQTT-2.2.1-5", 0, 0),
+    ("E1R", "MQTT-4.3.2-4", 0, 0),
+    ("E1O", "MQTT-4.6.0-2", 0, 0),
+    ("E2A", "MQTT-2.2.1-5", 0, 0),
+    ("E2R", "MQTT-4.3.3-8", 0, 0),
+    ("E2O", "MQTT-4.6.0-3", 0, 0),
+    ("E3A", "MQTT-2.2.1-5", 0, 0),
+    ("E3R", "MQTT-4.3.3-4", 0, 0),
+    ("E3O", "MQTT-4.6.0-4", 0, 0),
+    ("E4A", "MQTT-2.2.1-5", 0, 0),
+    ("E4R", "MQTT-4.3.3-11", 0, 0),
+    ("L1", "sec-4.3.3", 0, 0),
+    ("L2", "MQTT-4.3.3-10", 0, 0),
+    ("L3", "sec-4.3.3", 0, 0),
+];
+
+// The lines on what `GOOD` puts to the test, or `FAULTY`.
+fn tested_lines(alloc: Global, is_faulty: bool) -> Result<String, Fail> {
+    let mut text = String::new(alloc);
+    for (code, citation, in_good, in_faulty) in PLACES {
+        let places = if is_faulty { in_faulty } else { in_good };
+        write!(text, "tested {code} {citation} places {places}\n")?;
+    }
+    Ok(text)
+}
+
+// The same for `FAULTY` as JSON.
+fn tested_as_json(alloc: Global) -> Result<String, Fail> {
+    let mut text = String::new(alloc);
+    for (code, citation, _, places) in PLACES {
+        text.push_str(if text.is_empty() { "[" } else { "," })?;
+        write!(
+            text,
+            "{{\"citation\":\"{citation}\",\"code\":\"{code}\",\"places\":{places}}}"
+        )?;
+    }
+    text.push_str("]")?;
+    Ok(text)
+}
+
+#[test]
+fn says_what_was_tested_before_a_pass(rt: HostRuntime) -> Result<(), Fail> {
+    let mut text = tested_lines(rt.alloc(), false)?;
+    text.push_str("covered 15 of 53 statements\npass 4 events\n")?;
+    let words = &["mqjudge", "check", "--coverage", "a.log"];
+    let mut desk = Desk::of(rt.alloc(), words, GOOD, b"");
+    assert!(rt; does(&mut desk, 0, text.as_str(), ""));
+    Ok(())
+}
+
+#[test]
+fn says_what_was_tested_after_the_faults(rt: HostRuntime) -> Result<(), Fail> {
+    let mut text = String::from_str(
+        rt.alloc(),
+        "fault 4 W09 sec-2.2.1 decided 4 record 4 offset 5\n",
+    )?;
+    text.push_str(tested_lines(rt.alloc(), true)?.as_str())?;
+    text.push_str("covered 12 of 53 statements\nfail 1 faults 4 events\n")?;
+    let words = &["mqjudge", "check", "--coverage", "a.log"];
+    let mut desk = Desk::of(rt.alloc(), words, FAULTY, b"");
+    assert!(rt; does(&mut desk, 1, text.as_str(), ""));
+    Ok(())
+}
+
+#[test]
+fn says_what_was_tested_after_a_summary(rt: HostRuntime) -> Result<(), Fail> {
+    let mut text = String::from_str(rt.alloc(), "W09 sec-2.2.1 faults 1 first 4 record 4\n")?;
+    text.push_str(tested_lines(rt.alloc(), true)?.as_str())?;
+    text.push_str("covered 12 of 53 statements\nfail 1 faults 4 events\n")?;
+    let words = &["mqjudge", "check", "--summary", "--coverage", "a.log"];
+    let mut desk = Desk::of(rt.alloc(), words, FAULTY, b"");
+    assert!(rt; does(&mut desk, 1, text.as_str(), ""));
+    Ok(())
+}
+
+#[test]
+fn says_what_was_tested_as_json(rt: HostRuntime) -> Result<(), Fail> {
+    let mut text = String::from_str(rt.alloc(), "{\"coverage\":")?;
+    text.push_str(tested_as_json(rt.alloc())?.as_str())?;
+    text.push_str(
+        ",\"events\":4,\"faults\":[{\"citation\":\"sec-2.2.1\",\"code\":\"W09\",\"decided\":4,\
+        \"offset\":5,\"position\":4,\"record\":4}],\"verdict\":\"fail\"}\n",
+    )?;
+    let words: [&[&str]; 2] = [
+        &["mqjudge", "check", "--coverage", "--json", "a.log"],
+        &[
+            "mqjudge",
+            "check",
+            "--json",
+            "--summary",
+            "--coverage",
+            "a.log",
+        ],
+    ];
+    for words in words {
+        let mut desk = Desk::of(rt.alloc(), words, FAULTY, b"");
+        assert!(rt; does(&mut desk, 1, text.as_str(), ""), "{words:?}");
+    }
+    Ok(())
+}
+
+#[test]
+fn says_nothing_of_what_a_refused_log_tests(rt: HostRuntime) {
+    let words = &["mqjudge", "check", "--coverage", "a.log"];
+    let mut desk = Desk::of(rt.alloc(), words, NESTED, b"");
+    assert!(rt; does(&mut desk, 2, "refused 7 Nested at 13\n", ""));
+}
