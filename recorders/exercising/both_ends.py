@@ -8,6 +8,7 @@ from __future__ import annotations
 
 import tempfile
 import threading
+from collections import Counter
 from collections.abc import Iterator
 from dataclasses import dataclass, field
 from pathlib import Path
@@ -82,6 +83,12 @@ class Fairness:
         with self._lock:
             self.looks[verdict.path] = looks
         take_out(verdict, looks, LOOK)
+
+    @property
+    def looked_at(self) -> Counter[str]:
+        """How often each code is there only to be looked at."""
+        with self._lock:
+            return Counter(fault.code for faults in self.looks.values() for fault in faults)
 
     def own_faults(self, path: Path) -> list[Fault]:
         """What the exerciser breaks itself, but for what shows by silence: whether it was at rest nobody knows."""

@@ -19,6 +19,7 @@ from exercising.live import Live, LiveJudge, find_library
 from exercising.outcome import Outcome, silent_faults
 from exercising.running import Result, Runner
 from exercising.table import Scenario
+from exercising.table_file import write_table
 from judging.page import Gallery
 from judging.policy import Policy, Weighing
 from judging.program import Judge
@@ -48,6 +49,7 @@ class Plan:
     most: int
     policy: Policy
     reports: Places
+    table: Path | None = None  # where the last table is written for programs, if it is wanted
 
 
 def choose(
@@ -113,6 +115,7 @@ class Campaign:
     def play(self) -> int:
         """Does it all. It gives the status."""
         plan, begun = self.plan, time.monotonic()
+        signal.signal(signal.SIGTERM, signal.default_int_handler)  # what was started by then is ended, too
         try:
             runner = self.begin()
             say(f"judged {'live, by the library for C' if self.live else f'after each scenario, by {plan.program}'}")
@@ -177,6 +180,8 @@ class Campaign:
         print("\n" + "\n".join(remarks))
         sys.stdout.flush()
         write_reports(self.judge, plan.reports, verdicts, remarks)
+        if plan.table:
+            write_table(outcome, self.fairness, plan.table)
         return self._status(runner, outcome, verdicts, missing)
 
     def _verdicts(self, outcome: Outcome, weighing: Weighing) -> list[Verdict]:

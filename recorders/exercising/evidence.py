@@ -7,6 +7,7 @@ nothing; `test_situations.py` compares it with the second opinion on places (`be
 """
 from __future__ import annotations
 
+from collections import Counter
 from collections.abc import Iterator, Mapping
 from dataclasses import dataclass, field
 
@@ -156,6 +157,11 @@ class Evidence:
     def tested(self) -> frozenset[str]:
         """The codes of the statements that the log puts to the test."""
         return frozenset(place.code for place in self.places if place.is_judged)
+
+    @property
+    def counts(self) -> Counter[str]:
+        """How often the log puts each of them to the test: of places with the same tags no more than were kept."""
+        return Counter(place.code for place in self.places if place.is_judged)
 
     def keep_before(self, position: int) -> None:
         """Leaves out what says nothing since the peer broke a rule at this position."""

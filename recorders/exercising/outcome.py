@@ -117,6 +117,35 @@ class Outcome:
     def refused(self) -> list[Path]:
         return [verdict.path for verdict in self.verdicts if verdict.status == REFUSED]
 
+    @property
+    def once(self) -> Counter[str]:
+        """The faults by silence that weren't seen again, by their codes."""
+        found: Counter[str] = Counter()
+        for text in (text for verdict in self.verdicts for text in verdict.ignored if text.endswith(f"({ONCE})")):
+            code, count, *_ = text.split()
+            found[code] += int(count)
+        return found
+
+    @property
+    def incomplete(self) -> dict[str, list[str]]:
+        """The scenarios that weren't completed, by why."""
+        reasons: dict[str, list[str]] = defaultdict(list)
+        for result in self.results:
+            if result.fate is not Fate.COMPLETED:
+                reasons[result.why].append(result.scenario.name)
+        for name, why in self.left_out.items():
+            reasons[why].append(name)
+        return {why: sorted(names) for why, names in reasons.items()}
+
+    @property
+    def seen(self) -> dict[str, list[str]]:
+        """The scenarios in which something was seen that no statement is about."""
+        found: dict[str, list[str]] = defaultdict(list)
+        for result in self.results:
+            for text in result.observed:
+                found[text].append(result.scenario.name)
+        return {text: sorted(names) for text, names in found.items()}
+
     def why_untested(self, code: str) -> str:
         """Why a statement isn't tested."""
         aiming = [scenario.name for scenario in self.scenarios if code in scenario.aims]
@@ -198,39 +227,27 @@ class Outcome:
             lines.append(f"    {self.program} show --faults --around 3 {show(first.path)}")
             if again := sorted(name for name, result in self.again.items() if code in result.broken):
                 lines.append(f"    seen again, alone and with more time: {named(again)}")
-        looks = Counter(fault.code for faults in fairness.looks.values() for fault in faults)
+        looks, once = fairness.looked_at, self.once
         if looks:
             lines.append(row(LOOK, looks.total(), f"{in_words(looks)}: after the exerciser had broken a rule itself"))
-        once: Counter[str] = Counter()
-        for text in (text for verdict in self.verdicts for text in verdict.ignored if text.endswith(f"({ONCE})")):
-            code, count, *_ = text.split()
-            once[code] += int(count)
         if once:
             lines.append(row("not seen again", once.total(), f"{in_words(once)}: missing answers that came with more"
                              " time, or that weren't tried again"))
         return lines
 
     def _incomplete_lines(self) -> list[str]:
-        reasons: dict[str, list[str]] = defaultdict(list)
-        for result in self.results:
-            if result.fate is not Fate.COMPLETED:
-                reasons[result.why].append(result.scenario.name)
-        for name, why in self.left_out.items():
-            reasons[why].append(name)
-        ordered = sorted(reasons.items(), key=lambda one: -len(one[1]))
-        return [row("not completed" if not at else "", sum(map(len, reasons.values())) if not at else None,
-                    f"{named(sorted(names))}: {why}") for at, (why, names) in enumerate(ordered)]
+        ordered = sorted(self.incomplete.items(), key=lambda one: -len(one[1]))
+        count = sum(len(names) for _, names in ordered)
+        return [row("not completed" if not at else "", count if not at else None, f"{named(names)}: {why}")
+                for at, (why, names) in enumerate(ordered)]
 
     def _seen_lines(self) -> list[str]:
-        seen: dict[str, list[str]] = defaultdict(list)
-        for result in self.results:
-            for text in result.observed:
-                seen[text].append(result.scenario.name)
-        open_first = sorted(seen.items(), key=lambda one: (one[0].startswith("closed"), -len(one[1])))
+        open_first = sorted(self.seen.items(), key=lambda one: (one[0].startswith("closed"), -len(one[1])))
         kept = open_first[:SEEN]
-        lines = [row("seen, not judged" if not at else "", None if at else len(seen), f"{text}: {named(sorted(names))}")
+        lines = [row("seen, not judged" if not at else "", None if at else len(open_first), f"{text}: {named(names)}")
                  for at, (text, names) in enumerate(kept)]
-        return lines + ([row("", None, f"and {len(seen) - len(kept)} more")] if len(seen) > len(kept) else [])
+        left = len(open_first) - len(kept)
+        return lines + ([row("", None, f"and {left} more")] if left else [])
 
 
 def row(title: str, count: int | None, text: str) -> str:

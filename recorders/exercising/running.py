@@ -56,6 +56,7 @@ class Result:
     observed: list[str] = field(default_factory=list)
     verdicts: list[Verdict] = field(default_factory=list)
     tested: frozenset[str] = frozenset()  # codes that its logs put to the test
+    counts: Counter[str] = field(default_factory=Counter)  # at how many places, by the codes
     met: frozenset[Situation] = frozenset()  # what came about in its logs
     places: dict[tuple[Path, str, int], frozenset[Situation]] = field(default_factory=dict)  # of faults
     rest: float = 0.0  # the silence that counted as rest, in seconds
@@ -266,6 +267,7 @@ class Runner:
         found = self._fairness.evidence(verdict, result.scenario.breaks_rules)
         ending = ending_of(result.scenario)
         result.tested |= found.tested
+        result.counts.update(found.counts)
         result.met |= met_by(found, ending)
         places = [(fault.code, fault.position) for fault in verdict.found]
         result.places |= {(verdict.path, *place): where for place, where in met_at(found, ending, places).items()}

@@ -12,7 +12,7 @@ from pathlib import Path
 from exercising.stage import Target, Unreachable
 
 PRELOAD = Path(__file__).resolve().parent.parent / "preload/run"
-LISTEN_SECONDS = 45.0
+LISTEN_SECONDS = 120.0
 STOP_SECONDS = 30.0  # in which the preloaded library's logs are made, too
 LOOK_SECONDS = 0.05
 LAST_LINES = 5  # of its output, where it doesn't come up

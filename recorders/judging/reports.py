@@ -26,22 +26,26 @@ class Places:
     coverage: Path | None = None
 
     def refused(self) -> str:
-        """Which of them can't be written, and why; empty if all can be.
-
-        Those that weren't there aren't there afterwards: what is interrupted before it has a report leaves none.
-        """
+        """Which of them can't be written, and why; empty if all can be."""
         named = {"junit": self.junit, "html": self.html, "sarif": self.sarif, "write-coverage": self.coverage}
-        for name, place in named.items():
-            if place is None:
-                continue
-            try:
-                was_there = place.exists()
-                place.open("ab").close()
-                if not was_there:
-                    place.unlink()
-            except OSError as error:
-                return f"--{name}: {one_line(place)} can't be written: {error.strerror}"
+        return next(filter(None, (refused_place(name, place) for name, place in named.items())), "")
+
+
+def refused_place(name: str, place: Path | None) -> str:
+    """Why a report that an option names can't be written; empty if it can be, or isn't wanted.
+
+    One that wasn't there isn't there afterwards: what is interrupted before it has a report leaves none.
+    """
+    if place is None:
         return ""
+    try:
+        was_there = place.exists()
+        place.open("ab").close()
+        if not was_there:
+            place.unlink()
+    except OSError as error:
+        return f"--{name}: {one_line(place)} can't be written: {error.strerror}"
+    return ""
 
 
 def explain_all(judge: Judge, verdicts: list[Verdict]) -> dict[str, Explanation]:
