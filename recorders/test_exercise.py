@@ -700,6 +700,22 @@ class Clients(Called):
         self.assertIn("too many scenarios weren't completed: 1 of 1", printed)
         self.assertIn("the client doesn't connect", printed)
 
+    def test_what_a_client_has_started_is_ended_too(self) -> None:
+        """Also where the client itself has to be killed."""
+        words = ("client", "--out", self.logs, "--program", judge_program(), "--only", "plain-q0", "--")
+        started = self.folder / "started"
+        self.called(*words, "sh", "-c", f"trap '' TERM; sleep 300 & echo $! >> {started}; wait # {{port}}")
+        for number in started.read_text().split():
+            wait_until(lambda number=number: has_ended(int(number)), "what the client has started ends")
+
+
+def has_ended(number: int) -> bool:
+    """Whether a process is no more, or waits only for somebody to ask how it ended."""
+    try:
+        return Path(f"/proc/{number}/stat").read_text().rpartition(")")[2].split()[0] == "Z"
+    except FileNotFoundError:
+        return True
+
 
 def own_faults(path: Path) -> list[str]:
     """The codes of the faults at the exerciser's own end of a log."""

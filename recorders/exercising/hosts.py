@@ -1,6 +1,8 @@
 """A host: plays the broker for a client that is tested. The client is a process of the scenario's own."""
 from __future__ import annotations
 
+import contextlib
+import os
 import shlex
 import signal
 import socket
@@ -90,16 +92,18 @@ class Host(Actor):
             raise Gone(f"{words[0]} can't be started: {error.strerror}") from None
 
     def leave(self) -> None:
-        """Ends the client, and then its connections."""
+        """Ends the client with what it has started, and then its connections."""
         process = self._process
-        for number in (signal.SIGTERM, signal.SIGKILL):
-            if process is None or process.poll() is not None:
-                break
-            process.send_signal(number)
-            try:
-                process.wait(STOP_SECONDS)
-            except subprocess.TimeoutExpired:
-                continue
+        if process is not None and process.poll() is None:
+            for number in (signal.SIGTERM, signal.SIGKILL):
+                process.send_signal(number)
+                try:
+                    process.wait(STOP_SECONDS)
+                    break
+                except subprocess.TimeoutExpired:
+                    continue
+            with contextlib.suppress(ProcessLookupError):
+                os.killpg(process.pid, signal.SIGKILL)  # it was the first of a group of its own
         super().leave()
         self._listener.close()
 

@@ -37,7 +37,8 @@ def obey(own, task):
 
 def main(port, name, own):
     signal.signal(signal.SIGTERM, lambda *_: sys.exit())
-    reading = ["mosquitto_sub", "-V", "5", "-h", own, "-i", "reader", "-c", "-x", "300", "-q", "2", "-t", "do/it"]
+    reading = ["mosquitto_sub", "-V", "5", "-h", own, "-i", "reader", "-c", "-x", "300", "-q", "2", "-t", "do/it",
+               "-W", "60"]
     with tempfile.TemporaryDirectory() as folder:
         settings = Path(folder, "mosquitto.conf")
         settings.write_text(SETTINGS.format(user="" if os.geteuid() else "user root\n", own=own, folder=folder))
