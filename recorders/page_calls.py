@@ -8,6 +8,7 @@ from made_logs import CONNACK, WithLogs, record, run
 from testing import TOP
 
 EXAMPLES = TOP / "examples/sessions"
+RECORDED = sorted(EXAMPLES.glob("*.log"))  # without those of the survey, in a folder below
 ACCEPTED = record(3, CONNACK)
 OVERRIDE = "\u202e"  # turns the direction of what comes after it
 KEPT: list[Path] = []  # where pages and pictures stay, if that is wanted

@@ -30,7 +30,7 @@ class Case(InFolder):
 
 class Misuse(Case):
     def test_it_has_one_status(self) -> None:
-        scripts = ("judge", "proxy", "exercise", "from-capture", "preload/run", "preload/assemble", "test")
+        scripts = ("judge", "proxy", "exercise", "from-capture", "preload/run", "preload/assemble", "survey", "test")
         for script in scripts:
             self.assertEqual(self.called(script, "--no-such-option")[0], MISUSE, script)
 

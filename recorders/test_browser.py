@@ -19,14 +19,19 @@ from pathlib import Path
 sys.dont_write_bytecode = True  # the repository stays as it is
 sys.path.insert(0, str(Path(__file__).resolve().parent))
 from browser import CHROMIUM, Browser
+from exercising.table_file import KEPT as HELD
 from judging.coverage import Coverage, Demand
 from judging.explain import Explanation
 from judging.page import Page
 from judging.story import STEP
 from judging.verdict import FAULTS, PASSED, Verdict
 from made_logs import CONNECT, log, packet, publish, record, text
-from page_calls import ACCEPTED, EXAMPLES, KEPT, OVERRIDE, Case, timed
-from testing import missing
+from page_calls import ACCEPTED, EXAMPLES, KEPT, OVERRIDE, RECORDED, Case, timed
+from surveying.findings import kinds_of
+from surveying.gallery import write_page
+from test_survey import BROKEN, said, surveyed
+from test_survey import run as made_run
+from testing import judge_program, missing
 
 WIDTHS = (390, 1280)  # of a phone, and of a small screen
 
@@ -89,7 +94,7 @@ class Opened(InBrowser):
         self.assertEqual(self.browser.value(OUTSIDE), [])
 
     def test_the_examples(self) -> None:
-        self.page(EXAMPLES, name="examples")
+        self.page(*RECORDED, name="examples")
         self.look("examples")
         for section in self.browser.value(FAULTS_OF_LOGS):
             lines = (EXAMPLES / section["name"]).with_suffix(".report").read_text().splitlines()
@@ -102,6 +107,17 @@ class Opened(InBrowser):
                 self.assertIn("Fields", said)
         self.assertEqual(self.browser.value("document.querySelectorAll('.logs tbody tr').length"), 16)
         self.assertNotIn("rule", self.browser.value("document.body.innerText").lower().replace("rules of", ""))
+
+    def test_a_survey(self) -> None:
+        one = surveyed(made_run(S07=said(BROKEN, 10, 2, "a"), S01=said(HELD, 7), W14=said(BROKEN, 5, 1, loose="b")))
+        other = surveyed(made_run(S07=said(BROKEN, 10, 2, "a")), name="mqtt-js")
+        self.place = (KEPT[0] if KEPT else self.folder) / "survey.html"
+        about = {"date": "2026-01-02", "system": "a system", "judged by": "mqjudge 1"}
+        write_page(self.place, judge_program(), [one, other], kinds_of([one, other]), {"S07": "It is so."}, about)
+        self.look("survey")
+        title = self.browser.value("document.querySelector('h1').innerText")
+        self.assertEqual(title, "2 programs surveyed, 3 kinds of faults")
+        self.assertEqual(self.browser.value("document.querySelectorAll('.survey .x').length"), 3)  # with the legend's
 
     def test_a_hostile_log(self) -> None:
         (self.logs / "hostile <script>window.hit = 4<script>.log").write_bytes(hostile_log())
@@ -118,7 +134,7 @@ class Opened(InBrowser):
             self.assertIn(words, shown)
 
     def test_what_belongs_to_a_fault_is_lit(self) -> None:
-        self.page(EXAMPLES, name="examples")
+        self.page(*RECORDED, name="examples")
         lit = "[...document.querySelectorAll('.lit')].map((place) => place.id.split('-')[1]).join(' ')"
         self.browser.open(self.place, place="f5-12-S01")  # server-killed
         self.assertEqual(self.browser.value(lit), "4 5 6 12 13")
@@ -132,7 +148,7 @@ class Opened(InBrowser):
         self.assertEqual(self.browser.value("location.hash"), "#f1-10-S07")
 
     def test_logs_are_chosen(self) -> None:
-        self.page(EXAMPLES, name="examples")
+        self.page(*RECORDED, name="examples")
         self.browser.open(self.place)
         shown = ("[...document.querySelectorAll('.logs tbody tr, .log')].filter((place) => !place.hidden)"
                  ".map((place) => place.tagName).join(' ')")
@@ -145,14 +161,14 @@ class Opened(InBrowser):
         self.assertEqual(self.browser.value("document.getElementById('count').textContent"), "1 of 16 logs")
 
     def test_without_scripts(self) -> None:
-        self.page(EXAMPLES, name="examples")
+        self.page(*RECORDED, name="examples")
         self.browser.open(self.place, scripts=False)
         self.assertEqual(self.browser.value("getComputedStyle(document.getElementById('filter')).display"), "none")
         shown = self.browser.value("document.body.innerText")
         self.assertIn("What usually breaks it in a server, and what to change", shown)
 
     def test_each_fault_can_be_reached(self) -> None:
-        self.page(EXAMPLES, name="examples")
+        self.page(*RECORDED, name="examples")
         self.browser.open(self.place)
         self.browser.call("Accessibility.enable")
         nodes = self.browser.call("Accessibility.getFullAXTree")["nodes"]
@@ -165,7 +181,7 @@ class Opened(InBrowser):
         self.assertTrue(places)
 
     def test_printing(self) -> None:
-        self.page(EXAMPLES, name="examples")
+        self.page(*RECORDED, name="examples")
         self.browser.open(self.place, scheme="dark")
         self.assertGreater(len(self.browser.call("Page.printToPDF", printBackground=True)["data"]), 50_000)
         self.browser.call("Emulation.setEmulatedMedia", media="print")
@@ -238,7 +254,7 @@ class Used(InBrowser):
     """What a page does where it is clicked."""
 
     def test_a_card_chooses_its_fault(self) -> None:
-        self.page(EXAMPLES, name="examples")
+        self.page(*RECORDED, name="examples")
         self.open("f5-6-S06")
         self.browser.value("scrollBy(0, 40)")
         place = self.edge("#f5-12-S01 h4")
@@ -251,7 +267,7 @@ class Used(InBrowser):
         self.assertEqual(self.browser.value("document.querySelector('.seen').id"), "e5-6")
 
     def test_a_phone_shows_card_and_chart(self) -> None:
-        self.page(EXAMPLES, name="examples")
+        self.page(*RECORDED, name="examples")
         for name in ("f5-12-S01", "f1-12-S07"):  # the last one is in the middle of a run
             self.open(name, 390)
             picture, card = ".picture:has(.chosen)", "article.chosen h4"
@@ -263,7 +279,7 @@ class Used(InBrowser):
             self.assertLessEqual(self.edge(card, "bottom"), 1000)
 
     def test_the_line_of_a_fault_in_a_run_is_marked(self) -> None:
-        self.page(EXAMPLES, name="examples")
+        self.page(*RECORDED, name="examples")
         self.open("f1-11-S07")
         self.assertEqual(self.browser.value("document.querySelector('.run .here').textContent"),
                          "11 PUBLISH id 8 · QoS 1 · flood")
@@ -342,7 +358,7 @@ class Used(InBrowser):
         self.assertEqual(self.browser.value("document.querySelector('.near').id"), "e1-4")
 
     def test_tables_are_sorted(self) -> None:
-        self.page(EXAMPLES, name="examples")
+        self.page(*RECORDED, name="examples")
         self.open()
         cells = "[...document.querySelectorAll('.logs')].at(-1).querySelectorAll('td.num')"
         order = f"[...{cells}].map((cell) => cell.textContent).join(' ')"
@@ -354,7 +370,7 @@ class Used(InBrowser):
         self.assertEqual(self.browser.value("document.querySelector('[aria-sort]').ariaSort"), "descending")
 
     def test_passes_are_folded(self) -> None:
-        self.page(EXAMPLES, name="examples")
+        self.page(*RECORDED, name="examples")
         self.open()
         self.assertEqual(self.browser.value("document.querySelectorAll('.passes[open], .log[open]').length"), 0)
         is_seen = "document.querySelector('#l16 .chart').checkVisibility()"
@@ -380,7 +396,7 @@ class Used(InBrowser):
             self.assertLessEqual(self.printed_pages(), most)
 
     def test_a_phone_shows_tables(self) -> None:
-        self.page(EXAMPLES, name="examples")
+        self.page(*RECORDED, name="examples")
         self.open(width=390)
         row = ".codes tbody tr"
         self.assertEqual(self.edge(f"{row} td:last-child", "left"), self.edge(f"{row} th", "left"))
@@ -389,7 +405,7 @@ class Used(InBrowser):
         self.assertEqual(self.browser.value(unit), '" fault"')
 
     def test_what_is_printed(self) -> None:
-        self.page(EXAMPLES, name="examples")
+        self.page(*RECORDED, name="examples")
         self.open(width=720)
         self.browser.value("void dispatchEvent(new Event('beforeprint'))")
         self.browser.call("Emulation.setEmulatedMedia", media="print")

@@ -24,7 +24,7 @@ from judging.refusals import REFUSALS
 from judging.story import Fault, Teller
 from judging.verdict import FAULTS, Verdict
 from made_logs import CONNECT, log, packet, publish, reconnected, record, run, text
-from page_calls import ACCEPTED, EXAMPLES, OVERRIDE, Case, timed
+from page_calls import ACCEPTED, OVERRIDE, RECORDED, Case, timed
 from sarif_schema import problems
 from testing import TOP
 
@@ -222,7 +222,7 @@ class Written(Case):
         self.assertIn("The byte at offset 0 is marked.", page)
 
     def test_the_limit_that_the_peer_announced(self) -> None:
-        page = self.page(EXAMPLES)
+        page = self.page(*RECORDED)
         self.assertIn("<b>Receive Maximum 5</b>, announced by <a href=#e1-3>event 3</a> (CONNACK)", page)
         self.assertIn("<b>Maximum Packet Size 100</b>, announced by <a href=#e2-3>event 3</a> (CONNACK);"
                       " this packet: <b>214</b>", page)
@@ -368,7 +368,7 @@ class Written(Case):
         self.assertRegex(page, r" on 20\d\d-\d\d-\d\d \d\d:\d\d UTC, in ")
 
     def test_what_the_cards_say_is_said_once(self) -> None:
-        page = self.page(EXAMPLES)
+        page = self.page(*RECORDED)
         self.assertNotIn("The statements that were broken", page)
         self.assertEqual(page.count("Unacknowledged packets are sent again when a session is resumed."), 2)
         self.assertEqual(page.count("The peer still holds its half of each exchange."), 1)

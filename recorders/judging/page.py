@@ -114,6 +114,14 @@ class Gallery:
             del self._told[WORST:]
 
 
+@dataclass(frozen=True)
+class Front:
+    """What a page begins with in place of the verdict over all logs."""
+
+    title: str
+    html: str  # under the head
+
+
 @dataclass
 class Page:
     """What a page says beside the verdicts."""
@@ -124,6 +132,7 @@ class Page:
     explanations: dict[str, Explanation]  # of each code that came
     coverage: Coverage | None = None  # what the logs test, if that is wanted
     date: datetime = field(default_factory=lambda: datetime.now(UTC))
+    front: Front | None = None
 
     def write(self, verdicts: list[Verdict]) -> str:
         """The whole page, in as much detail as its size allows."""
@@ -187,6 +196,8 @@ class Page:
         is_untested = bool(self.coverage and self.coverage.shortfalls)
         title = headline(entries) + ("; not all that is required was tested" if is_untested else "")
         worst = FAULTS if is_untested and worst == PASSED else worst
+        title, badge = (self.front.title, "") if self.front else (title, f' class="{class_of(worst)}"')
+        front = self.front.html if self.front else ""
         logs = '<i id="logs"></i>'
         if len(entries) >= FEW:
             logs = self._rows(entries[:ROWS], charts) + passes(entries[:ROWS])
@@ -197,10 +208,10 @@ class Page:
             f'<meta name="color-scheme" content="light dark"><link rel="icon" href="data:,">'
             f"<title>mqjudge: {title}</title><style>{style}</style></head><body>{MARKERS}"
             f'<a class="skip" href="#logs">To the logs</a>'
-            f'<header><h1 class="{class_of(worst)}">{title}</h1><p class="last">{escaped(self.summary)}</p>'
+            f'<header><h1{badge}>{title}</h1><p class="last">{escaped(self.summary)}</p>'
             f"{''.join(f'<p class=remark>{escaped(note)}</p>' for note in notes)}"
             f'<p class="version">Judged by {escaped(self.version or "mqjudge")} on'
-            f" {self.date:%Y-%m-%d %H:%M} UTC{place}.</p>{LEGEND}</header><main{kind}>{self._codes(entries, places)}"
+            f" {self.date:%Y-%m-%d %H:%M} UTC{place}.</p>{LEGEND}</header><main{kind}>{front}{self._codes(entries, places)}"
             f"{self._tested(entries[:ROWS])}{logs}<script>{script}</script>"
         )
 

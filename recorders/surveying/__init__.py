@@ -1,0 +1,1 @@
+"""What brokers and clients keep: what `recorders/survey` is made of."""

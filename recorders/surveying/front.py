@@ -1,0 +1,80 @@
+"""The front of a survey's page: a matrix of software by statements, and the kinds of faults."""
+from __future__ import annotations
+
+from exercising.table_file import BROKEN, KEPT, UNTESTED
+from judging.markup import attribute, counted, escaped
+from judging.matrix import shade, short
+from surveying.findings import FOREIGN_SIGN, PROVOKED, Cell, Kind, Surveyed, every_code
+from surveying.software import BROKER, CLIENT
+
+HEADS = {BROKER: "Brokers", CLIENT: "Clients"}
+PROVOKED_WORDS = "only after a fault of the other end"
+HOW = (
+    ("x", "7", "broken: so many faults"),
+    ("p", "1", f"broken, but {PROVOKED_WORDS}"),
+    ("g3", "40", "tested so often, and kept; the darker, the more"),
+    ("v", "", "not tested: it didn't come about"),
+    ("o", "", "out of reach: it doesn't bind such an end, or only one that sends other packets could break it"),
+)
+
+
+def front(surveyed: list[Surveyed], kinds: list[Kind], sentences: dict[str, str], numbers: dict[str, int]) -> str:
+    """The matrix, and under it the kinds of faults. `numbers` has those of the logs on the page, by names of kinds."""
+    rows = "".join(group(HEADS[end], [one for one in surveyed if one.software.end == end and one.runs], sentences)
+                   for end in HEADS)
+    heads = "".join(f"<th scope=col{title(sentences.get(code, ''))}><span>{code}</span>" for code in every_code())
+    how = "".join(f"<span><i class={kind}>{sign}</i>{words}</span>" for kind, sign, words in HOW)
+    left = "".join(f"<p class=remark>{escaped(f'{one.software.name}: {one.why}')}</p>" for one in surveyed if one.why)
+    return (
+        '<section class="tested survey"><h2 id="survey">What each keeps</h2>'
+        f'<div class=matrix tabindex=0 role=region aria-label="Software by statements"><table><thead><tr>'
+        f"<th scope=col>Statement{heads}<tbody>{rows}</table></div>"
+        f'<div class="matrix how">{how}</div>{left}'
+        f"{table_of_kinds(kinds, sentences, numbers)}</section>"
+    )
+
+
+def group(head: str, surveyed: list[Surveyed], sentences: dict[str, str]) -> str:
+    """The rows of the brokers, or of the clients."""
+    if not surveyed:
+        return ""
+    width = len(every_code()) + 1
+    return f"<tr><th colspan={width} class=group>{head}" + "".join(line(one, sentences) for one in surveyed)
+
+
+def line(one: Surveyed, sentences: dict[str, str]) -> str:
+    cells = "".join(cell_of(code, one.cell(code)) for code in every_code())
+    return f'<tr><th scope=row title="{attribute(one.title)}">{escaped(one.software.name)}{cells}'
+
+
+def cell_of(code: str, cell: Cell) -> str:
+    """What a statement came to in a software."""
+    faults, places = counted(cell.faults, "fault"), counted(cell.places, "place")
+    kind, says, sign = {
+        BROKEN: ("x", f"{faults} at {places}", short(cell.faults)),
+        PROVOKED: ("p", f"{faults}, {PROVOKED_WORDS}", short(cell.faults)),
+        KEPT: (f"g{shade(max(1, cell.places))}", f"kept at {places}", short(cell.places)),
+        UNTESTED: ("v", f"not tested: {cell.why}", ""),
+    }.get(cell.fate, ("o", FOREIGN_SIGN, ""))
+    return f"<td class={kind}{title(f'{code}: {says}')}>{sign}"
+
+
+def title(text: str) -> str:
+    return f' title="{attribute(text)}"' if text else ""
+
+
+def table_of_kinds(kinds: list[Kind], sentences: dict[str, str], numbers: dict[str, int]) -> str:
+    """A row for each kind of fault, which leads to the chart of a log that shows it."""
+    rows = []
+    for kind in kinds:
+        software, number = kind.software, numbers.get(kind.name)
+        link = f'<a class=code href="#l{number}">{kind.code}</a>' if number else f"<span class=code>{kind.code}</span>"
+        note = f' <span class=way>{PROVOKED_WORDS}</span>' if kind.is_provoked else ""
+        rows.append(f"<tr><th scope=row>{link}<td>{escaped(software.software.name)}"
+                    f"<td class=num data-u=faults>{kind.faults:,}"
+                    f"<td class=num data-u=runs>{len(kind.runs)} of {len(software.runs)}"
+                    f"<td>{escaped(sentences.get(kind.code, ''))}{note}")
+    heads = "".join(f"<th scope=col{' class=num' if name in ('Faults', 'Runs') else ''}>{name}"
+                    for name in ("Statement", "Software", "Faults", "Runs", "What it says"))
+    return (f'<h2 id="kinds">{counted(len(kinds), "kind")} of faults</h2><table class="codes"><thead><tr>{heads}'
+            f"<tbody>{''.join(rows)}</table>")
