@@ -13,6 +13,7 @@ from typing import Any
 
 sys.dont_write_bytecode = True  # the repository stays as it is
 sys.path.insert(0, str(Path(__file__).resolve().parent))
+from exercising.evidence import BINDING
 from made_logs import WithLogs, log, publish, reconnected, record, run
 from sarif_schema import problems
 from testing import TOP
@@ -29,13 +30,16 @@ class CodeHosts(WithLogs):
         (said,) = report["runs"]
         rules = said["tool"]["driver"]["rules"]
         found = [(result["ruleId"], result["properties"]["position"]) for result in said["results"]]
-        wanted = [tuple(line.split()[2:0:-1]) for path in sorted(EXAMPLES.glob("*.report"))
+        wanted = [tuple(line.split()[2:0:-1]) for path in sorted(EXAMPLES.rglob("*.report"))
                   for line in path.read_text().splitlines() if line.startswith("fault ")]
         self.assertEqual(sorted((code, str(position)) for code, position in found), sorted(wanted))
         for result in said["results"]:
             self.assertEqual(rules[result["ruleIndex"]]["id"], result["ruleId"])
             self.assertEqual("suppressions" in result, result["ruleId"] == "E1R")
-        self.assertTrue(all("In a client" in rule["help"]["text"] for rule in rules))
+        for rule in rules:
+            for is_server, words in ((False, "In a client"), (True, "In a server")):
+                if rule["id"] in BINDING[is_server]:
+                    self.assertIn(words, rule["help"]["text"])
 
     def test_sarif_of_what_is_not_judged(self) -> None:
         (self.logs / "a, b%.log").write_bytes(log(record(1)))

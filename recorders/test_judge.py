@@ -489,18 +489,27 @@ class Examples(unittest.TestCase):
     FOLDER = TOP / "examples/sessions"
 
     def test_each_has_the_report_that_the_judge_gives(self) -> None:
-        for log in sorted(self.FOLDER.glob("*.log")):
+        for log in sorted(self.FOLDER.rglob("*.log")):
             with self.subTest(log.stem):
                 answer = subprocess.run([judge_program(), "check", str(log)], capture_output=True, text=True)
                 self.assertEqual(answer.stdout, log.with_suffix(".report").read_text())
 
     def test_each_has_a_sentence(self) -> None:
         page = (self.FOLDER / "README.md").read_text()
-        names = {path.stem for path in self.FOLDER.iterdir()} - {"README"}
+        names = {path.stem for path in self.FOLDER.iterdir() if path.is_file()} - {"README"}
         self.assertGreaterEqual(len(names), 12)
         for name in sorted(names):
             self.assertIn(f"`{name}`", page)
             self.assertTrue((self.FOLDER / f"{name}.log").is_file() and (self.FOLDER / f"{name}.report").is_file())
+
+    def test_each_of_the_survey_is_shown_there(self) -> None:
+        page, folder = (TOP / "docs/SURVEY.md").read_text(), self.FOLDER / "survey"
+        names = {path.stem for path in folder.iterdir()}
+        self.assertGreaterEqual(len(names), 20)
+        for name in sorted(names):
+            self.assertIn(f"<!-- survey events {name}.log ", page)
+            self.assertTrue((folder / f"{name}.log").is_file() and (folder / f"{name}.report").is_file())
+        self.assertLess(sum(path.stat().st_size for path in folder.iterdir()), 300_000)
 
 
 if __name__ == "__main__":

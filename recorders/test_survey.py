@@ -6,6 +6,7 @@ usage: recorders/test_survey.py
 from __future__ import annotations
 
 import json
+import re
 import shutil
 import subprocess
 import sys
@@ -18,6 +19,7 @@ HERE = Path(__file__).resolve().parent
 sys.path.insert(0, str(HERE))
 from exercising.evidence import BINDING, FOREIGN
 from exercising.table_file import BROKEN, FORM, KEPT, UNTESTED
+from judging.statements import statements_of
 from surveying.document import Document, DocumentError, events_in, filled, in_words, known_kinds, places_in
 from surveying.findings import FOREIGN_SIGN, PROVOKED, TABLE, UNBOUND, Cell, Run, Surveyed, kinds_of, read_run
 from surveying.front import front
@@ -25,6 +27,7 @@ from surveying.software import SOFTWARE
 from testing import HOST, TOP, InFolder, accepts, free_port, judge_program, missing, process, wait_until
 
 MISUSE = 3
+PAGE = TOP / "docs/SURVEY.md"
 SESSIONS = TOP / "examples/sessions"
 PLAIN = HERE / "plain_broker.py"
 RUN_SECONDS = 400
@@ -146,6 +149,23 @@ class Page(unittest.TestCase):
                       '<td class=v title="C15: not tested: it didn&#x27;t come about">',
                       '<td class=g2 title="S01: kept at 7 places">7'):
             self.assertIn(words, html)
+
+
+class Repository(unittest.TestCase):
+    def test_the_page_is_whole(self) -> None:
+        text = PAGE.read_text()
+        filled(text, lambda name, words: [])
+        known = known_kinds(text)
+        self.assertLessEqual({name.split()[1] for name in known}, {one.name for one in SOFTWARE})
+        sentences = {one.code for one in statements_of(judge_program())}
+        if sentences:
+            self.assertLessEqual({name.split()[0] for name in known}, sentences)
+
+    def test_what_it_takes_is_said(self) -> None:
+        """The page has the Debian packages of all software."""
+        text = PAGE.read_text()
+        for package in {package for one in SOFTWARE for package in one.packages}:
+            self.assertRegex(text, rf"(^|\s){re.escape(package)}(\s|$)")
 
 
 class Commands(InFolder):
