@@ -116,7 +116,7 @@ class Opened(InBrowser):
         write_page(self.place, judge_program(), [one, other], kinds_of([one, other]), {"S07": "It is so."}, about)
         self.look("survey")
         title = self.browser.value("document.querySelector('h1').innerText")
-        self.assertEqual(title, "2 programs surveyed, 3 kinds of faults")
+        self.assertEqual(title, "2 programs surveyed, 2 kinds of faults")
         self.assertEqual(self.browser.value("document.querySelectorAll('.survey .x').length"), 3)  # with the legend's
 
     def test_a_hostile_log(self) -> None:

@@ -223,7 +223,8 @@ class Commands(InFolder):
                                          document)
         self.assertEqual(status, 0, printed)
         self.assertIn("ejabberd: not here\n", printed)
-        self.assertEqual(printed.splitlines()[-1], "1 kind of faults, 1 of them in each run")
+        wanted = "1 kind of faults, and 0 after a fault of the other end; 1 of these 1 in each run"
+        self.assertEqual(printed.splitlines()[-1], wanted)
         self.assertIn("in 2 of 2 runs, 4 faults at 20 places", document.read_text())
         html = page.read_text()
         self.assertIn("<h1>1 program surveyed, 1 kind of faults</h1>", html)

@@ -74,7 +74,8 @@ class Document:
     def part(self, name: str, words: list[str]) -> list[str]:
         """The lines of a part. It raises DocumentError where there is no such part."""
         if name == "about" and not words:
-            return [f"Made on {self._about['date']}, on {self._about['system']}.", f"Judged by {self._about['judged by']}."]
+            return [f"Made on {self._about['date']}, on {self._about['system']}.",
+                    f"Judged by {self._about['judged by']}."]
         if name == "software" and not words:
             return self._software()
         if name == "matrix" and len(words) == 1:
@@ -164,7 +165,7 @@ def seen(kind: Kind, is_one_of_several: bool) -> str:
     where = f", in the situations {named(situations)}" if situations else ""
     code = f"{kind.code}: " if is_one_of_several else ""
     return (f"- {code}`{software.software.name}` {software.version}: in {len(kind.runs)} of"
-            f" {counted(len(software.runs), 'run')}, {counted(kind.faults, 'fault')} at"
+            f" {counted(len(software.runs), 'run')}, {counted(kind.faults, 'time' if kind.is_provoked else 'fault')} at"
             f" {counted(software.cell(kind.code).places, 'place')}, in {counted(len(scenarios), 'scenario')}"
             f" ({named(scenarios)}){where}.")
 

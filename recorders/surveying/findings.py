@@ -131,6 +131,11 @@ def kinds_of(surveyed: Iterable[Surveyed]) -> list[Kind]:
     return sorted(found, key=lambda kind: (kind.is_provoked, order_of(kind.code)))
 
 
+def of_its_own(kinds: Iterable[Kind]) -> list[Kind]:
+    """The kinds that no fault of the other end led to."""
+    return [kind for kind in kinds if not kind.is_provoked]
+
+
 def order_of(code: str) -> tuple[int, str]:
     """Where a statement stands in the order of reports."""
     return FAMILIES.index(code[0]), code

@@ -4,7 +4,7 @@ from __future__ import annotations
 from exercising.table_file import BROKEN, KEPT, UNTESTED
 from judging.markup import attribute, counted, escaped
 from judging.matrix import shade, short
-from surveying.findings import FOREIGN_SIGN, PROVOKED, Cell, Kind, Surveyed, every_code
+from surveying.findings import FOREIGN_SIGN, PROVOKED, Cell, Kind, Surveyed, every_code, of_its_own
 from surveying.software import BROKER, CLIENT
 
 HEADS = {BROKER: "Brokers", CLIENT: "Clients"}
@@ -65,16 +65,23 @@ def title(text: str) -> str:
 
 def table_of_kinds(kinds: list[Kind], sentences: dict[str, str], numbers: dict[str, int]) -> str:
     """A row for each kind of fault, which leads to the chart of a log that shows it."""
+    own = of_its_own(kinds)
+    others = [kind for kind in kinds if kind not in own]
+    tables = [(f"{counted(len(own), 'kind')} of faults", "kinds", "Faults", own),
+              ("Broken only after a fault of the other end", "answers", "Times", others)]
+    return "".join(f'<h2 id="{place}">{title}</h2>{table(count, those, sentences, numbers)}'
+                   for title, place, count, those in tables if those)
+
+
+def table(count: str, kinds: list[Kind], sentences: dict[str, str], numbers: dict[str, int]) -> str:
     rows = []
     for kind in kinds:
         software, number = kind.software, numbers.get(kind.name)
         link = f'<a class=code href="#l{number}">{kind.code}</a>' if number else f"<span class=code>{kind.code}</span>"
-        note = f' <span class=way>{PROVOKED_WORDS}</span>' if kind.is_provoked else ""
         rows.append(f"<tr><th scope=row>{link}<td>{escaped(software.software.name)}"
-                    f"<td class=num data-u=faults>{kind.faults:,}"
+                    f"<td class=num data-u={count.lower()}>{kind.faults:,}"
                     f"<td class=num data-u=runs>{len(kind.runs)} of {len(software.runs)}"
-                    f"<td>{escaped(sentences.get(kind.code, ''))}{note}")
-    heads = "".join(f"<th scope=col{' class=num' if name in ('Faults', 'Runs') else ''}>{name}"
-                    for name in ("Statement", "Software", "Faults", "Runs", "What it says"))
-    return (f'<h2 id="kinds">{counted(len(kinds), "kind")} of faults</h2><table class="codes"><thead><tr>{heads}'
-            f"<tbody>{''.join(rows)}</table>")
+                    f"<td>{escaped(sentences.get(kind.code, ''))}")
+    heads = "".join(f"<th scope=col{' class=num' if name in (count, 'Runs') else ''}>{name}"
+                    for name in ("Statement", "Software", count, "Runs", "What it says"))
+    return f'<table class="codes"><thead><tr>{heads}<tbody>{"".join(rows)}</table>'

@@ -10,7 +10,7 @@ from judging.page import Front, Page, entries_of
 from judging.program import Judge
 from judging.reports import explain_all
 from judging.verdict import Verdict
-from surveying.findings import Kind, Surveyed
+from surveying.findings import Kind, Surveyed, of_its_own
 from surveying.front import front
 
 OTHER = "other"  # why a fault doesn't count: the run took no notice of it
@@ -39,7 +39,7 @@ def write_page(file: Path, program: str, surveyed: list[Surveyed], kinds: list[K
     numbers = {entry.verdict.path: entry.number for entry in entries_of(verdicts)}
     places = {kind.name: numbers[kind.log] for kind in kinds}
     tested = [one for one in surveyed if one.runs]
-    title = f"{counted(len(tested), 'program')} surveyed, {counted(len(kinds), 'kind')} of faults"
+    title = f"{counted(len(tested), 'program')} surveyed, {counted(len(of_its_own(kinds)), 'kind')} of faults"
     summary = f"On {about['system']}, {about['date']}: {', '.join(one.title for one in tested)}."
     page = Page(str(about["judged by"]), summary, [], explain_all(judge, verdicts),
                 front=Front(title, front(surveyed, kinds, sentences, places)))
