@@ -14,7 +14,7 @@ import shlex
 import subprocess
 import sys
 import unittest
-from collections.abc import Collection
+from collections.abc import Callable, Collection
 from pathlib import Path
 
 sys.dont_write_bytecode = True  # the repository stays as it is
@@ -23,6 +23,7 @@ sys.path.insert(0, str(HERE))
 from exercising.client_verbs import HOSTS, NEEDS
 from exercising.evidence import BINDING, FOREIGN
 from exercising.table import read_scenarios
+from surveying.software import Missing, mosquitto_bridge, paho_c_sync, paho_cpp
 from test_exercise import own_faults
 from test_situations import second_opinion
 from testing import HOST, PAHO, InFolder, find, free_port, judge_program, missing, python_with
@@ -38,6 +39,9 @@ MOSQUITTO_LACKS = frozenset("C15 C16 C22 W21".split())
 DRIVER_LACKS = frozenset("C15 C16 C20 W21".split())
 PAHO_PYTHON_LACKS = LIBMOSQUITTO_LACKS = DRIVER_LACKS | {"W13"}
 PAHO_C_LACKS = DRIVER_LACKS | {"W12"}
+PAHO_C_SYNC_LACKS = DRIVER_LACKS | {"W12", "W13"}
+PAHO_CPP_LACKS = DRIVER_LACKS | {"W12"}
+BRIDGE_LACKS = DRIVER_LACKS | frozenset("W08 S04 S05 S06".split())  # its session ends with each connection
 MQTT_JS_LACKS = DRIVER_LACKS | frozenset("S02 S03 S05".split())  # what it sends again has DUP 0
 PUB_LACKS = frozenset("C15 C16 C20 E1A E1O E1R E2A E2O E2R E3O E4A E4R S01 S02 S03 S04 S05 S06 W13 W15 W16 W17 W21"
                       .split())
@@ -46,6 +50,9 @@ SUB_LACKS = frozenset("C15 C16 C17 C18 C20 E3A E3O E3R S01 S02 S03 S04 S05 S06 S
 MOSQUITTO_BREAKS = frozenset("C14 S01 S06 S07 W13 W14".split())
 PAHO_PYTHON_BREAKS = frozenset("C01 C14 C17 E3A S02 S07 W09".split())
 PAHO_C_BREAKS = frozenset("C14 C17 W09".split())
+PAHO_C_SYNC_BREAKS = frozenset("C14 C17 E3A S02 W09".split())
+PAHO_CPP_BREAKS = frozenset("C14 C17 W09".split())
+BRIDGE_BREAKS = frozenset("C01 C13 S07".split())
 LIBMOSQUITTO_BREAKS = frozenset("C01 E3A S02".split())
 MQTT_JS_BREAKS = frozenset("C14 C17 S01 S07".split())
 PUB_BREAKS = frozenset(("C13",))
@@ -108,8 +115,9 @@ class Page(unittest.TestCase):
         wanted = [(len(BROKER - MOSQUITTO_LACKS), len(BROKER), MOSQUITTO_BREAKS)]
         wanted += [(len(CLIENT - lacks), len(CLIENT), breaks) for lacks, breaks in (
             (PAHO_PYTHON_LACKS, PAHO_PYTHON_BREAKS), (PAHO_C_LACKS, PAHO_C_BREAKS),
-            (LIBMOSQUITTO_LACKS, LIBMOSQUITTO_BREAKS), (MQTT_JS_LACKS, MQTT_JS_BREAKS), (SUB_LACKS, SUB_BREAKS),
-            (PUB_LACKS, PUB_BREAKS))]
+            (PAHO_C_SYNC_LACKS, PAHO_C_SYNC_BREAKS), (PAHO_CPP_LACKS, PAHO_CPP_BREAKS),
+            (LIBMOSQUITTO_LACKS, LIBMOSQUITTO_BREAKS), (BRIDGE_LACKS, BRIDGE_BREAKS),
+            (MQTT_JS_LACKS, MQTT_JS_BREAKS), (SUB_LACKS, SUB_BREAKS), (PUB_LACKS, PUB_BREAKS))]
         rows = re.findall(r"^\| .* \| (\d+) of (\d+) \| (.*) \|$", (HERE / "EXERCISE.md").read_text(), re.MULTILINE)
         self.assertEqual([(int(tested), int(every), frozenset(codes.split())) for tested, every, codes in rows], wanted)
 
@@ -149,6 +157,24 @@ class Clients(Tables):
     def test_paho_for_c(self) -> None:
         driver = self.driver_in_c("paho_c", "MQTTAsync.h", "paho-mqtt3a")
         self.assertEqual(PAHO_C_BREAKS - self.client(PAHO_C_LACKS, driver, "{port}", "{id}"), set())
+
+    def prepared(self, prepare: Callable[[Path], list[str]]) -> list[str]:
+        """The command of a client that a survey prepares."""
+        try:
+            words = prepare(self.folder)
+        except Missing as missing:
+            self.skipTest(str(missing))
+        return words[words.index("--") + 1 :]
+
+    def test_paho_for_c_that_waits(self) -> None:
+        broken = self.client(PAHO_C_SYNC_LACKS, *self.prepared(paho_c_sync))
+        self.assertEqual(PAHO_C_SYNC_BREAKS - broken, set())
+
+    def test_paho_for_cpp(self) -> None:
+        self.assertEqual(PAHO_CPP_BREAKS - self.client(PAHO_CPP_LACKS, *self.prepared(paho_cpp)), set())
+
+    def test_the_bridge_of_mosquitto(self) -> None:
+        self.assertEqual(BRIDGE_BREAKS - self.client(BRIDGE_LACKS, *self.prepared(mosquitto_bridge)), set())
 
     @unittest.skipIf(missing("node"), missing("node"))
     def test_mqtt_js(self) -> None:
