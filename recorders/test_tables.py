@@ -10,7 +10,6 @@ from __future__ import annotations
 
 import os
 import re
-import shlex
 import subprocess
 import sys
 import unittest
@@ -23,10 +22,10 @@ sys.path.insert(0, str(HERE))
 from exercising.client_verbs import HOSTS, NEEDS
 from exercising.evidence import BINDING, FOREIGN
 from exercising.table import read_scenarios
-from surveying.software import Missing, mosquitto_bridge, paho_c_sync, paho_cpp
+from surveying.software import Missing, mosquitto, mosquitto_bridge, paho_c_sync, paho_cpp
 from test_exercise import own_faults
 from test_situations import second_opinion
-from testing import HOST, PAHO, InFolder, find, free_port, judge_program, missing, python_with
+from testing import PAHO, InFolder, judge_program, missing, python_with
 
 COMMAND = HERE / "exercise"
 DRIVERS = HERE / "exercising/drivers"
@@ -58,18 +57,6 @@ MQTT_JS_BREAKS = frozenset("C14 C17 S01 S07".split())
 PUB_BREAKS = frozenset(("C13",))
 SUB_BREAKS = frozenset(("C01", "C13"))
 LEAST_SITUATIONS = 220  # of a broker
-SETTINGS = """listener {port} 127.0.0.1
-allow_anonymous true
-persistence true
-persistence_location {folder}/
-autosave_interval 1
-autosave_on_changes true
-sys_interval 1
-max_packet_size 200000
-message_size_limit 50000
-acl_file {folder}/acl
-password_file {folder}/passwd
-"""
 
 
 def count_in(printed: str, title: str) -> int:
@@ -125,17 +112,8 @@ class Page(unittest.TestCase):
 class Brokers(Tables):
     @unittest.skipIf(missing("mosquitto"), missing("mosquitto"))
     def test_mosquitto(self) -> None:
-        port, config = free_port(), self.folder / "mosquitto.conf"
-        (self.folder / "acl").write_text("topic readwrite #\ntopic readwrite $SYS/#\ntopic deny denied/#\n")
-        password = self.folder / "passwd"
-        password.touch()
-        subprocess.run([find("mosquitto_passwd") or "mosquitto_passwd", "-b", password, "right", "right"], check=True)
-        config.write_text(("" if os.geteuid() else "user root\n") + SETTINGS.format(port=port, folder=self.folder))
-        printed = self.run_it(
-            "broker", f"{HOST}:{port}", "--out", self.logs, "--program", judge_program(), "--denied", "denied/x",
-            "--start", shlex.join([find("mosquitto") or "mosquitto", "-c", str(config)]), "--wrong-password", "wrong",
-            "--require", ",".join(sorted(BROKER - MOSQUITTO_LACKS)),
-        )
+        printed = self.run_it("broker", "--out", self.logs, "--program", judge_program(), "--require",
+                              ",".join(sorted(BROKER - MOSQUITTO_LACKS)), *mosquitto(self.folder))
         self.assertEqual(MOSQUITTO_BREAKS - broken_in(printed), set(), printed)
         self.assertGreaterEqual(count_in(printed, "situations"), LEAST_SITUATIONS, printed)
 
