@@ -55,6 +55,7 @@ pub mod SettlingLaws
 pub mod ReleasePlacesLaws
 pub mod DeliveryPlacesLaws
 pub mod EarlyPlacesLaws
+pub mod EarlyFailsLaws
 pub mod TriedLaws
 pub mod ResumedLaws
 pub mod ResumingLaws

@@ -1,5 +1,5 @@
 -- Events of an undecided connection that are held back. They stand with the newest one first, on top of the events before that connection.
-use Rattle.std.specs.Prelude.{ℕ, ◌≡◌, ◌<◌, ◌+◌, Bool, true, false, ◌||◌, ◌&&◌, cond, List, [], ◌∷◌, ◌++◌, length, reverse, Option, Some, None, is_some}
+use Rattle.std.specs.Prelude.{ℕ, ◌≡◌, ◌<◌, ◌≤◌, ◌+◌, Bool, true, false, ◌||◌, ◌&&◌, cond, List, [], ◌∷◌, ◌++◌, length, reverse, Option, Some, None, is_some}
 use Rattle.mq_rules.specs.declared.role.Role.{Role}
 use Rattle.mq_rules.specs.declared.role.Tested.{Tested}
 use Rattle.mq_rules.specs.declared.fate.Fate.{Fate}
@@ -8,8 +8,8 @@ use Rattle.mq_rules.specs.declared.rule.Rule.{Rule}
 use Rattle.mq_rules.specs.declared.note.Note.{Note}
 use Rattle.mq_rules.specs.declared.note.Seen.{Seen}
 use Rattle.mq_rules.specs.Notes.{is_open, received_subscription, sent_grant}
-use Rattle.mq_rules.specs.Moments.{note, IsPlaced}
-use Rattle.mq_rules.specs.Connections.{latest_fate, connection, AreOnConnections}
+use Rattle.mq_rules.specs.Moments.{Moment, note, moment, IsPlaced}
+use Rattle.mq_rules.specs.Connections.{number, fate, latest_fate, connection, AreOnConnections}
 use Rattle.mq_rules.specs.Histories.{history}
 use Rattle.mq_rules.specs.Steps.{turns}
 use Rattle.mq_rules.specs.Under.{is_on_session, turns_with, IsInTurn, Follows}
@@ -59,6 +59,12 @@ pub record Holds (agrees : Option Fate → List Seen → Type 0) (role : Role) (
   pub joined : past ≡ reverse held ++ settled tested.role past
   pub are_held : AreHeld tested.role (reverse held) (settled tested.role past)
   pub so_far : agrees (latest_fate tested.role (settled tested.role past)) (settled tested.role past)
+
+-- The position is one of the events before the latest connection, if that is undecided. Those events alone show its moment, and the fate of its connection.
+pub record IsSettled (tested : Tested) (past : List Seen) (k : ℕ) : Type 0 where
+  pub within : k ≤ length (settled tested.role past)
+  pub same_moment : moment past k ≡ moment (settled tested.role past) k
+  pub same_fate : (m : Moment) → moment past k ≡ Some m → fate tested.role (number m) past ≡ fate tested.role (number m) (settled tested.role past)
 
 -- They can be handed on, and then the event that follows them, with their connection's fate.
 pub record CanPass (tested : Tested) (f : Fate) (e : Seen) (hs base : List Seen) : Type 0 where

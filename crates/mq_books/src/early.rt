@@ -7,12 +7,14 @@ ghost use Rattle.mq_rules.specs.declared.fate.Fate.{Fate as TheFate};
 ghost use Rattle.mq_rules.specs.declared.fate.Fate.TheVariants as fates;
 ghost use Rattle.mq_rules.specs.Occasions.{places};
 ghost use Rattle.mq_rules.specs.declared.note.Seen.{Seen as TheSeen};
+ghost use Rattle.mq_rules.specs.declared.rule.Rule.{Rule as TheRule};
 ghost use Rattle.mq_rules.specs.Notes.{is_open, note_of_bare, received_subscription, sent_grant};
 ghost use Rattle.mq_rules.specs.Connections.{latest_fate};
 ghost use Rattle.mq_rules.specs.Histories.{gives_now, is_left_by};
-ghost use Rattle.mq_rules.specs.Under.{seen, Follows, turns_with};
+ghost use Rattle.mq_rules.specs.Statements.{fails};
+ghost use Rattle.mq_rules.specs.Under.{seen, Follows, is_on_session, turns_with};
 ghost use Rattle.mq_rules.specs.Growing.{Gains, GainsWithin};
-ghost use Rattle.mq_books.specs.Holding.{is_nothing, CanHand, CanPass, fate_after, turns_held, turns_session, settled, number_in, event_size as size_of, waiting, Holds};
+ghost use Rattle.mq_books.specs.Holding.{is_nothing, CanHand, CanPass, fate_after, turns_held, turns_session, settled, number_in, event_size as size_of, waiting, Holds, IsSettled};
 ghost use Rattle.mq_rules.specs.Weights.{in_word};
 ghost use Rattle.mq_books.specs.Weights.{held_weigh};
 
@@ -143,6 +145,17 @@ impl<W: Fated> Early<W> {
             held: Vec::new(alloc),
             watcher,
         }
+    }
+
+    /// The watcher. It has taken in the events up to the latest connection that is decided. Each
+    /// position at which a statement on sessions is false is one of these, and they alone show its
+    /// moment and the fate of its connection.
+    pub fn watcher(&self) -> &W
+        ensures is { result.now ≡ self.now.watcher }
+        ensures agrees { (tested : TheTested) (taken : Option TheFate) (past : List TheSeen) → ⟦<Early<W> as Watch>⟧.agrees self.now tested taken past → W.agrees result.now tested (latest_fate tested.role (settled tested.role past)) (settled tested.role past) }
+        ensures failed { (tested : TheTested) (taken : Option TheFate) (past : List TheSeen) (k : ℕ) (r : TheRule) → ⟦<Early<W> as Watch>⟧.agrees self.now tested taken past → is_on_session tested r ≡ true → fails tested past k r ≡ true → IsSettled tested past k }
+    {
+        &self.watcher
     }
 }
 
