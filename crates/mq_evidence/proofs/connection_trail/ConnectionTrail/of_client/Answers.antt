@@ -1,0 +1,28 @@
+use Rattle.std.proofs.Common.{ap, Some}
+use Rattle.mq_rules.specs.declared.role.Role.TheVariants.{Client}
+use Rattle.mq_evidence.specs.ConnectionTrails.{latest_connection}
+use Rattle.mq_evidence.proofs.connection_trail.ConnectionTrail.of_client.Goals as goal
+
+pub returns-in-C03 : goal.returns-in-C03
+returns-in-C03 c = rw c.in-C03.is (λ at past is. ap (λ x. Some x) (c.connect_sent.ensures Client (latest_connection past) is))
+
+pub returns-in-C11 : goal.returns-in-C11
+returns-in-C11 c = rw c.in-C11.is (λ at past is. ap (λ x. Some x) (c.disconnect.ensures Client (latest_connection past) is))
+
+pub returns-in-C13 : goal.returns-in-C13
+returns-in-C13 c = rw c.in-C13.is (λ at past is. ap (λ x. Some x) (c.connack.ensures Client (latest_connection past) is))
+
+pub returns-in-C14 : goal.returns-in-C14
+returns-in-C14 c = rw c.in-C14.is (λ at past is. ap (λ x. Some x) (c.size.ensures Client (latest_connection past) is))
+
+pub returns-in-C15 : goal.returns-in-C15
+returns-in-C15 c = rw c.in-C15.is (λ at past is. ap (λ x. Some x) (c.alias.ensures Client (latest_connection past) is))
+
+pub returns-in-C17 : goal.returns-in-C17
+returns-in-C17 c = rw c.in-C17.is (λ at past is. ap (λ x. Some x) (c.qos.ensures Client (latest_connection past) is))
+
+pub returns-in-C20 : goal.returns-in-C20
+returns-in-C20 c = rw c.in-C20.is (λ at past is. ap (λ x. Some x) (c.expiry.ensures Client (latest_connection past) is))
+
+pub returns-in-C23 : goal.returns-in-C23
+returns-in-C23 c = rw c.in-C23.is (λ at past is. ap (λ x. Some x) (c.last.ensures Client (latest_connection past) is))

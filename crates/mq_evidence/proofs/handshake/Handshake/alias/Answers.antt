@@ -1,0 +1,8 @@
+use Rattle.std.proofs.Common.{ap, ◌∙◌}
+use Rattle.mq_rules.specs.declared.role.Role.{Role}
+use Rattle.mq_evidence.specs.Handshakes.{alias_evidence}
+use Rattle.mq_evidence.proofs.HandshakeLaws.{greetings-of}
+use Rattle.mq_evidence.proofs.handshake.Handshake.alias.Goals as goal
+
+pub returns : goal.returns
+returns c = λ role s is. c.alias.ensures s.connection (greetings-of c.args.self.now role s is) ∙ ap (λ (r : Role). alias_evidence r c.args.note.now s.connection) is.same_role

@@ -1,0 +1,23 @@
+use Rattle.std.proofs.Common.{ap, sym, ◌∙◌, Some}
+use Rattle.std.specs.Prelude.{option_map, cond, is_some}
+use Rattle.mq_rules.specs.Words.{only}
+use Rattle.mq_rules.specs.Moments.{newest, latest, position}
+use Rattle.mq_rules.specs.Connections.{connection}
+use Rattle.mq_rules.specs.Under.{seen}
+use Rattle.mq_rules.specs.Notes.{resend_of, opener_of, closer_of}
+use Rattle.mq_rules.specs.Identifiers.{taken_by, delivers, sends_pubrel, session_before}
+use Rattle.mq_evidence.specs.declared.evidence.Numbers.TheVariants.{Nothing}
+use Rattle.mq_evidence.specs.Evidence.{it, holder, end_of_sent, some_session, earliest, is_connack}
+use Rattle.mq_evidence.specs.Stretches.{stretches, has_id}
+use Rattle.mq_evidence.proofs.StretchLaws.{cond-position, only-position}
+use Rattle.mq_evidence.proofs.TrailLaws.{by-identifier}
+use Rattle.mq_evidence.proofs.trail.SessionTrail.of_taking.Goals as goal
+
+pub returns-in-Some : goal.returns-in-Some
+returns-in-Some c = λ tested at fate past trail.
+    let n = c.args.note.now in
+    let k = newest (seen at n) past in
+    let s = stretches tested.role (Some fate) past in
+    by-identifier (taken_by tested.role n) c.in-Some.i (λ i. it (holder tested.role fate i k)) c.of.result
+    (sym (ap (λ r. taken_by r n) trail.same_role) ∙ sym c.taken_identifier.ensures ∙ c.in-Some.is)
+    (c.of.ensures ∙ ap (λ o. record { because = o; numbers = Nothing }) (c.holder.ensures s trail.senders_are))

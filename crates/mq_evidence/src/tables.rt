@@ -1,0 +1,158 @@
+//! What is kept under each Packet Identifier (MQTT 5.0, section 2.2.1) of a stretch of the log: the
+//! positions of its latest or of its earliest events of one kind, or only that there are some.
+ghost use Rattle.std.specs.Prelude.{◌≡◌, ◌||◌, ℕ, OnOk, nat_eq, is_some};
+ghost use Rattle.std.specs.List.{list_any};
+ghost use Rattle.indexmap.specs.IndexMap.{get};
+ghost use Rattle.indexmap.specs.IndexSet.{contains};
+ghost use Rattle.mq_rules.specs.Words.{is_id, only};
+ghost use Rattle.mq_evidence.specs.Stretches.{last_next, first_next, once_next, again_next, earlier_next, later_at};
+
+use indexmap::{IndexMap, IndexSet};
+use mq_rules::Memory;
+use std::alloc::Global;
+
+/// Keeps the position of an event that gains an identifier, in place of an earlier one, and drops
+/// that of one which it loses. A stretch that begins anew with the event has none before.
+pub fn keep_latest(
+    positions: &mut IndexMap<u16, u32>,
+    alloc: Global,
+    over: bool,
+    inside: bool,
+    gained: Option<u16>,
+    lost: Option<u16>,
+    position: u32,
+) -> Result<(), Memory>
+    ensures { OnOk result ((i : ℕ) → get nat_eq positions.new i ≡ last_next over inside (is_id i gained) (is_id i lost) position (get nat_eq positions.old i)) }
+{
+    if over {
+        // A large map that is cleared costs its size each time.
+        *positions = IndexMap::new(alloc);
+    }
+    if !inside {
+        return Ok(());
+    }
+    if let Some(i) = lost {
+        positions.swap_remove(&i);
+    }
+    if let Some(i) = gained {
+        positions.insert(i, position)?;
+    }
+    Ok(())
+}
+
+/// The same, but keeps the position that is there.
+pub fn keep_earliest(
+    positions: &mut IndexMap<u16, u32>,
+    alloc: Global,
+    over: bool,
+    inside: bool,
+    gained: Option<u16>,
+    lost: Option<u16>,
+    position: u32,
+) -> Result<(), Memory>
+    ensures { OnOk result ((i : ℕ) → get nat_eq positions.new i ≡ first_next over inside (is_id i gained) (is_id i lost) position (get nat_eq positions.old i)) }
+{
+    if over {
+        // As above.
+        *positions = IndexMap::new(alloc);
+    }
+    if !inside {
+        return Ok(());
+    }
+    if let Some(i) = lost {
+        positions.swap_remove(&i);
+    }
+    if let Some(i) = gained {
+        if positions.get(&i).is_none() {
+            positions.insert(i, position)?;
+        }
+    }
+    Ok(())
+}
+
+/// The position of the earliest event of a stretch that passes a test, with one event more.
+pub fn keep_once(
+    over: bool,
+    inside: bool,
+    passes: bool,
+    position: u32,
+    old: Option<u32>,
+) -> Option<u32>
+    ensures { result ≡ once_next over inside passes position old }
+{
+    let before = if over { None } else { old };
+    if inside && passes {
+        return before.or(Some(position));
+    }
+    before
+}
+
+/// That of the latest one.
+pub fn keep_again(
+    over: bool,
+    inside: bool,
+    passes: bool,
+    position: u32,
+    old: Option<u32>,
+) -> Option<u32>
+    ensures { result ≡ again_next over inside passes position old }
+{
+    if inside && passes {
+        return Some(position);
+    }
+    if over { None } else { old }
+}
+
+// Adds these identifiers to a set.
+fn add_all(set: &mut IndexSet<u16>, identifiers: &[u16]) -> Result<(), Memory>
+    ensures { OnOk result ((i : ℕ) → contains nat_eq set.new i ≡ (list_any (nat_eq i) identifiers.now || contains nat_eq set.old i)) }
+{
+    let mut identifiers = identifiers;
+    while let Some((i, next)) = identifiers.split_first() {
+        set.insert(*i)?;
+        identifiers = next;
+    }
+    Ok(())
+}
+
+/// Where a session begins anew, what was gained in the one before joins what was gained in earlier
+/// ones.
+pub fn keep_earlier(
+    earlier: &mut IndexSet<u16>,
+    begins: bool,
+    before: &IndexMap<u16, u32>,
+) -> Result<(), Memory>
+    ensures { OnOk result ((i : ℕ) → contains nat_eq earlier.new i ≡ earlier_next begins (is_some (get nat_eq before.now i)) (contains nat_eq earlier.old i)) }
+{
+    if begins {
+        add_all(earlier, before.keys().as_slice())?;
+    }
+    Ok(())
+}
+
+/// The later one of two positions, each of which may be absent.
+pub fn later(a: Option<u32>, b: Option<u32>) -> Option<u32>
+    ensures { result ≡ later_at a b }
+{
+    match a {
+        Some(first) => match b {
+            Some(second) if second >= first => b,
+            _ => a,
+        },
+        None => b,
+    }
+}
+
+/// A position, if an identifier is in a set.
+pub fn only_among(set: &IndexSet<u16>, i: u16, position: Option<u32>) -> Option<u32>
+    ensures { result ≡ only (contains nat_eq set.now i) position }
+{
+    if set.contains(&i) { position } else { None }
+}
+
+/// The position that is kept under an identifier.
+pub fn position_of(positions: &IndexMap<u16, u32>, i: u16) -> Option<u32>
+    ensures { result ≡ get nat_eq positions.now i }
+{
+    positions.get(&i).copied()
+}

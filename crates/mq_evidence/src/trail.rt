@@ -1,0 +1,308 @@
+//! What a second reading of a log keeps to find the evidence of the statements on sessions, each
+//! event taken in with the fate of its connection.
+ghost use Rattle.std.specs.Prelude.{◌≡◌, ◌∷◌, ◌+◌, ℕ, [], List, length, Option, Some, None, true, false, OnOk};
+ghost use Rattle.mq_rules.specs.declared.role.Tested.{Tested as TheTested};
+ghost use Rattle.mq_log.specs.declared.place.Place3.{Place3 as ThePlace};
+ghost use Rattle.mq_rules.specs.declared.fate.Fate.{Fate as TheFate};
+ghost use Rattle.mq_rules.specs.declared.fate.Fate.TheVariants.{Void};
+ghost use Rattle.mq_rules.specs.declared.rule.Rule.TheVariants.{S01, S02, S03, S04, S05, B01, E3A, L1, L2, L3};
+ghost use Rattle.mq_rules.specs.declared.note.Seen.{Seen};
+ghost use Rattle.mq_rules.specs.Notes.{is_open};
+ghost use Rattle.mq_rules.specs.Moments.{newest};
+ghost use Rattle.mq_rules.specs.Under.{seen, IsUnder, fate_before};
+ghost use Rattle.mq_rules.specs.declared.role.Role.{Role as TheRole};
+ghost use Rattle.mq_evidence.specs.Evidence.{found, reason, by_asked, by_order};
+ghost use Rattle.mq_evidence.specs.Stretches.{Stretches, stretches};
+ghost use Rattle.mq_evidence.specs.Senders.{IsSenders};
+ghost use Rattle.mq_evidence.specs.Overtaking.{opened_under};
+ghost use Rattle.mq_evidence.specs.Exchange.{exchange_of};
+ghost use Rattle.mq_evidence.specs.Asked.{IsAsked};
+ghost use Rattle.mq_evidence.specs.Unanswered.{IsUnanswered};
+ghost use Rattle.std.specs.FinMap as map;
+ghost use Rattle.std.specs.Option.{option_or};
+ghost use Rattle.mq_rules.specs.declared.rule.Rule.{Rule as TheRule};
+ghost use Rattle.mq_rules.specs.Words.{only};
+ghost use Rattle.mq_evidence.specs.Findings.{found_at};
+ghost use Rattle.mq_evidence.specs.Trailing.{IsTrail, explained_at, is_found};
+
+use crate::answering::{Answering, Waiting};
+use crate::asked::Asked;
+use crate::begun::Begun;
+use crate::counters::Counters;
+use crate::evidence::{Evidence, Numbers};
+use crate::exchange::Exchange;
+use crate::findings::Findings;
+use crate::handshake::Handshake;
+use crate::overtaking::Overtaking;
+use crate::received::Received;
+use crate::senders::Senders;
+use crate::session::Session;
+use crate::subscribed::Subscribed;
+use crate::unanswered::Unanswered;
+use mq_log::Place3;
+use mq_rules::{Fate, Faults, Memory, Note, Role, Rule, Tested};
+use std::alloc::Global;
+
+/// What came in the session and on the connection, as far as the evidence of a later fault may need
+/// it.
+#[derive(Drop)]
+pub struct SessionTrail {
+    role: Role,
+    session: Session,
+    begun: Begun,
+    handshake: Handshake,
+    counters: Counters,
+    senders: Senders,
+    answering: Answering,
+    waiting: Waiting,
+    received: Received,
+    overtaking: Overtaking,
+    subscribed: Subscribed,
+}
+
+impl SessionTrail {
+    /// Before any event, for this tested end.
+    pub fn new(alloc: Global, tested: Tested) -> Self
+        ensures { IsTrail result tested (Some Void) [] }
+    {
+        SessionTrail {
+            role: tested.role,
+            session: Session::new(),
+            begun: Begun::new(tested.role),
+            handshake: Handshake::new(tested.role),
+            counters: Counters::new(tested.role),
+            senders: Senders::new(alloc),
+            answering: Answering::new(alloc),
+            waiting: Waiting::new(alloc),
+            received: Received::new(alloc),
+            overtaking: Overtaking::new(alloc),
+            subscribed: Subscribed::new(alloc),
+        }
+    }
+
+    /// Takes in the next event, of a connection that has this fate.
+    ///
+    /// # Errors
+    ///
+    /// `Memory` if there is no memory for what it keeps. Its state is then of no use.
+    pub fn take(&mut self, at: Place3, fate: Fate, note: &Note) -> Result<(), Memory>
+        ensures { OnOk result ((tested : TheTested) (decided : ℕ) (past : List Seen) → IsUnder tested fate decided (seen at note.now) past → IsTrail self.old tested (fate_before tested fate (seen at note.now) past) past → IsTrail self.new tested (Some fate) (seen at note.now ∷ past)) }
+    {
+        let turn = self.session.turn(at, fate, note);
+        self.begun.take(turn, note);
+        self.handshake.take(turn, note);
+        self.counters.take(turn, note);
+        let opened = self.opened_by(note);
+        self.overtaking.take(turn, note, opened)?;
+        self.subscribed.take(turn, note)?;
+        self.senders.take(turn, note)?;
+        self.answering.take(turn, note)?;
+        self.waiting.take(turn, note)?;
+        self.received.take(turn, note)?;
+        self.session.take(fate, note);
+        Ok(())
+    }
+
+    // Where what the event sends again was first sent, if it is open.
+    fn opened_by(&self, note: &Note) -> Option<u32>
+        ensures { (s : Stretches) → IsSenders self.now.senders s → result ≡ opened_under note.now s.session }
+    {
+        match note.resend() {
+            Some(i) => self.senders.held(i),
+            None => None,
+        }
+    }
+
+    // The evidence of S01: what holds the identifier that the event takes.
+    fn of_taking(&self, note: &Note) -> Evidence
+        ensures { (tested : TheTested) (at : ThePlace) (fate : TheFate) (past : List Seen) → IsTrail self.now tested (Some fate) past → result ≡ found (reason tested.role S01) (Some fate) None (newest (seen at note.now) past) }
+    {
+        match note.taken_identifier(self.role) {
+            Some(i) => Evidence::of(self.senders.holder(i)),
+            None => Evidence::nothing(),
+        }
+    }
+
+    // That of S02: what became of what the event sends again.
+    fn of_resending(&self, note: &Note) -> Evidence
+        ensures { (tested : TheTested) (at : ThePlace) (fate : TheFate) (past : List Seen) → IsTrail self.now tested (Some fate) past → result ≡ found (reason tested.role S02) (Some fate) None (newest (seen at note.now) past) }
+    {
+        match note.resend() {
+            Some(i) => Evidence::of(self.senders.end_of_sent(self.begun.connack(), i)),
+            None => Evidence::nothing(),
+        }
+    }
+
+    // That of S03: where it was sent before on the connection.
+    fn of_repeating(&self, note: &Note) -> Evidence
+        ensures { (tested : TheTested) (at : ThePlace) (fate : TheFate) (past : List Seen) → IsTrail self.now tested (Some fate) past → result ≡ found (reason tested.role S03) (Some fate) None (newest (seen at note.now) past) }
+    {
+        match note.resend() {
+            Some(i) => Evidence::of(self.senders.delivery(i)),
+            None => Evidence::nothing(),
+        }
+    }
+
+    // That of S04: the PUBREL.
+    fn of_receding(&self, note: &Note) -> Evidence
+        ensures { (tested : TheTested) (at : ThePlace) (fate : TheFate) (past : List Seen) → IsTrail self.now tested (Some fate) past → result ≡ found (reason tested.role S04) (Some fate) None (newest (seen at note.now) past) }
+    {
+        match note.resend() {
+            Some(i) => Evidence::of(self.senders.pubrel(i)),
+            None => Evidence::nothing(),
+        }
+    }
+
+    // That of S05: the PUBLISH that was sent again too early.
+    fn of_following(&self, note: &Note) -> Evidence
+        ensures { (tested : TheTested) (at : ThePlace) (fate : TheFate) (past : List Seen) → IsTrail self.now tested (Some fate) past → result ≡ found (reason tested.role S05) (Some fate) None (newest (seen at note.now) past) }
+    {
+        match note.resend() {
+            Some(i) => self.overtaking.evidence(self.senders.opener(i)),
+            None => Evidence::nothing(),
+        }
+    }
+
+    // That of B01: how many filters stand.
+    fn of_unasked(&self) -> Evidence
+        ensures { (tested : TheTested) (e : Seen) (fate : TheFate) (past : List Seen) → IsTrail self.now tested (Some fate) past → result ≡ found (reason tested.role B01) (Some fate) None (newest e past) }
+    {
+        Evidence {
+            because: None,
+            numbers: Numbers::One(self.subscribed.different()),
+        }
+    }
+
+    // That of E1A, E2A and E4A to E6A: what became of what the event answers.
+    fn of_answering(&self, asked: &Asked, exchange: Exchange, note: &Note) -> Evidence
+        ensures { (tested : TheTested) (at : ThePlace) (fate : TheFate) (past : List Seen) → IsTrail self.now tested (Some fate) past → IsAsked (exchange_of exchange) asked.now (stretches tested.role (Some fate) past) → result ≡ found (by_asked (exchange_of exchange) tested.role) (Some fate) None (newest (seen at note.now) past) }
+    {
+        match exchange.answer(note) {
+            Some(i) => Evidence::of(asked.end_of_asked(self.begun.connack(), i)),
+            None => Evidence::nothing(),
+        }
+    }
+
+    // That of E3A, where also a PUBREC that refuses may be to blame.
+    fn of_confirming(&self, note: &Note) -> Evidence
+        ensures { (tested : TheTested) (at : ThePlace) (fate : TheFate) (past : List Seen) → IsTrail self.now tested (Some fate) past → result ≡ found (reason tested.role E3A) (Some fate) None (newest (seen at note.now) past) }
+    {
+        match note.sent_pubrel() {
+            Some(i) => Evidence::of(
+                self.answering
+                    .pubrels
+                    .end_of_confirmed(self.begun.connack(), i),
+            ),
+            None => Evidence::nothing(),
+        }
+    }
+
+    // That of L1: what became of the message that is released.
+    fn of_releasing(&self, note: &Note) -> Evidence
+        ensures { (tested : TheTested) (at : ThePlace) (fate : TheFate) (past : List Seen) → IsTrail self.now tested (Some fate) past → result ≡ found (reason tested.role L1) (Some fate) None (newest (seen at note.now) past) }
+    {
+        match note.released_identifier() {
+            Some(i) => Evidence::of(self.received.end_of_received(self.begun.connack(), i)),
+            None => Evidence::nothing(),
+        }
+    }
+
+    // That of L2: the RELEASE before.
+    fn of_releasing_again(&self, note: &Note) -> Evidence
+        ensures { (tested : TheTested) (at : ThePlace) (fate : TheFate) (past : List Seen) → IsTrail self.now tested (Some fate) past → result ≡ found (reason tested.role L2) (Some fate) None (newest (seen at note.now) past) }
+    {
+        match note.released_identifier() {
+            Some(i) => Evidence::of(self.received.release(i)),
+            None => Evidence::nothing(),
+        }
+    }
+
+    // That of L3: the PUBLISH that brought the message.
+    fn of_completing(&self, note: &Note) -> Evidence
+        ensures { (tested : TheTested) (at : ThePlace) (fate : TheFate) (past : List Seen) → IsTrail self.now tested (Some fate) past → result ≡ found (reason tested.role L3) (Some fate) None (newest (seen at note.now) past) }
+    {
+        match note.sent_success_pubcomp() {
+            Some(i) => Evidence::of(self.received.first_brought(i)),
+            None => Evidence::nothing(),
+        }
+    }
+
+    /// What a fault of this statement at an event conflicts with, if it is one of those that it
+    /// finds. It is asked before the event is taken in.
+    pub fn find(&self, rule: Rule, at: Place3, note: &Note) -> Option<Evidence>
+        ensures { (tested : TheTested) (fate : TheFate) (past : List Seen) → at.position ≡ length past + 1 → IsTrail self.now tested (Some fate) past → result ≡ only (is_found rule) (Some (found (reason tested.role rule) (Some fate) None (newest (seen at note.now) past))) }
+    {
+        let (answering, waiting) = (&self.answering, &self.waiting);
+        match rule {
+            Rule::S01 => Some(self.of_taking(note)),
+            Rule::S02 => Some(self.of_resending(note)),
+            Rule::S03 => Some(self.of_repeating(note)),
+            Rule::S04 => Some(self.of_receding(note)),
+            Rule::S05 => Some(self.of_following(note)),
+            Rule::B01 => Some(self.of_unasked()),
+            Rule::S07 => Some(self.counters.quota(at.position, &self.handshake)),
+            Rule::E7R => Some(self.counters.pings()),
+            Rule::E1A => Some(self.of_answering(&answering.pubacks, Exchange::PublishPuback, note)),
+            Rule::E2A => Some(self.of_answering(&answering.pubrecs, Exchange::PublishPubrec, note)),
+            Rule::E3A => Some(self.of_confirming(note)),
+            Rule::E4A => Some(self.of_answering(
+                &answering.pubcomps,
+                Exchange::PubrelPubcomp,
+                note,
+            )),
+            Rule::E5A => Some(self.of_answering(
+                &answering.subacks,
+                Exchange::SubscribeSuback,
+                note,
+            )),
+            Rule::E6A => Some(self.of_answering(
+                &answering.unsubacks,
+                Exchange::UnsubscribeUnsuback,
+                note,
+            )),
+            Rule::E1O => Some(of_overtaking(&waiting.pubacks, Exchange::PublishPuback, note)),
+            Rule::E2O => Some(of_overtaking(&waiting.pubrecs, Exchange::PublishPubrec, note)),
+            Rule::E3O => Some(of_overtaking(&waiting.pubrels, Exchange::PubrecPubrel, note)),
+            Rule::B03 => Some(waiting.requests.of_suback(note)),
+            Rule::B04 => Some(waiting.requests.of_unsuback(note)),
+            Rule::L1 => Some(self.of_releasing(note)),
+            Rule::L2 => Some(self.of_releasing_again(note)),
+            Rule::L3 => Some(self.of_completing(note)),
+            _ => None,
+        }
+    }
+
+    /// Adds what the faults of an event conflict with, as far as it finds that. It is asked before
+    /// the event is taken in.
+    ///
+    /// # Errors
+    ///
+    /// `Memory` if there is no memory for them.
+    pub fn explain(
+        &self,
+        wanted: &Faults,
+        at: Place3,
+        note: &Note,
+        findings: &mut Findings,
+    ) -> Result<(), Memory>
+        ensures { OnOk result ((tested : TheTested) (fate : TheFate) (past : List Seen) → at.position ≡ length past + 1 → IsTrail self.now tested (Some fate) past → (k : ℕ) (r : TheRule)
+            → found_at findings.new k r ≡ option_or (explained_at is_found (map.entries wanted.now) at.position k r (found (reason tested.role r) (Some fate) None (newest (seen at note.now) past))) (found_at findings.old k r)) }
+    {
+        for (key, _) in wanted.at(at.position) {
+            if let Some(evidence) = self.find(key.rule, at, note) {
+                findings.add(*key, evidence)?;
+            }
+        }
+        Ok(())
+    }
+}
+
+// That of E1O to E3O: the earliest that waits under another identifier.
+fn of_overtaking(unanswered: &Unanswered, exchange: Exchange, note: &Note) -> Evidence
+    ensures { (role : TheRole) (at : ThePlace) (fate : Option TheFate) (past : List Seen) → IsUnanswered (exchange_of exchange) unanswered.now (stretches role fate past) → result ≡ found (by_order (exchange_of exchange)) fate None (newest (seen at note.now) past) }
+{
+    match exchange.answer(note) {
+        Some(i) => Evidence::of(unanswered.first_other(i)),
+        None => Evidence::nothing(),
+    }
+}
