@@ -1,0 +1,5 @@
+pub mod FindingLaws
+pub mod RestLaws
+pub mod FollowingLaws
+pub mod SecondReadingLaws
+pub mod SourceLaws

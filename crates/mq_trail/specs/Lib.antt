@@ -1,0 +1,3 @@
+pub mod Resting
+pub mod Following
+pub mod Sources
