@@ -6,6 +6,7 @@ pub mod ReportLaws
 pub mod JsonLaws
 pub mod SummaryLaws
 pub mod CoverageLaws
+pub mod ReasonLaws
 pub mod OutgoingLaws
 pub mod DetailLaws
 pub mod MarkingLaws

@@ -2,6 +2,7 @@ pub mod Stopping
 pub mod Chosen
 pub mod Report
 pub mod Coverage
+pub mod Reasons
 pub mod Summaries
 pub mod ItemText
 pub mod Outgoing

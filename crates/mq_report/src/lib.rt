@@ -18,11 +18,12 @@ pub use finding::write_packet;
 pub use laws::{converted_logs_have_the_same_report, dates_are_exact, worked_times};
 pub use long_packet::write_long_packet;
 pub use report::coverage::Covered;
-pub use report::json::{write_covered_json, write_json};
+pub use report::json::{write_covered_json, write_json, write_reasoned_json};
 pub use report::summary::{write_covered_summary, write_summary};
-pub use report::text::{write_covered_text, write_text};
+pub use report::text::{write_covered_text, write_reasoned_text, write_text};
 pub use report::{
-    Form, Outcome, RunFault, Verdict, write_covered_report, write_refused, write_report,
+    Form, Outcome, RunFault, Verdict, write_covered_report, write_reasoned_report, write_refused,
+    write_report,
 };
 
 #[cfg(test)]

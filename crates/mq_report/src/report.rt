@@ -5,21 +5,24 @@ ghost use Rattle.std.specs.Io.KnownBytes.{Appends};
 ghost use Rattle.mq_trace.specs.Writing.{AppendsBeginning};
 ghost use Rattle.mq_report.specs.Report.{line, verdict_text, refused_report, report_on, FailsToReport};
 ghost use Rattle.mq_report.specs.Coverage.{covered_report_on};
+ghost use Rattle.mq_report.specs.Reasons.{reasoned_report_on};
 
 pub mod coverage;
 pub mod item;
 pub mod json;
 pub mod line;
 pub mod packet_summary;
+pub mod reasons;
 pub mod summary;
 pub mod text;
 
 use self::coverage::Covered;
-use self::json::{write_covered_json, write_json, write_refusal};
+use self::json::{write_covered_json, write_json, write_reasoned_json, write_refusal};
 use self::line::write_line;
 use self::summary::{write_covered_summary, write_summary};
-use self::text::{write_covered_text, write_text};
+use self::text::{write_covered_text, write_reasoned_text, write_text};
 use super::lines::Lines;
+use mq_evidence::Evidence;
 use mq_log::Refusal;
 use mq_rules::{Faults, Role};
 use std::alloc::Global;
@@ -144,6 +147,34 @@ pub fn write_covered_report<W: Write>(
         Form::Text => write_covered_text(verdict, role, rows, writer),
         Form::Json => write_covered_json(alloc, verdict, role, rows, writer),
         Form::Summary => write_covered_summary(verdict, role, rows, writer),
+    }
+}
+
+/// Writes the report on a verdict for an end in this role, in this form, which also says what each
+/// fault conflicts with. The reasons are those of the faults, in their order: what is there beyond
+/// the faults is ignored, and a fault beyond their end has no event and no number. In the form
+/// `Summary` it is the report of `write_report`.
+///
+/// # Errors
+///
+/// As `write_report`.
+pub fn write_reasoned_report<W: Write>(
+    alloc: Global,
+    verdict: &Verdict,
+    role: Role,
+    reasons: &[Evidence],
+    form: Form,
+    writer: &mut W,
+) -> Result<(), RunFault>
+    ensures ok { OnOk result (Appends (W.contents writer.old) (W.contents writer.new)
+        (reasoned_report_on form role (map.entries verdict.now.faults) verdict.now.events reasons.now)) }
+    ensures err { IfErr result (FailsToReport form (W.contents writer.old) (W.contents writer.new)
+        (reasoned_report_on form role (map.entries verdict.now.faults) verdict.now.events reasons.now)) }
+{
+    match form {
+        Form::Text => write_reasoned_text(verdict, role, reasons, writer),
+        Form::Json => write_reasoned_json(alloc, verdict, role, reasons, writer),
+        Form::Summary => write_report(alloc, verdict, role, Form::Summary, writer),
     }
 }
 

@@ -2,18 +2,22 @@
 ghost use Rattle.std.specs.Prelude.{◌≡◌, false, length, IfOk, IfErr, OnOk};
 ghost use Rattle.std.specs.FinMap as map;
 ghost use Rattle.std.specs.Io.KnownBytes.{Appends};
+ghost use Rattle.serde_json.specs.Data.{array};
 ghost use Rattle.serde_json.specs.View.{view, items_view};
 ghost use Rattle.serde_json.specs.Written.{compact_text, has_float};
 ghost use Rattle.mq_report.specs.declared.report.Form.TheVariants.{Json};
 ghost use Rattle.mq_report.specs.Report.{line, fault_data, fault_items, verdict_word, report_data, refused_data, refused_report, report_on, FailsToReport};
 ghost use Rattle.mq_report.specs.Coverage.{places_data, places_items, covered_data, covered_report_on};
+ghost use Rattle.mq_report.specs.Reasons.{event_data, number_items, with_member, reasoned, reasoned_data, reasoned_items, reasoned_report_data, reasoned_report_on};
 
 use super::coverage::Covered;
 use super::line::write_bytes;
+use super::reasons::{first_reason, later_reasons};
 use super::{RunFault, Verdict};
+use mq_evidence::{Evidence, Numbers};
 use mq_log::Refusal;
 use mq_rules::{Fault, FaultKey, Faults, Role};
-use serde_json::{Value, json, push};
+use serde_json::{Value, json, push, put};
 use std::alloc::{AllocError, Global};
 use std::io::Write;
 
@@ -64,6 +68,32 @@ pub fn write_covered_json<W: Write>(
         (covered_report_on Json role (map.entries verdict.now.faults) verdict.now.events rows.now)) }
 {
     match covered_value(alloc, verdict, role, rows) {
+        Ok(value) => write_value(alloc, &value, writer),
+        Err(_) => Err(RunFault::Memory),
+    }
+}
+
+/// Writes the report on a verdict for an end in this role as one line of JSON, as `write_json`
+/// does, and in each fault what it conflicts with. The reasons are those of the faults, in their
+/// order.
+///
+/// # Errors
+///
+/// As `write_json`.
+#[tactic(auto, unfolding(crate::specs::Reasons::reasoned_json_report))]
+pub fn write_reasoned_json<W: Write>(
+    alloc: Global,
+    verdict: &Verdict,
+    role: Role,
+    reasons: &[Evidence],
+    writer: &mut W,
+) -> Result<(), RunFault>
+    ensures ok { OnOk result (Appends (W.contents writer.old) (W.contents writer.new)
+        (reasoned_report_on Json role (map.entries verdict.now.faults) verdict.now.events reasons.now)) }
+    ensures err { IfErr result (FailsToReport Json (W.contents writer.old) (W.contents writer.new)
+        (reasoned_report_on Json role (map.entries verdict.now.faults) verdict.now.events reasons.now)) }
+{
+    match reasoned_report_value(alloc, verdict, role, reasons) {
         Ok(value) => write_value(alloc, &value, writer),
         Err(_) => Err(RunFault::Memory),
     }
@@ -130,6 +160,23 @@ fn covered_value(
     })
 }
 
+// The report on a verdict, with what each fault conflicts with, as a value.
+fn reasoned_report_value(
+    alloc: Global,
+    verdict: &Verdict,
+    role: Role,
+    reasons: &[Evidence],
+) -> Result<Value, AllocError>
+    ensures { IfOk result (λ value. view value ≡ reasoned_report_data role (map.entries verdict.now.faults) verdict.now.events reasons.now) }
+{
+    let faults = reasoned_values(alloc, &verdict.faults, role, reasons)?;
+    json!(in alloc; {
+        "events": verdict.events,
+        "faults": faults,
+        "verdict": verdict_word(&verdict.faults)
+    })
+}
+
 // How often each of these statements was put to the test, as values, in their order.
 fn places_values(alloc: Global, rows: &[Covered], role: Role) -> Result<Vec<Value>, AllocError>
     ensures { IfOk result (λ values. items_view values.items ≡ places_items role rows.now) }
@@ -184,6 +231,73 @@ fn fault_value(alloc: Global, role: Role, key: FaultKey, fault: Fault) -> Result
         "position": key.position,
         "record": fault.record_no
     })
+}
+
+// The faults as values, in their order, each with what it conflicts with.
+fn reasoned_values(
+    alloc: Global,
+    faults: &Faults,
+    role: Role,
+    reasons: &[Evidence],
+) -> Result<Vec<Value>, AllocError>
+    ensures { IfOk result (λ values. items_view values.items ≡ reasoned_items role (reasoned (map.entries faults.now) reasons.now)) }
+{
+    let mut values = Vec::new(alloc);
+    let mut left = reasons;
+    for (key, fault) in faults.iter() {
+        let value = reasoned_value(alloc, role, *key, *fault, first_reason(left))?;
+        push(&mut values, value)?;
+        left = later_reasons(left);
+    }
+    Ok(values)
+}
+
+// A fault, and what it conflicts with, as a value.
+fn reasoned_value(
+    alloc: Global,
+    role: Role,
+    key: FaultKey,
+    fault: Fault,
+    reason: Evidence,
+) -> Result<Value, AllocError>
+    ensures { IfOk result (λ value. view value ≡ reasoned_data role ((key, fault), reason)) }
+{
+    let because = event_value(alloc, reason.because)?;
+    let numbers = numbers_value(alloc, reason.numbers)?;
+    let value = fault_value(alloc, role, key, fault)?;
+    let value = with_member(alloc, value, "because", because)?;
+    with_member(alloc, value, "numbers", numbers)
+}
+
+// The value with this member, if it is an object; else as it is.
+fn with_member(alloc: Global, value: Value, key: &str, member: Value) -> Result<Value, AllocError>
+    ensures { IfOk result (λ new. view new ≡ with_member key.now (view member) (view value)) }
+{
+    match value {
+        Value::Object(mut map) => {
+            put(&mut map, alloc, key, member)?;
+            Ok(Value::Object(map))
+        }
+        other => Ok(other),
+    }
+}
+
+// The event because of which a position is at fault, as a value.
+fn event_value(alloc: Global, event: Option<u32>) -> Result<Value, AllocError>
+    ensures { IfOk result (λ value. view value ≡ event_data event) }
+{
+    json!(in alloc; event)
+}
+
+// The numbers that a statement compares, as a value.
+fn numbers_value(alloc: Global, numbers: Numbers) -> Result<Value, AllocError>
+    ensures { IfOk result (λ value. view value ≡ array (number_items numbers)) }
+{
+    match numbers {
+        Numbers::Nothing => json!(in alloc; []),
+        Numbers::One(a) => json!(in alloc; [a]),
+        Numbers::Two(a, b) => json!(in alloc; [a, b]),
+    }
 }
 
 // Writes a value as one line of JSON.

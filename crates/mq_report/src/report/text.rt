@@ -5,11 +5,14 @@ ghost use Rattle.std.specs.Io.KnownBytes.{Appends};
 ghost use Rattle.mq_trace.specs.Writing.{AppendsBeginning};
 ghost use Rattle.mq_report.specs.Report.{offset_text, fault_text, fault_lines, report_on};
 ghost use Rattle.mq_report.specs.Coverage.{covered_report_on};
+ghost use Rattle.mq_report.specs.Reasons.{reasoned_report_on};
 
 use super::super::lines::Lines;
 use super::coverage::{Covered, write_covered_ending};
 use super::line::write_line;
+use super::reasons::write_reasoned_faults;
 use super::{Form, RunFault, Verdict, write_verdict};
+use mq_evidence::Evidence;
 use mq_rules::{Fault, FaultKey, Faults, Role};
 use std::fmt;
 use std::io::Write;
@@ -31,10 +34,13 @@ impl fmt::Display for Offset {
 
 /// A fault of an end in this role, as reports show it.
 #[derive(Clone, Copy)]
-struct Found {
-    role: Role,
-    key: FaultKey,
-    fault: Fault,
+pub struct Found {
+    /// The end's role.
+    pub role: Role,
+    /// Where the fault is, and the statement.
+    pub key: FaultKey,
+    /// What else is known of it.
+    pub fault: Fault,
 }
 
 impl fmt::Display for Found {
@@ -95,6 +101,29 @@ pub fn write_covered_text<W: Write>(
     let mut lines = Lines::new();
     write_faults(&verdict.faults, role, &mut lines, writer)?;
     write_covered_ending(verdict, role, rows, &mut lines, writer)
+}
+
+/// Writes the report on a verdict for an end in this role, as `write_text` does, but after each
+/// fault's line also what it conflicts with. The reasons are those of the faults, in their order.
+/// It takes no memory.
+///
+/// # Errors
+///
+/// As `write_text`.
+pub fn write_reasoned_text<W: Write>(
+    verdict: &Verdict,
+    role: Role,
+    reasons: &[Evidence],
+    writer: &mut W,
+) -> Result<(), RunFault>
+    ensures ok { OnOk result (Appends (W.contents writer.old) (W.contents writer.new)
+        (reasoned_report_on Form.Text role (map.entries verdict.now.faults) verdict.now.events reasons.now)) }
+    ensures write { IfErr result (λ fault. (fault ≡ RunFault.Write) × AppendsBeginning (W.contents writer.old) (W.contents writer.new)
+        (reasoned_report_on Form.Text role (map.entries verdict.now.faults) verdict.now.events reasons.now)) }
+{
+    let mut lines = Lines::new();
+    write_reasoned_faults(&verdict.faults, role, reasons, &mut lines, writer)?;
+    write_verdict(verdict, &mut lines, writer)
 }
 
 // Writes a line for each fault. Each is built in the buffer.

@@ -1,0 +1,9 @@
+use Rattle.std.proofs.Common.{◌∙◌, ap}
+use Rattle.std.specs.FinMap as map
+use Rattle.serde_json.specs.Written.{has_float}
+use Rattle.mq_report.proofs.ReasonLaws.{reasoned_unfloating}
+use Rattle.mq_report.proofs.report.json.write_reasoned_json.Goals as goal
+
+pub write_value-requires : goal.write_value-requires
+write_value-requires g c =
+    ap has_float c.in-Ok.ensures ∙ reasoned_unfloating c.args.role (map.entries c.args.verdict.now.faults) c.args.verdict.now.events c.args.reasons.now
