@@ -11,6 +11,7 @@ pub mod OutgoingLaws
 pub mod DetailLaws
 pub mod MarkingLaws
 pub mod OneLineLaws
+pub mod UnreasonedLaws
 pub mod CalendarLaws
 pub mod ViewLaws
 pub mod NearLaws

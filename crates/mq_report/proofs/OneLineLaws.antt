@@ -27,7 +27,7 @@ all_mapped test f each [] = refl
 all_mapped test f each (x ∷ xs) = all_both test (f x) (flat_map f xs) (each x) (all_mapped test f each xs)
 
 -- two texts, and a byte before one
-both : (a b : List ℕ) → is_on_one_line a ≡ true → is_on_one_line b ≡ true → is_on_one_line (a ++ b) ≡ true
+pub both : (a b : List ℕ) → is_on_one_line a ≡ true → is_on_one_line b ≡ true → is_on_one_line (a ++ b) ≡ true
 both a b p q = all_both (λ byte. nat_le 32 byte) a b p q
 
 before : (byte : ℕ) (text : List ℕ) → nat_le 32 byte ≡ true → is_on_one_line text ≡ true → is_on_one_line (byte ∷ text) ≡ true
@@ -49,7 +49,7 @@ digits_fit (suc k) n text p =
       | false ↦ digits_fit k (n / 10) (digit_glyph false (n % 10) ∷ text) more
     ]
 
-decimal_fits : (n : ℕ) → is_on_one_line (decimal n) ≡ true
+pub decimal_fits : (n : ℕ) → is_on_one_line (decimal n) ≡ true
 unfolding digits
 decimal_fits n = digits_fit 64 n [] refl
 

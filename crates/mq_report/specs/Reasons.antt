@@ -1,6 +1,6 @@
 -- What a report says of what each fault conflicts with, and the reports that say it.
-use Rattle.std.specs.Prelude.{ℕ, List, [], ◌∷◌, ◌++◌, length, map, codes, decimal, Option, Some, None}
-use Rattle.std.specs.List.{flat_map}
+use Rattle.std.specs.Prelude.{ℕ, Bool, ◌==◌, cond, List, [], ◌∷◌, ◌++◌, length, map, codes, decimal, Option, Some, None}
+use Rattle.std.specs.List.{flat_map, starts_with}
 use Rattle.serde_json.specs.Data.{Data, null, number, unsigned, string, array, object, Items, no_items, item, member, no_members, put}
 use Rattle.serde_json.specs.View.{items_of}
 use Rattle.serde_json.specs.Written.{compact_text}
@@ -105,3 +105,26 @@ abbrev pub reasoned_report_on : Form → Role → List (FaultKey × Fault) → �
 reasoned_report_on forms.Text role faults events reasons = reasoned_text_report role faults events reasons
 reasoned_report_on forms.Json role faults events reasons = reasoned_json_report role faults events reasons
 reasoned_report_on forms.Summary role faults events reasons = summary_report role faults events
+
+-- ---- a report without what it says of the reasons
+
+-- the lines of a text, each with its line feed
+abbrev pub onto_first : ℕ → List (List ℕ) → List (List ℕ)
+onto_first byte [] = (byte ∷ []) ∷ []
+onto_first byte (first ∷ later) = (byte ∷ first) ∷ later
+
+abbrev pub text_lines : List ℕ → List (List ℕ)
+text_lines [] = []
+text_lines (byte ∷ text) = cond (byte == 10) ((10 ∷ []) ∷ text_lines text) (onto_first byte (text_lines text))
+
+-- whether a line says what a fault conflicts with
+abbrev pub is_because : List ℕ → Bool
+is_because text = starts_with (λ a b. a == b) text (codes "because ")
+
+-- a line, unless it does
+abbrev pub unless_because : List ℕ → List ℕ
+unless_because text = cond (is_because text) [] text
+
+-- a text without the lines that do
+abbrev pub without_reasons : List ℕ → List ℕ
+without_reasons text = flat_map unless_because (text_lines text)

@@ -2,14 +2,25 @@
 ghost use Rattle.std.specs.Prelude.{◌≡◌, ◌<◌, ℕ, List, None, codes, false, slice_index};
 ghost use Rattle.mq_trace.specs.Converting.{converted};
 ghost use Rattle.mq_log.specs.Refusals.{refused, is_cut_short};
+ghost use Rattle.mq_rules.specs.declared.role.Role.{Role};
+ghost use Rattle.mq_rules.specs.declared.fault.Fault.{Fault};
+ghost use Rattle.mq_rules.specs.declared.faults.FaultKey.{FaultKey};
+ghost use Rattle.mq_evidence.specs.declared.evidence.Evidence.{Evidence};
 ghost use Rattle.mq_report.specs.declared.report.Form.{Form};
 ghost use Rattle.mq_report.specs.Calendar.{IsDate, day_of_month, month_of, utc_text, year_of};
-ghost use Rattle.mq_report.specs.Report.{report};
+ghost use Rattle.mq_report.specs.Report.{report, text_report};
+ghost use Rattle.mq_report.specs.Reasons.{reasoned_text_report, without_reasons};
 
 /// A log of version 1 that isn't refused, and isn't cut short, has the same report once it is
 /// converted into version 2.
 pub fn converted_logs_have_the_same_report()
     ensures { (limit : ℕ) (log : List ℕ) (form : Form) → slice_index log 4 ≡ 1 → refused limit log ≡ None → is_cut_short log ≡ false → report form (converted log) ≡ report form log }
+{}
+
+/// The text that says what each fault conflicts with is the report with further lines: without them
+/// it is the report.
+pub fn reasons_have_lines_of_their_own()
+    ensures { (role : Role) (faults : List (FaultKey × Fault)) (events : ℕ) (reasons : List Evidence) → without_reasons (reasoned_text_report role faults events reasons) ≡ text_report role faults events }
 {}
 
 /// Each day of the years 1970 to 2099 has the date that is found for it, and no other one.

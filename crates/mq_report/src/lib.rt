@@ -15,7 +15,10 @@ pub use display::annotated::Extent;
 pub use display::{show, show_faults, show_long};
 pub use feeding::{DEFAULT_LIMIT, feed_log};
 pub use finding::write_packet;
-pub use laws::{converted_logs_have_the_same_report, dates_are_exact, worked_times};
+pub use laws::{
+    converted_logs_have_the_same_report, dates_are_exact, reasons_have_lines_of_their_own,
+    worked_times,
+};
 pub use long_packet::write_long_packet;
 pub use report::coverage::Covered;
 pub use report::json::{write_covered_json, write_json, write_reasoned_json};
