@@ -1,4 +1,4 @@
-//! Explaining the faults of a log, event by event.
+//! Explaining the faults of the statements on sessions, event by event.
 ghost use Rattle.std.specs.Prelude.{◌≡◌, ◌∷◌, ◌+◌, ℕ, [], List, length, Some, None, true, false, OnOk};
 ghost use Rattle.std.specs.Option.{option_or};
 ghost use Rattle.std.specs.FinMap as map;

@@ -1,4 +1,5 @@
-//! A second reading of a log that has faults: it finds what each of them conflicts with.
+//! A second reading of a log that has faults: it finds what each of them conflicts with, but for
+//! the event of B02.
 #![tactic(auto)]
 
 mod finding;
