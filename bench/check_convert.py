@@ -125,6 +125,9 @@ class Comparison:
         """The examples get the same report converted, and aren't converted twice."""
         for name, log in examples():
             (self.folder / "one.log").write_bytes(log)
+            if log[4] == 2:
+                self.compare(f"{name}, of version 2", self.run("convert", "one.log", "three.log")[:2], SECOND_VERSION)
+                continue
             self.run("convert", "--force", "one.log", "two.log")
             for form in ((), ("--json",), ("--summary",), ("--coverage",)):
                 found, wanted = (self.run("check", *form, path) for path in ("two.log", "one.log"))
