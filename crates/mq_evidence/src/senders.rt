@@ -67,51 +67,44 @@ impl SentInSession {
     fn take(&mut self, turn: Turn, note: &Note) -> Result<(), Memory>
         ensures { OnOk result ((m : Moment) (ms : List Moment) → Comes turn note.now m → IsSentInSession self.old ms → IsSentInSession self.new (longer turn.begins turn.inside m ms)) }
     {
-        let Turn {
-            position,
-            begins,
-            inside,
-            opens: _,
-        } = turn;
-        let alloc = self.alloc;
         let opener = note.opener();
         let closer = note.closer();
         let pubrel = note.sent_pubrel();
         keep_latest(
             &mut self.openers,
-            alloc,
-            begins,
-            inside,
+            self.alloc,
+            turn.begins,
+            turn.inside,
             opener,
             None,
-            position,
+            turn.position,
         )?;
         keep_latest(
             &mut self.held,
-            alloc,
-            begins,
-            inside,
+            self.alloc,
+            turn.begins,
+            turn.inside,
             opener,
             closer,
-            position,
+            turn.position,
         )?;
         keep_latest(
             &mut self.closers,
-            alloc,
-            begins,
-            inside,
+            self.alloc,
+            turn.begins,
+            turn.inside,
             closer,
             None,
-            position,
+            turn.position,
         )?;
         keep_latest(
             &mut self.pubrels,
-            alloc,
-            begins,
-            inside,
+            self.alloc,
+            turn.begins,
+            turn.inside,
             pubrel,
             None,
-            position,
+            turn.position,
         )?;
         Ok(())
     }
@@ -134,13 +127,6 @@ impl SentOnConnection {
     fn take(&mut self, turn: Turn, note: &Note) -> Result<(), Memory>
         ensures { OnOk result ((m : Moment) (ms : List Moment) → Comes turn note.now m → IsSentOnConnection self.old ms → IsSentOnConnection self.new (longer turn.opens true m ms)) }
     {
-        let Turn {
-            position,
-            begins: _,
-            inside: _,
-            opens,
-        } = turn;
-        let alloc = self.alloc;
         let delivery = note.delivery();
         let subscribe = note.sent_subscribe();
         let suback = note.received_suback();
@@ -148,30 +134,30 @@ impl SentOnConnection {
         let unsuback = note.received_unsuback();
         keep_latest(
             &mut self.deliveries,
-            alloc,
-            opens,
+            self.alloc,
+            turn.opens,
             true,
             delivery,
             None,
-            position,
+            turn.position,
         )?;
         keep_latest(
             &mut self.subscribes,
-            alloc,
-            opens,
+            self.alloc,
+            turn.opens,
             true,
             subscribe,
             suback,
-            position,
+            turn.position,
         )?;
         keep_latest(
             &mut self.unsubscribes,
-            alloc,
-            opens,
+            self.alloc,
+            turn.opens,
             true,
             unsubscribe,
             unsuback,
-            position,
+            turn.position,
         )?;
         Ok(())
     }
