@@ -8,7 +8,7 @@ from further_table import (
 from reading import (
     AUTH, BROKEN, Bad, CONNACK, CONNECT, DISCONNECT, Lost, PUBACK, PUBLISH, PUBREC, Packet, SUBSCRIBE, codes, has_wildcard,
 )
-from sessions import Log, MAXIMUM_QOS
+from sessions import Log, MAXIMUM_PACKET_SIZE, MAXIMUM_QOS
 from statements import ANY, received, sent, type_of
 
 # ---- F, of what the server hasn't got
@@ -149,6 +149,8 @@ def gives_a_foreign_reason(log: Log, k: int) -> bool:
 
 # ---- C24, of a CONNECT without an answer
 
+SMALLEST_CONNACK = 5  # bytes: one without properties
+
 
 def rests_after(log: Log, k: int) -> int | None:
     """The first REST after k on k's connection."""
@@ -169,10 +171,16 @@ def may_go_unanswered(log: Log, t: int) -> bool:
     return asked > sum(log.received_packet(j, AUTH) is not None for j in before)
 
 
+def takes_no_connack(log: Log, k: int) -> bool:
+    """The Maximum Packet Size of the CONNECT is below the size of the smallest CONNACK."""
+    most = log.received_packet(k, CONNECT).get(MAXIMUM_PACKET_SIZE)
+    return most is not None and most < SMALLEST_CONNACK
+
+
 @fails_later("C24", received([CONNECT]))
 def leaves_a_connect(log: Log, k: int) -> int | None:
     t = rests_after(log, k) if is_first_connect(log, k) else None
-    if t is None or may_go_unanswered(log, t):
+    if t is None or takes_no_connack(log, k) or may_go_unanswered(log, t):
         return None
     return None if any(log.sent_packet(j, CONNACK) for j in log.before_on(t)) else t
 
