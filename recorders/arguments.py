@@ -1,20 +1,53 @@
-"""What the recorders' command lines have in common: one status for misuse, times in seconds, and the logs' version."""
+"""What the recorders' command lines have in common: one status for misuse, silence that is rest, the logs' version."""
 from __future__ import annotations
 
 import argparse
 import contextlib
 import sys
 from collections.abc import Iterator
+from dataclasses import dataclass
 from pathlib import Path
 from typing import NoReturn
 
 from log_format import NEWEST, VERSIONS
 
 MISUSE = 3  # as `mqjudge` has it
+BEFORE_CONNACK_SECONDS = 30.0
+
+
+@dataclass(frozen=True)
+class Rests:
+    """After how many seconds of silence an end is at rest. None: silence says nothing."""
+
+    after: float | None
+    before_connack: float | None  # of a server without a CONNACK, which may be asking another service
+
+    @classmethod
+    def of(cls, options: argparse.Namespace) -> Rests:
+        """What the options of `add_rests` say."""
+        after, longer = options.rest, options.rest_before_connack
+        if after is None or longer is not None:
+            return cls(after, longer)
+        return cls(after, max(after, BEFORE_CONNACK_SECONDS))
 
 
 class Parser(argparse.ArgumentParser):
     """A parser whose misuse has the status that `mqjudge` has for it."""
+
+    def add_rests(self, help: str) -> None:
+        """Adds the options that say which silence is rest; `help` is that of the first one."""
+        self.add_argument("--rest", type=seconds, metavar="SECONDS", help=help)
+        self.add_argument("--rest-before-connack", type=seconds, metavar="SECONDS",
+                          help="the same for a server that hasn't sent a CONNACK: longer than it ever takes to let a"
+                               f" client in; {BEFORE_CONNACK_SECONDS:.0f}, or as long as --rest if that is longer")
+
+    def check_rests(self, options: argparse.Namespace) -> None:
+        """Refuses what these options can't say together."""
+        after, longer = options.rest, options.rest_before_connack
+        if longer is not None and after is None:
+            self.error("--rest-before-connack needs --rest")
+        if longer is not None and longer < after:
+            self.error("--rest-before-connack is shorter than --rest: before the CONNACK a server may take longer")
 
     def add_log_version(self) -> None:
         """Adds the option that says which version of the format the logs have."""

@@ -25,9 +25,10 @@ from collections.abc import Callable, Iterable, Iterator
 from dataclasses import dataclass, field
 from pathlib import Path
 
-from arguments import Parser, counted, seconds, why
+from arguments import Parser, Rests, counted, why
+from framing import CONNECT, Framer, read_connect
 from log_format import NEWEST
-from recording import CONNECT, End, Framer, Recorder, read_connect, write_to_standard_error
+from recording import End, Recorder, write_to_standard_error
 
 FIN, SYN, RST, ACK = 0x01, 0x02, 0x04, 0x10
 HELD_MOST = 16 * 1_048_576  # bytes of a connection's end that wait for others before them, or for their acknowledgement
@@ -557,7 +558,7 @@ class Capture:
         self,
         folder: Path,
         ends: Iterable[End],
-        rest_after: float | None,
+        rests: Rests,
         warn: Callable[[str], None] = write_to_standard_error,
         log_version: int = NEWEST,
     ) -> None:
@@ -566,11 +567,12 @@ class Capture:
         self._now = 0.0
         self._moment = 0  # of the segment that is being recorded, in microseconds
         self._looked_at = 0.0
-        self._rest_after, self._warn = rest_after, warn
+        self._rest_after, self._warn = rests.after, warn
         self._warned: OrderedDict[str, None] = OrderedDict()
         self._recorders = {
-            end: Recorder(folder, frozenset({end}), rest_after, clock=lambda: self._now, warn=self._warn_once,
-                          log_version=log_version, moment=lambda: self._moment)
+            end: Recorder(folder, frozenset({end}), rests.after, clock=lambda: self._now, warn=self._warn_once,
+                          log_version=log_version, moment=lambda: self._moment,
+                          rest_before_connack=rests.before_connack)
             for end in ends
         }
         self._streams: dict[int, Stream | None] = {}  # None: it is over
@@ -662,10 +664,12 @@ def parse_arguments(words: list[str] | None) -> argparse.Namespace:
     parser.add_argument("--out", metavar="DIR", type=Path, required=True, help="where the logs are written")
     parser.add_argument("--keylog", metavar="FILE", type=Path, help="the keys of TLS connections (SSLKEYLOGFILE)")
     parser.add_argument("--end", choices=("client", "server", "both"), default="both", help="whose logs are written")
-    parser.add_argument("--rest", metavar="SECONDS", type=seconds, help="silence after which an end is at rest")
+    parser.add_rests("silence after which an end is at rest")
     parser.add_argument("--tshark", metavar="PROGRAM", default="tshark", help="the tshark that reads the capture")
     parser.add_log_version()
-    return parser.parse_args(words)
+    arguments = parser.parse_args(words)
+    parser.check_rests(arguments)
+    return arguments
 
 
 def ports_seen(program: str, file: str) -> list[int]:
@@ -706,7 +710,7 @@ def main(words: list[str] | None = None) -> int:
     if problem:
         write_to_standard_error(f"from-capture: {problem}")
         return 1
-    capture = Capture(arguments.out, ends, arguments.rest, log_version=arguments.log_version)
+    capture = Capture(arguments.out, ends, Rests.of(arguments), log_version=arguments.log_version)
     command = tshark_command(arguments.tshark, arguments.file, arguments.server, arguments.keylog)
     status = 0
     try:

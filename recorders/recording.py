@@ -24,9 +24,9 @@ from pathlib import Path
 from typing import Concatenate, NamedTuple, ParamSpec
 
 from arguments import why
+from framing import CONNACK, CONNECT, DISCONNECT, KEPT_MOST, Connack, Connect, Framer, read_connack, read_connect
 from log_format import NEWEST, VERSIONS, Version
 
-KEPT_MOST = 1_048_576  # bytes of a connection that are kept until it is known whose they are
 KEPT_MOST_IN_ALL = 64 * KEPT_MOST
 KEPT_PRICE = 64  # bytes that keeping an item costs by itself
 WAITING_MOST = 16  # refused connections of a Client Identifier that wait for the end of the one that is open
@@ -34,22 +34,21 @@ KNOWN_MOST = 100_000  # Client Identifiers that are remembered while they have n
 NAME_MOST = 80  # characters of a Client Identifier in a file's name
 UNNAMED = "@unnamed"  # no Client Identifier is spelled so in a file's name
 
-CONNECT, CONNACK, DISCONNECT = 1, 2, 14
-FIXED_FLAGS = {6: 2, 8: 2, 10: 2}  # PUBREL, SUBSCRIBE and UNSUBSCRIBE; the others but PUBLISH have 0
-PUBLISH = 3
-ASSIGNED_CLIENT_IDENTIFIER, USER_PROPERTY, SUBSCRIPTION_IDENTIFIER = 0x12, 0x26, 0x0B
-PROPERTY_SIZES = (
-    dict.fromkeys((0x01, 0x17, 0x19, 0x24, 0x25, 0x28, 0x29, 0x2A), 1)
-    | dict.fromkeys((0x13, 0x21, 0x22, 0x23), 2)
-    | dict.fromkeys((0x02, 0x11, 0x18, 0x27), 4)
-)
-
 
 class End(Enum):
     """The end of a session that a log is about."""
 
     CLIENT = "client"
     SERVER = "server"
+
+
+class Standing(Enum):
+    """How a connection stands, by which it is told what a REST would say there."""
+
+    UNANSWERED = "something came on it, and no CONNACK"
+    ACCEPTED = "its CONNACK has the Reason Code 0x00"
+    BROKEN = "the same, and an end has sent bytes since, or before, that can't begin a packet"
+    OTHER = "nothing came on it, an end has said that it leaves, or it isn't known how it stands"
 
 
 class Kind(IntEnum):
@@ -72,170 +71,6 @@ class Item(NamedTuple):
     kind: Kind
     data: bytes
     moment: int
-
-
-# ---- packets: as little of them as is needed
-
-
-@dataclass(frozen=True)
-class Connect:
-    """A CONNECT. The Client Identifier is None where it couldn't be read."""
-
-    protocol: bytes
-    version: int
-    clean_start: bool
-    identifier: bytes | None
-
-
-@dataclass(frozen=True)
-class Connack:
-    """A CONNACK."""
-
-    reason: int
-    session_present: bool
-    assigned: bytes | None
-
-
-class Fields:
-    """Reads fields one after the other, and raises IndexError where there are too few bytes."""
-
-    def __init__(self, data: bytes) -> None:
-        self.data, self.at = data, 0
-
-    def take(self, count: int) -> bytes:
-        piece = self.data[self.at : self.at + count]
-        if len(piece) < count:
-            raise IndexError("the packet ends before the field does")
-        self.at += count
-        return piece
-
-    def number(self, size: int) -> int:
-        return int.from_bytes(self.take(size), "big")
-
-    def varint(self) -> int:
-        value = 0
-        for place in range(4):
-            byte = self.number(1)
-            value |= (byte & 0x7F) << (7 * place)
-            if byte < 0x80:
-                return value
-        raise IndexError("a variable byte integer has more than four bytes")
-
-    def text(self) -> bytes:
-        return self.take(self.number(2))
-
-
-def read_connect(body: bytes) -> Connect | None:
-    """The CONNECT with this body, as far as it can be read; None where not even its version can be."""
-    fields = Fields(body)
-    try:
-        protocol, version, flags = fields.text(), fields.number(1), fields.number(1)
-    except IndexError:
-        return None
-    identifier = None
-    try:
-        fields.number(2)  # Keep Alive
-        if version == 5:
-            fields.take(fields.varint())  # properties
-        identifier = fields.text()
-    except IndexError:
-        pass
-    return Connect(protocol, version, bool(flags & 2), identifier)
-
-
-def read_connack(body: bytes) -> Connack | None:
-    """The CONNACK with this body, as far as it can be read; None where not even its Reason Code can be."""
-    if len(body) < 2:
-        return None
-    return Connack(body[1], bool(body[0] & 1), assigned_identifier(body[2:]))
-
-
-def assigned_identifier(properties: bytes) -> bytes | None:
-    """The Assigned Client Identifier in a property list, if there is one before anything that can't be read."""
-    fields = Fields(properties)
-    try:
-        fields = Fields(fields.take(fields.varint()))
-        while fields.at < len(fields.data):
-            identifier = fields.varint()
-            if identifier in PROPERTY_SIZES:
-                fields.take(PROPERTY_SIZES[identifier])
-            elif identifier == SUBSCRIPTION_IDENTIFIER:
-                fields.varint()
-            else:
-                value = fields.text()
-                if identifier == ASSIGNED_CLIENT_IDENTIFIER:
-                    return value
-                if identifier == USER_PROPERTY:
-                    fields.text()
-    except IndexError:
-        pass
-    return None
-
-
-class Framer:
-    """Cuts one direction of a connection into Control Packets, and keeps the bodies of one type, but for long ones."""
-
-    def __init__(self, wanted: int) -> None:
-        self.wanted: int | None = wanted  # None: no body is kept any more
-        self.is_sound = True  # so far each packet could be cut, and has the flags of its type
-        self.is_lost = False
-        self._header = bytearray()
-        self._missing = 0  # bytes of the body that haven't come yet
-        self._body: bytearray | None = None
-
-    @property
-    def is_between(self) -> bool:
-        """No packet has begun and isn't whole yet."""
-        return not self._header and not self._missing
-
-    def keep_none(self) -> None:
-        """Keeps no body any more."""
-        self.wanted = self._body = None
-
-    def feed(self, data: bytes) -> list[tuple[int, bytes | None]]:
-        """The packets that these bytes end: the type of each, and its body if it is wanted and short enough."""
-        packets, at = [], 0
-        while at < len(data) and not self.is_lost:
-            if self._missing:
-                piece = data[at : at + self._missing]
-                at += len(piece)
-                self._missing -= len(piece)
-                if self._body is not None:
-                    self._body += piece
-            else:
-                self._header.append(data[at])
-                at += 1
-                self._begin()
-            if self._header and self._is_whole():
-                packets.append((self._header[0] >> 4, None if self._body is None else bytes(self._body)))
-                self._header.clear()
-                self._body = None
-        return packets
-
-    def _is_whole(self) -> bool:
-        return len(self._header) > 1 and self._header[-1] < 0x80 and not self._missing
-
-    def _begin(self) -> None:
-        """Takes in one more byte of a fixed header."""
-        first, length = self._header[0], self._header[1:]
-        if not length:
-            kind = first >> 4
-            is_right = first & 6 != 6 if kind == PUBLISH else kind != 0 and first & 15 == FIXED_FLAGS.get(kind, 0)
-            if not is_right:
-                self.is_sound = False
-        elif length[-1] < 0x80:
-            if len(length) > 1 and length[-1] == 0:
-                self._lose()
-                return
-            self._missing = sum((byte & 0x7F) << (7 * place) for place, byte in enumerate(length))
-            is_kept = first >> 4 == self.wanted and self._missing <= KEPT_MOST
-            self._body = bytearray() if is_kept else None
-        elif len(length) == 4:
-            self._lose()
-
-    def _lose(self) -> None:
-        self.is_lost, self.is_sound = True, False
-        self._header.clear()
 
 
 # ---- files
@@ -327,6 +162,7 @@ class Connection:
     connect: Connect | None = None
     connack: Connack | None = None
     is_answered: bool = False  # a CONNACK came
+    is_answered_again: bool = False  # a second one came, which may refuse
     is_left_out: bool = False
     is_waiting: bool = False  # refused, while another connection of its Client Identifier is open
     is_over: bool = False
@@ -349,10 +185,38 @@ class Connection:
         return self.log is None and not any(item.data for item in self.kept)
 
     @property
-    def may_rest(self) -> bool:
-        """A REST can be written. Where in doubt, none is."""
-        is_sound = self.client.is_sound and self.server.is_sound
-        return self.log is not None and self.is_accepted and is_sound and not self.has_disconnect and not self.has_rest
+    def standing(self) -> Standing:
+        """How it stands."""
+        if self.is_left_out or self.has_disconnect:
+            return Standing.OTHER
+        if not self.is_answered:
+            return Standing.OTHER if self.is_silent else Standing.UNANSWERED
+        if not self.is_accepted or self.log is None:
+            return Standing.OTHER
+        if self.client.is_sound and self.server.is_sound:
+            return Standing.ACCEPTED
+        return Standing.OTHER if self.is_answered_again else Standing.BROKEN
+
+    def may_rest(self, ends: frozenset[End]) -> bool:
+        """A REST of these ends can be written. Where in doubt, none is.
+
+        Before its CONNACK a client only waits for the server: a REST would say nothing of it. Where an end's own stream
+        is lost, nobody knows whether it is in the middle of a packet, or has said in it that it leaves.
+        """
+        if self.has_rest:
+            return False
+        match self.standing:
+            case Standing.ACCEPTED:
+                return True
+            case Standing.BROKEN:
+                return self.is_between_packets and not self._has_lost(ends)
+            case Standing.UNANSWERED:
+                return self.is_between_packets and not self._has_lost(ends) and End.CLIENT not in ends
+        return False
+
+    def _has_lost(self, ends: frozenset[End]) -> bool:
+        """One of these ends sends what can't be parsed any more."""
+        return any((self.client if end is End.CLIENT else self.server).is_lost for end in ends)
 
     def keep_no_packets(self) -> None:
         """Looks for no CONNECT and no CONNACK any more."""
@@ -429,6 +293,9 @@ class Recorder:
     Without it a session that is resumed, though its beginning wasn't recorded, is left out: judged alone, it would
     seem to have faults. `made` is called with the path of each log that is begun.
 
+    `rest_before_connack` is the same for a server that hasn't sent a CONNACK: it may be asking another service whether
+    to let the client in, so this is the longer one. Without it, silence makes no REST there.
+
     `moment` gives the time of what is recorded, in microseconds since 1970-01-01 UTC, for logs of version 2.
     `named` gives the part of a log's name that says its Client Identifier: another one for each.
     """
@@ -447,8 +314,10 @@ class Recorder:
         log_version: int = NEWEST,
         moment: Callable[[], int] = microseconds_now,
         named: Callable[[bytes], str] = file_name,
+        rest_before_connack: float | None = None,
     ) -> None:
-        self._folder, self._ends, self._rest_after, self._releases = folder, ends, rest_after, releases
+        self._folder, self._ends, self._releases = folder, ends, releases
+        self._rest_after, self._rest_before_connack = rest_after, rest_before_connack
         self._named = named
         self._clock, self._from_start, self._warn, self._made = clock, from_start, warn, made
         self._version, self._moment = VERSIONS[log_version], moment
@@ -506,10 +375,19 @@ class Recorder:
         elif (log := self._released_logs.get(key)) is not None:
             log.write(item)
 
+    def standing(self, key: Hashable) -> Standing:
+        """How this connection stands."""
+        connection = self._connections.get(key)
+        return Standing.OTHER if connection is None else connection.standing
+
     @guarded
     def rested(self, key: Hashable) -> None:
-        """The tested end is at rest: this is known, not guessed. For a `Recorder` with one end."""
-        if (connection := self._connections.get(key)) is not None and connection.may_rest:
+        """The tested end is at rest: this is known, not guessed. For a `Recorder` with one end.
+
+        Where a server hasn't sent a CONNACK, it won't send one for what has come so far; and where what came on a
+        connection is broken, the tested end keeps the connection.
+        """
+        if (connection := self._connections.get(key)) is not None and connection.may_rest(self._ends):
             self._rest(connection)
 
     @guarded
@@ -553,11 +431,12 @@ class Recorder:
     @guarded
     def tick(self) -> None:
         """Writes a REST on each connection that has been silent for long enough."""
-        if self._rest_after is None:
-            return
-        silent_since = self._clock() - self._rest_after
+        now = self._clock()
         for connection in self._connections.values():
-            if connection.stirred_at <= silent_since and connection.may_rest and connection.is_between_packets:
+            after = self._rest_after if connection.is_answered else self._rest_before_connack
+            if after is None or connection.stirred_at > now - after:
+                continue
+            if connection.may_rest(self._ends) and connection.is_between_packets:
                 self._rest(connection)
 
     @guarded
@@ -608,6 +487,8 @@ class Recorder:
             connection.server.keep_none()
             if connection.log is None and not connection.is_left_out:
                 self._place(connection)
+        elif packet == CONNACK and kind is Kind.FROM_SERVER:
+            connection.is_answered_again = True
 
     def _check_version(self, connection: Connection) -> None:
         connect = connection.connect

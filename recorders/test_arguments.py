@@ -48,6 +48,27 @@ class Misuse(Case):
                 self.assertTrue(line.endswith(f"argument --rest: {value!r} isn't a number of seconds above 0"), line)
         self.assertEqual([*self.folder.iterdir()], [])
 
+    def test_a_silence_before_the_connack(self) -> None:
+        """It says nothing alone, and is the longer one."""
+        longer = "--rest-before-connack"
+        for given, wanted in (
+            ((longer, "9"), f"{longer} needs --rest"),
+            (("--rest", "9", longer, "8.9"),
+             f"{longer} is shorter than --rest: before the CONNACK a server may take longer"),
+            (("--rest", "9", longer, "no"), f"argument {longer}: 'no' isn't a number of seconds above 0"),
+        ):
+            calls = [
+                ("preload/run", "-o", self.logs, *given, "--", "touch", self.folder / "began"),
+                ("preload/assemble", self.logs, *given),
+                ("from-capture", "none.pcap", "--server", ":1883", "--out", self.logs, *given),
+                (*PROXY, self.logs, *given),
+            ]
+            for script, *words in calls:
+                status, line = self.called(script, *words)
+                self.assertEqual(status, MISUSE, script)
+                self.assertTrue(line.endswith(wanted), line)
+        self.assertEqual([*self.folder.iterdir()], [])
+
     def test_no_version_of_logs(self) -> None:
         for value in ("0", "3", "newest"):
             calls = [

@@ -25,6 +25,7 @@ sys.dont_write_bytecode = True  # the repository stays as it is
 sys.path.insert(0, str(Path(__file__).resolve().parent))
 import captures
 import log_format
+from arguments import Rests
 from captures import ACK, FIN, RST, SYN, Capture, End, Half, Piece, Segment, parse_server
 from testing import PAHO, InFolder, accepts, find, free_port, joined, make_certificate, missing, mosquitto, verdict, wait_until
 
@@ -504,7 +505,7 @@ class Order(unittest.TestCase):
     def test_what_is_held_is_bounded(self) -> None:
         with tempfile.TemporaryDirectory() as folder:
             warnings: list[str] = []
-            capture = Capture(Path(folder), End, None, warnings.append)
+            capture = Capture(Path(folder), End, Rests(None, None), warnings.append)
             blank = dict(stream=0, client="c", server="s", window=9, payload=b"", length=0, acknowledgement=1)
             capture.take(Segment(time=0, sender=End.CLIENT, flags=SYN, sequence=0, **blank))
             capture.take(Segment(time=0, sender=End.SERVER, flags=SYN | ACK, sequence=0, **blank))

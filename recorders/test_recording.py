@@ -15,9 +15,11 @@ from unittest import mock
 
 sys.dont_write_bytecode = True  # the repository stays as it is
 sys.path.insert(0, str(Path(__file__).resolve().parent))
+import framing
 import log_format
 import recording
-from recording import End, Framer, Recorder, file_name
+from framing import Framer
+from recording import End, Recorder, Standing, file_name
 from testing import InFolder, verdict, words as records
 
 BOTH = frozenset(End)
@@ -365,28 +367,112 @@ class Rest(Case):
         self.silent(recorder)
         self.assertEqual(self.log("a.1.client.log"), [*opening(b"a"), "REST", "SENT c000", "REST"])
 
-    def test_none_before_the_connack_or_after_a_refusal(self) -> None:
-        recorder = self.recorder(rest_after=5.0)
+    def test_none_of_a_client_before_the_connack_and_none_after_a_refusal(self) -> None:
+        for end in End:
+            recorder = self.recorder(end, rest_after=5.0, rest_before_connack=5.0 if end is End.CLIENT else None)
+            recorder.opened(1)
+            self.silent(recorder)
+            recorder.from_client(1, connect(b"a"))
+            self.silent(recorder)
+            recorder.from_server(1, connack(0x80))
+            self.silent(recorder)
+            recorder.rested(1)
+            self.assertNotIn("REST", self.log(f"a.1.{end.value}.log"))
+
+    def test_a_server_that_does_not_answer_a_connect(self) -> None:
+        recorder = self.recorder(End.SERVER, rest_after=5.0, rest_before_connack=20.0)
         recorder.opened(1)
-        self.silent(recorder)
-        recorder.from_client(1, connect(b"a"))
-        self.silent(recorder)
-        recorder.from_server(1, connack(0x80))
-        self.silent(recorder)
+        self.now = 100
+        recorder.tick()  # nothing has come that it could answer
+        recorder.from_client(1, connect(b"a")[:-1])
+        self.now = 200
+        recorder.tick()  # nor now, in the middle of a packet
+        recorder.from_client(1, connect(b"a")[-1:])
+        self.now = 219.9
+        recorder.tick()
+        self.assertEqual(recorder.standing(1), Standing.UNANSWERED)
+        self.now = 220
+        recorder.tick()
+        recorder.tick()
+        recorder.from_client(1, PINGREQ)
+        self.now = 300
+        recorder.tick()
+        recorder.finish()
+        pieces = [f"RECV {data.hex()}" for data in (connect(b"a")[:-1], connect(b"a")[-1:])]
+        self.assertEqual(self.log("a.1.server.log"), ["OPEN", *pieces, "REST", "RECV c000", "REST"])
+
+    def test_a_server_that_answers_late(self) -> None:
+        """A CONNACK that comes before the longer silence is over has no REST before it, and a later one has."""
+        for name, seconds, is_rest in ((b"in-time", 19, False), (b"too-late", 21, True)):
+            recorder = self.recorder(End.SERVER, rest_after=5.0, rest_before_connack=20.0)
+            recorder.opened(1)
+            recorder.from_client(1, connect(name))
+            self.now += seconds
+            recorder.tick()
+            recorder.from_server(1, connack())
+            self.silent(recorder)
+            early = ["REST"] if is_rest else []
+            words = ["OPEN", f"RECV {connect(name).hex()}", *early, f"SENT {connack().hex()}", "REST"]
+            self.assertEqual(self.log(f"{name.decode()}.1.server.log"), words)
+
+    def test_before_the_connack_what_is_known_needs_no_silence(self) -> None:
+        recorder = self.recorder(End.SERVER)
+        recorder.opened(1)
         recorder.rested(1)
-        self.assertNotIn("REST", self.log("a.1.client.log"))
+        recorder.from_client(1, connect(b"a"))
+        recorder.rested(1)
+        recorder.closed(1)
+        recorder.opened(2)
+        recorder.from_client(2, bytes.fromhex("0000"))
+        recorder.rested(2)
+        recorder.closed(2)
+        self.assertEqual(self.log("a.1.server.log"), ["OPEN", f"RECV {connect(b'a').hex()}", "REST", "CLOSE"])
+        self.assertEqual(self.log("@unnamed.1.server.log"), ["OPEN", "RECV 0000", "REST", "CLOSE"])
 
     def test_none_after_what_leaves_a_doubt(self) -> None:
-        odd = ("c0ffffffff", "c0", "3680", "3600", "c100", "0000")  # lost, half a packet, QoS 3, wrong flags, no type
-        for number, sent in enumerate((CLIENT_DISCONNECT, *map(bytes.fromhex, odd))):
-            for record in (Recorder.from_client, Recorder.from_server):
-                with self.subTest(sent=sent.hex(), record=record.__name__):
-                    recorder = self.recorder(rest_after=5.0)
-                    name = f"{record.__name__}{number}"
+        """An end has said that it leaves, or a packet isn't whole, or the tested end's own stream is lost."""
+        odd = (CLIENT_DISCONNECT, *map(bytes.fromhex, ("c0", "3680", "c1", "00")))
+        sent = [(data, record) for data in odd for record in (Recorder.from_client, Recorder.from_server)]
+        for number, (data, record) in enumerate([*sent, (bytes.fromhex("c0ffffffff"), None)]):
+            for end in End:
+                with self.subTest(data=data.hex(), end=end):
+                    own = Recorder.from_client if end is End.CLIENT else Recorder.from_server
+                    name = f"{end.value}{number}"
+                    recorder = self.recorder(end, rest_after=5.0, rest_before_connack=5.0)
                     self.accept(recorder, 1, name.encode())
-                    record(recorder, 1, sent)
+                    (record or own)(recorder, 1, data)
                     self.silent(recorder)
-                    self.assertNotIn("REST", self.log(f"{name}.1.client.log"))
+                    self.assertNotIn("REST", self.log(f"{name}.1.{end.value}.log"))
+
+    def test_none_after_what_is_broken_where_a_second_connack_may_refuse(self) -> None:
+        recorder = self.recorder(End.SERVER, rest_after=5.0)
+        self.accept(recorder, 1, b"a")
+        recorder.from_server(1, connack(0x87))
+        recorder.from_client(1, bytes.fromhex("c100"))
+        self.silent(recorder)
+        self.assertNotIn("REST", self.log("a.1.server.log"))
+
+    def test_an_end_that_keeps_a_connection_on_which_what_came_is_broken(self) -> None:
+        """It is at rest by the usual silence, also if nobody can tell where the packets of its peer begin."""
+        for number, data in enumerate(map(bytes.fromhex, ("c0ffffffff", "c08000", "3600", "c100", "0000"))):
+            for end in End:
+                with self.subTest(data=data.hex(), end=end):
+                    peers = Recorder.from_server if end is End.CLIENT else Recorder.from_client
+                    name = f"{end.value}{number}"
+                    recorder = self.recorder(end, rest_after=5.0)
+                    self.accept(recorder, 1, name.encode())
+                    self.assertEqual(recorder.standing(1), Standing.ACCEPTED)
+                    peers(recorder, 1, data)
+                    self.assertEqual(recorder.standing(1), Standing.BROKEN)
+                    self.now += 4
+                    recorder.tick()
+                    self.assertNotIn("REST", self.log(f"{name}.1.{end.value}.log"))
+                    self.silent(recorder)
+                    peers(recorder, 1, PINGREQ)
+                    recorder.rested(1)
+                    recorder.closed(1)
+                    wanted = [f"RECV {data.hex()}", "REST", "RECV c000", "REST", "CLOSE"]
+                    self.assertEqual(self.log(f"{name}.1.{end.value}.log")[-5:], wanted)
 
     def test_an_end_that_should_have_closed_and_stays(self) -> None:
         recorder = self.recorder(End.SERVER)
@@ -640,14 +726,14 @@ class Framing(unittest.TestCase):
         stream = connect(b"a") + packet(0x32, bytes(200)) + PINGREQ + connect(b"b")
         wanted = [(1, connect(b"a")[2:]), (3, None), (12, None), (1, connect(b"b")[2:])]
         for size in (1, 2, 3, 7, 100, 1000):
-            framer = Framer(recording.CONNECT)
+            framer = Framer(framing.CONNECT)
             packets = [item for at in range(0, len(stream), size) for item in framer.feed(stream[at : at + size])]
             self.assertEqual(packets, wanted)
             self.assertTrue(framer.is_sound and framer.is_between)
 
     def test_a_remaining_length_that_is_none_loses_the_direction(self) -> None:
         for digits in ("c08000", "c0ffffff80", "c0ffffffff01"):
-            framer = Framer(recording.CONNECT)
+            framer = Framer(framing.CONNECT)
             self.assertEqual(framer.feed(bytes.fromhex(digits) + PINGREQ), [])
             self.assertTrue(framer.is_lost)
 
