@@ -11,7 +11,8 @@ It is for clients that speak MQTT 5.0, and goes before their first `connect`. Th
   messages that came in and before the PUBCOMP is sent.
 - REST is written when paho's queues are empty: what was read has been handled, and nothing waits to be written or
   to be sent again. It comes before a DISCONNECT, before a CLOSE, and where a round of paho's loop went by without
-  a byte.
+  a byte. Where what came is broken, only this last one says that paho keeps the connection: before a CLOSE none is
+  written.
 
 It was tried with paho-mqtt 1.6.1. A version without the methods that it replaces is refused.
 """
@@ -37,7 +38,7 @@ except ModuleNotFoundError as error:
     ) from None
 
 from log_format import NEWEST, VERSIONS
-from recording import End, Recorder
+from recording import End, Recorder, Standing
 
 DISCONNECT = 0xE0  # the first byte of the packet
 ATTRIBUTES = ("_sock", "_in_packet", "_out_packet", "_out_messages", "_protocol")  # of paho's client
@@ -117,7 +118,7 @@ class ClientRecording:
             if connection is not self._socket:
                 return write(data)
             if data[:1] == bytes((DISCONNECT,)) and not self._is_cut:
-                self._rest(writers=1)
+                self._rest(writers=1, is_leaving=True)
             whole = bytes(data)  # a write inside WebSocket frames may change it
             count = write(data)
             self._has_moved, self._is_cut = True, count < len(whole)
@@ -128,7 +129,7 @@ class ClientRecording:
         """The connection is about to be closed."""
         with self._lock:
             if connection is self._socket:
-                self._rest(writers=0)
+                self._rest(writers=0, is_leaving=True)
                 self._recorder.closed(connection)
 
     # -- paho's methods
@@ -191,10 +192,15 @@ class ClientRecording:
 
     # -- rest
 
-    def _rest(self, writers: int) -> None:
-        """Writes a REST if paho is at rest. So many threads may be writing: the one that asks."""
+    def _rest(self, writers: int, is_leaving: bool = False) -> None:
+        """Writes a REST if paho is at rest. So many threads may be writing: the one that asks.
+
+        One that leaves may do so because what came is broken: then it isn't at rest on that connection.
+        """
         client = self._client()
-        if client is not None and self._socket is not None and self._writers <= writers and self._is_at_rest(client):
+        if client is None or self._socket is None or self._writers > writers or not self._is_at_rest(client):
+            return
+        if not is_leaving or self._recorder.standing(self._socket) is not Standing.BROKEN:
             self._recorder.rested(self._socket)
 
     def _is_at_rest(self, client: paho.Client) -> bool:

@@ -309,6 +309,38 @@ class Scripted(Case):
         wait_until(lambda: self.round(client) and client._sock is None)
         self.assertEqual(self.tail(2), ["REST", "CLOSE"])
 
+    def test_rest_where_it_goes_on_though_what_came_is_broken(self) -> None:
+        """paho overlooks flags that are wrong, and a length that is longer than it need be. It is at rest by its queues."""
+        client = self.connected()
+        self.rounds(client)
+        for broken in ("d100", "d08000"):
+            self.server.say(broken)
+            self.rounds(client)
+            self.assertEqual(self.tail(2), [f"RECV {broken}", "REST"])
+        self.server.say(PINGRESP)
+        self.rounds(client, 1)
+        self.server.drop()
+        wait_until(lambda: self.round(client) and client._sock is None)
+        self.assertEqual(self.tail(1), ["CLOSE"])
+        self.assertEqual(verdict(self.log()), "pass")
+
+    def test_no_rest_before_the_end_where_it_leaves_for_what_is_broken(self) -> None:
+        client = self.connected()
+        self.rounds(client)
+        self.server.say("d100", "d0ffffffff01")
+        wait_until(lambda: self.round(client) and client._sock is None)
+        self.assertEqual(self.tail(2), ["RECV d100d0ffffffff01", "CLOSE"])
+
+    def test_no_rest_before_the_connack(self) -> None:
+        client = self.client()
+        self.recording = record(client, self.logs)
+        client.connect("127.0.0.1", self.server.port)
+        self.server.accept()
+        self.rounds(client)
+        client.disconnect()
+        self.rounds(client)
+        self.assertNotIn("REST", joined(self.log().read_bytes()))
+
     def test_an_exception_of_the_program_leaves_no_rest(self) -> None:
         def fails(*_: Any) -> None:
             raise RuntimeError("the program's")
