@@ -5,7 +5,7 @@ from collections.abc import Mapping
 
 from exercising.links import Gone, Link
 from exercising.packets import Packet
-from exercising.stage import Stage
+from exercising.stage import PATIENCES, Stage
 
 
 class NothingLeft(Exception):
@@ -36,7 +36,12 @@ class Actor:
         if not self.is_over:
             silence = self.stage.silence.now
             self.stage.longest_rest = max(self.stage.longest_rest, silence)
-            self.link.rest(silence)
+            self.link.rest(self.stage.rest_at(self.link.standing))
+
+    def rest_unasked(self) -> None:
+        """The same where the tested end isn't to be asked, on a connection on which a REST imposes nothing on it."""
+        if not self.is_over and self.link.standing in PATIENCES:
+            Actor.rest(self)
 
     def leave(self) -> None:
         """The scenario is over."""

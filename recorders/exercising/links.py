@@ -16,7 +16,7 @@ from collections.abc import Callable
 from pathlib import Path
 
 from exercising.packets import Cutter, Packet, Type
-from recording import End, Recorder, file_name
+from recording import End, Recorder, Standing, file_name
 
 CHUNK = 262_144
 LINGER_OFF_AT_ONCE = struct.pack("ii", 1, 0)  # the connection is reset where the socket is closed
@@ -121,10 +121,19 @@ class Link:
         while self.pump(seconds) and time.monotonic() < until:
             pass
 
+    @property
+    def standing(self) -> Standing:
+        """How the connection stands, by what was recorded of it."""
+        return self._recorder.standing(self._key)
+
     def rest(self, silence: float) -> None:
-        """Writes a REST after this much silence, unless the tested end is in the middle of a packet."""
+        """Writes a REST after this much silence, unless the tested end is in the middle of a packet.
+
+        Nor is one written where the connection stands otherwise by then: so much silence was meant for how it stood.
+        """
+        standing = self.standing
         self.quiet(silence)
-        if not self.is_over and self._cutter.is_between:
+        if not self.is_over and self._cutter.is_between and self.standing is standing:
             self._recorder.rested(self._key)
 
     def closes(self, seconds: float) -> bool:

@@ -58,10 +58,12 @@ class Player(Actor):
         self.open().send(data)
 
     def welcomed(self) -> Packet | None:
-        """Waits for the CONNACK, and keeps it."""
+        """Waits for the CONNACK, and keeps it. If none comes, the log says so by a REST."""
         got = self.expect(Type.CONNACK)
         if got is not None:
             self.limits = got
+        else:
+            self.rest_unasked()
         return got
 
     def bye(self, code: int | None = None, properties: Properties = ()) -> None:

@@ -11,6 +11,7 @@ from dataclasses import dataclass, field
 from exercising.links import Gone, Link, Tape
 from exercising.packets import connect, disconnect, publish
 from exercising.table import Scenario
+from recording import Standing
 
 CONNECT_SECONDS = 5.0
 ANSWER_SECONDS = 2.0
@@ -18,6 +19,7 @@ SWEEP_SECONDS = 1.0
 MOST_SILENCE = 1.0  # a fault by silence is seen again with ten times the silence
 RECENT_SECONDS = 8.0  # in which answers are slow while the machine is loaded: longer than most scenarios take
 QUARTER = 4  # an honest answer takes at most a quarter of the silence that counts as rest
+PATIENCES = {Standing.BROKEN: 1.0, Standing.UNANSWERED: 2.0}  # of silence that is rest where no ping may be answered
 
 
 class Unreachable(Gone):
@@ -104,6 +106,15 @@ class Stage:
     observed: list[str] = field(default_factory=list)  # what was seen and isn't judged
     sessions: set[str] = field(default_factory=set)  # Client Identifiers that may have one
     retained: set[str] = field(default_factory=set)  # topics that may have a message
+
+    def rest_at(self, standing: Standing) -> float:
+        """How much silence counts as rest on a connection that stands so, in seconds.
+
+        Where it can't be asked by a ping whether the tested end has read everything, it is as long as answers are
+        waited for, and before the CONNACK twice as long.
+        """
+        longer = self.target.patience * PATIENCES.get(standing, 0.0) * self.silence.factor
+        return max(self.silence.now, longer)
 
     @property
     def prefix(self) -> str:

@@ -230,12 +230,17 @@ def bye(player: Player, step: Step) -> None:
 
 @verb("closes", Shape(most=1))
 def closes(player: Player, step: Step) -> None:
-    """The broker should close by itself within this time. If it has said that it will, and doesn't, the log says so."""
+    """The broker should close by itself within this time. If it doesn't, the log says so by a REST.
+
+    That is so if it has said that it will close, and after more silence if what was sent is broken, or if there is no
+    CONNACK. Else a REST would bind, and is left to `rest`, which asks by a ping.
+    """
     seconds = told_seconds(step, CLOSE_SECONDS / 2)
     link = player.link
     if not link.closes(seconds):
         player.stage.observe(f"open {seconds:g} s later, after {last_words(link)}")
         link.stayed_open()
+        player.rest_unasked()
 
 
 def last_words(link: Link) -> str:
