@@ -19,7 +19,6 @@ import threading
 import time
 import unittest
 from collections.abc import Iterator
-from dataclasses import dataclass
 from pathlib import Path
 
 sys.dont_write_bytecode = True  # the repository stays as it is
@@ -43,85 +42,25 @@ from exercising.table import parse
 from exercising.verbs import CLIENTS, NEEDS
 from judging.program import Judge
 from log_format import records
+from odd_server import CONNACK, LATE, LEAVING, MANNERS, Manner
 from reading import Event, Recording
 from recording import Connection, End, Recorder, Standing
 from test_capture import Case as OfCaptures
 from test_capture import FIN, ACK, Conversation, Wire
-from test_recording import connack, connect, packet, text
+from test_recording import connect, packet, text
 from testing import HOST, PATIENCE, InFolder, accepts, find, free_port, joined, judge_program, missing, process
 from testing import wait_until
 
 OPEN, SENT, RECV, CLOSE, REST = 1, 2, 3, 4, 5
-CONNACK, PINGREQ, PINGRESP, LEAVING = connack(), bytes.fromhex("c000"), bytes.fromhex("d000"), bytes.fromhex("e00181")
 SILENCE, LONGER = 1.0, 3.0  # seconds that count as rest, and before the CONNACK
-LATE = 1.6  # seconds that a CONNACK takes that isn't missing: more than the usual silence
 SECOND = 1_000_000_000
 
 
-def odd_connect(name: str) -> bytes:
-    """A CONNECT whose reserved flag is 1: a Malformed Packet."""
+def hello(name: str) -> bytes:
+    """The CONNECT of a client that is to be treated so. An odd one is malformed: its reserved flag is 1."""
+    if not MANNERS[name].is_odd:
+        return connect(name.encode())
     return packet(0x10, text(b"MQTT") + bytes((5, 3, 0, 60, 0)) + text(name.encode()))
-
-
-@dataclass(frozen=True)
-class Manner:
-    """What a server does, and what is to be said of it."""
-
-    delay: float | None  # seconds before its CONNACK; None: it sends none
-    after: str = ""  # what it does after what is broken: `on`, `close`, `leave` or `stay`
-    broken: str = ""  # what the client sends after the CONNACK, in hexadecimal digits
-    wanted: str = ""  # the further statement that it breaks
-    is_odd: bool = False  # the CONNECT is malformed
-
-    def hello(self, name: str) -> bytes:
-        return odd_connect(name) if self.is_odd else connect(name.encode())
-
-
-MANNERS = {
-    "ignores": Manner(None, wanted="C24"),
-    "late": Manner(LATE),
-    "flags": Manner(0, "on", "c100", "D01"),
-    "length": Manner(0, "on", "30ffffffff01", "D01"),
-    "overlong": Manner(0, "on", "c08000", "D01"),
-    "body": Manner(0, "on", "c00178", "D01"),
-    "odd-unanswered": Manner(None, wanted="D01", is_odd=True),
-    "closes": Manner(0, "close", "c100"),
-    "closes-at-length": Manner(0, "close", "30ffffffff01"),
-    "disconnects": Manner(0, "leave", "c100"),
-    "disconnects-and-stays": Manner(0, "stay", "c100"),
-}
-
-
-def manner_of(data: bytes) -> Manner:
-    """The manner whose name is in a CONNECT: the longest one."""
-    return MANNERS[max((name for name in MANNERS if name.encode() in data), key=len)]
-
-
-def serve(port: int) -> None:
-    """A server that treats each client as its Client Identifier says."""
-    with socket.create_server((HOST, port), backlog=100) as listener:
-        while True:
-            connection, _ = listener.accept()
-            threading.Thread(target=answer, args=(connection,), daemon=True).start()
-
-
-def answer(connection: socket.socket) -> None:
-    with connection, contextlib.suppress(OSError):
-        if not (data := connection.recv(4096)):
-            return
-        manner = manner_of(data)
-        if manner.delay is not None:
-            time.sleep(manner.delay)
-            connection.sendall(CONNACK)
-        while data := connection.recv(4096):
-            if manner.delay is None:
-                continue
-            if data == PINGREQ:
-                connection.sendall(PINGRESP)
-            elif manner.after in ("leave", "stay"):
-                connection.sendall(LEAVING)
-            if manner.after in ("close", "leave"):
-                return
 
 
 def said(log: bytes) -> str:
@@ -137,7 +76,7 @@ def judged(log: bytes) -> list[str]:
 class Ways(InFolder):
     """What each way of recording has to come to."""
 
-    closes_in_time = True  # nothing says more than silence that an end which leaves should have closed
+    shows_who_stays = False  # after a DISCONNECT: silence does not say that
 
     def check(self, folder: Path, logs: dict[str, str] | None = None) -> None:
         """Each manner has one log of the server, of which is said what is wanted, and which passes."""
@@ -145,7 +84,7 @@ class Ways(InFolder):
             with self.subTest(name):
                 log = (folder / (logs or {}).get(name, f"{name}.1.server.log")).read_bytes()
                 self.assertEqual(said(log), manner.wanted, joined(log))
-                stays = manner.after == "stay" and not self.closes_in_time
+                stays = manner.after == "stay" and self.shows_who_stays
                 self.assertEqual(judged(log), ["C23"] if stays else [], joined(log))
                 if not manner.wanted and manner.delay == 0 and not stays:
                     self.assertNotIn("REST", joined(log))
@@ -153,7 +92,7 @@ class Ways(InFolder):
     @contextlib.contextmanager
     def server(self, *before: object) -> Iterator[int]:
         port = free_port()
-        with process(*before, sys.executable, __file__, "--serve", port) as child:
+        with process(*before, sys.executable, HERE / "odd_server.py", port) as child:
             wait_until(lambda: child.poll() is not None or accepts(port), "the server listens")
             yield port
 
@@ -168,7 +107,7 @@ class Ways(InFolder):
     def visit(self, port: int, name: str) -> None:
         manner = MANNERS[name]
         with socket.create_connection((HOST, port), PATIENCE) as connection, contextlib.suppress(OSError):
-            connection.sendall(manner.hello(name))
+            connection.sendall(hello(name))
             if manner.delay is not None:
                 connection.recv(4096)
             if manner.broken:
@@ -231,7 +170,7 @@ class Captured(Ways, OfCaptures):
 
     def talk(self, talk: Conversation, name: str, manner: Manner) -> None:
         talk.open()
-        talk.client(manner.hello(name))
+        talk.client(hello(name))
         talk.send(End.SERVER)
         talk.wire.now += 40 if manner.delay is None else 20 if manner.delay else 0.1
         if manner.delay is not None:
@@ -255,7 +194,7 @@ class Captured(Ways, OfCaptures):
 class Exercised(Ways):
     """Clients that are played. After what is broken the broker should close, and a CONNACK should have come."""
 
-    closes_in_time = False
+    shows_who_stays = True
 
     def runner(self, kind: type[Runner], port: int) -> Runner:
         fairness = Fairness()
@@ -393,7 +332,4 @@ def placed(more: list[Event], fewer: list[Event]) -> dict[int, int]:
 
 
 if __name__ == "__main__":
-    if sys.argv[1:2] == ["--serve"]:
-        serve(int(sys.argv[2]))
-    else:
-        unittest.main()
+    unittest.main()

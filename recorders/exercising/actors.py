@@ -33,15 +33,19 @@ class Actor:
 
     def rest(self) -> None:
         """Waits until the tested end is at rest, and writes that."""
+        self.rest_after(has_read=False)
+
+    def rest_after(self, has_read: bool) -> None:
+        """The same, where it is known or not that the tested end has read everything."""
         if not self.is_over:
             silence = self.stage.silence.now
             self.stage.longest_rest = max(self.stage.longest_rest, silence)
-            self.link.rest(self.stage.rest_at(self.link.standing))
+            self.link.rest(self.stage.rest_at(self.link.standing, has_read))
 
     def rest_unasked(self) -> None:
         """The same where the tested end isn't to be asked, on a connection on which a REST imposes nothing on it."""
         if not self.is_over and self.link.standing in PATIENCES:
-            Actor.rest(self)
+            self.rest_after(has_read=False)
 
     def leave(self) -> None:
         """The scenario is over."""

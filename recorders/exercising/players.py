@@ -95,16 +95,17 @@ class Player(Actor):
             raise Unfit(f"the broker announces Maximum Packet Size {most}")
         self.link.send(data)
 
-    def ping(self) -> None:
-        if not self.is_over:
-            self.link.send(PING)
-            self.expect(Type.PINGRESP)
+    def ping(self) -> bool:
+        """Whether a ping is answered."""
+        if self.is_over:
+            return False
+        self.link.send(PING)
+        return self.expect(Type.PINGRESP) is not None
 
     def rest(self) -> None:
         """Waits until the broker has read everything, and has answered it."""
         if not self.is_over:
-            self.ping()
-            super().rest()
+            self.rest_after(has_read=self.ping())
 
     def publish(self, topic: str, payload: bytes, qos: int, *, retain: bool = False, properties: Properties = ()
                 ) -> None:

@@ -19,7 +19,7 @@ SWEEP_SECONDS = 1.0
 MOST_SILENCE = 1.0  # a fault by silence is seen again with ten times the silence
 RECENT_SECONDS = 8.0  # in which answers are slow while the machine is loaded: longer than most scenarios take
 QUARTER = 4  # an honest answer takes at most a quarter of the silence that counts as rest
-PATIENCES = {Standing.BROKEN: 1.0, Standing.UNANSWERED: 2.0}  # of silence that is rest where no ping may be answered
+PATIENCES = {Standing.BROKEN: 1.0, Standing.UNANSWERED: 2.0}  # of silence that is rest: so often what answers may take
 
 
 class Unreachable(Gone):
@@ -107,14 +107,15 @@ class Stage:
     sessions: set[str] = field(default_factory=set)  # Client Identifiers that may have one
     retained: set[str] = field(default_factory=set)  # topics that may have a message
 
-    def rest_at(self, standing: Standing) -> float:
+    def rest_at(self, standing: Standing, has_read: bool) -> float:
         """How much silence counts as rest on a connection that stands so, in seconds.
 
-        Where it can't be asked by a ping whether the tested end has read everything, it is as long as answers are
-        waited for, and before the CONNACK twice as long.
+        After what is broken it is as long as answers are waited for, unless a ping has shown that the tested end has
+        read everything. Before the CONNACK, which may need another service, it is twice as long.
         """
-        longer = self.target.patience * PATIENCES.get(standing, 0.0) * self.silence.factor
-        return max(self.silence.now, longer)
+        if has_read and standing is not Standing.UNANSWERED:
+            return self.silence.now
+        return max(self.silence.now, self.target.patience * PATIENCES.get(standing, 0.0) * self.silence.factor)
 
     @property
     def prefix(self) -> str:
