@@ -31,6 +31,12 @@
  * `TooLong`, comes at record or event number 4,294,967,296: at 1,000 events a second after 49 days; make a new judge
  * before that, where a session begins. docs/LOG_FORMAT.md has all of them.
  *
+ * What isn't answered. A fault says what is false, where, and which event shows it. It doesn't say what it conflicts with:
+ * the PUBLISH that holds a Packet Identifier, the CONNACK that announced a limit, or how many messages are in flight. A
+ * judge keeps no more of a session than it needs for the verdict, so that takes a second reading of the log, and no call
+ * here makes one. Write what you tell the judge into a log too (docs/LOG_FORMAT.md), with the same events, and have
+ * `mqjudge check --why FILE` say it: under each fault, by its position and code, the event's position and the numbers.
+ *
  * Want of memory. Only mqjudge_new answers MQJUDGE_MEMORY: then it may be called again. Where a judge has no memory for
  * what it is told, its log is refused (16, `Memory`), at the byte that was being taken in, and stays so. Whatever is
  * answered, the faults that are known can still be asked for.
