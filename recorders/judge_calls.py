@@ -62,17 +62,16 @@ class Told(NamedTuple):
         return f"because {self.position} {self.code} event {self.because}"
 
 
-class Case(InFolder):
-    def setUp(self) -> None:
-        super().setUp()
+class WithStandIn:
+    """Tests with a program of a few lines in place of the judge, and logs of which it says what is made up."""
+
+    folder: Path
+    logs: Path
+
+    def put_program(self) -> None:
         self.program = self.folder / "program"
         self.program.write_text(STAND_IN)
         self.program.chmod(0o755)
-        self.logs.mkdir()
-
-    def put(self, **texts: str) -> None:
-        for name, text in texts.items():
-            (self.logs / f"{name}.log").write_text(LOG + text)
 
     def tell(self, events: list[str], faults: list[Told], name: str = "a", is_old: bool = False) -> Path:
         """Puts a log with these events, as they are shown after their positions and records, and with these faults.
@@ -98,6 +97,17 @@ class Case(InFolder):
         """How the stand-in was called."""
         place = self.program.with_name(f"{self.program.name}.calls")
         return place.read_text().splitlines() if place.exists() else []
+
+
+class Case(WithStandIn, InFolder):
+    def setUp(self) -> None:
+        super().setUp()
+        self.put_program()
+        self.logs.mkdir()
+
+    def put(self, **texts: str) -> None:
+        for name, text in texts.items():
+            (self.logs / f"{name}.log").write_text(LOG + text)
 
     def command(self, *words: object, program: object = None) -> list[str]:
         return [sys.executable, str(JUDGE), *map(str, words or [self.logs]), "--program", str(program or self.program)]
