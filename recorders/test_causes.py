@@ -252,14 +252,14 @@ class Pages(Case):
     @staticmethod
     def arrows(page: str) -> list[str]:
         """Which events lines lead to from faults that conflict with them."""
-        return re.findall(r'<g class="b" data-t=(\S+) role=img>', page)
+        return re.findall(r'<g class=b data-t=(\S+) role=img>', page)
 
     def test_a_card_says_the_event_and_the_numbers(self) -> None:
         page = self.page([*OPENING, publish(1), publish(2)], [Told(5, "S07", "3 numbers 2 1")])
         self.assertIn("<article id=f1-5-S07 data-a=e1-3>", page)
         self.assertIn("<dt>Because<dd><a href=#e1-3>event 3</a>, announced there: <b>2</b> in flight, <b>1</b> allowed<",
                       page)
-        self.assertIn('<g class="b" data-t=e1-3 role=img><title>S07 at event 5, because of event 3</title><path ', page)
+        self.assertIn('<g class=b data-t=e1-3 role=img><title>S07 at event 5, because of event 3</title><path ', page)
         page = self.page([*OPENING, publish(1), publish(2)], [Told(5, "S07", "3 numbers 2 1")], is_old=True)
         self.assertEqual((page.count("<dt>Because"), page.count("<g ")), (0, 0))
 

@@ -15,6 +15,7 @@ from pathlib import Path
 
 sys.dont_write_bytecode = True  # the repository stays as it is
 sys.path.insert(0, str(Path(__file__).resolve().parent))
+from judging.causes import Evidence
 from judging.events import Bytes, Event, bytes_of, read_event
 from judging.explain import Explanation
 from judging.labels import difference, label
@@ -491,11 +492,12 @@ class Sizes(unittest.TestCase):
         for fault in range(count):
             at = 5 + 20 * fault
             verdict.take(f"fault {at} S01 MQTT-2.2.1-3 decided {at} record {at} offset -", 20)
+            verdict.evidence[at, "S01"] = Evidence(at - 1)
         verdict.take(f"fail {count} faults {len(events)} events", 20)
         lines = [f"{number} record {number} {event}" for number, event in enumerate(events, 1)]
         found = (IDENTIFIER.match(lines[fault.position - 1]) for fault in verdict.found[:250])
         identifiers = {fault.position: int(match[1]) for fault, match in zip(verdict.found, found) if match}
-        teller = Teller("client", verdict.found[:250], identifiers)
+        teller = Teller("client", verdict.found[:250], identifiers, verdict.evidence)
         for line in lines:
             teller.take(line)
         verdict.story = teller.story()

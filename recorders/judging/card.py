@@ -163,6 +163,8 @@ class Cards:
         cause = self._story.scenes.get(reason.because or 0)
         name = (cause.event.name or cause.event.kind) if cause else ""
         said = words(fault.code, reason, name, self._position if fault.code in OF_EVENTS else strong)
+        if self._detail == SHORT and reason.because is not None:
+            said = numbers_said(fault.code, reason)
         if reason.because is None:
             return said
         link = self._link(reason.because, f"event {reason.because}")

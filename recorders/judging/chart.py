@@ -380,7 +380,7 @@ class Chart:
             x=ROOM,
             is_ignored=all(fault.code in self._drawing.overlooked for fault in faults),
             is_cause=is_cause,
-            place=self._drawing.place(other),
+            place=self._drawing.place(other) if is_cause and self._drawing.detail > SHORT else "",
             title=words if self._drawing.detail == FULL else "",
         )
 

@@ -8,7 +8,8 @@ from log_format import time_of
 
 AROUND = 2  # events before and after a fault that are shown
 GAP = ".."  # stands for events that aren't
-FAULT_LINE = re.compile(r"\s+fault (\S+) \S+ (.*?)((?: \((?!at )[^()]*\))*)(?: \(at [-\d]+ [\d:.]+ UTC\))?")
+TIME = r" \(at [-\d]+ [\d:.]+ UTC\)"
+FAULT_LINE = re.compile(rf"\s+fault (\S+) \S+ (.*?)((?:(?!{TIME}) \([^()]*\))*)(?:{TIME})?")
 EVENT = re.compile(r"(\d+ record \d+) moment (\d+) (.*)", re.DOTALL)
 QUOTED = re.compile(r'"(?:[^"\\]|\\x..|\\.)*"', re.DOTALL)
 BEGINNING = re.compile(r'"(?:[^"\\]|\\x..|\\.){0,60}', re.DOTALL)

@@ -128,7 +128,7 @@
       const gap = other.closest(".gap");
       if (gap && !gap.classList.contains("open")) toggle(gap);
     }
-    for (const line of all(".d g[data-t]", chart)) line.classList.toggle("on", line.dataset.t === target.dataset.a);
+    for (const line of all(".d [data-t]", chart)) line.classList.toggle("on", line.dataset.t === target.dataset.a);
   }
 
   // Chooses a fault where it is clicked: its arrow leads to its card, and the card lights its chart and stays in place.

@@ -38,8 +38,8 @@ class Link(NamedTuple):
     x: int
     is_ignored: bool
     is_cause: bool
-    place: str  # the name of the other event in the page
-    title: str  # empty where there is no room for one
+    place: str  # the name of what a fault conflicts with in the page; this and the title are empty where there is no room
+    title: str
 
     @property
     def first(self) -> int:
@@ -97,16 +97,25 @@ def paths(links: list[Link], first: int, last: int) -> str:
 
 def path(link: Link, first: int, last: int) -> str:
     """What there is of a link between two places: a line beside the chart with one to each fault, and an arrow."""
-    top, bottom = max(link.first, first) - first, min(link.last, last) - first
-    ends = "".join(f"M3 {end - first}H{link.x}" for end in link.ends if first <= end < last)
-    lines = f'<path d="M{link.x} {top}V{bottom}{ends}"/>'
+    kinds = [*(["i"] if link.is_ignored else []), *(["b"] if link.is_cause else [])]
+    ends = [end - first for end in link.ends if first <= end < last]
+    target = link.target - first
     is_there = first <= link.target < last
-    arrow = f'<path class=to d="M{link.x} {link.target - first}H5"/>' if is_there else ""
-    kinds = " ".join([*(["i"] if link.is_ignored else []), *(["b"] if link.is_cause else [])])
-    words = [f'class="{kinds}"' if kinds else "", f"data-t={link.place}" if link.is_cause else "",
-             ("role=img" if is_there else "aria-hidden=true") if link.title else ""]
+    if is_there and not link.title and len(ends) == len(link.ends) == 1:  # in few bytes
+        return f'<path{named([*kinds, "to"], link)} d="M3 {ends[0]}H{link.x}V{target}H5"/>'
+    top, bottom = max(link.first, first) - first, min(link.last, last) - first
+    lines = f'<path d="M{link.x} {top}V{bottom}{"".join(f"M3 {end}H{link.x}" for end in ends)}"/>'
+    arrow = f'<path class=to d="M{link.x} {target}H5"/>' if is_there else ""
+    role = (" role=img" if is_there else " aria-hidden=true") if link.title else ""
     title = f"<title>{link.title}</title>" if link.title else ""
-    return f"<g {' '.join(word for word in words if word)}>{title}{lines}{arrow}</g>"
+    return f"<g{named(kinds, link)}{role}>{title}{lines}{arrow}</g>"
+
+
+def named(kinds: list[str], link: Link) -> str:
+    """The classes of what is drawn of a link, and which event it leads to, so that it can be lit."""
+    words = " ".join(kinds)
+    classes = (f' class="{words}"' if len(kinds) > 1 else f" class={words}") if kinds else ""
+    return classes + (f" data-t={link.place}" if link.place else "")
 
 
 def lifelines(first: int, last: int) -> str:
