@@ -6,8 +6,9 @@ written from the words of the statements, which are the sentences of the functio
 whole log for each fault, and keeps no state from one position to the next. Whether there is a fault is reference.py's.
 
 For each log it prints its report, as `mqjudge check` does, and under each fault a line `because POSITION CODE event POSITION numbers N N`:
-`event -` where no event is to blame, and no numbers where there are none. With --words it says in words what the event is, or why
-there is none. With --self-test it checks worked logs (worked_because.py), those of the suite, and laws on these and many others.
+`event -` where no event is to blame, and no numbers where there are none. With --words it says after that, in parentheses, what the event
+is, or what never came, in the words that the program has for it (mq_report/specs/Because.antt). With --self-test it checks worked logs
+(worked_because.py), those of the suite, and laws on these and many others.
 
 usage: bench/because.py [--words] LOG..
        bench/because.py --self-test [--made 150]
@@ -34,14 +35,20 @@ from statements import (
 
 @dataclass(frozen=True)
 class Evidence:
-    """Words, in which {0} and {1} are the numbers; a position, or None; the numbers."""
+    """Words, in which {0} and {1} are the numbers: what the event is, if there is one; none where the statement says all. A position, or
+    None; the numbers. Of which kind it is, where the words are the same for several."""
 
     words: str
     because: int | None = None
     numbers: tuple[int, ...] = ()
+    kind: str = ""
 
     def said(self) -> str:
-        return self.words.format(*self.numbers)
+        """What is said of it after the statement: nothing, or words in parentheses after a space."""
+        words = self.words.format(*self.numbers)
+        if self.because is not None:
+            words = f"because of event {self.because}" + (f": {words}" if words else "")
+        return f" ({words})" if words else ""
 
 
 Reason = Callable[[Log, int], Evidence]
@@ -75,7 +82,7 @@ def latest(positions: list[int], test: Test) -> int | None:
 
 # -- W, on a packet's bytes: they are at fault by themselves, whatever came before
 
-by_itself("its own bytes", *(rule for rule in CITATIONS if rule[0] == "W"))
+by_itself("", *(rule for rule in CITATIONS if rule[0] == "W"))
 
 # -- C, on the past of a connection. Of several events that forbid to go on it is the first: from then on it was wrong.
 
@@ -104,12 +111,12 @@ def announcer(log: Log, k: int, identifier: int) -> int | None:
 
 
 # Only the other end sends this type.
-by_itself("its own type", "C01")
+by_itself("", "C01")
 # A CONNACK that refuses has Session Present 1; a client's PUBLISH a Subscription Identifier; a server's DISCONNECT an interval.
-by_itself("its own fields", "C09", "C18", "C19")
+by_itself("", "C09", "C18", "C19")
 # What should have come first didn't come: the client's CONNECT; the one that a CONNACK answers; the server's CONNACK.
 by_itself("no CONNECT was sent before", "C02")
-by_itself("no CONNECT was received", "C04")
+by_itself("no CONNECT was received before", "C04")
 by_itself("no CONNACK was sent before", "C05")
 
 
@@ -173,18 +180,19 @@ def goes_on_with_a_wrong_session(log: Log, k: int) -> Evidence:
 def too_large(log: Log, k: int) -> Evidence:
     """The CONNACK or CONNECT in which the peer announced its Maximum Packet Size; the packet's size, and that."""
     numbers = log.sent_packet(k).size, log.parameter(MAXIMUM_PACKET_SIZE, k)
-    return Evidence("announced there: {0} bytes, {1} allowed", announcer(log, k, MAXIMUM_PACKET_SIZE), numbers)
+    return Evidence("{0} bytes, at most {1} allowed", announcer(log, k, MAXIMUM_PACKET_SIZE), numbers)
 
 
 @says("C15")
 def too_high_an_alias(log: Log, k: int) -> Evidence:
     """That in which the peer announced its Topic Alias Maximum; the alias, and that. Not announced, it is 0."""
     at, numbers = announcer(log, k, TOPIC_ALIAS_MAXIMUM), (log.sent_packet(k).get(0x23), log.parameter(TOPIC_ALIAS_MAXIMUM, k))
-    return Evidence(f"{announced(at)}: Topic Alias {{0}}, {{1}} allowed", at, numbers)
+    return Evidence("Topic Alias {0}, at most {1} allowed" + by_default(at), at, numbers)
 
 
-def announced(at: int | None) -> str:
-    return "not announced, so by default" if at is None else "announced there"
+def by_default(at: int | None) -> str:
+    """The words where nothing was announced."""
+    return " by default" if at is None else ""
 
 
 @says("C16")
@@ -197,13 +205,13 @@ def unset_alias(log: Log, k: int) -> Evidence:
 def too_high_a_qos(log: Log, k: int) -> Evidence:
     """The CONNACK in which the server announced its Maximum QoS; the PUBLISH's QoS, and that."""
     numbers = log.sent_packet(k).qos, log.parameter(MAXIMUM_QOS, k)
-    return Evidence("announced there: QoS {0}, {1} allowed", announcer(log, k, MAXIMUM_QOS), numbers)
+    return Evidence("QoS {0}, at most {1} allowed", announcer(log, k, MAXIMUM_QOS), numbers)
 
 
 @says("C20")
 def revives_its_session(log: Log, k: int) -> Evidence:
     """The CONNECT, whose Session Expiry Interval is 0 or absent; and that of the DISCONNECT, in seconds."""
-    return Evidence("the CONNECT, with none or 0: {0} seconds", connect_of(log, k), (log.sent_packet(k).get(0x11),))
+    return Evidence("the CONNECT, with Session Expiry Interval 0 or none, and here {0} seconds", connect_of(log, k), (log.sent_packet(k).get(0x11),))
 
 
 @says("C21")
@@ -223,10 +231,15 @@ def stays_open(log: Log, k: int) -> Evidence:
     """The DISCONNECT, or a server's CONNACK that refuses, after which the end had to close the connection."""
     may_refuse = log.role == "server"
     at = earliest(log.before_on(k), lambda j: log.sent_packet(j, DISCONNECT) is not None or (may_refuse and is_refusal(log, j)))
-    return Evidence(f"the {name_at(log, at)}, after which it had to close", at)
+    return Evidence("it had to close after that", at, kind=name_at(log, at))
 
 
 # -- S, on packet identifiers
+
+# Of what ended an exchange, and of a new session, in which it is over too.
+OVER = "the exchange was over with it"
+UNASKED = "nothing asked for it after that"
+BEGINNING = "the CONNACK that began a new session"
 
 
 def new_session(log: Log, k: int, test: Test) -> int | None:
@@ -249,7 +262,7 @@ def takes_a_used_identifier(log: Log, k: int) -> Evidence:
     # A PUBLISH that may have been discarded is on an earlier connection: where it holds nothing, what waits here comes after it.
     holders = [j for j in before if waits(j, SUBSCRIBE, SUBACK) or waits(j, UNSUBSCRIBE, UNSUBACK)]
     holders.append(open_by(log, k, i) or 0)
-    return Evidence(f"the {name_at(log, max(holders))} that holds the identifier", max(holders))
+    return Evidence("it holds the identifier", max(holders), kind=name_at(log, max(holders)))
 
 
 @says("S02")
@@ -259,9 +272,9 @@ def resends_what_is_not_open(log: Log, k: int) -> Evidence:
     i = resend(log, k)
     if latest_opener(log, k, i) is not None:
         at = latest(log.before_in(k), lambda j: closer(log, j) == i)
-        return Evidence(f"the {name_at(log, at)} that acknowledged it", at)
+        return Evidence(OVER, at, kind=name_at(log, at))
     at = new_session(log, k, lambda j: opener(log, j) == i)
-    return Evidence("never sent in this session" if at is None else "the CONNACK that began a new session", at)
+    return Evidence("never sent in this session" if at is None else OVER, at, kind=BEGINNING)
 
 
 @says("S03")
@@ -288,7 +301,7 @@ def resends_out_of_order(log: Log, k: int) -> Evidence:
         return 0 if other is None else open_by(log, j, other) or 0
 
     at = earliest(log.before_on(k), lambda j: first_sent_at(j) > own)
-    words = "the PUBLISH that came too early, first sent as event {0}, and this one as event {1}"
+    words = "first sent as event {0}, and this one as event {1} before it"
     return Evidence(words, at, (first_sent_at(at), own))
 
 
@@ -306,7 +319,7 @@ def passes_the_quota(log: Log, k: int) -> Evidence:
     """That in which the peer announced its Receive Maximum; how many PUBLISHes are in flight with this one, and that. Not announced, it
     is 65,535."""
     at, numbers = announcer(log, k, RECEIVE_MAXIMUM), (stretches_used(log, k), log.parameter(RECEIVE_MAXIMUM, k))
-    return Evidence(f"{announced(at)}: {{0}} in flight, {{1}} allowed", at, numbers)
+    return Evidence("{0} in flight, at most {1} allowed" + by_default(at), at, numbers)
 
 
 # -- E, on exchanges
@@ -329,11 +342,11 @@ def answered_unasked(exchange: str) -> Reason:
         answered = latest(log.before_on(k), lambda j: answer(log, j) == i) if was_asked else None
         refused = latest(before, lambda j: is_refused(log, j, i)) if exchange == "E3" else None
         if refused is not None and refused > (answered or 0):
-            return Evidence("the PUBREC of 0x80 or more, which asks for no answer", refused)
+            return Evidence(UNASKED, refused, kind="PUBREC of 0x80 or more")
         if answered is not None:
-            return Evidence(f"the {name_at(log, answered)} before", answered)
+            return Evidence(UNASKED, answered, kind="the answer before")
         at = new_session(log, k, lambda j: cause(log, j) == i)
-        return Evidence("never asked for in this session" if at is None else "the CONNACK that began a new session", at)
+        return Evidence("never asked for in this session" if at is None else UNASKED, at, kind=BEGINNING)
 
     return reason
 
@@ -351,7 +364,7 @@ def answered_out_of_order(exchange: str) -> Reason:
         others = {cause(log, j) for j in log.before_on(k)} - {None, answer(log, k)}
         firsts = [first_unanswered(log, exchange, k, other) for other in others]
         at = min(first for first in firsts if first is not None)
-        return Evidence(f"the {name_at(log, at)} that came first, and waits for its answer", at)
+        return Evidence("it came first, and waits for its answer", at)
 
     return reason
 
@@ -369,7 +382,7 @@ def leaves_pings_unanswered(log: Log, k: int) -> Evidence:
     before = log.before_on(k)
     asked = [j for j in before if log.received_packet(j, PINGREQ) is not None]
     answered = [j for j in before if log.sent_packet(j, PINGRESP) is not None]
-    return Evidence("the last PINGREQ: {0} asked, {1} answered", asked[-1], (len(asked), len(answered)))
+    return Evidence("{0} asked, {1} answered", asked[-1], (len(asked), len(answered)))
 
 
 # -- L, on releases
@@ -382,9 +395,9 @@ def releases_nothing(log: Log, k: int) -> Evidence:
     i, before = log.event(k).released, log.before_in(k)
     if earliest(before, lambda j: is_brought(log, j, i)) is not None:
         at = latest(before, lambda j: ender(log, j) == i)
-        return Evidence(f"the {name_at(log, at)} that ended its exchange", at)
+        return Evidence(OVER, at, kind=name_at(log, at))
     at = new_session(log, k, lambda j: is_brought(log, j, i))
-    return Evidence("never received in this session" if at is None else "the CONNACK that began a new session", at)
+    return Evidence("never received in this session" if at is None else OVER, at, kind=BEGINNING)
 
 
 @says("L2")
@@ -420,7 +433,7 @@ def sends_above_the_granted_qos(log: Log, k: int) -> Evidence:
 
     at = latest(log.before_in(k), lambda j: ceilings(standing_from(log, k, j)) != [])
     numbers = log.sent_packet(k).qos, max(ceilings(standing(log, k)))
-    return Evidence("the last SUBSCRIBE that matches: QoS {0}, at most {1} was granted", at, numbers)
+    return Evidence("QoS {0}, at most {1} granted", at, numbers)
 
 
 def counts_wrongly(exchange: str) -> Reason:
@@ -429,7 +442,7 @@ def counts_wrongly(exchange: str) -> Reason:
         p = log.sent_packet(k)
         at = first_unanswered(log, exchange, k, p.identifier)
         numbers = len(log.received_packet(at).filters), len(p.codes)
-        return Evidence(f"the {name_at(log, at)}: {{0}} filters, {{1}} Reason Codes", at, numbers)
+        return Evidence("{0} filters, {1} Reason Codes", at, numbers)
 
     return reason
 
@@ -459,7 +472,7 @@ def lines(recording: Recording, with_words: bool = False) -> list[str]:
         if said.startswith("fault "):
             _, at, rule, *_ = said.split()
             found = evidence(log, int(at), rule)
-            out.append(line(int(at), rule, found) + (f" ({found.said()})" if with_words else ""))
+            out.append(line(int(at), rule, found) + (found.said() if with_words else ""))
     return out
 
 

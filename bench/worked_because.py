@@ -268,7 +268,7 @@ class Laws:
 
     def __init__(self) -> None:
         self.logs = self.faults = 0
-        self.words: set[tuple[str, str]] = set()  # statements with the words of their evidence
+        self.words: set[tuple[str, ...]] = set()  # statements with the words of their evidence, and its kind
 
     def wrong(self, log: Log) -> Iterator[str]:
         self.logs += 1
@@ -276,7 +276,7 @@ class Laws:
         for k, rule in faults(log):
             self.faults += 1
             found, shown = evidence(log, k, rule), decided(log, k, rule)
-            self.words.add((rule, found.words))
+            self.words.add((rule, found.words, found.kind))
             wrong = [*self.wrong_event(log, k, rule, found.because, shown), *self.wrong_numbers(rule, found.numbers)]
             lengths = {shown, *(draw.randint(shown, log.last) for _ in range(LENGTHS))}
             wrong += [f"is {one} in the first {n} events" for n in lengths if (one := evidence(beginning(log, n), k, rule)) != found]
@@ -323,22 +323,22 @@ def worked() -> Iterator[tuple[str, Log, str, str]]:
         yield row, log_of(check_rows.log_of(words, names)), rule, rest
 
 
-def wrong_worked(name: str, log: Log, rule: str, text: str, seen: set[tuple[str, str]]) -> Iterator[str]:
+def wrong_worked(name: str, log: Log, rule: str, text: str, seen: set[tuple[str, ...]]) -> Iterator[str]:
     at = [k for k, one in faults(log) if one == rule]
     wanted = [f"because {k} {rule} {rest}" for k, _, rest in (one.strip().partition(" ") for one in text.split(";")) if k]
     found = [evidence(log, k, rule) for k in at]
-    seen |= {(rule, one.words) for one in found}
+    seen |= {(rule, one.words, one.kind) for one in found}
     said = [line(k, rule, one) for k, one in zip(at, found, strict=True)]
     if said != wanted:
         yield f"{name}: wanted {wanted}, found {said}"
 
 
-def wrong_default(seen: set[tuple[str, str]]) -> Iterator[str]:
+def wrong_default(seen: set[tuple[str, ...]]) -> Iterator[str]:
     """No Receive Maximum is announced, and one PUBLISH more is sent than the 65,535 that may be in flight."""
     start = log_of(check_rows.log_of("client OPEN >CONNECT <CONNACK >PUBLISH1:1", check_rows.packets()))
     log = Log([*start.events[:3], *start.events[3:] * 65_536], start.role, start.releases)
     found = evidence(log, log.last, "S07")
-    seen.add(("S07", found.words))
+    seen.add(("S07", found.words, found.kind))
     if not fails(log, log.last, "S07") or line(log.last, "S07", found) != "because 65539 S07 event - numbers 65536 65535":
         yield f"65,536 in flight: {line(log.last, 'S07', found)}"
 
@@ -359,7 +359,7 @@ def self_test(count: int) -> int:
     short = [(row.name, row.log) for row in check_rows.rows() if len(row.log) < SHORT]
     named = [*((name, log) for name, log, *_ in rows), *((name, log_of(log)) for name, log in [*short, *made(count)])]
     wrong += [f"{name}: {one}" for name, log in named for one in laws.wrong(log)]
-    wrong += [f"{rule}: no worked log has the words {words!r}" for rule, words in sorted(laws.words - seen)]
+    wrong += [f"{rule}: no worked log has the words {words!r}, {kind or 'of one kind'}" for rule, words, kind in sorted(laws.words - seen)]
     for one in wrong:
         print(f"{one:.1000}")
     logs = f"{len(rows) + 1} worked logs with {len(seen)} kinds of evidence, {laws.logs} logs with {laws.faults} faults"

@@ -387,7 +387,7 @@ class Used(InBrowser):
         self.page(*RECORDED, name="examples")
         self.open("f1-11-S07")
         self.assertEqual(self.browser.value("document.querySelector('.run .here').textContent"),
-                         "11 PUBLISH id 8 · QoS 1 · flood, 8 in flight, 5 allowed")
+                         "11 PUBLISH id 8 · QoS 1 · flood, 8 in flight, at most 5 allowed")
         self.click("#f1-9-S07 h4")
         self.assertEqual(self.browser.value("document.querySelector('.run .here').textContent").split()[0], "9")
 

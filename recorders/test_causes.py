@@ -18,7 +18,7 @@ from xml.etree import ElementTree
 sys.dont_write_bytecode = True  # the repository stays as it is
 sys.path.insert(0, str(Path(__file__).resolve().parent))
 from judge_calls import FAIL, PASS, Case, Told
-from judging.causes import CASES, Evidence, is_of_itself, read_because, said, words
+from judging.causes import CASES, Evidence, read_because, said
 from judging.excerpt import sentence_in, told
 from sarif_schema import problems
 from testing import TOP
@@ -26,7 +26,6 @@ from testing import TOP
 sys.path.append(str(TOP / "bench"))
 import because as second_opinion
 import worked_because
-from reading import RECV, SENT
 from reference import faults
 
 OPENING = ["OPEN", 'SENT CONNECT size 15 client "me" clean-start 1 keep-alive 60',
@@ -42,47 +41,37 @@ def publish(number: int) -> str:
 
 class Words(unittest.TestCase):
     def test_they_are_those_of_the_second_opinion(self) -> None:
-        """Each case comes in a worked log, and only where the second opinion has these words for it."""
+        """Each comes in a worked log."""
         met = set()
         for name, log, *_ in worked_because.worked():
             for place, code in faults(log):
                 wanted = second_opinion.evidence(log, place, code)
                 key, found = read_because(second_opinion.line(place, code, wanted)) or ((0, ""), Evidence(None))
                 self.assertEqual((key, found), ((place, code), Evidence(wanted.because, wanted.numbers)), name)
-                event = log.event(wanted.because) if wanted.because else None
-                is_packet = event is not None and event.kind in (SENT, RECV)
-                packet = second_opinion.name_at(log, wanted.because) if is_packet and wanted.because else ""
-                self.assertEqual(words(code, found, packet), wanted.said(), name)
-                met.add((code, packet if (code, packet) in CASES else "any" if wanted.because else "-"))
-        wide = {("S07", "-")}  # 65,536 messages in flight: that log is too long for this test
-        self.assertEqual(CASES.keys() - met, wide)
-        self.assertEqual({code for code, _ in met} - {code for code, _ in CASES},
-                         {f"W{number:02}" for number in range(1, 22)})
-        self.assertEqual(words("S07", Evidence(None, (65_536, 65_535))),
-                         "not announced, so by default: 65536 in flight, 65535 allowed")
+                words = said(code, found)
+                self.assertEqual(f" ({words})" if words else "", wanted.said(), name)
+                met.add((code, found.because is not None))
+        kept = {(code, is_event) for code, both in CASES.items() for is_event in (True, False) if both[not is_event]}
+        wide = {("S07", False)}  # 65,536 messages in flight: that log is too long for this test
+        self.assertEqual(kept - met, wide)
+        own = {"C01", "C09", "C18", "C19", *(f"W{number:02}" for number in range(1, 22))}  # their statements say all
+        self.assertEqual(met - kept, {(code, False) for code in own})
+        self.assertEqual(said("S07", Evidence(None, (65_536, 65_535))), "65536 in flight, at most 65535 allowed by default")
 
     def test_what_is_not_known_is_not_said(self) -> None:
-        """A packet whose name isn't known, a statement that isn't, numbers that are missing."""
-        self.assertEqual(said("E1A", Evidence(4)), "because of event 4")
-        self.assertEqual(said("S01", Evidence(4)), "because of event 4")
-        self.assertEqual(said("X99", Evidence(4, (1, 2)), "PUBACK"), "because of event 4")
+        """A statement that isn't known, numbers that are missing."""
+        self.assertEqual(said("X99", Evidence(4, (1, 2))), "because of event 4")
         self.assertEqual(said("X99", Evidence(None)), "")
-        self.assertEqual(said("S07", Evidence(4, (1,)), "CONNACK"), "because of event 4, announced there")
+        self.assertEqual(said("S07", Evidence(4, (1,))), "because of event 4")
         self.assertEqual(said("S07", None), "")
         self.assertIsNone(read_because("because of event 4"))
 
-    def test_what_is_its_own_needs_no_words(self) -> None:
-        own = {"C01", "C09", "C18", "C19", *(f"W{number:02}" for number in range(1, 22))}
-        codes = {code for code, _ in CASES} | own
-        self.assertEqual({code for code in codes if is_of_itself(code)}, own)
-        self.assertEqual(said("W09", Evidence(None)), "")
-
     def test_words_that_the_program_may_show_under_an_event(self) -> None:
         """They are no part of a sentence, and stay where the sentence is left out."""
-        line = "  fault S07 MQTT-4.9.0-2 It keeps (all of) it. (because of event 3: 6 in flight, 5 allowed) (decided at event 9)"
+        line = "  fault S07 MQTT-4.9.0-2 It keeps (all of) it. (because of event 3: 6 in flight, at most 5 allowed) (decided at event 9)"
         self.assertEqual(sentence_in(line), ("S07", "It keeps (all of) it."))
         self.assertEqual(told(line, {"S07"}),
-                         "  fault S07 (because of event 3: 6 in flight, 5 allowed) (decided at event 9)")
+                         "  fault S07 (because of event 3: 6 in flight, at most 5 allowed) (decided at event 9)")
         self.assertEqual(sentence_in("  fault W09 sec-1 It isn't 0. (offset 2) (at 2026-11-26 12:04:05.000001 UTC)"),
                          ("W09", "It isn't 0."))
 
@@ -142,7 +131,7 @@ class Printed(Case):
     def test_under_each_fault(self) -> None:
         events = [*OPENING, *(publish(number) for number in (1, 2, 3))]
         faults = [Told(5, "S07", "3 numbers 2 1"), Told(6, "S07", "3 numbers 3 1")]
-        causes = [f"    because of event 3, announced there: {number} in flight, 1 allowed" for number in (2, 3)]
+        causes = [f"    because of event 3: {number} in flight, at most 1 allowed" for number in (2, 3)]
         first, second = (f"  {fault.line}" for fault in faults)
         head, shown = "S07 sec-1 2 faults: It is so.", f"    3 record 3 {events[2]}"
         lines = self.lines(events, faults)
@@ -155,9 +144,8 @@ class Printed(Case):
     def test_where_there_is_no_event(self) -> None:
         faults = [Told(4, "E1A", "-"), Told(5, "W09", "-"), Told(6, "C16", "- numbers 7")]
         lines = self.lines([*OPENING, *PINGS, *PINGS], faults)
-        self.assertEqual([line for line in lines if "because" in line],
-                         ["    because: Topic Alias 7 wasn't set on this connection",
-                          "    because: never asked for in this session"])  # by the codes
+        self.assertEqual([line for line in lines if "this " in line],
+                         ["    Topic Alias 7 wasn't set on this connection", "    never asked for in this session"])
 
     def test_an_event_far_away_is_shown_too(self) -> None:
         """With a mark for the events between, if there are any."""
@@ -172,24 +160,17 @@ class Printed(Case):
     def test_an_event_that_comes_later(self) -> None:
         events = [*OPENING, "RECV PUBLISH size 9 qos 1 dup 0 id 1", *PINGS * 3, "REST", "CLOSE"]
         lines = self.lines(events, [Told(4, "E1R", "11", decided=11)])
-        self.assertEqual(lines[2], "    because of event 11, the REST, with no answer before it")
+        self.assertEqual(lines[2], "    because of event 11: the REST, with no answer before it")
         self.assertEqual(lines[-3:], [f"    6 record 6 {events[5]}", "    ..", "    11 record 11 REST"])
 
     def test_codes_of_one_event_show_what_both_conflict_with(self) -> None:
         events = [*OPENING, publish(1), *PINGS * 5, publish(2), publish(1)]
         faults = [Told(16, "S01", "4"), Told(16, "S07", "3 numbers 3 1")]
         lines = self.lines(events, faults)
-        self.assertIn("    because of event 4, the PUBLISH that holds the identifier", lines)
+        self.assertIn("    because of event 4: it holds the identifier", lines)
         place = lines.index(f"    3 record 3 {events[2]}")
         self.assertEqual(lines[place + 1 : place + 4],
                          [f"    4 record 4 {events[3]}", "    ..", f"    14 record 14 {events[13]}"])
-
-    def test_what_a_packet_answers(self) -> None:
-        """The event's packet decides what it is."""
-        puback = "SENT PUBACK size 4 id 1 code 0x00"
-        for cause, words in ((puback, "the PUBACK before"), (RESUMING[3], "the CONNACK that began a new session")):
-            lines = self.lines([*OPENING, cause, puback], [Told(5, "E1A", "4")])
-            self.assertIn(f"    because of event 4, {words}", lines)
 
 
 class Reports(Case):
@@ -197,8 +178,8 @@ class Reports(Case):
 
     EVENTS = [*OPENING, publish(1), publish(1), *PINGS, 'SENT PUBACK size 4 id 9 code 0x00', "SENT BAD W09 offset 2"]
     FAULTS = [Told(5, "S01", "4"), Told(5, "S07", "3 numbers 2 1"), Told(8, "E1A", "-"), Told(9, "W09", "-")]
-    SAID = ["because of event 4, the PUBLISH that holds the identifier",
-            "because of event 3, announced there: 2 in flight, 1 allowed", "because: never asked for in this session", ""]
+    SAID = ["because of event 4: it holds the identifier",
+            "because of event 3: 2 in flight, at most 1 allowed", "never asked for in this session", ""]
 
     def setUp(self) -> None:
         super().setUp()
@@ -230,10 +211,10 @@ class Reports(Case):
 
     def test_annotations(self) -> None:
         lines = [line for line in self.judged(self.logs, "--github")[1].splitlines() if line.startswith("::")]
-        said = {line.partition("title=")[2][:3]: line.partition("Because")[2].partition("%0A")[0] for line in lines}
-        self.assertEqual(said, {"S01": " of event 4, the PUBLISH that holds the identifier.",
-                                "S07": " of event 3, announced there: 2 in flight, 1 allowed.",
-                                "E1A": ": never asked for in this session.", "W09": ""})
+        found = {line.partition("title=")[2][:3]: line.partition("It is so.")[2].partition("%0A")[0] for line in lines}
+        self.assertEqual(found, {"S01": " Because of event 4: it holds the identifier.",
+                                 "S07": " Because of event 3: 2 in flight, at most 1 allowed.",
+                                 "E1A": " Never asked for in this session.", "W09": ""})
 
     def test_ignored_faults_have_it_too(self) -> None:
         (line,) = (json.loads(line) for line in self.judged(self.logs, "--json", "--ignore", "S01")[1].splitlines())
@@ -257,7 +238,7 @@ class Pages(Case):
     def test_a_card_says_the_event_and_the_numbers(self) -> None:
         page = self.page([*OPENING, publish(1), publish(2)], [Told(5, "S07", "3 numbers 2 1")])
         self.assertIn("<article id=f1-5-S07 data-a=e1-3>", page)
-        self.assertIn("<dt>Because<dd><a href=#e1-3>event 3</a>, announced there: <b>2</b> in flight, <b>1</b> allowed<",
+        self.assertIn("<dt>Because<dd><a href=#e1-3>event 3</a> (CONNACK): <b>2</b> in flight, at most <b>1</b> allowed<",
                       page)
         self.assertIn('<g class=b data-t=e1-3 role=img><title>S07 at event 5, because of event 3</title><path ', page)
         page = self.page([*OPENING, publish(1), publish(2)], [Told(5, "S07", "3 numbers 2 1")], is_old=True)
@@ -267,7 +248,7 @@ class Pages(Case):
         faults = [Told(4, "E1A", "-"), Told(5, "S07", "- numbers 65536 65535"), Told(6, "C18", "-")]
         page = self.page([*OPENING, *PINGS, *PINGS], faults)
         self.assertIn("<dt>Because<dd>never asked for in this session<", page)
-        self.assertIn("<dt>Because<dd>not announced, so by default: <b>65,536</b> in flight, <b>65,535</b> allowed<", page)
+        self.assertIn("<dt>Because<dd><b>65,536</b> in flight, at most <b>65,535</b> allowed by default<", page)
         self.assertEqual((page.count("<dt>Because"), page.count(" data-a="), page.count("<g ")), (2, 0, 0))
 
     def test_an_event_that_is_far_away_is_drawn(self) -> None:
@@ -276,7 +257,7 @@ class Pages(Case):
         first, last = events.index(publish(1)) + 1, len(events) - 40
         self.assertEqual(events[last - 1], publish(1))
         page = self.page(events, [Told(last, "S01", str(first))])
-        self.assertIn(f"<dt>Because<dd><a href=#e1-{first}>event {first}</a> on connection 1, the PUBLISH that holds the"
+        self.assertIn(f"<dt>Because<dd><a href=#e1-{first}>event {first}</a> (PUBLISH) on connection 1: it holds the"
                       " identifier<", page)
         charts = re.sub(r"<svg class=fold.*?</svg>(?=<line x2=100% /><text><a)", "", page)  # without what is folded
         for place in (1, 2, 3, first, last):
@@ -284,14 +265,14 @@ class Pages(Case):
         self.assertNotIn("<svg id=e1-20 ", charts)
         self.assertIn(f"<title>S01 at event {last}, because of event {first}</title>", page)
         page = self.page([*OPENING, *PINGS * 400, publish(1), publish(2)], [Told(805, "S07", "3 numbers 2 1")])
-        self.assertIn("<a href=#e1-3>event 3</a>, announced there", page)
+        self.assertIn("<a href=#e1-3>event 3</a> (CONNACK): ", page)
         self.assertIn("<svg id=e1-3 ", page)
 
     def test_events_without_an_identifier_in_common(self) -> None:
         """Nothing but the evidence says that this one belongs to the fault."""
         events = [*OPENING, *PINGS * 100, "SENT DISCONNECT size 2 code 0x00", *PINGS * 100, *PINGS * 200]
         page = self.page(events, [Told(len(events) - 100, "C11", "204")])
-        self.assertIn("<dt>Because<dd><a href=#e1-204>event 204</a>, the DISCONNECT<", page)
+        self.assertIn("<dt>Because<dd><a href=#e1-204>event 204</a>: the DISCONNECT<", page)
         self.assertIn("<svg id=e1-204 ", page)
 
     def test_a_run_has_the_numbers_of_each(self) -> None:
@@ -299,7 +280,7 @@ class Pages(Case):
         page = self.page(events, [Told(4 + at, "S07", f"3 numbers {1 + at} 1") for at in (1, 2, 3)])
         self.assertEqual(page.count("<article "), 1)
         for at in (1, 2, 3):
-            self.assertIn(f", {1 + at} in flight, 1 allowed</span>", page)
+            self.assertIn(f", {1 + at} in flight, at most 1 allowed</span>", page)
             self.assertIn(f"id=f1-{4 + at}-S07 data-a=e1-3>", page)
         self.assertEqual(len(self.arrows(page)), 1)  # one for all
         self.assertIn("<title>S07 at event 5, S07 at event 6, S07 at event 7, because of event 3</title>", page)
@@ -317,7 +298,7 @@ class Pages(Case):
         """One line is enough. What comes later than the fault has one too."""
         events = [*OPENING, "RECV PUBLISH size 9 qos 1 dup 0 id 1", *PINGS, "REST", "CLOSE"]
         page = self.page(events, [Told(4, "E1R", "7", decided=7)])
-        self.assertIn("<dt>Because<dd><a href=#e1-7>event 7</a>, the REST, with no answer before it<", page)
+        self.assertIn("<dt>Because<dd><a href=#e1-7>event 7</a>: the REST, with no answer before it<", page)
         self.assertEqual((page.count("<g role=img>"), self.arrows(page)), (1, []))
         self.assertIn("<title>E1R at event 4, shown by event 7</title>", page)
         page = self.page([*OPENING, publish(1), *RESUMING, *PINGS, "REST"], [Told(4, "S06", "8", decided=11)])
@@ -328,8 +309,8 @@ class Pages(Case):
         again = [publish(number).replace("dup 0", "dup 1") for number in (2, 1)]
         events = [*OPENING, publish(1), publish(2), *RESUMING, *again]
         page = self.page(events, [Told(11, "S05", "10 numbers 5 4")])
-        self.assertIn("<dt>Because<dd><a href=#e1-10>event 10</a>, the PUBLISH that came too early, first sent as event"
-                      " <a href=#e1-5>5</a>, and this one as event <a href=#e1-4>4</a><", page)
+        self.assertIn("<dt>Because<dd><a href=#e1-10>event 10</a> (PUBLISH): first sent as event"
+                      " <a href=#e1-5>5</a>, and this one as event <a href=#e1-4>4</a> before it<", page)
 
     def test_every_link_leads_somewhere(self) -> None:
         """Also where a chart has no room for what a fault conflicts with."""

@@ -82,7 +82,7 @@ class CodeHosts(WithLogs):
         place = self.folder / "report.sarif"
         printed = run(self.logs, "--github", "--sarif", place)[1]
         (line,) = [line for line in printed.splitlines() if line.lstrip().startswith("::")]
-        because = " Because of event {}, the PUBLISH that holds the identifier."
+        because = " Because of event {}: it holds the identifier."
         self.assertIn(f"that is in use.{because.format(4)} This looks like the PUBLISH of event 4 sent again: ", line)
         texts = [result["message"]["text"] for result in json.loads(place.read_text())["runs"][0]["results"]]
         said = [text.partition("in use.")[2].partition(" sent again")[0] for text in texts]

@@ -222,9 +222,8 @@ class Printed(Case):
         self.assertIn("SENT PUBLISH size 214 ", printed)
         self.assertEqual(printed.count("A packet isn't larger than the peer's Maximum Packet Size."), 1)
         report = self.folder / "report.xml"
-        numbers = {"large-packet": "214 bytes, 100 allowed", "qos": "QoS 2, 1 allowed",
-                   "flood": "6 in flight, 5 allowed"}
-        for name, words in ((name, f"because of event 3, announced there: {said}") for name, said in numbers.items()):
+        numbers = {"large-packet": "214 bytes, at most 100", "qos": "QoS 2, at most 1", "flood": "6 in flight, at most 5"}
+        for name, words in ((name, f"because of event 3: {said} allowed") for name, said in numbers.items()):
             log = TOP / f"examples/sessions/client-{name}.log"
             printed = self.judged(log, "--junit", report, program=judge_program())[1].splitlines()
             place = printed.index(f"      {words}")  # under the fault's line
@@ -242,9 +241,9 @@ class Printed(Case):
         alias = (2, bytes.fromhex("300900016103230007") + b"xx")
         for records, words in (
             ([(2, CONNECT), limits[0], (4, b""), (1, b""), (2, CONNECT), limits[1], *pings, *map(sent, (1, 2, 3))],
-             "because of event 7, announced there: 3 in flight, 2 allowed"),
+             "because of event 7: 3 in flight, at most 2 allowed"),
             ([(2, CONNECT), (3, bytes.fromhex("2003000000")), *pings, alias],
-             "because: not announced, so by default: Topic Alias 7, 0 allowed"),
+             "Topic Alias 7, at most 0 allowed by default"),
         ):
             (self.logs / "a.log").write_bytes(log_of((1, b""), *records, (4, b"")))
             for option in ("--json", "--html", "--most"):

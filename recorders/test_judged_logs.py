@@ -395,7 +395,7 @@ class SentAgain(Case):
     """A PUBLISH under an identifier in use that looks like an earlier connection's, sent again with DUP 0."""
 
     FIRST = record(2, publish("a/b", 1))  # event 4 of its log; the next connection's first event after the CONNACK is 9
-    HOLDER = "      because of event {}, the PUBLISH that holds the identifier"
+    HOLDER = "      because of event {}: it holds the identifier"
     SENTENCE = ("      This looks like the PUBLISH of event {} sent again: then its Packet Identifier is right, and DUP"
                 " has to be 1 (section 3.3.1.1).")
 

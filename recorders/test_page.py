@@ -225,13 +225,13 @@ class Written(Case):
     @needs_why
     def test_the_limit_that_the_peer_announced(self) -> None:
         page = self.page(*RECORDED)
-        for number, words in ((1, "<b>6</b> in flight, <b>5</b> allowed"), (2, "<b>214</b> bytes, <b>100</b> allowed"),
-                              (3, "QoS <b>2</b>, <b>1</b> allowed")):
-            self.assertIn(f"<dt>Because<dd><a href=#e{number}-3>event 3</a>, announced there: {words}<", page)
-        self.assertIn(">event 9</a>, announced there: <b>3</b> in flight, <b>2</b> allowed<", page)
+        for number, words in ((1, "<b>6</b> in flight, at most <b>5</b>"), (2, "<b>214</b> bytes, at most <b>100</b>"),
+                              (3, "QoS <b>2</b>, at most <b>1</b>")):
+            self.assertIn(f"<dt>Because<dd><a href=#e{number}-3>event 3</a> (CONNACK): {words} allowed<", page)
+        self.assertIn(">event 9</a> (CONNECT): <b>3</b> in flight, at most <b>2</b> allowed<", page)
         alias = b"\x23" + (7).to_bytes(2, "big")
         (self.logs / "a.log").write_bytes(log(record(2, publish("a", 1, alias)), record(4)))
-        self.assertIn("<dt>Because<dd>not announced, so by default: Topic Alias <b>7</b>, <b>0</b> allowed<", self.page())
+        self.assertIn("<dt>Because<dd>Topic Alias <b>7</b>, at most <b>0</b> allowed by default<", self.page())
 
     def test_events_far_from_a_fault_are_one_line(self) -> None:
         apart = [part for number in range(2, 102) for part in (record(2, publish("a", number)),
@@ -274,7 +274,7 @@ class Written(Case):
         for position in range(7, 64):
             self.assertIn(f"<i id=f1-{position}-S07 data-a=e1-3></i>", page)
             self.assertIn(f"<li><a href=#e1-{position}>{position}</a><span> PUBLISH id {position - 3} · QoS 1 · a,"
-                          f" {position - 3} in flight, 2 allowed</span>", page)
+                          f" {position - 3} in flight, at most 2 allowed</span>", page)
         self.assertEqual(page.count("<text class=c>"), 58)
         self.assertIn("<text><a href=#e1-11>Show 50 events</a></text>", page)  # those between the first and the last
         two = [part for number in (1, 2, 1, 2) for part in [record(2, publish("a", number))]]
@@ -289,7 +289,7 @@ class Written(Case):
         wrong = [record(2, packet(0x30, text("a" * count).replace(b"a", b"\xff") + b"\0")) for count in (1, 2, 3)]
         silent = [record(3, publish("a", number)) for number in (1, 2, 3)]
         for records, accepted, wanted in (
-            (sizes, limit, [f"· {'t' * count}, {count + 8} bytes, 12 allowed, 12:04:05.00{count - 2}001" for count in (5, 6, 7)]),
+            (sizes, limit, [f"· {'t' * count}, {count + 8} bytes, at most 12 allowed, 12:04:05.00{count - 2}001" for count in (5, 6, 7)]),
             (wrong, ACCEPTED, [f"PUBLISH, malformed, offset 2, 12:04:05.00{place}001" for place in (3, 4, 5)]),
             ([*silent, record(5)], ACCEPTED,
              [f"12:04:05.00{place}001, decided at <a href=#e1-7>7</a></span>" for place in (3, 4, 5)]),

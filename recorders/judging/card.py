@@ -3,7 +3,7 @@ from __future__ import annotations
 
 from html import escape
 
-from judging.causes import OF_EVENTS, is_of_itself, numbers_said, words
+from judging.causes import OF_EVENTS, words
 from judging.chart import FULL, LEAN, PEERS, SHORT, Drawing
 from judging.events import Event, Text
 from judging.explain import Explanation
@@ -94,7 +94,7 @@ class Cards:
         facts = [
             escaped(label(event)),
             f"offset {fault.offset}" if fault.offset is not None else "",
-            numbers_said(fault.code, reason) if reason else "",
+            words(fault.code, reason) if reason and reason.numbers else "",
             f"because of {self._link(because, str(because))}" if because and not are_alike else "",
             f"{event.time:%H:%M:%S.%f}" if event.time else self._time(event),
             f"decided at {self._link(fault.decided, str(fault.decided))}" if fault.decided > fault.position else "",
@@ -158,19 +158,19 @@ class Cards:
     def _because(self, fault: Fault, scene: Scene) -> str:
         """What a fault conflicts with: the event, where it is, what it is, and the numbers."""
         reason = self._story.reason(fault)
-        if reason is None or is_of_itself(fault.code):
+        if reason is None:
             return ""
-        cause = self._story.scenes.get(reason.because or 0)
-        name = (cause.event.name or cause.event.kind) if cause else ""
-        said = words(fault.code, reason, name, self._position if fault.code in OF_EVENTS else strong)
-        if self._detail == SHORT and reason.because is not None:
-            said = numbers_said(fault.code, reason)
+        is_brief = self._detail == SHORT and not reason.numbers
+        said = words(fault.code, reason, self._position if fault.code in OF_EVENTS else strong)
         if reason.because is None:
             return said
-        link = self._link(reason.because, f"event {reason.because}")
+        said = "" if is_brief or not said else f": {said}"
+        cause = self._story.scenes.get(reason.because)
+        is_named = self._detail > SHORT and not said.startswith(": the ")
+        name = f" ({cause.event.name})" if is_named and cause and cause.event.name else ""
         place = cause.connection if cause else None
         where = f" on connection {place.number}" if place and place is not scene.connection else ""
-        return f"{link}{where}{', ' if said else ''}{said}"
+        return f"{self._link(reason.because, f'event {reason.because}')}{name}{where}{said}"
 
     def _position(self, position: int) -> str:
         return self._link(position, str(position))

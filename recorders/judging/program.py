@@ -13,7 +13,7 @@ from pathlib import Path
 from typing import BinaryIO
 
 from arguments import naming, why
-from judging.causes import Causes, Evidence, Key, places_named, read_because
+from judging.causes import Causes, Evidence, Key, read_because
 from judging.excerpt import AROUND, GAP, sentence_in
 from judging.looking import look_at
 from judging.places import what_else
@@ -110,7 +110,7 @@ class Judge:
             self._tell(verdict, log, identifiers, finders)
         else:
             self._find(log, finders)
-        verdict.resent, verdict.names, verdict.causes = resends.confirmed(log), causes.names, causes.lines
+        verdict.resent, verdict.causes = resends.confirmed(log), causes.lines
         mark_texts(verdict.excerpts, verdict.story, log)
 
     def _is_told(self, verdict: Verdict) -> bool:
@@ -285,11 +285,9 @@ def holders_in(verdict: Verdict) -> dict[int, int]:
 
 
 def causes_in(verdict: Verdict) -> Causes:
-    """What finds the events that faults conflict with."""
-    evidence = verdict.evidence
-    wanted = {place for (_, code), reason in evidence.items() for place in places_named(code, reason)}
-    first = (evidence.get((position, code)) for code, position in verdict.positions.items())
-    return Causes(wanted, {reason.because for reason in first if reason and reason.because is not None})
+    """What finds the events that the first fault of each code conflicts with."""
+    first = (verdict.evidence.get((position, code)) for code, position in verdict.positions.items())
+    return Causes(reason.because for reason in first if reason and reason.because is not None)
 
 
 @contextlib.contextmanager

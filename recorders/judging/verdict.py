@@ -79,8 +79,7 @@ class Verdict:
     excerpts: dict[str, list[str]] = field(default_factory=dict)  # what happened around each code's first fault
     moments: dict[int, int] = field(default_factory=dict)  # of the events at fault, where the log has moments
     evidence: dict[Key, Evidence] = field(default_factory=dict)  # what faults conflict with, where the program says it
-    names: dict[int, str] = field(default_factory=dict)  # of the events that faults conflict with: their packets' types
-    causes: dict[int, str] = field(default_factory=dict)  # their lines, of those of each code's first fault
+    causes: dict[int, str] = field(default_factory=dict)  # the lines of what the first fault of each code conflicts with
     resent: dict[int, int] = field(default_factory=dict)  # of PUBLISHes under an identifier in use: which each repeats
     keeps: bool = False  # whether each fault is kept, for a report that names all
     found: list[Fault] = field(default_factory=list)  # all faults, where they are kept
@@ -209,8 +208,7 @@ class Verdict:
 
     def cause_of(self, position: int, code: str) -> str:
         """What a fault conflicts with, in words; empty where that isn't known, or is nothing but its packet."""
-        evidence = self.evidence.get((position, code))
-        return said(code, evidence, self.names.get(evidence.because or 0, "") if evidence else "")
+        return said(code, self.evidence.get((position, code)))
 
     def _with_time(self, line: str) -> str:
         """A line as the program printed it; that of a fault with the time of its record, if that is known."""
