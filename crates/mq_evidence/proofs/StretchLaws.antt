@@ -5,7 +5,7 @@ use Rattle.std.specs.Option.{option_or}
 use Rattle.mq_rules.specs.declared.note.Note.{Note}
 use Rattle.mq_rules.specs.Words.{is_id, only}
 use Rattle.mq_rules.specs.Moments.{Moment, position, note, some, since, latest, earliest_since}
-use Rattle.mq_evidence.specs.Evidence.{earliest, some_session, later}
+use Rattle.mq_evidence.specs.Evidence.{earliest, later}
 use Rattle.mq_evidence.specs.Stretches.{longer, unended, has_id, IsLatest, IsUnended, IsEarliest, IsEarlier, last_next, first_next, once_next, again_next, earlier_next, later_at}
 
 -- ---- one list

@@ -15,7 +15,7 @@ use Rattle.mq_rules.specs.Connections.{begun, number, connection, fate, latest_f
 use Rattle.mq_rules.specs.Under.{fate_before}
 use Rattle.mq_rules.proofs.Exports.{connection-newest, begun-open, begun-same, begun-least, fate-elsewhere, number-within, moment-newest, moment-older}
 use Rattle.mq_evidence.specs.Evidence.{earlier_sessions, found, reason, nothing}
-use Rattle.mq_evidence.specs.Stretches.{Stretches, stretches, advanced, longer}
+use Rattle.mq_evidence.specs.Stretches.{stretches, advanced, longer}
 use Rattle.mq_evidence.specs.Turning.{turn_of, evidence_under}
 
 -- an OPEN is no RELEASE

@@ -4,7 +4,6 @@ use Rattle.std.specs.List.{list_any}
 use Rattle.std.proofs.lemmas.Map.Made.{is_some-lookup}
 use Rattle.indexmap.specs.IndexSet.{contains}
 use Rattle.indexmap.specs.IndexMap.{get}
-use Rattle.mq_evidence.specs.Stretches.{earlier_next}
 use Rattle.mq_evidence.proofs.tables.keep_earlier.Goals as goal
 
 pub returns-in_ok-add_all : goal.returns-in_ok-add_all

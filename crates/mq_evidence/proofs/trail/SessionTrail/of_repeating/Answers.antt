@@ -1,15 +1,12 @@
 use Rattle.std.proofs.Common.{ap, sym, ◌∙◌, Some}
-use Rattle.std.specs.Prelude.{option_map, cond, is_some}
-use Rattle.mq_rules.specs.Words.{only}
-use Rattle.mq_rules.specs.Moments.{newest, latest, position}
+use Rattle.mq_rules.specs.Moments.{newest, latest}
 use Rattle.mq_rules.specs.Connections.{connection}
 use Rattle.mq_rules.specs.Under.{seen}
-use Rattle.mq_rules.specs.Notes.{resend_of, opener_of, closer_of}
-use Rattle.mq_rules.specs.Identifiers.{taken_by, delivers, sends_pubrel, session_before}
+use Rattle.mq_rules.specs.Notes.{resend_of}
+use Rattle.mq_rules.specs.Identifiers.{delivers}
 use Rattle.mq_evidence.specs.declared.evidence.Numbers.TheVariants.{Nothing}
-use Rattle.mq_evidence.specs.Evidence.{it, holder, end_of_sent, some_session, earliest, is_connack}
-use Rattle.mq_evidence.specs.Stretches.{stretches, has_id}
-use Rattle.mq_evidence.proofs.StretchLaws.{cond-position, only-position}
+use Rattle.mq_evidence.specs.Evidence.{it}
+use Rattle.mq_evidence.specs.Stretches.{stretches}
 use Rattle.mq_evidence.proofs.TrailLaws.{by-identifier}
 use Rattle.mq_evidence.proofs.trail.SessionTrail.of_repeating.Goals as goal
 
