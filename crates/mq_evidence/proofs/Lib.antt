@@ -14,6 +14,7 @@ pub mod Exports
 pub mod OvertakingLaws
 pub mod SubscribedLaws
 pub mod TopicLaws
+pub mod SettlingLaws
 pub mod CeilingLaws
 pub mod ConnectionLaws
 pub mod ConnectionEvidence

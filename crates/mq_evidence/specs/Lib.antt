@@ -18,5 +18,7 @@ pub mod Rests
 pub mod Overtaking
 pub mod Subscribed
 pub mod Topics
+pub mod Unsettled
+pub mod Settling
 pub mod Ceilings
 pub mod ConnectionTrails

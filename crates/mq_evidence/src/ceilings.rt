@@ -1,6 +1,6 @@
-//! The greatest QoS of what may be sent for a topic (MQTT 5.0, sections 3.8.4 and 3.9): for the
-//! evidence of B02.
-ghost use Rattle.std.specs.Prelude.{◌≡◌, ◌||◌, ◌&&◌, ◌==◌, ◌++◌, ◌∷◌, nat_eq, nat_le, ℕ, Bool, false, not, List, [], Option, Some, None, cond, unwrap_or, OnOk, IfOk};
+//! The greatest QoS of what may be sent for a topic, and the last SUBSCRIBE that asked for it (MQTT
+//! 5.0, sections 3.8.4 and 3.9): for the evidence of B02.
+ghost use Rattle.std.specs.Prelude.{◌≡◌, ◌||◌, ◌&&◌, ◌==◌, ◌++◌, ◌∷◌, nat_eq, nat_le, ℕ, Bool, false, not, List, [], Option, Some, None, cond, unwrap_or, option_map, OnOk, IfOk};
 ghost use Rattle.std.specs.List.{cons_option, list_any};
 ghost use Rattle.indexmap.specs.IndexMap.{get, values, IsUnique};
 ghost use Rattle.mq_topic.specs.Matching.{matches as is_match};
@@ -9,20 +9,24 @@ ghost use Rattle.mq_rules.specs.declared.fate.Fate.{Fate as TheFate};
 ghost use Rattle.mq_rules.specs.declared.note.Seen.{Seen};
 ghost use Rattle.mq_rules.specs.Words.{only};
 ghost use Rattle.mq_rules.specs.Notes.{received_subscription, sent_grant};
-ghost use Rattle.mq_rules.specs.Moments.{Moment, moments, newest, Among};
+ghost use Rattle.mq_rules.specs.Moments.{Moment, moments, newest, position as position_at, Among};
 ghost use Rattle.mq_rules.specs.Identifiers.{session_before};
 ghost use Rattle.mq_rules.specs.Subscriptions.{Standing, granted, standing_at};
-ghost use Rattle.mq_filters.specs.Standings.{has_ceiling, allows};
-ghost use Rattle.mq_evidence.specs.Evidence.{greatest_for};
+ghost use Rattle.mq_filters.specs.Standings.{has_ceiling};
+ghost use Rattle.mq_evidence.specs.Evidence.{greatest_for, last_matching};
 ghost use Rattle.mq_evidence.specs.Stretches.{Comes, longer};
 ghost use Rattle.mq_evidence.specs.Subscribed.{answers};
-ghost use Rattle.mq_evidence.specs.Ceilings.{with_code, with_codes, settles, asks_under, IsCeilings};
+ghost use Rattle.mq_evidence.specs.Ceilings.{with_code, with_codes, settles_of, settles, asks_under, IsCeilings};
+ghost use Rattle.mq_evidence.specs.Settling.{Question, passes, any_passes, holds};
 
+use crate::last_requests::later_of;
+use crate::settled::Settled;
 use crate::subscribed::next_code;
 use crate::turn::Turn;
 use indexmap::IndexMap;
-use mq_filters::{StandingFilters, higher, raised_by};
+use mq_filters::{higher, raised_by};
 use mq_rules::{Memory, Note, NotedFilter, PacketFields, Text};
+use mq_topic::matches;
 use std::alloc::Global;
 use std::marker::Model;
 
@@ -44,19 +48,19 @@ impl Model for Asked {
     ghost view = { λ k. record { filter = k.filter; ceiling = k.ceiling } };
 }
 
-/// The filters of a SUBSCRIBE that waits for its SUBACK.
+/// A SUBSCRIBE that waits for its SUBACK.
 #[derive(Drop)]
 pub struct Asking {
+    position: u32,
     filters: Vec<Asked>,
 }
 
 impl Model for Asking {
-    ghost use Rattle.std.specs.Prelude.{List};
-    ghost use Rattle.mq_rules.specs.Subscriptions.{Standing};
+    ghost use Rattle.mq_evidence.specs.Unsettled.{Unsettled};
 
-    ghost Value = { List Standing };
+    ghost Value = { Unsettled };
 
-    ghost view = { λ r. r.filters.items };
+    ghost view = { λ r. record { position = r.position; filters = r.filters.items } };
 }
 
 /// The SUBSCRIBEs that wait under one Packet Identifier, the earliest first.
@@ -67,9 +71,9 @@ pub struct AllAsking {
 
 impl Model for AllAsking {
     ghost use Rattle.std.specs.Prelude.{List};
-    ghost use Rattle.mq_rules.specs.Subscriptions.{Standing};
+    ghost use Rattle.mq_evidence.specs.Unsettled.{Unsettled};
 
-    ghost Value = { List (List Standing) };
+    ghost Value = { List Unsettled };
 
     ghost view = { λ r. r.requests.items };
 }
@@ -79,7 +83,7 @@ impl Model for AllAsking {
 pub struct Ceilings {
     alloc: Global,
     /// The filters that stand whatever comes.
-    settled: StandingFilters,
+    settled: Settled,
     /// The SUBSCRIBEs of the connection that wait for their SUBACK, by their Packet Identifiers.
     waiting: IndexMap<u16, AllAsking>,
 }
@@ -108,44 +112,47 @@ fn add(alloc: Global, kept: &mut Vec<Asked>, filter: &str, ceiling: u8) -> Resul
     Ok(())
 }
 
-// Adds a filter with its Reason Code, unless that refuses it. Without a code it keeps its ceiling.
+// Adds a filter of the SUBSCRIBE at a position with its Reason Code, unless that refuses it. Without
+// a code it keeps its ceiling.
 fn add_granted(
     alloc: Global,
-    settled: &mut StandingFilters,
+    settled: &mut Settled,
+    position: u32,
     kept: &Asked,
     code: Option<u8>,
 ) -> Result<(), Memory>
-    ensures { OnOk result ((among : List ℕ → Bool) (qos : ℕ) → list_any (allows among qos) settled.new ≡ (list_any (allows among qos) settled.old || list_any (allows among qos) (with_code kept.now code))) }
+    ensures { OnOk result ((q : Question) → holds q settled.new ≡ (holds q settled.old || list_any (passes q position) (with_code kept.now code))) }
 {
     match code {
         None => {
-            settled.stand(alloc, kept.filter.as_str(), kept.ceiling)?;
+            settled.stand(alloc, position, kept.filter.as_str(), kept.ceiling)?;
             Ok(())
         }
         Some(code) => {
             if code >= REFUSING {
                 return Ok(());
             }
-            settled.stand(alloc, kept.filter.as_str(), code)?;
+            settled.stand(alloc, position, kept.filter.as_str(), code)?;
             Ok(())
         }
     }
 }
 
-// Adds filters with their Reason Codes (MQTT 5.0, section 3.9.3).
+// Adds filters of the SUBSCRIBE at a position with their Reason Codes (MQTT 5.0, section 3.9.3).
 fn settle(
     alloc: Global,
-    settled: &mut StandingFilters,
+    settled: &mut Settled,
+    position: u32,
     filters: &[Asked],
     codes: &[u8],
 ) -> Result<(), Memory>
-    ensures { OnOk result ((among : List ℕ → Bool) (qos : ℕ) → list_any (allows among qos) settled.new ≡ (list_any (allows among qos) settled.old || list_any (allows among qos) (with_codes filters.now codes.now))) }
+    ensures { OnOk result ((q : Question) → holds q settled.new ≡ (holds q settled.old || list_any (passes q position) (with_codes filters.now codes.now))) }
 {
     let mut filters = filters;
     let mut codes = codes;
     while let Some((filter, next_filters)) = filters.split_first() {
         let (code, next_codes) = next_code(codes);
-        add_granted(alloc, settled, filter, code)?;
+        add_granted(alloc, settled, position, filter, code)?;
         filters = next_filters;
         codes = next_codes;
     }
@@ -163,40 +170,70 @@ fn ceiling_among(filters: &[Asked], topic: &str) -> Option<u8>
     best
 }
 
+// Whether one of the filters matches a topic.
+fn any_matches(filters: &[Asked], topic: &str) -> bool
+    ensures { result ≡ list_any (λ s. is_match s.filter topic.now) filters.now }
+{
+    for kept in filters {
+        if matches(kept.filter.as_str(), topic) {
+            return true;
+        }
+    }
+    false
+}
+
+// A position, if one of the filters matches a topic.
+fn position_if_any(filters: &[Asked], position: u32, topic: &str) -> Option<u32>
+    ensures { (first : ℕ) → has_ceiling (nat_le first) result ≡ list_any (λ s. is_match s.filter topic.now && nat_le first position) filters.now }
+{
+    if any_matches(filters, topic) {
+        return Some(position);
+    }
+    None
+}
+
 // ---- SUBSCRIBEs
 
 impl Asking {
-    // The filters of a SUBSCRIBE, with the QoS that each asks for.
-    fn of(alloc: Global, filters: &[NotedFilter]) -> Result<Asking, Memory>
-        ensures { IfOk result (λ request. request ≡ granted filters.now []) }
+    // The SUBSCRIBE at a position with its filters, with the QoS that each asks for.
+    fn of(alloc: Global, position: u32, filters: &[NotedFilter]) -> Result<Asking, Memory>
+        ensures { IfOk result (λ request. request ≡ record { position = position; filters = granted filters.now [] }) }
     {
         let filters = asked_filters(alloc, filters)?;
-        Ok(Asking { filters })
+        Ok(Asking { position, filters })
     }
 
     // Settles its filters by the Reason Codes of its SUBACK.
-    fn settle(
-        &self,
-        alloc: Global,
-        settled: &mut StandingFilters,
-        codes: &[u8],
-    ) -> Result<(), Memory>
-        ensures { OnOk result ((among : List ℕ → Bool) (qos : ℕ) → list_any (allows among qos) settled.new ≡ (list_any (allows among qos) settled.old || list_any (allows among qos) (with_codes self.now codes.now))) }
+    fn settle(&self, alloc: Global, settled: &mut Settled, codes: &[u8]) -> Result<(), Memory>
+        ensures { OnOk result ((q : Question) → holds q settled.new ≡ (holds q settled.old || settles_of (passes q) codes.now self.now)) }
     {
-        settle(alloc, settled, self.filters.as_slice(), codes)
+        settle(
+            alloc,
+            settled,
+            self.position,
+            self.filters.as_slice(),
+            codes,
+        )
     }
 
     // The greatest ceiling of its filters that match a topic.
     fn ceiling_for(&self, topic: &str) -> Option<u8>
-        ensures { (qos : ℕ) → has_ceiling (nat_le qos) result ≡ list_any (λ s. is_match s.filter topic.now && nat_le qos s.ceiling) self.now }
+        ensures { (qos : ℕ) → has_ceiling (nat_le qos) result ≡ list_any (λ s. is_match s.filter topic.now && nat_le qos s.ceiling) self.now.filters }
     {
         ceiling_among(self.filters.as_slice(), topic)
+    }
+
+    // Its position, if one of its filters matches a topic.
+    fn position_for(&self, topic: &str) -> Option<u32>
+        ensures { (first : ℕ) → has_ceiling (nat_le first) result ≡ list_any (λ s. is_match s.filter topic.now && nat_le first self.now.position) self.now.filters }
+    {
+        position_if_any(self.filters.as_slice(), self.position, topic)
     }
 }
 
 // The greatest ceiling of the filters that match a topic, of these SUBSCRIBEs.
 fn ceiling_of_all(requests: &[Asking], topic: &str) -> Option<u8>
-    ensures { (qos : ℕ) → has_ceiling (nat_le qos) result ≡ list_any (λ filters. list_any (λ s. is_match s.filter topic.now && nat_le qos s.ceiling) filters) requests.now }
+    ensures { (qos : ℕ) → has_ceiling (nat_le qos) result ≡ list_any (λ r. list_any (λ s. is_match s.filter topic.now && nat_le qos s.ceiling) r.filters) requests.now }
 {
     let mut best = None;
     for request in requests {
@@ -205,14 +242,25 @@ fn ceiling_of_all(requests: &[Asking], topic: &str) -> Option<u8>
     best
 }
 
+// The last of these SUBSCRIBEs of which a filter matches a topic.
+fn last_of_all(requests: &[Asking], topic: &str) -> Option<u32>
+    ensures { (first : ℕ) → has_ceiling (nat_le first) result ≡ list_any (λ r. list_any (λ s. is_match s.filter topic.now && nat_le first r.position) r.filters) requests.now }
+{
+    let mut last = None;
+    for request in requests {
+        last = later_of(last, request.position_for(topic));
+    }
+    last
+}
+
 // Settles all by the Reason Codes of one SUBACK.
 fn settle_each(
     alloc: Global,
-    settled: &mut StandingFilters,
+    settled: &mut Settled,
     requests: &[Asking],
     codes: &[u8],
 ) -> Result<(), Memory>
-    ensures { OnOk result ((among : List ℕ → Bool) (qos : ℕ) → list_any (allows among qos) settled.new ≡ (list_any (allows among qos) settled.old || list_any (λ filters. list_any (allows among qos) (with_codes filters codes.now)) requests.now)) }
+    ensures { OnOk result ((q : Question) → holds q settled.new ≡ (holds q settled.old || list_any (settles_of (passes q) codes.now) requests.now)) }
 {
     let mut requests = requests;
     while let Some((request, next_requests)) = requests.split_first() {
@@ -241,40 +289,42 @@ impl AllAsking {
     }
 
     // Settles the filters of each by the Reason Codes of their SUBACK.
-    fn settle(
-        &self,
-        alloc: Global,
-        settled: &mut StandingFilters,
-        codes: &[u8],
-    ) -> Result<(), Memory>
-        ensures { OnOk result ((among : List ℕ → Bool) (qos : ℕ) → list_any (allows among qos) settled.new ≡ (list_any (allows among qos) settled.old || list_any (λ filters. list_any (allows among qos) (with_codes filters codes.now)) self.now)) }
+    fn settle(&self, alloc: Global, settled: &mut Settled, codes: &[u8]) -> Result<(), Memory>
+        ensures { OnOk result ((q : Question) → holds q settled.new ≡ (holds q settled.old || list_any (settles_of (passes q) codes.now) self.now)) }
     {
         settle_each(alloc, settled, self.requests.as_slice(), codes)
     }
 
     // Settles filters for which no SUBACK comes any more.
     #[tactic(auto, using(crate::proofs::CeilingLaws::codes_none))]
-    fn settle_as_asked(&self, alloc: Global, settled: &mut StandingFilters) -> Result<(), Memory>
-        ensures { OnOk result ((among : List ℕ → Bool) (qos : ℕ) → list_any (allows among qos) settled.new ≡ (list_any (allows among qos) settled.old || list_any (λ filters. list_any (allows among qos) filters) self.now)) }
+    fn settle_as_asked(&self, alloc: Global, settled: &mut Settled) -> Result<(), Memory>
+        ensures { OnOk result ((q : Question) → holds q settled.new ≡ (holds q settled.old || list_any (any_passes q) self.now)) }
     {
         self.settle(alloc, settled, &[])
     }
 
     // The greatest ceiling of their filters that match a topic.
     fn ceiling_for(&self, topic: &str) -> Option<u8>
-        ensures { (qos : ℕ) → has_ceiling (nat_le qos) result ≡ list_any (λ filters. list_any (λ s. is_match s.filter topic.now && nat_le qos s.ceiling) filters) self.now }
+        ensures { (qos : ℕ) → has_ceiling (nat_le qos) result ≡ list_any (λ r. list_any (λ s. is_match s.filter topic.now && nat_le qos s.ceiling) r.filters) self.now }
     {
         ceiling_of_all(self.requests.as_slice(), topic)
+    }
+
+    // The last of them of which a filter matches a topic.
+    fn last_for(&self, topic: &str) -> Option<u32>
+        ensures { (first : ℕ) → has_ceiling (nat_le first) result ≡ list_any (λ r. list_any (λ s. is_match s.filter topic.now && nat_le first r.position) r.filters) self.now }
+    {
+        last_of_all(self.requests.as_slice(), topic)
     }
 }
 
 // Settles the filters of all SUBSCRIBEs that wait, for which no SUBACK comes any more.
 fn settle_values(
     alloc: Global,
-    settled: &mut StandingFilters,
+    settled: &mut Settled,
     all: &IndexMap<u16, AllAsking>,
 ) -> Result<(), Memory>
-    ensures { OnOk result ((among : List ℕ → Bool) (qos : ℕ) → list_any (allows among qos) settled.new ≡ (list_any (allows among qos) settled.old || list_any (λ requests. list_any (λ filters. list_any (allows among qos) filters) requests) (values all.now))) }
+    ensures { OnOk result ((q : Question) → holds q settled.new ≡ (holds q settled.old || list_any (list_any (any_passes q)) (values all.now))) }
 {
     for requests in all.values() {
         requests.settle_as_asked(alloc, settled)?;
@@ -284,7 +334,7 @@ fn settle_values(
 
 // The greatest ceiling of the filters that match a topic, of all SUBSCRIBEs that wait.
 fn ceiling_of_values(all: &IndexMap<u16, AllAsking>, topic: &str) -> Option<u8>
-    ensures { (qos : ℕ) → has_ceiling (nat_le qos) result ≡ list_any (λ requests. list_any (λ filters. list_any (λ s. is_match s.filter topic.now && nat_le qos s.ceiling) filters) requests) (values all.now) }
+    ensures { (qos : ℕ) → has_ceiling (nat_le qos) result ≡ list_any (λ requests. list_any (λ r. list_any (λ s. is_match s.filter topic.now && nat_le qos s.ceiling) r.filters) requests) (values all.now) }
 {
     let mut best = None;
     for requests in all.values() {
@@ -293,19 +343,31 @@ fn ceiling_of_values(all: &IndexMap<u16, AllAsking>, topic: &str) -> Option<u8>
     best
 }
 
+// The last of all SUBSCRIBEs that wait of which a filter matches a topic.
+fn last_of_values(all: &IndexMap<u16, AllAsking>, topic: &str) -> Option<u32>
+    ensures { (first : ℕ) → has_ceiling (nat_le first) result ≡ list_any (λ requests. list_any (λ r. list_any (λ s. is_match s.filter topic.now && nat_le first r.position) r.filters) requests) (values all.now) }
+{
+    let mut last = None;
+    for requests in all.values() {
+        last = later_of(last, requests.last_for(topic));
+    }
+    last
+}
+
 // ---- one event more
 
-// A SUBSCRIBE waits under an identifier.
+// The SUBSCRIBE at a position waits under an identifier.
 fn wait(
     alloc: Global,
     waiting: &mut IndexMap<u16, AllAsking>,
+    position: u32,
     identifier: u16,
     filters: &[NotedFilter],
 ) -> Result<(), Memory>
-    ensures waiting { OnOk result ((i : ℕ) → unwrap_or (get nat_eq waiting.new i) [] ≡ unwrap_or (get nat_eq waiting.old i) [] ++ cons_option (only (i == identifier) (Some (granted filters.now []))) []) }
+    ensures waiting { OnOk result ((i : ℕ) → unwrap_or (get nat_eq waiting.new i) [] ≡ unwrap_or (get nat_eq waiting.old i) [] ++ cons_option (only (i == identifier) (Some (record { position = position; filters = granted filters.now [] }))) []) }
     ensures apart { OnOk result (IsUnique nat_eq waiting.old → IsUnique nat_eq waiting.new) }
 {
-    let request = Asking::of(alloc, filters)?;
+    let request = Asking::of(alloc, position, filters)?;
     let mut requests = match waiting.swap_remove(&identifier) {
         Some(requests) => requests,
         None => AllAsking::new(alloc),
@@ -318,12 +380,12 @@ fn wait(
 // Takes in a SUBACK.
 fn answer(
     alloc: Global,
-    settled: &mut StandingFilters,
+    settled: &mut Settled,
     waiting: &mut IndexMap<u16, AllAsking>,
     identifier: u16,
     codes: &[u8],
 ) -> Result<(), Memory>
-    ensures settled { OnOk result ((among : List ℕ → Bool) (qos : ℕ) → list_any (allows among qos) settled.new ≡ (list_any (allows among qos) settled.old || list_any (λ filters. list_any (allows among qos) (with_codes filters codes.now)) (unwrap_or (get nat_eq waiting.old identifier) []))) }
+    ensures settled { OnOk result ((q : Question) → holds q settled.new ≡ (holds q settled.old || list_any (settles_of (passes q) codes.now) (unwrap_or (get nat_eq waiting.old identifier) []))) }
     ensures waiting { OnOk result ((i : ℕ) → unwrap_or (get nat_eq waiting.new i) [] ≡ cond (identifier == i) [] (unwrap_or (get nat_eq waiting.old i) [])) }
     ensures apart { OnOk result (IsUnique nat_eq waiting.old → IsUnique nat_eq waiting.new) }
 {
@@ -338,11 +400,11 @@ fn answer(
 // Takes in a SUBACK, if the event sends one.
 fn take_grant(
     alloc: Global,
-    settled: &mut StandingFilters,
+    settled: &mut Settled,
     waiting: &mut IndexMap<u16, AllAsking>,
     note: &Note,
 ) -> Result<(), Memory>
-    ensures settled { OnOk result ((among : List ℕ → Bool) (qos : ℕ) → list_any (allows among qos) settled.new ≡ (list_any (allows among qos) settled.old || settles (allows among qos) (sent_grant note.now) (λ i. unwrap_or (get nat_eq waiting.old i) []))) }
+    ensures settled { OnOk result ((q : Question) → holds q settled.new ≡ (holds q settled.old || settles (passes q) (sent_grant note.now) (λ i. unwrap_or (get nat_eq waiting.old i) []))) }
     ensures waiting { OnOk result ((i : ℕ) → unwrap_or (get nat_eq waiting.new i) [] ≡ cond (answers i (sent_grant note.now)) [] (unwrap_or (get nat_eq waiting.old i) [])) }
     ensures apart { OnOk result (IsUnique nat_eq waiting.old → IsUnique nat_eq waiting.new) }
 {
@@ -354,14 +416,15 @@ fn take_grant(
     }
 }
 
-// Takes in a SUBSCRIBE, if the event receives one and is in the session.
+// Takes in a SUBSCRIBE, if the event at a position receives one and is in the session.
 fn take_request(
     alloc: Global,
     waiting: &mut IndexMap<u16, AllAsking>,
+    position: u32,
     inside: bool,
     note: &Note,
 ) -> Result<(), Memory>
-    ensures waiting { OnOk result ((i : ℕ) → unwrap_or (get nat_eq waiting.new i) [] ≡ unwrap_or (get nat_eq waiting.old i) [] ++ cons_option (asks_under i inside (received_subscription note.now)) []) }
+    ensures waiting { OnOk result ((i : ℕ) → unwrap_or (get nat_eq waiting.new i) [] ≡ unwrap_or (get nat_eq waiting.old i) [] ++ cons_option (asks_under i position inside (received_subscription note.now)) []) }
     ensures apart { OnOk result (IsUnique nat_eq waiting.old → IsUnique nat_eq waiting.new) }
 {
     if !inside {
@@ -373,7 +436,7 @@ fn take_request(
                 identifier,
                 filters,
             },
-        ) => wait(alloc, waiting, *identifier, filters.as_slice()),
+        ) => wait(alloc, waiting, position, *identifier, filters.as_slice()),
         _ => Ok(()),
     }
 }
@@ -385,7 +448,7 @@ impl Ceilings {
     {
         Ceilings {
             alloc,
-            settled: StandingFilters::new(alloc),
+            settled: Settled::new(alloc),
             waiting: IndexMap::new(alloc),
         }
     }
@@ -393,13 +456,13 @@ impl Ceilings {
     // Where a session begins anew no filter stands. Where a connection begins no SUBACK comes any
     // more for what waits.
     fn begin(&mut self, begins: bool, opens: bool) -> Result<(), Memory>
-        ensures settled { OnOk result ((among : List ℕ → Bool) (qos : ℕ) → list_any (allows among qos) self.new.settled ≡ cond begins false (list_any (allows among qos) self.old.settled || (opens && list_any (λ requests. list_any (λ filters. list_any (allows among qos) filters) requests) (values self.old.waiting)))) }
+        ensures settled { OnOk result ((q : Question) → holds q self.new.settled ≡ cond begins false (holds q self.old.settled || (opens && list_any (list_any (any_passes q)) (values self.old.waiting)))) }
         ensures waiting { OnOk result ((i : ℕ) → unwrap_or (get nat_eq self.new.waiting i) [] ≡ cond (begins || opens) [] (unwrap_or (get nat_eq self.old.waiting i) [])) }
         ensures apart { OnOk result (IsUnique nat_eq self.old.waiting → IsUnique nat_eq self.new.waiting) }
     {
         if begins {
             // Large maps that are cleared cost their size each time.
-            self.settled = StandingFilters::new(self.alloc);
+            self.settled = Settled::new(self.alloc);
             self.waiting = IndexMap::new(self.alloc);
             return Ok(());
         }
@@ -421,7 +484,13 @@ impl Ceilings {
     {
         self.begin(turn.begins, note.is_open())?;
         take_grant(self.alloc, &mut self.settled, &mut self.waiting, note)?;
-        take_request(self.alloc, &mut self.waiting, turn.inside, note)?;
+        take_request(
+            self.alloc,
+            &mut self.waiting,
+            turn.position,
+            turn.inside,
+            note,
+        )?;
         Ok(())
     }
 
@@ -435,5 +504,15 @@ impl Ceilings {
     {
         let standing = self.settled.ceiling_for(self.alloc, topic)?;
         Ok(higher(standing, ceiling_of_values(&self.waiting, topic)))
+    }
+
+    /// The position of the last SUBSCRIBE of which a filter stands that matches a topic.
+    pub fn last_request(&self, topic: &str) -> Option<u32>
+        ensures { (role : TheRole) (f : TheFate) (k : Moment) → IsCeilings self.now k.past (session_before role f k) → result ≡ option_map position_at (last_matching role f topic.now k) }
+    {
+        later_of(
+            self.settled.last_for(topic),
+            last_of_values(&self.waiting, topic),
+        )
     }
 }

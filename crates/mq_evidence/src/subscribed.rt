@@ -68,8 +68,8 @@ pub struct Subscribed {
 
 // ---- how often a filter stands
 
-// A copy of a text.
-fn copy_of(alloc: Global, text: &str) -> Result<String, Memory>
+/// A copy of a text; `Memory` if there is no memory for it.
+pub fn copy_of(alloc: Global, text: &str) -> Result<String, Memory>
     ensures { IfOk result (λ copy. string_bytes copy ≡ text.now) }
 {
     let mut copy = String::with_capacity(alloc, text.len())?;

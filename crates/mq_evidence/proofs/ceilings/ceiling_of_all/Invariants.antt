@@ -6,4 +6,4 @@ use Rattle.mq_evidence.proofs.ceilings.ceiling_of_all.Given as goal
 
 -- it allows what those so far do
 abbrev pub invariant-loop-request : goal.invariant-loop-request
-invariant-loop-request l = (qos : ℕ) → has_ceiling (nat_le qos) l.best ≡ list_any (λ filters. list_any (λ s. matches s.filter l.fn.topic && nat_le qos s.ceiling) filters) (take l.request-index l.requests)
+invariant-loop-request l = (qos : ℕ) → has_ceiling (nat_le qos) l.best ≡ list_any (λ r. list_any (λ s. matches s.filter l.fn.topic && nat_le qos s.ceiling) r.filters) (take l.request-index l.requests)

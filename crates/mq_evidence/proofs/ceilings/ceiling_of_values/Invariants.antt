@@ -7,4 +7,4 @@ use Rattle.mq_evidence.proofs.ceilings.ceiling_of_values.Given as goal
 
 -- with those that are left, it allows what all do
 abbrev pub invariant-loop-requests : goal.invariant-loop-requests
-invariant-loop-requests l = (qos : ℕ) → (has_ceiling (nat_le qos) l.best || list_any (λ requests. list_any (λ filters. list_any (λ s. matches s.filter l.fn.topic && nat_le qos s.ceiling) filters) requests) l.requests-iterator) ≡ list_any (λ requests. list_any (λ filters. list_any (λ s. matches s.filter l.fn.topic && nat_le qos s.ceiling) filters) requests) (values l.fn.all)
+invariant-loop-requests l = (qos : ℕ) → (has_ceiling (nat_le qos) l.best || list_any (λ requests. list_any (λ r. list_any (λ s. matches s.filter l.fn.topic && nat_le qos s.ceiling) r.filters) requests) l.requests-iterator) ≡ list_any (λ requests. list_any (λ r. list_any (λ s. matches s.filter l.fn.topic && nat_le qos s.ceiling) r.filters) requests) (values l.fn.all)

@@ -1,9 +1,9 @@
-use Rattle.std.proofs.Common.{◌≡◌, ◌||◌, ℕ, Bool, List}
+use Rattle.std.proofs.Common.{◌≡◌, ◌||◌}
 use Rattle.std.specs.List.{list_any}
 use Rattle.indexmap.specs.IndexMap.{values}
-use Rattle.mq_filters.specs.Standings.{allows}
+use Rattle.mq_evidence.specs.Settling.{Question, any_passes, holds}
 use Rattle.mq_evidence.proofs.ceilings.settle_values.Given as goal
 
 -- with those that are left, all come to be settled
 abbrev pub invariant-loop-requests : goal.invariant-loop-requests
-invariant-loop-requests l = (among : List ℕ → Bool) (qos : ℕ) → (list_any (allows among qos) l.settled || list_any (λ requests. list_any (λ filters. list_any (allows among qos) filters) requests) l.requests-iterator) ≡ (list_any (allows among qos) l.initial.settled || list_any (λ requests. list_any (λ filters. list_any (allows among qos) filters) requests) (values l.fn.all))
+invariant-loop-requests l = (q : Question) → (holds q l.settled || list_any (list_any (any_passes q)) l.requests-iterator) ≡ (holds q l.initial.settled || list_any (list_any (any_passes q)) (values l.fn.all))
