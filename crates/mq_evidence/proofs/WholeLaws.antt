@@ -8,7 +8,7 @@ use Rattle.mq_rules.specs.declared.role.Role.TheVariants.{Client, Server}
 use Rattle.mq_rules.specs.declared.role.Tested.{Tested}
 use Rattle.mq_rules.specs.declared.fate.Fate.{Fate}
 use Rattle.mq_rules.specs.declared.rule.Rule.{Rule}
-use Rattle.mq_rules.specs.declared.rule.Rule.TheVariants.{S01, S02, S03, S04, S05, B01, S07, E7R, E1A, E2A, E3A, E4A, E5A, E6A, E1O, E2O, E3O, B03, B04, L1, L2, L3}
+use Rattle.mq_rules.specs.declared.rule.Rule.TheVariants.{S01, S02, S03, S04, S05, B01, B02, S07, E7R, E1A, E2A, E3A, E4A, E5A, E6A, E1O, E2O, E3O, B03, B04, L1, L2, L3}
 use Rattle.mq_rules.specs.declared.note.Note.{Note}
 use Rattle.mq_rules.specs.declared.note.Note.TheVariants as notes
 use Rattle.mq_rules.specs.declared.note.Seen.{Seen}
@@ -19,13 +19,12 @@ use Rattle.mq_rules.specs.Connections.{number, fate, accepts, is_binding}
 use Rattle.mq_rules.specs.Identifiers.{breaks_S01, breaks_S02, breaks_S03, breaks_S04, breaks_S05, breaks_S07}
 use Rattle.mq_rules.specs.Exchanges.{breaks_A, breaks_O, breaks_E7R}
 use Rattle.mq_rules.specs.Releases.{breaks_L1, breaks_L2, breaks_L3}
-use Rattle.mq_rules.specs.Subscriptions.{breaks_B01, breaks_B03, breaks_B04}
+use Rattle.mq_rules.specs.Subscriptions.{breaks_B01, breaks_B02, breaks_B03, breaks_B04}
 use Rattle.mq_rules.specs.Rules.{binds}
 use Rattle.mq_rules.specs.Statements.{Statement, on_bytes, on_past, in_session, at_release, at_rest, statement, is_so, is_so_under, where_accepted, fails}
 use Rattle.mq_rules.specs.Faults.{decided}
 use Rattle.mq_rules.specs.Under.{seen, is_on_session}
 use Rattle.mq_rules.proofs.Exports.{both_true}
-use Rattle.mq_evidence.specs.declared.evidence.Evidence.{Evidence}
 use Rattle.mq_evidence.specs.Evidence.{found, reason, nothing, evidence}
 use Rattle.mq_evidence.specs.Trailing.{is_found, is_shut}
 
@@ -38,6 +37,7 @@ found-unshown role S03 f t m h = refl
 found-unshown role S04 f t m h = refl
 found-unshown role S05 f t m h = refl
 found-unshown role B01 f t m h = refl
+found-unshown role B02 f t m h = refl
 found-unshown role S07 f t m h = refl
 found-unshown role E7R f t m h = refl
 found-unshown role E1A f t m h = refl
@@ -67,7 +67,7 @@ breaks_at (at_release breaks) f m = breaks f m
 breaks_at (at_rest shows) f m = false
 
 unbroken : (role : Role) (r : Rule) (f : Fate) (p : Place3) (past : List Seen) → is_found r ≡ true → breaks_at (statement role r) f (newest (seen p notes.Open) past) ≡ false
-unfolding breaks_S01 breaks_S02 breaks_S03 breaks_S04 breaks_S05 breaks_S07 breaks_A breaks_O breaks_E7R breaks_L1 breaks_L2 breaks_L3 breaks_B01 breaks_B03 breaks_B04 is_binding
+unfolding breaks_S01 breaks_S02 breaks_S03 breaks_S04 breaks_S05 breaks_S07 breaks_A breaks_O breaks_E7R breaks_L1 breaks_L2 breaks_L3 breaks_B01 breaks_B02 breaks_B03 breaks_B04 is_binding
 unbroken Client S01 f p past h = refl
 unbroken Server S01 f p past h = refl
 unbroken role S02 f p past h = refl
@@ -75,6 +75,7 @@ unbroken role S03 f p past h = refl
 unbroken role S04 f p past h = refl
 unbroken role S05 f p past h = refl
 unbroken role B01 f p past h = refl
+unbroken role B02 f p past h = refl
 unbroken role S07 f p past h = refl
 unbroken role E7R f p past h = refl
 unbroken role E1A f p past h = refl
@@ -108,6 +109,7 @@ direct role S03 h = refl
 direct role S04 h = refl
 direct role S05 h = refl
 direct role B01 h = refl
+direct role B02 h = refl
 direct role S07 h = refl
 direct role E7R h = refl
 direct role E1A h = refl
@@ -201,6 +203,7 @@ on-session tested S03 h = refl
 on-session tested S04 h = refl
 on-session tested S05 h = refl
 on-session tested B01 h = refl
+on-session tested B02 h = refl
 on-session tested S07 h = refl
 on-session tested E7R h = refl
 on-session tested E1A h = refl

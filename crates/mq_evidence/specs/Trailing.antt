@@ -4,7 +4,7 @@ use Rattle.std.specs.List.{list_any}
 use Rattle.mq_rules.specs.declared.role.Tested.{Tested}
 use Rattle.mq_rules.specs.declared.fate.Fate.{Fate}
 use Rattle.mq_rules.specs.declared.rule.Rule.{Rule}
-use Rattle.mq_rules.specs.declared.rule.Rule.TheVariants.{S01, S02, S03, S04, S05, B01, S07, E7R, E1A, E2A, E3A, E4A, E5A, E6A, E1O, E2O, E3O, B03, B04, L1, L2, L3}
+use Rattle.mq_rules.specs.declared.rule.Rule.TheVariants.{S01, S02, S03, S04, S05, B01, B02, S07, E7R, E1A, E2A, E3A, E4A, E5A, E6A, E1O, E2O, E3O, B03, B04, L1, L2, L3}
 use Rattle.mq_rules.specs.declared.note.Seen.{Seen}
 use Rattle.mq_rules.specs.declared.fault.Fault.{Fault}
 use Rattle.mq_rules.specs.declared.faults.FaultKey.{FaultKey}
@@ -24,6 +24,8 @@ use Rattle.mq_evidence.specs.Answering.{IsAnswering, IsWaiting}
 use Rattle.mq_evidence.specs.Received.{IsReceived}
 use Rattle.mq_evidence.specs.Overtaking.{IsOvertaking}
 use Rattle.mq_evidence.specs.Subscribed.{IsSubscribed}
+use Rattle.mq_evidence.specs.Topics.{IsTopics}
+use Rattle.mq_evidence.specs.Ceilings.{IsCeilings}
 use Rattle.mq_evidence.specs.Begun.{IsBegun}
 use Rattle.mq_evidence.specs.Handshakes.{IsHandshake}
 use Rattle.mq_evidence.specs.Counters.{IsCounters}
@@ -42,6 +44,8 @@ pub record IsTrail (t : SessionTrail) (tested : Tested) (taken : Option Fate) (p
   pub received_are : IsReceived t.received (stretches tested.role taken past)
   pub overtaking_is : IsOvertaking t.overtaking tested.role taken past
   pub subscribed_are : IsSubscribed t.subscribed past (session tested.role taken past)
+  pub topics_are : IsTopics t.topics (stretches tested.role taken past)
+  pub ceilings_are : IsCeilings t.ceilings past (session tested.role taken past)
 
 -- the statements whose evidence it finds
 abbrev pub is_found : Rule → Bool
@@ -62,6 +66,7 @@ is_found E1O = true
 is_found E2O = true
 is_found E3O = true
 is_found B01 = true
+is_found B02 = true
 is_found B03 = true
 is_found B04 = true
 is_found L1 = true

@@ -1,17 +1,17 @@
 //! What a second reading of a log keeps to find the evidence of the statements on sessions, each
 //! event taken in with the fate of its connection.
-ghost use Rattle.std.specs.Prelude.{◌≡◌, ◌∷◌, ◌+◌, ℕ, [], List, length, Option, Some, None, true, false, OnOk};
+ghost use Rattle.std.specs.Prelude.{◌≡◌, ◌∷◌, ◌+◌, ℕ, [], List, length, Option, Some, None, true, false, OnOk, IfOk};
 ghost use Rattle.mq_rules.specs.declared.role.Tested.{Tested as TheTested};
 ghost use Rattle.mq_log.specs.declared.place.Place3.{Place3 as ThePlace};
 ghost use Rattle.mq_rules.specs.declared.fate.Fate.{Fate as TheFate};
 ghost use Rattle.mq_rules.specs.declared.fate.Fate.TheVariants.{Void};
-ghost use Rattle.mq_rules.specs.declared.rule.Rule.TheVariants.{S01, S02, S03, S04, S05, B01, E3A, L1, L2, L3};
+ghost use Rattle.mq_rules.specs.declared.rule.Rule.TheVariants.{S01, S02, S03, S04, S05, B01, B02, E3A, L1, L2, L3};
 ghost use Rattle.mq_rules.specs.declared.note.Seen.{Seen};
-ghost use Rattle.mq_rules.specs.Notes.{is_open};
-ghost use Rattle.mq_rules.specs.Moments.{newest};
+ghost use Rattle.mq_rules.specs.Notes.{is_open, sent_publish, qos_number as number_of_qos};
+ghost use Rattle.mq_rules.specs.Moments.{Moment, newest, note as note_of};
 ghost use Rattle.mq_rules.specs.Under.{seen, IsUnder, fate_before};
 ghost use Rattle.mq_rules.specs.declared.role.Role.{Role as TheRole};
-ghost use Rattle.mq_evidence.specs.Evidence.{found, reason, by_asked, by_order};
+ghost use Rattle.mq_evidence.specs.Evidence.{found, reason, by_asked, by_order, two_of};
 ghost use Rattle.mq_evidence.specs.Stretches.{Stretches, stretches};
 ghost use Rattle.mq_evidence.specs.Senders.{IsSenders};
 ghost use Rattle.mq_evidence.specs.Overtaking.{opened_under};
@@ -21,6 +21,7 @@ ghost use Rattle.mq_evidence.specs.Unanswered.{IsUnanswered};
 ghost use Rattle.std.specs.FinMap as map;
 ghost use Rattle.std.specs.Option.{option_or};
 ghost use Rattle.mq_rules.specs.declared.rule.Rule.{Rule as TheRule};
+ghost use Rattle.mq_rules.specs.Rules.{same_rule};
 ghost use Rattle.mq_rules.specs.Words.{only};
 ghost use Rattle.mq_evidence.specs.Findings.{found_at};
 ghost use Rattle.mq_evidence.specs.Trailing.{IsTrail, explained_at, is_found};
@@ -28,6 +29,7 @@ ghost use Rattle.mq_evidence.specs.Trailing.{IsTrail, explained_at, is_found};
 use crate::answering::{Answering, Waiting};
 use crate::asked::Asked;
 use crate::begun::Begun;
+use crate::ceilings::Ceilings;
 use crate::counters::Counters;
 use crate::evidence::{Evidence, Numbers};
 use crate::exchange::Exchange;
@@ -38,9 +40,11 @@ use crate::received::Received;
 use crate::senders::Senders;
 use crate::session::Session;
 use crate::subscribed::Subscribed;
+use crate::topics::Topics;
 use crate::unanswered::Unanswered;
 use mq_log::Place3;
-use mq_rules::{Fate, Faults, Memory, Note, Role, Rule, Tested};
+use mq_packet::Qos;
+use mq_rules::{Fate, Faults, Memory, Note, PublishNote, Role, Rule, Tested, qos_number};
 use std::alloc::Global;
 
 /// What came in the session and on the connection, as far as the evidence of a later fault may need
@@ -58,6 +62,8 @@ pub struct SessionTrail {
     received: Received,
     overtaking: Overtaking,
     subscribed: Subscribed,
+    topics: Topics,
+    ceilings: Ceilings,
 }
 
 impl SessionTrail {
@@ -77,6 +83,8 @@ impl SessionTrail {
             received: Received::new(alloc),
             overtaking: Overtaking::new(alloc),
             subscribed: Subscribed::new(alloc),
+            topics: Topics::new(alloc),
+            ceilings: Ceilings::new(alloc),
         }
     }
 
@@ -99,6 +107,8 @@ impl SessionTrail {
         self.answering.take(turn, note)?;
         self.waiting.take(turn, note)?;
         self.received.take(turn, note)?;
+        self.topics.take(turn, note)?;
+        self.ceilings.take(turn, note)?;
         self.session.take(fate, note);
         Ok(())
     }
@@ -173,6 +183,30 @@ impl SessionTrail {
         }
     }
 
+    // That of B02: the last SUBSCRIBE that matches, and the QoS that is exceeded.
+    fn of_exceeding(&self, note: &Note) -> Result<Evidence, Memory>
+        ensures { IfOk result (λ evidence. (tested : TheTested) (at : ThePlace) (fate : TheFate) (past : List Seen) → IsTrail self.now tested (Some fate) past → evidence ≡ found (reason tested.role B02) (Some fate) None (newest (seen at note.now) past)) }
+    {
+        let Some(publish) = note.sent_publish() else {
+            return Ok(Evidence::nothing());
+        };
+        let evidence = self.of_exceeding_publish(publish)?;
+        Ok(evidence)
+    }
+
+    // The same of a PUBLISH that is sent.
+    fn of_exceeding_publish(&self, publish: &PublishNote) -> Result<Evidence, Memory>
+        ensures { IfOk result (λ evidence. (tested : TheTested) (fate : TheFate) (k : Moment) → IsTrail self.now tested (Some fate) k.past → sent_publish (note_of k) ≡ Some publish.now → evidence ≡ found (reason tested.role B02) (Some fate) None k) }
+    {
+        let Some(topic) = self.topics.topic(publish) else {
+            return Ok(Evidence::nothing());
+        };
+        let ceiling = self.ceilings.greatest(topic)?;
+        let because = self.ceilings.last_request(topic);
+        let numbers = numbers_of(publish.qos, ceiling);
+        Ok(Evidence { because, numbers })
+    }
+
     // That of E1A, E2A and E4A to E6A: what became of what the event answers.
     fn of_answering(&self, asked: &Asked, exchange: Exchange, note: &Note) -> Evidence
         ensures { (tested : TheTested) (at : ThePlace) (fate : TheFate) (past : List Seen) → IsTrail self.now tested (Some fate) past → IsAsked (exchange_of exchange) asked.now (stretches tested.role (Some fate) past) → result ≡ found (by_asked (exchange_of exchange) tested.role) (Some fate) None (newest (seen at note.now) past) }
@@ -227,10 +261,9 @@ impl SessionTrail {
         }
     }
 
-    /// What a fault of this statement at an event conflicts with, if it is one of those that it
-    /// finds. It is asked before the event is taken in.
-    pub fn find(&self, rule: Rule, at: Place3, note: &Note) -> Option<Evidence>
-        ensures { (tested : TheTested) (fate : TheFate) (past : List Seen) → at.position ≡ length past + 1 → IsTrail self.now tested (Some fate) past → result ≡ only (is_found rule) (Some (found (reason tested.role rule) (Some fate) None (newest (seen at note.now) past))) }
+    // What a fault of a statement at an event conflicts with, but for B02. It takes no memory.
+    fn find_at_once(&self, rule: Rule, at: Place3, note: &Note) -> Option<Evidence>
+        ensures { (tested : TheTested) (fate : TheFate) (past : List Seen) → same_rule rule B02 ≡ false → at.position ≡ length past + 1 → IsTrail self.now tested (Some fate) past → result ≡ only (is_found rule) (Some (found (reason tested.role rule) (Some fate) None (newest (seen at note.now) past))) }
     {
         let (answering, waiting) = (&self.answering, &self.waiting);
         match rule {
@@ -272,12 +305,28 @@ impl SessionTrail {
         }
     }
 
+    /// What a fault of this statement at an event conflicts with, if it is one of those that it
+    /// finds. It is asked before the event is taken in.
+    ///
+    /// # Errors
+    ///
+    /// `Memory` if there is no memory to look for it.
+    pub fn find(&self, rule: Rule, at: Place3, note: &Note) -> Result<Option<Evidence>, Memory>
+        ensures { IfOk result (λ evidence. (tested : TheTested) (fate : TheFate) (past : List Seen) → at.position ≡ length past + 1 → IsTrail self.now tested (Some fate) past → evidence ≡ only (is_found rule) (Some (found (reason tested.role rule) (Some fate) None (newest (seen at note.now) past)))) }
+    {
+        if rule == Rule::B02 {
+            let evidence = self.of_exceeding(note)?;
+            return Ok(Some(evidence));
+        }
+        Ok(self.find_at_once(rule, at, note))
+    }
+
     /// Adds what the faults of an event conflict with, as far as it finds that. It is asked before
     /// the event is taken in.
     ///
     /// # Errors
     ///
-    /// `Memory` if there is no memory for them.
+    /// `Memory` if there is no memory for them, or to look for them.
     pub fn explain(
         &self,
         wanted: &Faults,
@@ -289,7 +338,8 @@ impl SessionTrail {
             → found_at findings.new k r ≡ option_or (explained_at is_found (map.entries wanted.now) at.position k r (found (reason tested.role r) (Some fate) None (newest (seen at note.now) past))) (found_at findings.old k r)) }
     {
         for (key, _) in wanted.at(at.position) {
-            if let Some(evidence) = self.find(key.rule, at, note) {
+            let found = self.find(key.rule, at, note)?;
+            if let Some(evidence) = found {
                 findings.add(*key, evidence)?;
             }
         }
@@ -304,5 +354,15 @@ fn of_overtaking(unanswered: &Unanswered, exchange: Exchange, note: &Note) -> Ev
     match exchange.answer(note) {
         Some(i) => Evidence::of(unanswered.first_other(i)),
         None => Evidence::nothing(),
+    }
+}
+
+// The QoS of a PUBLISH and the greatest that is allowed, if any is.
+fn numbers_of(qos: Qos, ceiling: Option<u8>) -> Numbers
+    ensures { result ≡ two_of (Some (number_of_qos qos)) ceiling }
+{
+    match ceiling {
+        Some(ceiling) => Numbers::Two(u64::from(qos_number(qos)), u64::from(ceiling)),
+        None => Numbers::Nothing,
     }
 }

@@ -1,5 +1,5 @@
 //! What faults conflict with, once a log was read again.
-ghost use Rattle.std.specs.Prelude.{◌≡◌, false, true, List, Option, Some, is_some};
+ghost use Rattle.std.specs.Prelude.{◌≡◌, true, List, Option, Some, is_some};
 ghost use Rattle.mq_rules.specs.declared.role.Tested.{Tested as TheTested};
 ghost use Rattle.mq_rules.specs.declared.fate.Fate.{Fate as TheFate};
 ghost use Rattle.mq_rules.specs.declared.note.Seen.{Seen};
@@ -7,8 +7,6 @@ ghost use Rattle.mq_rules.specs.FaultKeys.{fault_at};
 ghost use Rattle.mq_rules.specs.Statements.{fails};
 ghost use Rattle.mq_evidence.specs.Evidence.{evidence};
 ghost use Rattle.mq_evidence.specs.Trailing.{is_found};
-ghost use Rattle.mq_rules.specs.declared.rule.Rule.TheVariants.{B02};
-ghost use Rattle.mq_rules.specs.Rules.{same_rule};
 ghost use Rattle.mq_rules.specs.Faults.{decided};
 ghost use Rattle.mq_evidence.specs.ConnectionTrails.{is_on_connection as on_connection};
 ghost use Rattle.mq_trail.specs.Sources.{is_silent as silent};
@@ -104,6 +102,7 @@ fn is_in_session(rule: Rule) -> bool
             | Rule::L2
             | Rule::L3
             | Rule::B01
+            | Rule::B02
             | Rule::B03
             | Rule::B04
     )
@@ -120,7 +119,7 @@ fn is_silent(rule: Rule) -> bool
 }
 
 /// What a fault of the log that was read again conflicts with, for an end in this role, if it is one
-/// that was to be explained. Of B02 it isn't found, and nothing is said.
+/// that was to be explained.
 pub fn evidence_of<K: Wanted>(
     reading: &Both<Introducing<K>, Early<Reviewing<K>>>,
     role: Role,
@@ -128,7 +127,7 @@ pub fn evidence_of<K: Wanted>(
     fault: Fault,
 ) -> Evidence
     ensures { (tested : TheTested) (taken : Option TheFate) (past : List Seen) → role ≡ tested.role → ⟦<Both<Introducing<K>, Early<Reviewing<K>>> as Watch>⟧.agrees reading.now tested taken past
-        → same_rule key.rule B02 ≡ false → fault_at K.wanted key.position key.rule ≡ Some fault → fails tested past key.position key.rule ≡ true → decided tested past key.position key.rule ≡ Some fault.decided
+        → fault_at K.wanted key.position key.rule ≡ Some fault → fails tested past key.position key.rule ≡ true → decided tested past key.position key.rule ≡ Some fault.decided
         → result ≡ evidence tested past key.position key.rule }
 {
     if is_on_connection(role, key.rule) {

@@ -1,5 +1,4 @@
-//! A second reading of a log that has faults: it finds what each of them conflicts with, but for
-//! the event of B02.
+//! A second reading of a log that has faults: it finds what each of them conflicts with.
 #![tactic(auto)]
 
 mod finding;

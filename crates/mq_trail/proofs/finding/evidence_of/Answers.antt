@@ -12,23 +12,23 @@ use Rattle.mq_trail.proofs.SourceLaws.{evidence-itself, evidence-silent, evidenc
 use Rattle.mq_trail.proofs.finding.evidence_of.Goals as goal
 
 pub returns-then-is_on_connection : goal.returns-then-is_on_connection
-returns-then-is_on_connection g c = λ tested taken past role agrees last wanted failing at.
+returns-then-is_on_connection g c = λ tested taken past role agrees wanted failing at.
     let on : is_on_connection tested.role c.args.key.rule ≡ true = sym (ap (λ x. is_on_connection x c.args.key.rule) role) ∙ sym c.is_on_connection.ensures ∙ c.if-is_on_connection.true in
     c.unwrap_or.ensures ∙ ap (λ o. unwrap_or o c.nothing.result) (c.connection_evidence.ensures tested taken past agrees.0 on (ap is_some wanted) failing)
 
 pub returns-then-is_in_session : goal.returns-then-is_in_session
-returns-then-is_in_session g c = λ tested taken past role agrees last wanted failing at.
+returns-then-is_in_session g c = λ tested taken past role agrees wanted failing at.
     c.unwrap_or-then-is_in_session.ensures
     ∙ ap (λ o. unwrap_or o c.nothing-then-is_in_session.result) (c.session_evidence.ensures tested taken past agrees.1 (sym c.is_in_session.ensures ∙ c.if-is_in_session.true) (ap is_some wanted) failing)
 
 pub returns-then-is_silent : goal.returns-then-is_silent
-returns-then-is_silent g c = λ tested taken past role agrees last wanted failing at.
+returns-then-is_silent g c = λ tested taken past role agrees wanted failing at.
     let k = c.args.key.position in
     let r = c.args.key.rule in
     c.of.ensures ∙ evidence-silent tested past k c.args.fault.decided r (moment-where-fails tested past k r failing) at failing (sym c.is_silent.ensures ∙ c.if-is_silent.true)
 
 pub returns-then-eq : goal.returns-then-eq
-returns-then-eq g c = λ tested taken past role agrees last wanted failing at.
+returns-then-eq g c = λ tested taken past role agrees wanted failing at.
     let k = c.args.key.position in
     let r = c.args.key.rule in
     let d = c.args.fault.decided in
@@ -40,8 +40,8 @@ returns-then-eq g c = λ tested taken past role agrees last wanted failing at.
     ∙ evidence-resumed tested past k d r here at failing is
 
 pub returns : goal.returns
-returns g c = λ tested taken past role agrees last wanted failing at.
+returns g c = λ tested taken past role agrees wanted failing at.
     let r = c.args.key.rule in
     let on : is_on_connection tested.role r ≡ false = sym (ap (λ x. is_on_connection x r) role) ∙ sym c.is_on_connection.ensures ∙ c.if-is_on_connection.false in
     c.nothing-2.ensures
-    ∙ evidence-itself tested past c.args.key.position r failing on (sym c.is_in_session.ensures ∙ c.if-is_in_session.false) (sym c.is_silent.ensures ∙ c.if-is_silent.false) (sym c.eq.ensures ∙ c.if-eq.false) last
+    ∙ evidence-itself tested past c.args.key.position r failing on (sym c.is_in_session.ensures ∙ c.if-is_in_session.false) (sym c.is_silent.ensures ∙ c.if-is_silent.false) (sym c.eq.ensures ∙ c.if-eq.false)

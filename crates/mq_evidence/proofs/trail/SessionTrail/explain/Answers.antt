@@ -24,16 +24,16 @@ loop-key-preserved c = λ tested fate past is trail k r.
     let ev : Rule → Evidence = λ rule. found (reason tested.role rule) (Some fate) None (newest (seen c.args.at c.args.note.now) past) in
     let f : FaultKey × Fault = (c.in-Some.key.now, c.in-Some.field-0-1.now) in
     explained-rest is_found ev f c.next.new.self (found_at c.loop-key.findings k r) (found_at c.loop-key.findings k r) k r
-    (explained-none is_found ev f (found_at c.loop-key.findings k r) k r (sym c.in_default.is ∙ c.find.ensures tested fate past is trail))
+    (explained-none is_found ev f (found_at c.loop-key.findings k r) k r (sym c.in_default.is ∙ c.in_ok-found.ensures tested fate past is trail))
     ∙ ap (λ fs. option_or (only (list_any (is_explained is_found k r) fs) (Some (ev r))) (found_at c.loop-key.findings k r)) (sym c.in-Some.ensures.steps)
     ∙ c.loop-key.invariant tested fate past is trail k r
 
-pub loop-key-preserved-in-Continue-1 : goal.loop-key-preserved-in-Continue-1
-loop-key-preserved-in-Continue-1 c = λ tested fate past is trail k r.
+pub loop-key-preserved-in-Continue-branch-2 : goal.loop-key-preserved-in-Continue-branch-2
+loop-key-preserved-in-Continue-branch-2 c = λ tested fate past is trail k r.
     let ev : Rule → Evidence = λ rule. found (reason tested.role rule) (Some fate) None (newest (seen c.args.at c.args.note.now) past) in
     let f : FaultKey × Fault = (c.in-Some.key.now, c.in-Some.field-0-1.now) in
     explained-rest is_found ev f c.next.new.self (found_at c.loop-key.findings k r) (found_at c.add.new.self k r) k r
-    (c.in_ok-add.ensures k r ∙ explained-more is_found ev f c.in-Some-find.evidence (found_at c.loop-key.findings k r) k r (sym c.in-Some-find.is ∙ c.find.ensures tested fate past is trail))
+    (c.in_ok-add.ensures k r ∙ explained-more is_found ev f c.in-Some-found.evidence (found_at c.loop-key.findings k r) k r (sym c.in-Some-found.is ∙ c.in_ok-found.ensures tested fate past is trail))
     ∙ ap (λ fs. option_or (only (list_any (is_explained is_found k r) fs) (Some (ev r))) (found_at c.loop-key.findings k r)) (sym c.in-Some.ensures.steps)
     ∙ c.loop-key.invariant tested fate past is trail k r
 

@@ -15,4 +15,6 @@ returns c = record {
   received_are = c.new-8.ensures;
   overtaking_is = c.new-9.ensures c.args.tested.role (Some Void);
   subscribed_are = c.new-10.ensures [];
+  topics_are = c.new-11.ensures;
+  ceilings_are = c.new-12.ensures [];
 }

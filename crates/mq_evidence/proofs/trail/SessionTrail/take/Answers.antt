@@ -1,17 +1,16 @@
 use Rattle.std.proofs.Common.{◌≡◌, ap, sym, subst, ◌∙◌, refl, Some, ◌∷◌}
-use Rattle.std.specs.Prelude.{option_map}
-use Rattle.mq_rules.specs.Moments.{newest, position}
-use Rattle.mq_rules.specs.Connections.{session}
+use Rattle.mq_rules.specs.Moments.{newest}
 use Rattle.mq_rules.specs.Under.{seen, fate_before}
-use Rattle.mq_evidence.specs.Evidence.{earliest, is_connack}
 use Rattle.mq_rules.proofs.Exports.{session-members}
 use Rattle.mq_evidence.specs.Begun.{IsBegun}
 use Rattle.mq_evidence.specs.Subscribed.{IsSubscribed}
+use Rattle.mq_evidence.specs.Topics.{IsTopics}
+use Rattle.mq_evidence.specs.Ceilings.{IsCeilings}
 use Rattle.mq_evidence.specs.Handshakes.{IsHandshake}
 use Rattle.mq_evidence.specs.Senders.{IsSenders}
 use Rattle.mq_evidence.specs.Answering.{IsAnswering, IsWaiting}
 use Rattle.mq_evidence.specs.Received.{IsReceived}
-use Rattle.mq_evidence.specs.Stretches.{Comes, Stretches, stretches, advanced}
+use Rattle.mq_evidence.specs.Stretches.{Comes, stretches, advanced}
 use Rattle.mq_evidence.proofs.TurnLaws.{advanced-under, any-next}
 use Rattle.mq_evidence.proofs.trail.SessionTrail.take.Goals as goal
 
@@ -25,7 +24,7 @@ returns c = λ tested decided past under trail.
     ap (λ t. advanced t m s) c.turn-turn.ensures ∙ sym (advanced-under tested c.args.fate c.args.self.now.session.has_accepted c.args.at.position e past trail.any_are) in
     record {
       same_role = trail.same_role;
-      any_are = c.take-10.ensures ∙ any-next tested c.args.fate c.args.self.now.session.has_accepted e past trail.any_are;
+      any_are = c.take-12.ensures ∙ any-next tested c.args.fate c.args.self.now.session.has_accepted e past trail.any_are;
       begun_is = subst (λ t. IsBegun c.take.new.self tested.role t) turned (c.take.ensures tested.role m s comes trail.begun_is);
       handshake_is = subst (λ t. IsHandshake c.take-2.new.self tested.role t) turned (c.take-2.ensures tested.role m s comes trail.handshake_is);
       counters_are = c.take-3.ensures tested.role m comes trail.counters_are;
@@ -36,4 +35,7 @@ returns c = λ tested decided past under trail.
       answering_are = subst (λ t. IsAnswering c.take-7.new.self t) turned (c.in_ok-take-4.ensures m s comes trail.answering_are);
       waiting_are = subst (λ t. IsWaiting c.take-8.new.self t) turned (c.in_ok-take-5.ensures m s comes trail.waiting_are);
       received_are = subst (λ t. IsReceived c.take-9.new.self t) turned (c.in_ok-take-6.ensures m s comes trail.received_are);
+      topics_are = subst (λ t. IsTopics c.take-10.new.self t) turned (c.in_ok-take-7.ensures m s comes trail.topics_are);
+      ceilings_are = subst (λ t. IsCeilings c.take-11.new.self (e ∷ past) t.session) turned
+          (c.in_ok-take-8.ensures e past s.session comes (λ j there. (session-members tested.role (fate_before tested c.args.fate e past) past j there).0) trail.ceilings_are);
     }
