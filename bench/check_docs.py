@@ -1,11 +1,12 @@
 #!/usr/bin/env python3
-"""Checks that what PROVED.md, ARCHITECTURE.md, WRONG_BODIES.md, DECISIONS.md and GLOSSARY.md in docs/ name is there, and all links.
+"""Checks that what CONTRIBUTING.md and six pages in docs/ name is there, and all links.
 
-Each word in backticks has to be a word of the sources, or the name of a file. In the tables of PROVED.md each function in the column
-Call has to be one, and each clause one in the contract of a function of its row; if none of these has a name, a field of a definition. In
-those tables of ARCHITECTURE.md that are about the inside of a crate, each module, each name of definitions and each name of laws has to
-be that of a file. Only names are compared: that a row says what its clauses say is for its reader. In all pages each link to a file
-of the repository, or to a heading, has to lead there, and the list at the beginning of DECISIONS.md has to have all its sections.
+Each word in backticks has to be a word of the sources, or the name of a file; but for the made up names in CONTRIBUTING.md, and commands
+of other programs. In the tables of PROVED.md each function in the column Call has to be one, and each clause one in the contract of a
+function of its row; if none of these has a name, a field of a definition. In those tables of ARCHITECTURE.md that are about the inside of
+a crate, each module, each name of definitions and each name of laws has to be that of a file. Only names are compared: that a row says
+what its clauses say is for its reader. In all pages each link to a file of the repository, or to a heading, has to lead there, and the
+list at the beginning of DECISIONS.md has to have all its sections.
 
 usage: bench/check_docs.py
 """
@@ -15,8 +16,9 @@ from collections.abc import Iterator
 from pathlib import Path
 
 TOP = Path(__file__).resolve().parent.parent
-DOCS = [TOP / "docs" / name for name in ("PROVED.md", "ARCHITECTURE.md", "WRONG_BODIES.md", "DECISIONS.md", "GLOSSARY.md")]
-PROVED, MAP, _, DECISIONS, _ = DOCS
+DOCS = [TOP / name for name in ("docs/PROVED.md", "docs/ARCHITECTURE.md", "docs/DECISIONS.md", "docs/WRONG_BODIES.md", "docs/GLOSSARY.md")]
+DOCS += [TOP / "docs/SPEED.md", TOP / "CONTRIBUTING.md"]
+PROVED, MAP, DECISIONS, *_ = DOCS
 CRATES = TOP / "crates"
 PARTS = ("src", "specs", "proofs", "must-fail")
 FOLDERS = [crate / part for crate in CRATES.iterdir() for part in PARTS]
@@ -33,6 +35,9 @@ CELL = re.compile(r" *(?<!\\)\| *")
 LINK = re.compile(r"\]\(([^)\s]+)\)")
 HEADING = re.compile(r"^(#+) (.*)$", re.MULTILINE)
 NOT_IN_ANCHOR = re.compile(r"[^\w -]")
+OTHER_PROGRAM = re.compile(r"(apt-get|git|grep)\b")
+MADE_UP = re.compile(r"S08|C24|\bx\.rt\b")  # the statements, and the file, that CONTRIBUTING.md supposes
+MADE = {"filters-1000"}  # names that a program makes of parts
 UNNAMED = ""  # the only clause of a contract has no name
 
 Contracts = dict[str, set[str]]  # the clauses of each function
@@ -45,7 +50,7 @@ def files() -> Iterator[Path]:
 
 def words() -> set[str]:
     """All words of the sources, and the names of their files and folders."""
-    found = {path.name for path in (*CRATES.iterdir(), *TOP.iterdir())}
+    found = {path.name for path in (*CRATES.iterdir(), *TOP.iterdir())} | MADE
     for path in files():
         found.update({path.stem, *WORD.findall(str(path.relative_to(TOP)))})
         if path.suffix in TEXTS:
@@ -88,8 +93,9 @@ def sections(text: str) -> Iterator[tuple[str, list[list[str]]]]:
 def wrong_words(known: set[str]) -> Iterator[str]:
     for doc in DOCS:
         for quoted in QUOTED.findall(re.sub(r"```.*?```", "", doc.read_text(), flags=re.DOTALL)):
-            named = WORD.findall(NO_NAME.sub(" ", quoted))
-            yield from (f"{doc.name}: there is no {word} (`{quoted}`)" for word in named if word not in known)
+            named = [] if OTHER_PROGRAM.match(quoted) else WORD.findall(NO_NAME.sub(" ", quoted))
+            wrong = [word for word in named if word not in known and not MADE_UP.search(word)]
+            yield from (f"{doc.name}: there is no {word} (`{quoted}`)" for word in wrong)
 
 
 def fields(crate: str) -> set[str]:
