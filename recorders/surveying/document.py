@@ -12,6 +12,7 @@ A mark is a line `<!-- survey PART WORDS -->`, and what follows it up to `<!-- e
 from __future__ import annotations
 
 import re
+import textwrap
 from collections.abc import Callable, Collection, Mapping
 from pathlib import Path
 
@@ -24,6 +25,7 @@ MARK = re.compile(r"<!-- survey (\w+)((?: [^ ]+)*) -->")
 END = "<!-- end -->"
 BETWEEN = "+"  # codes of one kind
 NAMED = 6  # scenarios or situations that are named
+WIDTH = 100  # of a line, in characters
 TOP = Path(__file__).resolve().parents[2]
 SESSIONS = "examples/sessions/survey"
 RANGE = re.compile(r"[0-9]+(?:-[0-9]+)?")  # of positions
@@ -118,7 +120,7 @@ class Document:
         for name in names:
             found = [kinds[f"{code} {name}"] for code in codes if f"{code} {name}" in kinds]
             lines += [seen(kind, len(codes) > 1) for kind in found] or [f"- `{name}`: not seen in this survey."]
-        return lines
+        return [part for line in lines for part in in_width(line)]
 
     def _events(self, log: str, ranges: list[str]) -> list[str]:
         shown = events_in(self._show(TOP / SESSIONS / log), {place for one in ranges for place in places_in(one)})
@@ -168,6 +170,11 @@ def seen(kind: Kind, is_one_of_several: bool) -> str:
             f" {counted(len(software.runs), 'run')}, {counted(kind.faults, 'time' if kind.is_provoked else 'fault')} at"
             f" {counted(software.cell(kind.code).places, 'place')}, in {counted(len(scenarios), 'scenario')}"
             f" ({named(scenarios)}){where}.")
+
+
+def in_width(item: str) -> list[str]:
+    """An item of a list, in lines of the page."""
+    return textwrap.wrap(item, WIDTH, subsequent_indent="  ", break_long_words=False, break_on_hyphens=False)
 
 
 def named(names: list[str]) -> str:

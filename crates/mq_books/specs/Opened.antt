@@ -17,7 +17,8 @@ use Rattle.mq_books.specs.Resending.{bounded_at}
 abbrev pub opened_by : Bool → Bool → Place3 → Entry
 opened_by exactly_once retained place = record { place = place; exactly_once = exactly_once; retained = retained; confirmed = false; released = false; passed = false; sent = place.position; published = place.position }
 
--- what is kept of an identifier, if a PUBLISH of it is sent, where connections before this one that passed over began up to this position; if a PUBREL is; if a PUBREC below 0x80 is received; if it is set free; if it is opened
+-- what is kept of an identifier, if a PUBLISH of it is sent, where connections before this one that passed over began up to this
+-- position; if a PUBREL is; if a PUBREC below 0x80 is received; if it is set free; if it is opened
 abbrev pub sent_if : Bool → ℕ → ℕ → Option Entry → Option Entry
 sent_if b bounded at old = option_map (λ o. record { place = o.place; exactly_once = o.exactly_once; retained = o.retained; confirmed = o.confirmed; released = o.released; passed = (b && nat_lt o.sent bounded) || o.passed; sent = cond b at o.sent; published = cond b at o.published }) old
 

@@ -92,12 +92,14 @@ abbrev pub first_byte : List ℕ → Option ℕ
 first_byte [] = None
 first_byte (byte ∷ rest) = Some byte
 
--- The first byte of the packet that the tested end has begun to send on the latest connection, and hasn't sent whole (MQTT 5.0, section 2.1); none if there is no such packet, or its direction is lost.
+-- The first byte of the packet that the tested end has begun to send on the latest connection, and hasn't sent whole (MQTT 5.0,
+-- section 2.1); none if there is no such packet, or its direction is lost.
 unfoldable pub begun_at : List ℕ → Option ℕ
 begun_at before = first_byte (unfinished_in (carried (ahead_in before) directions.Sent (begun_records before)))
 
--- The event that the last byte of a part of a record completes, given the first byte of the packet that the tested end has begun and not ended, the length of a record's head, and the record's packet so far:
--- OPEN, CLOSE and REST have no body, that of RELEASE is a Packet Identifier, and SENT and RECV give what their packets are.
+-- The event that the last byte of a part of a record completes, given the first byte of the packet that the tested end has begun
+-- and not ended, the length of a record's head, and the record's packet so far: OPEN, CLOSE and REST have no body, that of RELEASE
+-- is a Packet Identifier, and SENT and RECV give what their packets are.
 abbrev pub event_by : Option ℕ → ℕ → Option RecordKind → List ℕ → List ℕ → Option Event
 event_by begun ahead (Some kinds.Open) part so_far = if length part == ahead then Some opened else None
 event_by begun ahead (Some kinds.Close) part so_far = if length part == ahead then Some (closed begun) else None

@@ -72,7 +72,8 @@ abbrev pub IsUnconverted : List ℕ → Option (List ℕ) → Refusal → Type 0
 IsUnconverted read left refusal = (unconverted read ≡ Some refusal)
     ⊎ ((unconverted read ≡ None) × ((IsAtEnd left × (is_cut_short read ≡ true) × (refusal ≡ refusals.Cut (length read))) ⊎ (refusal ≡ refusals.Read (length read))))
 
--- What converting a log did of which these bytes were read, by its result and what the reader has left: it wrote what is written of these bytes, and nothing else; or, if a write failed, a beginning of it.
+-- What converting a log did of which these bytes were read, by its result and what the reader has left: it wrote what is written of
+-- these bytes, and nothing else; or, if a write failed, a beginning of it.
 abbrev pub ConvertsRead : List ℕ → Option (List ℕ) → Result (Unit {0}) ConvertFault → Option (List ℕ) → Option (List ℕ) → Type 0
 ConvertsRead read left (Ok _) old new = IsAtEnd left × (unconverted read ≡ None) × (is_cut_short read ≡ false) × Appends old new (converted read)
 ConvertsRead read left (Err (convert_faults.Refused refusal)) old new = IsUnconverted read left refusal × Appends old new (converted read)

@@ -13,8 +13,8 @@ abbrev pub opened_records : List (List ℕ) → ℕ
 opened_records [] = 0
 opened_records (part ∷ before) = cond (opens (kind_of part)) (opened_records before + 1) (opened_records before)
 
--- What one direction of the connection of this number carried, given the length of a record's head: the joined bodies of its records. Connections are numbered from 1, and what comes before the first OPEN is
--- on connection 0. The newest record comes first.
+-- What one direction of the connection of this number carried, given the length of a record's head: the joined bodies of its
+-- records. Connections are numbered from 1, and what comes before the first OPEN is on connection 0. The newest record comes first.
 abbrev pub joined : ℕ → ℕ → Direction → List (List ℕ) → List ℕ
 joined ahead number direction [] = []
 joined ahead number direction (part ∷ before) =

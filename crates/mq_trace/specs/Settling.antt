@@ -29,7 +29,8 @@ abbrev pub IsStep : StreamState → ℕ → List ℕ → Step → Type 0
 IsStep state limit bytes steps.Beginning = (state.unfinished ≡ []) × IsShort limit bytes (fixed_header_of bytes)
 IsStep state limit bytes steps.Other = Unit {0}
 
--- What a byte is, after these bytes of an unfinished packet: one of which more is to come; its last byte, where so many bytes are its fixed header; the one that ends a fixed header with a size over the limit; or the one that makes the fixed header invalid.
+-- What a byte is, after these bytes of an unfinished packet: one of which more is to come; its last byte, where so many bytes are
+-- its fixed header; the one that ends a fixed header with a size over the limit; or the one that makes the fixed header invalid.
 abbrev pub IsByteStep : ℕ → List ℕ → ℕ → ByteStep → Type 0
 IsByteStep limit before byte byte_steps.GoesOn = IsShort limit (before ++ byte ∷ []) (fixed_header_of (before ++ byte ∷ []))
 IsByteStep limit before byte (byte_steps.Ends header) = (1 ≤ length before) × (fixed_header_of (before ++ byte ∷ []) ≡ headers.Whole header (length (before ++ byte ∷ []))) × (length (before ++ byte ∷ []) ≤ header + 268435455) × (length (before ++ byte ∷ []) ≤ limit)

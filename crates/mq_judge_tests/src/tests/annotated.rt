@@ -105,6 +105,7 @@ fn shows_faults_under_their_events(rt: HostRuntime) -> Result<(), Fail> {
 // The positions of the packets whose identifier is 0.
 const FAULTY: Range<u32> = 4..3004;
 
+// A client's log in which each of these packets has a fault.
 fn log_of_faults(alloc: Global) -> Result<Vec<u8>, AllocError> {
     let mut log = log_of(alloc, CLIENT, &[Open, Sent(CONNECT), Recv(CONNACK)])?;
     for _position in FAULTY {
@@ -113,6 +114,7 @@ fn log_of_faults(alloc: Global) -> Result<Vec<u8>, AllocError> {
     Ok(log)
 }
 
+// What is shown of it: its packets, each with its fault.
 fn lines_of_faults(alloc: Global) -> Result<String, Fail> {
     let mut text = String::new(alloc);
     text.push_str("..\n")?;

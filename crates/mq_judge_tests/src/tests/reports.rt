@@ -71,6 +71,7 @@ const THREE_FAULTS: &str = "fault 4 W03 MQTT-1.5.5-1 decided 4 record 4 offset 1
     fault 5 S01 MQTT-2.2.1-3 decided 5 record 5 offset -\n\
     fail 3 faults 6 events\n";
 
+// A verdict with these faults.
 fn verdict_of(
     rt: &(impl Abort + AllocGlobal),
     events: u32,

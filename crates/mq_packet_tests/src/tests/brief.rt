@@ -6,6 +6,7 @@ use mq_packet::*;
 // Name, the Packet Identifier and the payload.
 type Fields<'a> = (bool, Qos, bool, &'a str, Option<u16>, &'a [u8]);
 
+// The fields of a PUBLISH, to be compared.
 fn fields<'a>(publish: &Publish<'a>) -> Fields<'a> {
     (
         publish.duplicate,

@@ -5,6 +5,7 @@ use std::alloc::Global;
 use std::fmt::Write;
 use std::test::Fail;
 
+// What is shown of a fault.
 fn text_of(alloc: Global, fault: DecodeFault) -> Result<String, Fail> {
     let mut text = String::new(alloc);
     write!(text, "{fault}")?;

@@ -19,6 +19,7 @@ const SPELLED: [&[u8]; 7] = [
     b"\x00\x01a\x00\x02bc",
 ];
 
+// Writes a field of one of the seven types, by its number.
 fn put(out: &mut Vec<u8>, number: usize) -> Result<(), PutFault> {
     match number {
         0 => put_u8(out, 5),

@@ -98,6 +98,7 @@ const LISTED: [(u8, &[PacketType]); 43] = [
     (0xA2, &[Suback, Disconnect]),
 ];
 
+// Whether packets of this type may have this Reason Code, by the list.
 fn is_listed(code: u8, kind: PacketType) -> bool {
     LISTED
         .iter()

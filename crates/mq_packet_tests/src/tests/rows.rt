@@ -8,6 +8,7 @@ use super::harness::MAX_BODY;
 use mq_packet::PacketRule::*;
 use mq_packet::{BodyFault, DecodeFault, Packet, PacketRule, decode};
 
+// Why a packet isn't read; None if it is.
 fn fault_of(first: u8, body: &[u8]) -> Option<DecodeFault>
     requires { length body.now ≤ max_varint }
 {

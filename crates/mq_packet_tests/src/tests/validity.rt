@@ -5,6 +5,7 @@ use mq_packet::*;
 use mq_props::{Place, Prop, Props};
 use std::test::Fail;
 
+// A CONNACK with this Reason Code and these properties.
 fn connack<'a>(code: u8, properties: Props<'a>) -> Packet<'a> {
     Packet::Connack(Connack {
         session_present: false,
@@ -13,6 +14,7 @@ fn connack<'a>(code: u8, properties: Props<'a>) -> Packet<'a> {
     })
 }
 
+// A PUBACK without properties.
 fn puback<'a>(identifier: u16, code: u8) -> Packet<'a> {
     Packet::Puback(acknowledgement(identifier, code, Props::empty(Place::Puback)))
 }
@@ -31,6 +33,7 @@ fn codes_places_and_identifiers(rt: HostRuntime) {
     assert!(rt; !is_valid(&misplaced));
 }
 
+// A PUBLISH without properties and payload.
 fn publish<'a>(duplicate: bool, qos: Qos, topic: &'a str, identifier: Option<u16>) -> Packet<'a> {
     Packet::Publish(Publish {
         duplicate,

@@ -1,6 +1,7 @@
 use mq_wire::*;
 use std::test::Fail;
 
+// Where reading a field failed, and why; None if it didn't.
 fn fault<T: Drop>(read: Result<T, WireFault>) -> Option<(usize, Reason)> {
     match read {
         Ok(_) => None,

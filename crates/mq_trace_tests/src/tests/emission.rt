@@ -22,6 +22,7 @@ pub struct Lines {
 }
 
 impl Lines {
+    /// A sink that has room for so many events.
     pub fn new(alloc: Global, numbered: bool, room: u32) -> Lines {
         Lines {
             text: String::new(alloc),
@@ -31,6 +32,7 @@ impl Lines {
         }
     }
 
+    // Writes the line of an event.
     fn write(&mut self, place: Place3, event: &Event<'_>) -> Result<(), AllocError> {
         let Place3 {
             position,
@@ -54,6 +56,7 @@ impl Lines {
         }
     }
 
+    // Writes the rest of a CLOSE's line, with the first byte of a packet that was begun.
     fn write_close(&mut self, begun: Option<u8>) -> Result<(), AllocError> {
         match begun {
             Some(first) => writeln!(self.text, "CLOSE after {first}"),
@@ -61,6 +64,7 @@ impl Lines {
         }
     }
 
+    // Writes the rest of the line of what was sent or received.
     fn write_item(&mut self, direction: &str, item: &Item<'_>) -> Result<(), AllocError> {
         match item {
             Item::Packet(packet) => {
