@@ -79,7 +79,8 @@ mqjudge = with_subcommand
     explain_command.top)
     convert_command.top
 
--- what a command line asks for: a subcommand, its operand, the form of the report, its other flags, the number after `--around`, the end that it is for, the file that it makes, and whether one that is there may be emptied
+-- what a command line asks for: a subcommand, its operand, the form of the report, its other flags, the number after `--around`,
+-- the end that it is for, the file that it makes, and whether one that is there may be emptied
 pub record Request : Type 0 where
   pub subcommand : Text
   pub operand : Option Text
