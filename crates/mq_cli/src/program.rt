@@ -123,7 +123,8 @@ fn work_on<H: Host, W: Output, E: ErrorStream, P: Progress>(
     }
 }
 
-// Does the task on the log that it names, or on its other input, and returns the status to exit with.
+// Does the task on the log that it names, or on its other input, and returns the status to exit
+// with.
 fn read_and_do<H: Host, W: Output, E: ErrorStream, P: Progress>(
     alloc: Global,
     host: &H,
