@@ -19,7 +19,7 @@ SWEEP_SECONDS = 1.0
 MOST_SILENCE = 1.0  # a fault by silence is seen again with ten times the silence
 RECENT_SECONDS = 8.0  # in which answers are slow while the machine is loaded: longer than most scenarios take
 QUARTER = 4  # an honest answer takes at most a quarter of the silence that counts as rest
-PATIENCES = {Standing.BROKEN: 1.0, Standing.UNANSWERED: 2.0}  # of silence that is rest: so often what answers may take
+PATIENCES = {Standing.BROKEN: 1.0, Standing.UNANSWERED: 2.0}  # of silence: times what an answer is waited for
 
 
 class Unreachable(Gone):
