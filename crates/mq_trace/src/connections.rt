@@ -23,7 +23,7 @@ use mq_packet::{Packet, Publish};
 const MOST_EARLY_EVENTS: u32 = 4096;
 
 /// What an event does to its connection.
-#[derive(Clone, Copy, Debug, PartialEq, Eq)]
+#[derive(Clone, Copy)]
 pub enum Effect {
     /// It begins it: an OPEN.
     Begins,
@@ -49,7 +49,7 @@ impl Effect {
 }
 
 /// What is kept of the events of a log.
-#[derive(Clone, Copy, Debug, PartialEq, Eq)]
+#[derive(Clone, Copy)]
 pub struct Connections {
     /// How many events there are.
     pub events: u32,

@@ -38,7 +38,7 @@ pub struct Deframer {
 }
 
 /// What stays the same while the body of a record is read.
-#[derive(Clone, Copy, Debug, PartialEq, Eq)]
+#[derive(Clone, Copy)]
 pub struct BodyContext {
     /// The record.
     pub in_record: InRecord,
@@ -51,7 +51,7 @@ pub struct BodyContext {
 }
 
 /// What the next bytes of a direction are, where they don't begin with a whole packet.
-#[derive(Clone, Copy, Debug, PartialEq, Eq)]
+#[derive(Clone, Copy)]
 pub enum Step {
     /// The beginning of a packet, of which more is to come, while none is unfinished.
     Beginning,
@@ -61,7 +61,7 @@ pub enum Step {
 }
 
 /// What a byte that may belong to a fixed header is to its packet.
-#[derive(Clone, Copy, Debug, PartialEq, Eq)]
+#[derive(Clone, Copy)]
 pub enum ByteStep {
     /// More of the packet is to come.
     GoesOn,

@@ -9,7 +9,7 @@ ghost use Rattle.mq_trace.specs.Heads.{IsHeadStep, begin_refusal, head_of};
 use mq_log::{RecordKind, Refusal};
 
 /// A record's kind, and 0 to 3 of the four bytes of its body's length.
-#[derive(Clone, Copy, Debug, PartialEq, Eq)]
+#[derive(Clone, Copy)]
 pub struct Head {
     /// The kind that the record's first byte names.
     pub kind: RecordKind,
@@ -20,7 +20,7 @@ pub struct Head {
 }
 
 /// What the next byte of a record's length is to its head.
-#[derive(Clone, Copy, Debug, PartialEq, Eq)]
+#[derive(Clone, Copy)]
 pub enum HeadStep {
     /// More of the length is to come.
     GoesOn {

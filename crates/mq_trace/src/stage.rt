@@ -7,7 +7,7 @@ use super::head::Head;
 use mq_log::{Direction, RecordKind};
 
 /// Where a reader is among the records of a log.
-#[derive(Clone, Copy, Debug, PartialEq, Eq)]
+#[derive(Clone, Copy)]
 pub enum Stage {
     /// Between two records.
     Between,
