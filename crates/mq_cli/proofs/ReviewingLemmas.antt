@@ -81,13 +81,13 @@ for_file (Some log) (Some first) (Some second) R k l h = subst (λ x. R log x) l
 
 -- the text of events with these faults
 abbrev text_with : Plan → Role → FaultMap → (shown : List ℕ) → List Placed → List ℕ
-text_with plan role faults shown = annotated (is_timed shown) (record { role = role; faults = map.entries faults; around = plan.around; long = plan.long })
+text_with plan role faults shown = annotated (is_timed shown) (record { role = role; faults = map.entries faults; reasons = []; around = plan.around; long = plan.long })
 
 -- it is the text with the faults of the log that they were found in
 text_is : (plan : Plan) (role : Role) (count : ℕ) (faults : FaultMap) (log shown : List ℕ) → IsVerdictOn log role count faults
     → text_with plan role faults shown ≡ reviewed plan log shown
 text_is plan role count faults log shown v =
-    ap₂ (λ r f. annotated (is_timed shown) (record { role = r; faults = f; around = plan.around; long = plan.long })) v.role_is v.faults_are
+    ap₂ (λ r f. annotated (is_timed shown) (record { role = r; faults = f; reasons = []; around = plan.around; long = plan.long })) v.role_is v.faults_are
 
 -- both of these hold of what is known
 both_known : (o : Option (List ℕ)) (P Q : List ℕ → Type 0) → IfSome o P → IfSome o Q → IfSome o (λ log. P log × Q log)

@@ -121,7 +121,7 @@ text_for timed true = long_lines_of timed
 -- the text of events by a view of them
 abbrev pub text_in_view : (timed : Bool) → EventView → List Placed → List ℕ
 text_in_view timed (Lines long) = text_for timed long
-text_in_view timed (Faults faults role extent) = annotated timed (record { role = role; faults = map.entries faults.now; around = extent.around; long = extent.long })
+text_in_view timed (Faults faults reasons role extent) = annotated timed (record { role = role; faults = map.entries faults.now; reasons = reasons.now; around = extent.around; long = extent.long })
 
 -- Showing the log by this text of events was refused: the text of the events that are complete before the refused byte was written, then the line on
 -- the refusal, and nothing else.

@@ -1,5 +1,5 @@
 -- Showing a log with the faults at its events, which reads it twice: what the words ask for, and what each status means.
-use Rattle.std.specs.Prelude.{◌⊎◌, ◌^◌, ◌&&◌, Bool, nat_lt, List, ℕ, Option, None, Some, Result, Ok, Err, if◌then◌else◌, length, option_map, string_bytes, IfSome}
+use Rattle.std.specs.Prelude.{◌⊎◌, ◌^◌, ◌&&◌, Bool, nat_lt, List, [], ℕ, Option, None, Some, Result, Ok, Err, if◌then◌else◌, length, option_map, string_bytes, IfSome}
 use Rattle.std.specs.Char.{digit_value}
 use Rattle.std.specs.Io.KnownBytes.{Appends, Keeps}
 use Rattle.std.specs.List.{list_all}
@@ -64,9 +64,9 @@ plan_of review = if review.faults then plan_around (path_named (option_map strin
 
 -- ---- what each status means for the log that was judged and the one that was shown: one log, unless its file changed between the two readings
 
--- the text of events with the faults of the log that was judged, with moments if the records of the log that is shown have them
+-- the text of events with the faults of the log that was judged, of which no reason is said, with moments if the records of the log that is shown have them
 abbrev pub reviewed : Plan → (judged shown : List ℕ) → List Placed → List ℕ
-reviewed plan judged shown = annotated (is_timed shown) (record { role = (tested_by judged).role; faults = found_in judged; around = plan.around; long = plan.long })
+reviewed plan judged shown = annotated (is_timed shown) (record { role = (tested_by judged).role; faults = found_in judged; reasons = []; around = plan.around; long = plan.long })
 
 -- 0: both can be judged, and the text of the events was written and nothing else
 abbrev pub IsReviewed : Plan → (judged shown : List ℕ) → (old new : Option (List ℕ)) → Type 0

@@ -229,6 +229,7 @@ pub fn show_twice<R: Read, S: Read, W: Write>(
         Ok((verdict, role)) => {
             let view = EventView::Faults {
                 faults: &verdict.faults,
+                reasons: &[],
                 role,
                 extent: plan.extent,
             };

@@ -27,8 +27,8 @@ use mq_host::{
     PASSED, REFUSED, Trouble, flush, read_text, write_out,
 };
 use mq_judge::{
-    Extent, Faults, Form, Outcome, Progress, Refusal, RunFault, run_covered, run_watched, show,
-    show_faults, show_long, write_long_packet, write_packet, write_refused,
+    Evidence, Extent, Faults, Form, Outcome, Progress, Refusal, RunFault, run_covered, run_watched,
+    show, show_faults, show_long, write_long_packet, write_packet, write_refused,
 };
 use mq_rules::{Role, Rule};
 use std::alloc::Global;
@@ -46,6 +46,9 @@ pub enum EventView<'a> {
     Faults {
         /// The faults.
         faults: &'a Faults,
+        /// What they conflict with, one for each in their order. A fault beyond their end is shown
+        /// without it.
+        reasons: &'a [Evidence],
         /// The role of the end whose faults they are.
         role: Role,
         /// How much is shown.
@@ -219,9 +222,10 @@ fn show_lines<R: Read, W: Write>(
         EventView::Lines { long: true } => show_long(alloc, input, output),
         EventView::Faults {
             faults,
+            reasons,
             role,
             extent,
-        } => show_faults(alloc, faults, role, extent, input, output),
+        } => show_faults(alloc, faults, reasons, role, extent, input, output),
     }
 }
 

@@ -14,9 +14,10 @@ pub use judge::{Judge, Options};
 pub use laws::known_faults_stay;
 pub use mq_log::Refusal;
 pub use mq_report::{
-    Covered, Extent, Form, Outcome, RunFault, Verdict, converted_logs_have_the_same_report,
-    dates_are_exact, show, show_faults, show_long, worked_times, write_json, write_long_packet,
-    write_packet, write_refused, write_summary, write_text,
+    Covered, Evidence, Extent, Form, Numbers, Outcome, RunFault, Verdict,
+    converted_logs_have_the_same_report, dates_are_exact, show, show_faults, show_long,
+    worked_times, write_json, write_long_packet, write_packet, write_refused, write_summary,
+    write_text,
 };
 pub use mq_rules::{Fault, FaultKey, Faults, Memory, Role, Rule, Tested};
 pub use mq_trace::{ConvertFault, convert};

@@ -15,6 +15,7 @@ pub mod UnreasonedLaws
 pub mod CalendarLaws
 pub mod ViewLaws
 pub mod NearLaws
+pub mod ExplainedLaws
 pub mod DisplayLaws
 pub mod CodeLaws
 pub mod OnePacketLaws

@@ -14,11 +14,11 @@ use Rattle.mq_rules.specs.FaultKeys.{FaultMap, first_from, key_cmp}
 use Rattle.mq_rules.specs.Rules.{rule_cmp}
 use Rattle.mq_report.specs.Display.{is_near, is_within}
 
-both_first : (a b : Bool) → T (a && b) → T a
+pub both_first : (a b : Bool) → T (a && b) → T a
 both_first true b h = tt
 both_first false b h = h
 
-both_second : (a b : Bool) → T (a && b) → T b
+pub both_second : (a b : Bool) → T (a && b) → T b
 both_second true b h = h
 both_second false b h = absurd h
 
@@ -31,7 +31,7 @@ le_of : (a b : ℕ) → T (nat_lt a b || (nat_eq a b)) → nat_le a b ≡ true
 le_of a b h = grind arith
 
 -- a key that is before another one has no later position
-before_positions : (x y : FaultKey) → T (is_lt (key_cmp x y)) → nat_le x.position y.position ≡ true
+pub before_positions : (x y : FaultKey) → T (is_lt (key_cmp x y)) → nat_le x.position y.position ≡ true
 before_positions x y h = le_of x.position y.position (less_then (nat_lt x.position y.position) (nat_eq x.position y.position) (rule_cmp x.rule y.rule) h)
 
 -- a first fault is at most so many positions after this one

@@ -1,6 +1,6 @@
 -- The lines that show a log's events, with the faults at them if that is asked for, and the result of showing a whole log, from a reader to a writer.
 use Rattle.std.specs.Prelude.{◌≡◌, ℕ, ◌+◌, Bool, true, false, nat_le, nat_lt, ◌&&◌, List, [], ◌∷◌, ◌++◌, codes, decimal, Option, Some, None, Result, Ok, Err, if◌then◌else◌, ◌==◌}
-use Rattle.std.specs.List.{flat_map, list_any}
+use Rattle.std.specs.List.{filter, flat_map, list_any}
 use Rattle.std.specs.Io.KnownBytes.{Appends}
 use Rattle.mq_log.specs.declared.kind.Direction.{Direction}
 use Rattle.mq_log.specs.declared.kind.Direction.TheVariants.{Sent, Recv}
@@ -14,9 +14,11 @@ use Rattle.mq_rules.specs.declared.role.Role as roles
 use Rattle.mq_rules.specs.declared.rule.Rule.{Rule}
 use Rattle.mq_rules.specs.declared.fault.Fault.{Fault}
 use Rattle.mq_rules.specs.declared.faults.FaultKey.{FaultKey}
-use Rattle.mq_rules.specs.FaultKeys.{faults_at}
 use Rattle.mq_rules.specs.Naming.{citation_of, sentence_of}
 use Rattle.mq_rules.specs.Rules.{code_of}
+use Rattle.mq_evidence.specs.declared.evidence.Evidence.{Evidence}
+use Rattle.mq_report.specs.Because.{reason_words}
+use Rattle.mq_report.specs.Reasons.{later_reasons}
 use Rattle.mq_report.specs.declared.report.RunFault.{RunFault}
 use Rattle.mq_report.specs.declared.report.RunFault.TheVariants as run_faults
 use Rattle.mq_report.specs.Calendar.{time_words}
@@ -96,11 +98,12 @@ long_lines_of timed shown = lines_by (long_line timed) shown
 
 -- ---- the lines of events and of the faults at them
 
--- What is shown of events: the faults at them, in ascending order, of an end in this role; only the events within `around` positions of a fault, or all of
--- them if that is None; and whether their lines are long.
+-- What is shown of events: the faults at them, in ascending order, of an end in this role; what they conflict with, in their order; only the events within
+-- `around` positions of a fault, or all of them if that is None; and whether their lines are long.
 pub record Annotation : Type 0 where
   pub role : roles.Role
   pub faults : List (FaultKey × Fault)
+  pub reasons : List Evidence
   pub around : Option ℕ
   pub long : Bool
 
@@ -112,6 +115,20 @@ is_within count a b = nat_le a (b + count) && nat_le b (a + count)
 abbrev pub is_near : Option ℕ → List (FaultKey × Fault) → ℕ → Bool
 is_near None faults position = true
 is_near (Some count) faults position = list_any (λ found. is_within count found.0.position position) faults
+
+-- the first of these reasons, if there is one
+abbrev pub reason_of_first : List Evidence → Option Evidence
+reason_of_first [] = None
+reason_of_first (reason ∷ reasons) = Some reason
+
+-- Each fault with its reason: the first one with the first, and so on. A fault beyond the end of the reasons has none, and a reason beyond the faults is left out.
+abbrev pub explained : List (FaultKey × Fault) → List Evidence → List ((FaultKey × Fault) × Option Evidence)
+explained [] reasons = []
+explained (found ∷ faults) reasons = (found, reason_of_first reasons) ∷ explained faults (later_reasons reasons)
+
+-- those of these faults that are at this position, with their reasons, in their order
+abbrev pub explained_at : ℕ → List ((FaultKey × Fault) × Option Evidence) → List ((FaultKey × Fault) × Option Evidence)
+explained_at position faults = filter (λ found. found.0.0.position == position) faults
 
 -- the words on where a fault was decided, if that is at a later event
 abbrev pub decided_words : (position decided : ℕ) → List ℕ
@@ -126,13 +143,13 @@ offset_words (Some offset) = codes " (offset " ++ decimal offset ++ codes ")"
 abbrev pub statement_words : roles.Role → Rule → List ℕ
 statement_words role rule = codes "  " ++ spaced (codes "fault" ∷ code_of rule ∷ citation_of rule role ∷ sentence_of rule ∷ [])
 
--- the line of a fault of an end in this role: its statement, where it was decided, where in the packet it is, and when it happened
-abbrev pub fault_note : roles.Role → (time : List ℕ) → FaultKey × Fault → List ℕ
-fault_note role time found =
-    line (statement_words role found.0.rule ++ decided_words found.0.position found.1.decided ++ offset_words found.1.offset ++ time)
+-- The line of a fault of an end in this role: its statement, what it conflicts with, where it was decided, where in the packet it is, and when it happened.
+abbrev pub fault_note : roles.Role → (time : List ℕ) → (FaultKey × Fault) × Option Evidence → List ℕ
+fault_note role time found = line (statement_words role found.0.0.rule ++ reason_words found.0.0.rule found.1
+    ++ decided_words found.0.0.position found.0.1.decided ++ offset_words found.0.1.offset ++ time)
 
 -- the lines of these faults, which happened at this time
-abbrev pub fault_notes : roles.Role → (time : List ℕ) → List (FaultKey × Fault) → List ℕ
+abbrev pub fault_notes : roles.Role → (time : List ℕ) → List ((FaultKey × Fault) × Option Evidence) → List ℕ
 fault_notes role time faults = flat_map (fault_note role time) faults
 
 -- an event after these would begin a run of events that are left out: it is the first of its log, or the one before it is near to a fault
@@ -140,10 +157,10 @@ abbrev pub begins_gap : Option ℕ → List (FaultKey × Fault) → List Placed 
 begins_gap around faults [] = true
 begins_gap around faults (newest ∷ earlier) = is_near around faults newest.place.position
 
--- the line of an event, and the lines of the faults at it
+-- the line of an event, and the lines of the faults at it, each with its own reason
 abbrev pub noted_line : (timed : Bool) → Annotation → Placed → List ℕ
 noted_line timed a placed =
-    shown_line timed a.long placed ++ fault_notes a.role (time_words timed placed.place.moment) (faults_at placed.place.position a.faults)
+    shown_line timed a.long placed ++ fault_notes a.role (time_words timed placed.place.moment) (explained_at placed.place.position (explained a.faults a.reasons))
 
 -- An event is shown, or it is left out: the first of a run of events that are left out gives the line `..`.
 abbrev pub text_if : (shown timed : Bool) → Annotation → (begins : Bool) → Placed → List ℕ

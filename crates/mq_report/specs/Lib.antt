@@ -3,6 +3,8 @@ pub mod Chosen
 pub mod Report
 pub mod Coverage
 pub mod Reasons
+pub mod Because
+pub mod Phrases
 pub mod Summaries
 pub mod ItemText
 pub mod Outgoing

@@ -10,16 +10,18 @@ ghost use Rattle.mq_trace.specs.Tracing.{IsTracedTo};
 ghost use Rattle.mq_log.specs.declared.refusal.Refusal.TheVariants as refusals;
 
 pub mod annotated;
+pub mod because;
 mod calendar;
 pub mod details;
 pub mod outgoing;
 mod view;
 
-use self::annotated::{Annotated, Extent};
+use self::annotated::{Annotated, Extent, left_at_first};
 use self::outgoing::Outgoing;
 use self::view::View;
 use super::feeding::{DEFAULT_LIMIT, feed_log};
 use super::report::RunFault;
+use mq_evidence::Evidence;
 use mq_log::{Direction, Event, Place3, Refusal};
 use mq_packet::Packet;
 use mq_rules::{Faults, Role};
@@ -276,23 +278,32 @@ pub fn show_long<R: Read, W: Write>(
 /// `show_long`. With `around`, only events at most that many positions from a fault are shown, and
 /// each run of others is a line `..`.
 ///
+/// The reasons say what the faults conflict with, one for each in the order of the faults. After
+/// the sentence of its statement a fault's line says that in words, as in ` (because of event 2: 11
+/// in flight, at most 10 allowed)` or ` (never asked for in this session)`; of a packet that is at
+/// fault by itself it says nothing more. A fault beyond the end of the reasons gets no such words,
+/// and a reason beyond the faults is left out.
+///
 /// # Errors
 ///
 /// As `show`.
 pub fn show_faults<R: Read, W: Write>(
     alloc: Global,
     faults: &Faults,
+    reasons: &[Evidence],
     role: Role,
     extent: Extent,
     reader: &mut R,
     writer: &mut W,
 ) -> Result<(), RunFault>
     ensures { IfSome (R.remaining reader.old)
-        (λ log. Shows (annotated (is_timed log) (record { role = role; faults = map.entries faults.now; around = extent.around; long = extent.long }))
+        (λ log. Shows (annotated (is_timed log) (record { role = role; faults = map.entries faults.now; reasons = reasons.now; around = extent.around; long = extent.long }))
         log (R.remaining reader.new) result (W.contents writer.old) (W.contents writer.new)) }
 {
     let view = View::Annotated(Annotated {
         faults,
+        reasons,
+        left: left_at_first(faults, reasons),
         role,
         extent,
         begins_gap: true,

@@ -20,6 +20,7 @@ pub use laws::{
     worked_times,
 };
 pub use long_packet::write_long_packet;
+pub use mq_evidence::{Evidence, Numbers};
 pub use report::coverage::Covered;
 pub use report::json::{write_covered_json, write_json, write_reasoned_json};
 pub use report::summary::{write_covered_summary, write_summary};

@@ -79,6 +79,7 @@ fn is_shown(alloc: Global, log: &[u8], around: Option<u32>, text: &[u8]) -> Resu
     let shown = show_faults(
         alloc,
         &verdict.faults,
+        &[],
         role,
         Extent {
             around,

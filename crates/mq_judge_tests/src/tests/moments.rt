@@ -106,6 +106,7 @@ fn is_shown_around(alloc: Global, log: &[u8], around: Option<u32>, text: &str) -
     let shown = show_faults(
         alloc,
         &verdict.faults,
+        &[],
         role,
         Extent {
             around,

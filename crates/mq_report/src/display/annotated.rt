@@ -1,17 +1,20 @@
 //! The events of a log with the faults at them.
-ghost use Rattle.std.specs.Prelude.{◌≡◌, [], codes, if◌then◌else◌};
+ghost use Rattle.std.specs.Prelude.{◌≡◌, ◌+◌, [], codes, if◌then◌else◌};
 ghost use Rattle.std.specs.FinMap as map;
 ghost use Rattle.mq_report.specs.Report.{line};
 ghost use Rattle.mq_report.specs.Outgoing.{Puts};
-ghost use Rattle.mq_report.specs.Display.{decided_words, fault_note, fault_notes, event_text_after, is_near, noted_line, offset_words, shown_line, statement_words, text_if};
+ghost use Rattle.mq_report.specs.Display.{decided_words, explained, fault_note, fault_notes, event_text_after, is_near, offset_words, reason_of_first, shown_line, statement_words};
 ghost use Rattle.mq_report.specs.Calendar.{time_words};
-ghost use Rattle.mq_report.specs.Views.{annotation_of};
+ghost use Rattle.mq_report.specs.Views.{HasPassed, annotation_of, left_here, noted_here, reasons_from, reasons_past, text_here};
 ghost use Rattle.mq_rules.specs.FaultKeys.{faults_at};
 ghost use Rattle.mq_log.specs.Reception.{placed_at};
 
+use super::super::report::reasons::later_reasons;
+use super::because::put_reason;
 use super::calendar::put_time;
 use super::outgoing::Outgoing;
 use super::view::{put_line_with_bytes, put_long_line};
+use mq_evidence::Evidence;
 use mq_log::{Event, Place3};
 use mq_rules::{Fault, FaultKey, Faults, Role, Rule};
 use std::io::Write;
@@ -31,6 +34,11 @@ pub struct Extent {
 pub struct Annotated<'a> {
     /// The faults.
     pub faults: &'a Faults,
+    /// What they conflict with, in their order. No code reads it, but `left`, which is the rest of
+    /// it: it is there for the proofs.
+    pub reasons: &'a [Evidence],
+    /// The reasons of the faults that are at the next event or later.
+    pub left: &'a [Evidence],
     /// The role of the end whose faults they are.
     pub role: Role,
     /// How much is shown.
@@ -53,46 +61,59 @@ impl Annotated<'_> {
     )
         ensures same { annotation_of self.new ≡ annotation_of self.old }
         ensures gap { self.new.begins_gap ≡ is_near self.old.extent.around (map.entries self.old.faults.now) place.position }
-        ensures puts { Puts W.contents out.old
+        ensures writer { out.new.writer.ghost_name ≡ out.old.writer.ghost_name }
+        ensures passes { HasPassed place.position self.old → HasPassed (place.position + 1) self.new }
+        ensures puts { HasPassed place.position self.old → Puts W.contents out.old
             (event_text_after timed (annotation_of self.old) self.old.begins_gap (placed_at place event.now)) out.new }
     {
         let shown = is_near(self.faults, self.extent.around, place.position);
-        put_event(out, self, shown, timed, place, event);
+        self.left = put_event(out, self, shown, timed, place, event);
         self.begins_gap = shown;
     }
 }
 
-// Appends what is shown of an event that is shown, or left out.
-fn put_event<W: Write>(
+/// The reasons of the faults that are at the first event or later, of those of all these faults.
+pub fn left_at_first<'a>(faults: &Faults, reasons: &'a [Evidence]) -> &'a [Evidence]
+    ensures { result.now ≡ reasons_from 1 (map.entries faults.now) reasons.entry.now }
+{
+    pass(faults, 0, reasons)
+}
+
+// Appends what is shown of an event that is shown, or left out. Returns the reasons of the faults
+// after it.
+fn put_event<'a, W: Write>(
     out: &mut Outgoing<'_, W>,
-    view: &Annotated<'_>,
+    view: &Annotated<'a>,
     shown: bool,
     timed: bool,
     place: Place3,
     event: &Event<'_>,
-)
-    ensures { Puts W.contents out.old
-        (text_if shown timed (annotation_of view.now) view.now.begins_gap (placed_at place event.now)) out.new }
+) -> &'a [Evidence]
+    ensures left { result.now ≡ left_here shown view.now place.position }
+    ensures puts { Puts W.contents out.old (text_here shown timed view.now (placed_at place event.now)) out.new }
 {
     if shown {
-        put_noted_line(out, view, timed, place, event);
+        put_noted_line(out, view, timed, place, event)
     } else {
         put_gap(out, view.begins_gap);
+        view.left
     }
 }
 
-// Appends the line of an event at its place, and those of the faults at it.
-fn put_noted_line<W: Write>(
+// Appends the line of an event at its place, and those of the faults at it. Returns the reasons of
+// the faults after it.
+fn put_noted_line<'a, W: Write>(
     out: &mut Outgoing<'_, W>,
-    view: &Annotated<'_>,
+    view: &Annotated<'a>,
     timed: bool,
     place: Place3,
     event: &Event<'_>,
-)
-    ensures { Puts W.contents out.old (noted_line timed (annotation_of view.now) (placed_at place event.now)) out.new }
+) -> &'a [Evidence]
+    ensures left { result.now ≡ reasons_past (faults_at place.position (map.entries view.now.faults.now)) view.now.left.now }
+    ensures puts { Puts W.contents out.old (noted_here timed view.now (placed_at place event.now)) out.new }
 {
     put_shown_line(out, timed, view.extent.long, place, event);
-    put_notes(out, view.faults, view.role, timed, place);
+    put_notes(out, view.faults, view.left, view.role, timed, place)
 }
 
 // Whether a position is within `around` positions of a fault; with `None` any is.
@@ -106,6 +127,17 @@ fn is_near(faults: &Faults, around: Option<u32>, position: u32) -> bool
         Some(first) => first.saturating_sub(position) <= count,
         None => false,
     }
+}
+
+// The reasons after those of the faults at this position.
+fn pass<'a>(faults: &Faults, position: u32, reasons: &'a [Evidence]) -> &'a [Evidence]
+    ensures { result.now ≡ reasons_past (faults_at position (map.entries faults.now)) reasons.entry.now }
+{
+    let mut left = reasons;
+    for (_key, _fault) in faults.at(position) {
+        left = later_reasons(left);
+    }
+    left
 }
 
 // Appends the line of an event at its place: the long one, or the short one with the bytes of a
@@ -136,24 +168,40 @@ fn put_gap<W: Write>(out: &mut Outgoing<'_, W>, begins: bool)
 }
 
 // Appends the lines of the faults at an event with this place, in a log whose records have moments
-// if `timed` is true.
-fn put_notes<W: Write>(
+// if `timed` is true. The reasons are those of these faults and of the later ones; those of the
+// later ones are returned.
+fn put_notes<'a, W: Write>(
     out: &mut Outgoing<'_, W>,
     faults: &Faults,
+    reasons: &'a [Evidence],
     role: Role,
     timed: bool,
     place: Place3,
-)
-    ensures { Puts W.contents out.old
-        (fault_notes role (time_words timed place.moment) (faults_at place.position (map.entries faults.now))) out.new }
+) -> &'a [Evidence]
+    ensures left { result.now ≡ reasons_past (faults_at place.position (map.entries faults.now)) reasons.entry.now }
+    ensures puts { Puts W.contents out.old (fault_notes role (time_words timed place.moment)
+        (explained (faults_at place.position (map.entries faults.now)) reasons.entry.now)) out.new }
 {
+    let mut left = reasons;
     for (key, fault) in faults.at(place.position) {
-        put_note(out, role, timed, place.moment, *key, *fault);
+        let reason = first_of(left);
+        put_note(out, role, timed, place.moment, *key, *fault, reason);
+        left = later_reasons(left);
     }
+    left
 }
 
-// Appends the line of a fault: its statement and what that says, where the fault was decided if
-// that is at a later event, where in its packet it is, and this moment as a time.
+// The first of these reasons, if there is one.
+fn first_of(reasons: &[Evidence]) -> Option<Evidence>
+    ensures { result ≡ reason_of_first reasons.now }
+{
+    let (first, _) = reasons.split_first()?;
+    Some(*first)
+}
+
+// Appends the line of a fault: its statement and what that says, what the fault conflicts with,
+// where it was decided if that is at a later event, where in its packet it is, and this moment as a
+// time.
 fn put_note<W: Write>(
     out: &mut Outgoing<'_, W>,
     role: Role,
@@ -161,10 +209,12 @@ fn put_note<W: Write>(
     moment: u64,
     key: FaultKey,
     fault: Fault,
+    reason: Option<Evidence>,
 )
-    ensures { Puts W.contents out.old (fault_note role (time_words timed moment) (key, fault)) out.new }
+    ensures { Puts W.contents out.old (fault_note role (time_words timed moment) ((key, fault), reason)) out.new }
 {
     put_statement(out, role, key.rule);
+    put_reason(out, key.rule, reason);
     put_decided(out, key.position, fault.decided);
     put_offset(out, fault.offset);
     put_time(out, timed, moment);

@@ -6,7 +6,7 @@ ghost use Rattle.mq_report.specs.Display.{line_with_bytes, direction_word, event
 ghost use Rattle.mq_report.specs.ItemText.{with_spaces};
 ghost use Rattle.mq_report.specs.Views.{IsStateAfter, text_by};
 ghost use Rattle.mq_log.specs.Events.{Placed};
-ghost use Rattle.mq_log.specs.Reception.{event_of, packet_event_at, placed_at};
+ghost use Rattle.mq_log.specs.Reception.{AreEvents, event_of, packet_event_at, placed_at};
 
 use super::super::lines::Lines;
 use super::super::report::item::{put_item, put_packet};
@@ -43,9 +43,9 @@ impl View<'_> {
     )
         ensures text { (given : Bool) → text_by given self.new ≡ text_by given self.old }
         ensures writer { out.new.writer.ghost_name ≡ out.old.writer.ghost_name }
-        ensures stands { (earlier : List Placed) → IsStateAfter earlier self.old → IsStateAfter (placed_at place event.now ∷ earlier) self.new }
-        ensures puts { (held : Option (List ℕ)) (earlier : List Placed) → IsStateAfter earlier self.old → Carries W.contents held (text_by timed self.old earlier) out.old
-            → Carries W.contents held (text_by timed self.old (placed_at place event.now ∷ earlier)) out.new }
+        ensures stands { (earlier : List Placed) → AreEvents (placed_at place event.now ∷ earlier) → IsStateAfter earlier self.old → IsStateAfter (placed_at place event.now ∷ earlier) self.new }
+        ensures puts { (held : Option (List ℕ)) (earlier : List Placed) → AreEvents (placed_at place event.now ∷ earlier) → IsStateAfter earlier self.old
+            → Carries W.contents held (text_by timed self.old earlier) out.old → Carries W.contents held (text_by timed self.old (placed_at place event.now ∷ earlier)) out.new }
     {
         match self {
             View::Brief => put_event_line(out, timed, place, event),
@@ -70,9 +70,9 @@ impl View<'_> {
         requires { size ≡ unwrap_or (size_with (remaining_length packet)) 0 }
         ensures text { (given : Bool) → text_by given self.new ≡ text_by given self.old }
         ensures writer { out.new.writer.ghost_name ≡ out.old.writer.ghost_name }
-        ensures stands { (earlier : List Placed) → IsStateAfter earlier self.old → IsStateAfter (packet_event_at place direction packet.entry ∷ earlier) self.new }
-        ensures puts { (held : Option (List ℕ)) (earlier : List Placed) → IsStateAfter earlier self.old → Carries W.contents held (text_by timed self.old earlier) out.old
-            → Carries W.contents held (text_by timed self.old (packet_event_at place direction packet.entry ∷ earlier)) out.new }
+        ensures stands { (earlier : List Placed) → AreEvents (packet_event_at place direction packet.entry ∷ earlier) → IsStateAfter earlier self.old → IsStateAfter (packet_event_at place direction packet.entry ∷ earlier) self.new }
+        ensures puts { (held : Option (List ℕ)) (earlier : List Placed) → AreEvents (packet_event_at place direction packet.entry ∷ earlier) → IsStateAfter earlier self.old
+            → Carries W.contents held (text_by timed self.old earlier) out.old → Carries W.contents held (text_by timed self.old (packet_event_at place direction packet.entry ∷ earlier)) out.new }
     {
         match self {
             View::Brief => {
@@ -96,9 +96,9 @@ impl View<'_> {
     )
         ensures text { (given : Bool) → text_by given self.new ≡ text_by given self.old }
         ensures writer { out.new.writer.ghost_name ≡ out.old.writer.ghost_name }
-        ensures stands { (earlier : List Placed) → IsStateAfter earlier self.old → IsStateAfter (packet_event_at place direction packet.entry ∷ earlier) self.new }
-        ensures puts { (held : Option (List ℕ)) (earlier : List Placed) → IsStateAfter earlier self.old → Carries W.contents held (text_by timed self.old earlier) out.old
-            → Carries W.contents held (text_by timed self.old (packet_event_at place direction packet.entry ∷ earlier)) out.new }
+        ensures stands { (earlier : List Placed) → AreEvents (packet_event_at place direction packet.entry ∷ earlier) → IsStateAfter earlier self.old → IsStateAfter (packet_event_at place direction packet.entry ∷ earlier) self.new }
+        ensures puts { (held : Option (List ℕ)) (earlier : List Placed) → AreEvents (packet_event_at place direction packet.entry ∷ earlier) → IsStateAfter earlier self.old
+            → Carries W.contents held (text_by timed self.old earlier) out.old → Carries W.contents held (text_by timed self.old (packet_event_at place direction packet.entry ∷ earlier)) out.new }
     {
         let item = Item::Packet(packet);
         match direction {

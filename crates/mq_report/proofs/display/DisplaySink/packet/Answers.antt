@@ -10,11 +10,11 @@ returns-clause-receives g c = λ earlier agrees are.
     let was = agrees.0 in
     let given : text_by c.args.self.now.timed c.args.self.now.view ≡ g.K.Given.text = ap (λ (t : Bool). text_by t c.args.self.now.view) agrees.1 ∙ was.1 in
     let before = subst (λ (t : List Placed → List ℕ). Carries g.W.Write.contents g.K.Given.held (t earlier) c.args.self.now.out.now) (sym given) was.3 in
-    let after = c.put_packet.ensures.puts g.K.Given.held earlier was.2 before in (
+    let after = c.put_packet.ensures.puts g.K.Given.held earlier are was.2 before in (
       (
         c.put_packet.ensures.writer ∙ was.0,
         c.put_packet.ensures.text g.K.Given.timed ∙ was.1,
-        c.put_packet.ensures.stands earlier was.2,
+        c.put_packet.ensures.stands earlier are was.2,
         subst (λ (t : List Placed → List ℕ). Carries g.W.Write.contents g.K.Given.held (t (packet_event_at c.args.place c.args.direction c.args.packet ∷ earlier)) c.put_packet.new.out) given after,
         was.4,
       ),

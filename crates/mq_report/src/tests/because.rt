@@ -1,0 +1,449 @@
+//! What faults conflict with, in words under their events. These were written from the words of the
+//! statements and from `bench/because.py --words`.
+use crate::display::annotated::Extent;
+use crate::display::because::put_reason;
+use crate::display::outgoing::Outgoing;
+use crate::display::show_faults;
+use crate::report::RunFault;
+use mq_evidence::{Evidence, Numbers};
+use mq_rules::{Fault, FaultKey, Faults, Role, Rule};
+use std::alloc::Global;
+
+// Writes what is said of a fault of the statement that has this reason.
+fn write_reason(
+    rule: Rule,
+    reason: Option<Evidence>,
+    writer: &mut Vec<u8>,
+) -> Result<(), RunFault> {
+    let mut out = Outgoing::to(writer);
+    put_reason(&mut out, rule, reason);
+    out.write_last()
+}
+
+// Whether these words are said of it.
+fn is_said(alloc: Global, rule: Rule, reason: Option<Evidence>, words: &str) -> bool {
+    let mut written = Vec::new(alloc);
+    let answer = write_reason(rule, reason, &mut written);
+    answer.is_ok() && written.as_slice() == words.as_bytes()
+}
+
+// The reason with this event and no numbers.
+fn by_event(position: u32) -> Option<Evidence> {
+    Some(Evidence {
+        because: Some(position),
+        numbers: Numbers::Nothing,
+    })
+}
+
+// The reason with no event and no numbers.
+fn by_nothing() -> Option<Evidence> {
+    Some(Evidence {
+        because: None,
+        numbers: Numbers::Nothing,
+    })
+}
+
+// The reason with these numbers, and an event if there is one.
+fn by_numbers(because: Option<u32>, numbers: Numbers) -> Option<Evidence> {
+    Some(Evidence { because, numbers })
+}
+
+// Statements on a packet's bytes, and others that a packet breaks by itself.
+#[test]
+fn nothing_is_said_of_what_is_at_fault_by_itself(rt: HostRuntime) {
+    for rule in [
+        Rule::W01,
+        Rule::W02,
+        Rule::W03,
+        Rule::W04,
+        Rule::W05,
+        Rule::W06,
+        Rule::W07,
+        Rule::W08,
+        Rule::W09,
+        Rule::W10,
+        Rule::W11,
+        Rule::W12,
+        Rule::W13,
+        Rule::W14,
+        Rule::W15,
+        Rule::W16,
+        Rule::W17,
+        Rule::W18,
+        Rule::W19,
+        Rule::W20,
+        Rule::W21,
+        Rule::C01,
+        Rule::C09,
+        Rule::C18,
+        Rule::C19,
+    ] {
+        assert!(rt; is_said(rt.alloc(), rule, by_nothing(), ""));
+        assert!(rt; is_said(rt.alloc(), rule, by_event(7), " (because of event 7)"));
+    }
+}
+
+#[test]
+fn says_what_the_event_is_on_a_connection(rt: HostRuntime) {
+    for (rule, words) in [
+        (Rule::C03, " (because of event 2: the first CONNECT)"),
+        (Rule::C06, " (because of event 2: the first CONNACK)"),
+        (
+            Rule::C07,
+            " (because of event 2: the CONNECT, with Clean Start 1)",
+        ),
+        (
+            Rule::C08,
+            " (because of event 2: the last CONNACK that accepted, whose session has ended)",
+        ),
+        (
+            Rule::C10,
+            " (because of event 2: the CONNECT, with an empty Client Identifier)",
+        ),
+        (Rule::C11, " (because of event 2: the DISCONNECT)"),
+        (Rule::C12, " (because of event 2: the CONNACK that refuses)"),
+        (
+            Rule::C13,
+            " (because of event 2: the CONNACK, with Session Present 1)",
+        ),
+        (
+            Rule::C21,
+            " (because of event 2: the CONNECT, with Request Problem Information 0)",
+        ),
+        (
+            Rule::C22,
+            " (because of event 2: the CONNECT, without Request Response Information 1)",
+        ),
+        (
+            Rule::C23,
+            " (because of event 2: it had to close after that)",
+        ),
+    ] {
+        assert!(rt; is_said(rt.alloc(), rule, by_event(2), words), "{words}");
+    }
+}
+
+#[test]
+fn says_what_the_event_is_in_a_session(rt: HostRuntime) {
+    for (rule, words) in [
+        (Rule::S01, " (because of event 40: it holds the identifier)"),
+        (
+            Rule::S02,
+            " (because of event 40: the exchange was over with it)",
+        ),
+        (
+            Rule::S03,
+            " (because of event 40: the PUBLISH before, on this connection)",
+        ),
+        (Rule::S04, " (because of event 40: the PUBREL)"),
+        (
+            Rule::S06,
+            " (because of event 40: the CONNACK that resumed the session)",
+        ),
+        (
+            Rule::L1,
+            " (because of event 40: the exchange was over with it)",
+        ),
+        (Rule::L2, " (because of event 40: the RELEASE before)"),
+        (
+            Rule::L3,
+            " (because of event 40: the PUBLISH that brought it, and wasn't released)",
+        ),
+    ] {
+        assert!(rt; is_said(rt.alloc(), rule, by_event(40), words), "{words}");
+    }
+}
+
+#[test]
+fn says_what_the_event_is_to_an_exchange(rt: HostRuntime) {
+    for rule in [
+        Rule::E1A,
+        Rule::E2A,
+        Rule::E3A,
+        Rule::E4A,
+        Rule::E5A,
+        Rule::E6A,
+    ] {
+        let words = " (because of event 5: nothing asked for it after that)";
+        assert!(rt; is_said(rt.alloc(), rule, by_event(5), words));
+    }
+    for rule in [
+        Rule::E1R,
+        Rule::E2R,
+        Rule::E3R,
+        Rule::E4R,
+        Rule::E5R,
+        Rule::E6R,
+    ] {
+        let words = " (because of event 5: the REST, with no answer before it)";
+        assert!(rt; is_said(rt.alloc(), rule, by_event(5), words));
+    }
+    for rule in [Rule::E1O, Rule::E2O, Rule::E3O] {
+        let words = " (because of event 5: it came first, and waits for its answer)";
+        assert!(rt; is_said(rt.alloc(), rule, by_event(5), words));
+    }
+}
+
+#[test]
+fn says_what_the_numbers_are(rt: HostRuntime) {
+    for (rule, numbers, words) in [
+        (
+            Rule::C14,
+            Numbers::Two(300, 128),
+            " (because of event 3: 300 bytes, at most 128 allowed)",
+        ),
+        (
+            Rule::C15,
+            Numbers::Two(6, 5),
+            " (because of event 3: Topic Alias 6, at most 5 allowed)",
+        ),
+        (
+            Rule::C17,
+            Numbers::Two(2, 1),
+            " (because of event 3: QoS 2, at most 1 allowed)",
+        ),
+        (
+            Rule::C20,
+            Numbers::One(60),
+            " (because of event 3: the CONNECT, with Session Expiry Interval 0 or none, and here 60 seconds)",
+        ),
+        (
+            Rule::S05,
+            Numbers::Two(6, 5),
+            " (because of event 3: first sent as event 6, and this one as event 5 before it)",
+        ),
+        (
+            Rule::S07,
+            Numbers::Two(11, 10),
+            " (because of event 3: 11 in flight, at most 10 allowed)",
+        ),
+        (
+            Rule::E7R,
+            Numbers::Two(2, 1),
+            " (because of event 3: 2 asked, 1 answered)",
+        ),
+        (
+            Rule::B02,
+            Numbers::Two(2, 0),
+            " (because of event 3: QoS 2, at most 0 granted)",
+        ),
+        (
+            Rule::B03,
+            Numbers::Two(3, 2),
+            " (because of event 3: 3 filters, 2 Reason Codes)",
+        ),
+        (
+            Rule::B04,
+            Numbers::Two(3, 2),
+            " (because of event 3: 3 filters, 2 Reason Codes)",
+        ),
+    ] {
+        assert!(rt;
+            is_said(rt.alloc(), rule, by_numbers(Some(3), numbers), words),
+            "{words}"
+        );
+    }
+}
+
+#[test]
+fn says_what_never_came(rt: HostRuntime) {
+    for (rule, words) in [
+        (Rule::C02, " (no CONNECT was sent before)"),
+        (Rule::C04, " (no CONNECT was received before)"),
+        (Rule::C05, " (no CONNACK was sent before)"),
+        (Rule::C08, " (no session was begun)"),
+        (Rule::S02, " (never sent in this session)"),
+        (Rule::E1A, " (never asked for in this session)"),
+        (Rule::E2A, " (never asked for in this session)"),
+        (Rule::E3A, " (never asked for in this session)"),
+        (Rule::E4A, " (never asked for in this session)"),
+        (Rule::E5A, " (never asked for in this session)"),
+        (Rule::E6A, " (never asked for in this session)"),
+        (Rule::L1, " (never received in this session)"),
+    ] {
+        assert!(rt; is_said(rt.alloc(), rule, by_nothing(), words), "{words}");
+    }
+}
+
+#[test]
+fn says_what_the_numbers_are_without_an_event(rt: HostRuntime) {
+    for (rule, numbers, words) in [
+        (
+            Rule::C15,
+            Numbers::Two(1, 0),
+            " (Topic Alias 1, at most 0 allowed by default)",
+        ),
+        (
+            Rule::C16,
+            Numbers::One(9),
+            " (Topic Alias 9 wasn't set on this connection)",
+        ),
+        (
+            Rule::S07,
+            Numbers::Two(65536, 65535),
+            " (65536 in flight, at most 65535 allowed by default)",
+        ),
+        (
+            Rule::B01,
+            Numbers::One(0),
+            " (0 filters stand, and none matches)",
+        ),
+    ] {
+        assert!(rt;
+            is_said(rt.alloc(), rule, by_numbers(None, numbers), words),
+            "{words}"
+        );
+    }
+}
+
+// What a statement's evidence never has is left out.
+#[test]
+fn numbers_that_are_not_compared_are_left_out(rt: HostRuntime) {
+    for (rule, reason, words) in [
+        (Rule::S07, by_event(3), " (because of event 3)"),
+        (Rule::S07, by_nothing(), ""),
+        (
+            Rule::S07,
+            by_numbers(Some(3), Numbers::One(11)),
+            " (because of event 3)",
+        ),
+        (
+            Rule::S01,
+            by_numbers(Some(3), Numbers::Two(11, 10)),
+            " (because of event 3)",
+        ),
+        (Rule::C14, by_numbers(None, Numbers::Two(11, 10)), ""),
+        (Rule::C20, by_numbers(None, Numbers::One(60)), ""),
+        (Rule::S01, by_nothing(), ""),
+        (Rule::S02, None, ""),
+    ] {
+        assert!(rt; is_said(rt.alloc(), rule, reason, words), "{words}");
+    }
+}
+
+#[test]
+fn the_largest_numbers_are_said(rt: HostRuntime) {
+    let words =
+        " (because of event 4294967295: first sent as event 18446744073709551615, and this one as event 18446744073709551614 before it)";
+    let numbers = Numbers::Two(u64::MAX, u64::MAX - 1);
+    assert!(rt;
+        is_said(
+            rt.alloc(),
+            Rule::S05,
+            by_numbers(Some(u32::MAX), numbers),
+            words
+        )
+    );
+}
+
+// A server's log: twice a connection is opened and closed.
+const LOG: &[u8] = b"MQTR\x01\x01\x01\x00\
+    \x01\x00\x00\x00\x00\x04\x00\x00\x00\x00\x01\x00\x00\x00\x00\x04\x00\x00\x00\x00";
+
+// The faults of these statements at these positions, each decided at the next event.
+fn faults_of(alloc: Global, found: &[(u32, Rule)]) -> Option<Faults> {
+    let mut faults = Faults::new(alloc);
+    for (position, rule) in found {
+        let key = FaultKey {
+            position: *position,
+            rule: *rule,
+        };
+        let fault = Fault {
+            decided: position.saturating_add(1),
+            record_no: *position,
+            offset: None,
+        };
+        faults.add(key, fault).ok()?;
+    }
+    Some(faults)
+}
+
+// Whether the log is shown so with these faults and reasons.
+fn is_shown(
+    alloc: Global,
+    found: &[(u32, Rule)],
+    reasons: &[Evidence],
+    around: Option<u32>,
+    text: &str,
+) -> bool {
+    let Some(faults) = faults_of(alloc, found) else {
+        return false;
+    };
+    let extent = Extent {
+        around,
+        long: false,
+    };
+    let mut log = LOG;
+    let mut shown = Vec::new(alloc);
+    let answer = show_faults(
+        alloc,
+        &faults,
+        reasons,
+        Role::Server,
+        extent,
+        &mut log,
+        &mut shown,
+    );
+    answer.is_ok() && shown.as_slice() == text.as_bytes()
+}
+
+const FOUND: [(u32, Rule); 4] = [
+    (1, Rule::S01),
+    (1, Rule::L1),
+    (4, Rule::C06),
+    (4, Rule::C16),
+];
+
+const REASONS: [Evidence; 4] = [
+    Evidence {
+        because: Some(11),
+        numbers: Numbers::Nothing,
+    },
+    Evidence {
+        because: None,
+        numbers: Numbers::Nothing,
+    },
+    Evidence {
+        because: Some(33),
+        numbers: Numbers::Nothing,
+    },
+    Evidence {
+        because: None,
+        numbers: Numbers::One(44),
+    },
+];
+
+#[test]
+fn each_fault_has_its_own_reason(rt: HostRuntime) {
+    let text = "1 record 1 OPEN\n\
+        \x20 fault S01 MQTT-2.2.1-4 A new PUBLISH, SUBSCRIBE or UNSUBSCRIBE takes no Packet Identifier that is in use. (because of event 11: it holds the identifier) (decided at event 2)\n\
+        \x20 fault L1 sec-4.3.3 Only a QoS 2 message that was received, and whose exchange isn't over, is released. (never received in this session) (decided at event 2)\n\
+        ..\n\
+        4 record 4 CLOSE\n\
+        \x20 fault C06 MQTT-3.2.0-2 A server sends only one CONNACK on a connection. (because of event 33: the first CONNACK) (decided at event 5)\n\
+        \x20 fault C16 sec-3.3.2 A Topic Alias that stands for a Topic Name was set on this connection. (Topic Alias 44 wasn't set on this connection) (decided at event 5)\n";
+    assert!(rt; is_shown(rt.alloc(), &FOUND, &REASONS, Some(0), text));
+}
+
+#[test]
+fn a_fault_beyond_the_reasons_has_no_words(rt: HostRuntime) {
+    let text = "1 record 1 OPEN\n\
+        \x20 fault S01 MQTT-2.2.1-4 A new PUBLISH, SUBSCRIBE or UNSUBSCRIBE takes no Packet Identifier that is in use. (because of event 11: it holds the identifier) (decided at event 2)\n\
+        2 record 2 CLOSE\n\
+        \x20 fault L1 sec-4.3.3 Only a QoS 2 message that was received, and whose exchange isn't over, is released. (decided at event 3)\n\
+        3 record 3 OPEN\n\
+        4 record 4 CLOSE\n";
+    let found = [(1, Rule::S01), (2, Rule::L1)];
+    assert!(rt; is_shown(rt.alloc(), &found, &REASONS[..1], None, text));
+}
+
+// No event has these positions, but the reasons are counted from the first fault on.
+#[test]
+fn reasons_of_faults_at_no_event_are_passed(rt: HostRuntime) {
+    let text = "..\n\
+        3 record 3 OPEN\n\
+        \x20 fault L1 sec-4.3.3 Only a QoS 2 message that was received, and whose exchange isn't over, is released. (because of event 33: the exchange was over with it) (decided at event 4)\n\
+        ..\n";
+    let found = [(0, Rule::S01), (0, Rule::L1), (3, Rule::L1), (9, Rule::L1)];
+    assert!(rt; is_shown(rt.alloc(), &found, &REASONS, Some(0), text));
+}
