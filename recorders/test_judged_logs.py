@@ -274,6 +274,13 @@ class Rests(Case):
         self.assertEqual(self.remark(a=rested), [])
         self.assertEqual(self.remark(a=log_of(*session[:3], (2, b"\xc0\0" * 3), (5, b""), version=1)), [])
 
+    def test_one_before_the_connack_imposes_nothing(self) -> None:
+        session = [(1, b""), (2, Foreign.CONNECT), (5, b"")]
+        answered = [(4, b""), (1, b""), (2, Foreign.CONNECT), (3, bytes.fromhex("2003000000"))]
+        self.assertEqual(len(self.remark(a=log_of(*session))), 1)
+        self.assertEqual(len(self.remark(a=log_of(*session, *answered))), 1)
+        self.assertEqual(self.remark(a=log_of(*session, *answered, (5, b""))), [])
+
     def test_long_bodies_are_passed_over(self) -> None:
         """Also a REST behind more bytes than are read at once, and bodies that look like one."""
         publish = (2, bytes.fromhex("30ffff1f 000161 00".replace(" ", "")) + b"\x05" * (0x7FFFF - 4))

@@ -27,7 +27,7 @@ class Looked:
 
     foreign: str = ""  # what is spoken on its first connection, in words, where that isn't MQTT
     is_only: bool = True  # it has no other connection, if that one is foreign
-    has_rest: bool | None = None  # None where it isn't a log
+    has_rest: bool | None = None  # one after what the server sent on its connection; None where it isn't a log
 
 
 def look_at(log: Path) -> Looked:
@@ -45,7 +45,17 @@ def look_at(log: Path) -> Looked:
         client, server = (received, sent) if header[ROLE_AT] == SERVER else (sent, received)
         foreign = of_client(client) or of_server(server)
         is_only = not foreign or sum(kind == OPEN for kind, _, _ in places(file)) <= 1
-        return Looked(foreign, is_only, any(kind == REST for kind, _, _ in places(file)))
+        return Looked(foreign, is_only, has_answered_rest(file, SENT if header[ROLE_AT] == SERVER else RECV))
+
+
+def has_answered_rest(file: BinaryIO, answers: int) -> bool:
+    """Whether a REST comes after something that the server sent on its connection: before that none imposes anything."""
+    is_answered = False
+    for kind, _, _ in places(file):
+        if kind == REST and is_answered:
+            return True
+        is_answered = kind == answers or (is_answered and kind != OPEN)
+    return False
 
 
 def first_bytes(file: BinaryIO) -> tuple[bytes, bytes]:
