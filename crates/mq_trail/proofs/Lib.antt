@@ -3,3 +3,6 @@ pub mod RestLaws
 pub mod FollowingLaws
 pub mod SecondReadingLaws
 pub mod SourceLaws
+pub mod ComparingLaws
+pub mod RejudgingLaws
+pub mod ExplainingLaws

@@ -1,14 +1,19 @@
 -- A log that is read again, for a sink that lacks nothing but memory.
-use Rattle.std.proofs.Common.{◌≡◌, ℕ, false, ◌⊎◌, inl, inr, List, [], ◌∷◌, ◌++◌, length, Option, Some, None, Result, Ok, Err, OnOk, IfErr, IfSome, refl, sym, ap, subst, ◌∙◌, append-nil}
+use Rattle.std.proofs.Common.{◌≡◌, ℕ, Bool, true, false, nat_lt, ◌⊎◌, inl, inr, List, [], ◌∷◌, ◌++◌, length, Option, Some, None, Result, Ok, Err, OnOk, IfErr, IfSome, refl, sym, ap, subst, ◌∙◌, append-nil}
 use Rattle.mq_log.specs.declared.refusal.Refusal.{Refusal}
 use Rattle.mq_log.specs.declared.refusal.Refusal.TheVariants as refusals
+use Rattle.std.specs.Prelude.{◌||◌, if◌then◌else◌}
+use Rattle.mq_log.specs.Framing.{header_by}
 use Rattle.mq_log.specs.Events.{Placed, events}
+use Rattle.mq_rules.specs.declared.role.Tested.{Tested}
+use Rattle.mq_rules.specs.Notes.{tested_by}
 use Rattle.mq_log.specs.Refusals.{refused, is_cut_short}
 use Rattle.mq_log.specs.Refusing.{moved}
 use Rattle.mq_trace.specs.Feeding.{FedAll}
-use Rattle.mq_trace.specs.Tracing.{Traced, IsTracedTo, TracesPiece, Why, Ends}
+use Rattle.mq_trace.specs.Tracing.{Traced, IsTracedTo, TracesPiece, Why}
 use Rattle.mq_trace.proofs.Exports.{pieces-are, some-taken, whole-taken}
-use Rattle.mq_report.specs.Stopping.{FedBefore, IsJudged, IsRefusedAt, IsRefusedByte, StopsIn, default_limit}
+use Rattle.mq_report.specs.Stopping.{FedBefore, IsJudged, IsRefusedAt, IsRefusedByte, IsRefusedEnd, StopsIn, default_limit}
+use Rattle.mq_trail.specs.Following.{EndsAs}
 
 -- ---- a piece
 
@@ -37,6 +42,15 @@ module _ {S : Type 0} (agrees : S → List Placed → Type 0) (refuses : S → L
 
 -- ---- a log
 
+-- where no header is known, it isn't whole
+pub cut_unnamed : (log : List ℕ) → None ≡ (if nat_lt (length log) 8 then None else Some (header_by log)) → is_cut_short log ≡ true
+unfolding is_cut_short
+cut_unnamed log h = go (nat_lt (length log) 8) _ h
+  where
+    go : (b c : Bool) → None ≡ (if b then None else Some (header_by log)) → (b || c) ≡ true
+    go true c h = refl
+    go false c h = absurd (cc)
+
 -- A feeder that has a tracer, and a sink.
 module _ {F S : Type 0} (tracer : F → Traced) (agrees : S → List Placed → Type 0) where
   abbrev pub Limit : F → ℕ
@@ -52,27 +66,28 @@ module _ {F S : Type 0} (tracer : F → Traced) (agrees : S → List Placed → 
   unrefused f log traced within default = subst (λ l. refused l log ≡ None) (within ∙ default) traced.keeps.unrefused
 
   -- all was taken in, and the log isn't cut short
-  pub fed-whole : {first : ℕ} {x y : Option (List ℕ)} {f : F} {s : S} → FedAll Limit FollowsBoth first x y f s → first ≡ default_limit
-      → ((log : List ℕ) → IsTracedTo (tracer f) log → is_cut_short log ≡ false) → IfSome x (λ log. IsJudged log × agrees s (events log))
-  fed-whole {first} {x} {y} {f} {s} took default whole =
+  pub fed-whole : {first : ℕ} {x y : Option (List ℕ)} {f : F} {s : S} (named : Tested) → FedAll Limit FollowsBoth first x y f s → first ≡ default_limit
+      → ((log : List ℕ) → IsTracedTo (tracer f) log → EndsAs log (Ok named)) → IfSome x (λ log. IsJudged log × (named ≡ tested_by log) × agrees s (events log))
+  fed-whole {first} {x} {y} {f} {s} named took default whole =
       let log = took.log in
-      whole-taken x y log (λ l. IsJudged l × agrees s (events l)) took.consumed took.ended (
-        record { unrefused = unrefused f log took.followed.0 took.within default; whole = whole log took.followed.0 },
+      let ends : (is_cut_short log ≡ false) × (named ≡ tested_by log) = whole log took.followed.0 in
+      whole-taken x y log (λ l. IsJudged l × (named ≡ tested_by l) × agrees s (events l)) took.consumed took.ended (
+        record { unrefused = unrefused f log took.followed.0 took.within default; whole = ends.0 },
+        ends.1,
         took.followed.1,
       )
 
   -- it is cut short
   pub fed-cut : {first : ℕ} {x y : Option (List ℕ)} {f : F} {s : S} (refusal : Refusal) → FedAll Limit FollowsBoth first x y f s → first ≡ default_limit
-      → ((log : List ℕ) → IsTracedTo (tracer f) log → Ends log (Err refusal)) → IfSome x (λ log. IsRefusedAt default_limit log y refusal)
+      → ((log : List ℕ) → IsTracedTo (tracer f) log → IsRefusedEnd log refusal) → IfSome x (λ log. IsRefusedAt default_limit log y refusal)
   fed-cut {first} {x} {y} {f} {s} refusal took default cut =
       let log = took.log in
-      let ends = cut log took.followed.0 in
       whole-taken x y log (λ l. IsRefusedAt default_limit l y refusal) took.consumed took.ended (record {
         taken = log;
         later = [];
         is = sym (append-nil log);
         unrefused = unrefused f log took.followed.0 took.within default;
-        why = inl (ends.1, ends.0);
+        why = inl (cut log took.followed.0);
       })
 
   -- a byte was refused, or nothing more could be read

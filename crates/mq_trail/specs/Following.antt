@@ -1,18 +1,25 @@
 -- A watcher that is driven over the events of a log.
-use Rattle.std.specs.Prelude.{List, Option, Result, Ok, Err, ℕ}
+use Rattle.std.specs.Prelude.{◌≡◌, false, List, Option, Result, Ok, Err, ℕ}
+use Rattle.mq_log.specs.Refusals.{is_cut_short}
 use Rattle.mq_log.specs.declared.refusal.Refusal.{Refusal}
 use Rattle.mq_rules.specs.declared.role.Tested.{Tested}
 use Rattle.mq_rules.specs.declared.fate.Fate.{Fate}
 use Rattle.mq_rules.specs.declared.note.Seen.{Seen}
 use Rattle.mq_rules.specs.Connections.{latest_fate}
-use Rattle.mq_rules.specs.Notes.{seen_in}
-use Rattle.mq_report.specs.Stopping.{IsJudged, IsRefusedAt, default_limit}
+use Rattle.mq_rules.specs.Notes.{seen_in, tested_by}
+use Rattle.mq_report.specs.Stopping.{IsJudged, IsRefusedAt, IsRefusedEnd, default_limit}
 
 -- The watcher, whose law is given, has taken in these events of this end, the newest first.
 abbrev pub HasFollowed : {W : Type 0} → (W → Tested → Option Fate → List Seen → Type 0) → Tested → W → List Seen → Type 0
 HasFollowed agrees tested watcher past = agrees watcher tested (latest_fate tested.role past) past
 
--- The result of driving a watcher over this log, and what the reader has left: the watcher, which has taken in all events of the log, or why the log is refused.
-abbrev pub FollowsOver : {W : Type 0} → (W → Tested → Option Fate → List Seen → Type 0) → Tested → List ℕ → Option (List ℕ) → Result W Refusal → Type 0
-FollowsOver agrees tested log left (Ok watcher) = IsJudged log × HasFollowed agrees tested watcher (seen_in log)
+-- What ending a log returns of which nothing is refused so far: the end that its header names, if the log is whole; else why its end is refused.
+abbrev pub EndsAs : List ℕ → Result Tested Refusal → Type 0
+EndsAs log (Ok named) = (is_cut_short log ≡ false) × (named ≡ tested_by log)
+EndsAs log (Err refusal) = IsRefusedEnd log refusal
+
+-- The result of driving a watcher over this log, and what the reader has left: the watcher, which has taken in all events of the log, with the end that the log's
+-- header names; or why the log is refused.
+abbrev pub FollowsOver : {W : Type 0} → (W → Tested → Option Fate → List Seen → Type 0) → Tested → List ℕ → Option (List ℕ) → Result (W × Tested) Refusal → Type 0
+FollowsOver agrees tested log left (Ok answer) = IsJudged log × (answer.1 ≡ tested_by log) × HasFollowed agrees tested answer.0 (seen_in log)
 FollowsOver agrees tested log left (Err refusal) = IsRefusedAt default_limit log left refusal

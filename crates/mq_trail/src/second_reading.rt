@@ -1,7 +1,8 @@
 //! Reads a log again, to drive a watcher over its events.
-ghost use Rattle.std.specs.Prelude.{[], IfSome, Some};
+ghost use Rattle.std.specs.Prelude.{[], ℕ, List, IfSome, Some};
 ghost use Rattle.mq_rules.specs.declared.fate.Fate.TheVariants.{Void};
-ghost use Rattle.mq_trail.specs.Following.{FollowsOver};
+ghost use Rattle.mq_trace.specs.Tracing.{IsTracedTo};
+ghost use Rattle.mq_trail.specs.Following.{EndsAs, FollowsOver};
 
 use super::following::{Follower, Following, Watched};
 use mq_log::Refusal;
@@ -16,6 +17,21 @@ use std::marker::Brand;
 #[derive(Drop)]
 struct Rereading {
     tracer: Tracer,
+}
+
+impl Rereading {
+    // Ends the log, and returns the end that its header names.
+    //
+    // Errors: `Cut` if the log is cut short.
+    fn end(&mut self) -> Result<Tested, Refusal>
+        ensures { (log : List ℕ) → IsTracedTo self.old.tracer log → EndsAs log result }
+    {
+        self.tracer.finish()?;
+        match self.tracer.header() {
+            Some(header) => Ok(Tested::of(header)),
+            None => Err(Refusal::Cut(self.tracer.byte_count())),
+        }
+    }
 }
 
 impl<W: Follower, K: Watched> Feed<Following<W, K>, Refusal> for Rereading {
@@ -38,7 +54,8 @@ impl<W: Follower, K: Watched> Feed<Following<W, K>, Refusal> for Rereading {
 }
 
 /// Drives a watcher of this tested end over the events of the log that a reader gives, and returns
-/// it. It reads at most 4,294,967,295 times, and at most 8,192 bytes each time.
+/// it and the end that the log's header names, which may be another one. It reads at most
+/// 4,294,967,295 times, and at most 8,192 bytes each time.
 ///
 /// # Errors
 ///
@@ -49,7 +66,7 @@ pub fn follow_reader<R: Read, W: Follower + Drop>(
     reader: &mut R,
     tested: Tested,
     watcher: W,
-) -> Result<W, Refusal>
+) -> Result<(W, Tested), Refusal>
     requires { W.agrees watcher tested (Some Void) [] }
     ensures { IfSome (R.remaining reader.old) (λ log. FollowsOver W.agrees tested log (R.remaining reader.new) result) }
 {
@@ -63,7 +80,7 @@ fn follow_as<R: Read, W: Follower + Drop, K: Watched>(
     reader: &mut R,
     tested: Tested,
     watcher: W,
-) -> Result<W, Refusal>
+) -> Result<(W, Tested), Refusal>
     requires { W.agrees watcher K.tested (Some Void) [] }
     ensures { IfSome (R.remaining reader.old) (λ log. FollowsOver W.agrees K.tested log (R.remaining reader.new) result) }
 {
@@ -80,6 +97,6 @@ fn follow_as<R: Read, W: Follower + Drop, K: Watched>(
         &mut buffer,
         u32::MAX,
     )?;
-    rereading.tracer.finish()?;
-    Ok(following.into_watcher())
+    let named = rereading.end()?;
+    Ok((following.into_watcher(), named))
 }

@@ -1,9 +1,9 @@
-use Rattle.std.proofs.Common.{[], List, map, subst, sym}
+use Rattle.std.proofs.Common.{◌≡◌, [], List, map, subst, sym}
 use Rattle.std.specs.Prelude.{IfSome}
 use Rattle.std.proofs.lemmas.Result.{err_from_is_err_and}
 use Rattle.mq_log.specs.Events.{Placed, events}
 use Rattle.mq_log.proofs.Exports.{events-nothing}
-use Rattle.mq_rules.specs.Notes.{seen, seen_in}
+use Rattle.mq_rules.specs.Notes.{seen, seen_in, tested_by}
 use Rattle.mq_report.specs.Stopping.{IsJudged}
 use Rattle.mq_trail.specs.declared.following.Following.{Following}
 use Rattle.mq_trail.specs.declared.second_reading.Rereading.{Rereading}
@@ -35,13 +35,13 @@ returns-in_err-feed_log g c =
     let p = err_from_is_err_and c.from_residual.result c.from_residual.ensures.1 in
     rw (p.1, p.2) (fed-partly tracer_of (agrees g) _ c.in_err-feed_log.ensures.some c.new.ensures.limit)
 
-pub returns-in_err-finish : goal.returns-in_err-finish
-returns-in_err-finish g c =
-    let p = err_from_is_err_and c.from_residual-in_err-finish.result c.from_residual-in_err-finish.ensures.1 in
-    rw (p.1, p.2) (fed-cut tracer_of (agrees g) _ c.in_ok-feed_log.ensures.all c.new.ensures.limit c.in_err-finish.ensures.ends)
+pub returns-in_err-named : goal.returns-in_err-named
+returns-in_err-named g c =
+    let p = err_from_is_err_and c.from_residual-in_err-named.result c.from_residual-in_err-named.ensures.1 in
+    rw (p.1, p.2) (fed-cut tracer_of (agrees g) _ c.in_ok-feed_log.ensures.all c.new.ensures.limit c.in_err-named.ensures)
 
 pub returns : goal.returns
 unfolding seen_in
 returns g c =
-    subst (λ (w : g.row.W.Denot). IfSome (g.R.Read.remaining c.args.reader.now) (λ log. IsJudged log × HasFollowed g.W.Watch.agrees g.K.Watched.tested w (map seen (events log)))) (sym c.into_watcher.ensures)
-    (fed-whole tracer_of (agrees g) c.in_ok-feed_log.ensures.all c.new.ensures.limit c.in_ok-finish.ensures.ends)
+    subst (λ (w : g.row.W.Denot). IfSome (g.R.Read.remaining c.args.reader.now) (λ log. IsJudged log × (c.in_ok-named.named ≡ tested_by log) × HasFollowed g.W.Watch.agrees g.K.Watched.tested w (map seen (events log)))) (sym c.into_watcher.ensures)
+    (fed-whole tracer_of (agrees g) c.in_ok-named.named c.in_ok-feed_log.ensures.all c.new.ensures.limit c.in_ok-named.ensures)
