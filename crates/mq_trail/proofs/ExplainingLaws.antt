@@ -1,19 +1,17 @@
 -- What the faults of a verdict conflict with, one after the other.
 use Rattle.std.proofs.Common.{◌≡◌, ◌≤◌, ◌+◌, ◌==◌, ◌&&◌, ℕ, Bool, true, false, cond, List, [], ◌∷◌, ◌++◌, length, map, Option, Some, None, Result, Ok, Err, refl, sym, ap, subst, ◌∙◌, append_assoc, append-nil, IfSome, inl, inr}
-use Rattle.std.specs.Prelude.{not, option_map, Vec, IfErr, IfOk, ◌↔◌}
+use Rattle.std.specs.Prelude.{option_map, Vec, IfErr, IfOk, ◌↔◌}
 use Rattle.std.specs.List.{Contains}
 use Rattle.std.proofs.lemmas.List.Elements.{Contains-append_left, Contains-append_right, Contains-push}
 use Rattle.std.specs.FinMap.{entries, same_entries_map}
 use Rattle.std.specs.declared.alloc.Global.{Global}
 use Rattle.mq_rules.specs.declared.role.Tested.{Tested}
 use Rattle.mq_rules.specs.declared.rule.Rule.{Rule}
-use Rattle.mq_rules.specs.declared.rule.Rule.TheVariants.{B02}
 use Rattle.mq_rules.specs.declared.note.Seen.{Seen}
 use Rattle.mq_rules.specs.declared.fault.Fault.{Fault}
 use Rattle.mq_rules.specs.declared.faults.FaultKey.{FaultKey}
 use Rattle.mq_rules.specs.FaultKeys.{FaultMap, fault_at}
 use Rattle.mq_rules.specs.Moments.{moment}
-use Rattle.mq_rules.specs.Rules.{same_rule}
 use Rattle.mq_rules.specs.Statements.{fails, statement}
 use Rattle.mq_rules.specs.Faults.{decided, fault_in, listed_faults, reported}
 use Rattle.mq_rules.proofs.Exports.{entries-listed, listed-there}
@@ -33,11 +31,6 @@ said tested past k r fault is = go (fails tested past k r) (decided tested past 
     go true (Some d) h = (refl, ap (λ (x : Option Fault). option_map (λ (f : Fault). f.decided) x) h)
     go true None h = absurd (cc)
     go false o h = absurd (cc)
-
--- a statement that isn't B02 is sought
-pub unsought : (b : Bool) → not b ≡ true → b ≡ false
-unsought true h = absurd (cc)
-unsought false h = refl
 
 -- each fault of the verdict is wanted, if the log has the same ones
 pub each-wanted : (wanted faults found : FaultMap) (tested : Tested) (count : ℕ) (past : List Seen) → wanted ≡ faults → faults ≡ found → HasFound count found tested past

@@ -1,13 +1,10 @@
 -- What a second reading of a log says of the faults that a first one found.
-use Rattle.std.specs.Prelude.{◌≡◌, ⊤, ℕ, Bool, true, not, List, [], ◌∷◌, length, Option, Some, Result, Ok, Err, Vec}
+use Rattle.std.specs.Prelude.{◌≡◌, ⊤, ℕ, true, List, [], ◌∷◌, length, Option, Some, Result, Ok, Err, Vec}
 use Rattle.std.specs.declared.alloc.Global.{Global}
 use Rattle.mq_rules.specs.declared.role.Tested.{Tested}
-use Rattle.mq_rules.specs.declared.rule.Rule.{Rule}
-use Rattle.mq_rules.specs.declared.rule.Rule.TheVariants.{B02}
 use Rattle.mq_rules.specs.declared.note.Seen.{Seen}
 use Rattle.mq_rules.specs.declared.fault.Fault.{Fault}
 use Rattle.mq_rules.specs.declared.faults.FaultKey.{FaultKey}
-use Rattle.mq_rules.specs.Rules.{same_rule}
 use Rattle.mq_rules.specs.Statements.{fails}
 use Rattle.mq_rules.specs.Faults.{decided, listed_faults}
 use Rattle.mq_rules.specs.FaultKeys.{FaultMap, fault_at}
@@ -19,13 +16,9 @@ use Rattle.mq_trail.specs.declared.explaining.Unexplained.TheVariants.{Changed, 
 
 -- ---- the reasons of faults
 
--- statements whose evidence is found: all but B02
-abbrev pub is_sought : Rule → Bool
-is_sought rule = not (same_rule rule B02)
-
 -- this is what the fault under a key conflicts with, in the log of these events, the newest first
 abbrev pub IsReason : Tested → List Seen → FaultKey → Evidence → Type 0
-IsReason tested past key reason = is_sought key.rule ≡ true → reason ≡ evidence tested past key.position key.rule
+IsReason tested past key reason = reason ≡ evidence tested past key.position key.rule
 
 -- these are what these faults conflict with: the first what the first one does, and so on
 abbrev pub AreReasons : Tested → List Seen → List (FaultKey × Fault) → List Evidence → Type 0
