@@ -6,10 +6,9 @@ from collections.abc import Collection
 
 from log_format import time_of
 
-AROUND = 2  # events before and after a fault that are shown
-GAP = ".."  # stands for events that aren't
-TIME = r" \(at [-\d]+ [\d:.]+ UTC\)"
-FAULT_LINE = re.compile(rf"\s+fault (\S+) \S+ (.*?)((?:(?!{TIME}) \([^()]*\))*)(?:{TIME})?")
+FAULT_LINE = re.compile(
+    r"\s+fault (\S+) \S+ (.*?)((?: \(decided at event \d+\))?(?: \(offset \d+\))?)(?: \(at [-\d]+ [\d:.]+ UTC\))?"
+)
 EVENT = re.compile(r"(\d+ record \d+) moment (\d+) (.*)", re.DOTALL)
 QUOTED = re.compile(r'"(?:[^"\\]|\\x..|\\.)*"', re.DOTALL)
 BEGINNING = re.compile(r'"(?:[^"\\]|\\x..|\\.){0,60}', re.DOTALL)
@@ -30,20 +29,6 @@ def told(line: str, said: Collection[str]) -> str:
     event = EVENT.fullmatch(line)
     time = time_of(int(event[2])) if event else None
     return shortened(f"{event[1]} {time:%H:%M:%S.%f} {event[3]}" if event and time else line)
-
-
-def with_causes(excerpt: list[str], position: int, causes: dict[int, str]) -> list[str]:
-    """What happened around a position, and farther away the lines of the events that it conflicts with."""
-    first, last = position - AROUND, position + AROUND
-    before = {place: causes[place] for place in sorted(causes) if place < first}
-    after = {place: causes[place] for place in sorted(causes) if place > last}
-    lines: list[str] = []
-    for place, following in zip(before, [*before, first][1:]):
-        lines += [before[place], *([GAP] if following > place + 1 else [])]
-    lines += excerpt
-    for place, preceding in zip(after, [last, *after]):
-        lines += [*([GAP] if place > preceding + 1 else []), after[place]]
-    return lines
 
 
 def shortened(line: str) -> str:
