@@ -24,7 +24,7 @@ use crate::selective::Selective;
 use crate::sizes::map_size;
 use indexmap::IndexMap;
 use mq_log::Place3;
-use mq_rules::{Bare, Brisk, Fate, Faults, Memory, Note, Rule, Tested, Watch};
+use mq_rules::{Bare, Brisk, Fate, Faults, Memory, Note, NoteRef, Rule, Tested, Watch};
 use std::alloc::Global;
 use std::marker::PhantomData;
 
@@ -161,8 +161,9 @@ impl<X: Exchange> Fated for Asked<X> {
         note: &Note,
         faults: &mut Faults,
     ) -> Result<(), Memory> {
-        let cause = X::cause(note);
-        let answer = X::answer(note);
+        let event = NoteRef::Kept(note);
+        let cause = X::cause(&event);
+        let answer = X::answer(&event);
         let unasked = is_unasked(self.binds, fate, self.opened, answer, &self.answered);
         let broken = excuse(surprises::<X>(fate), decided == at.position, unasked);
         let alloc = self.alloc;
@@ -188,8 +189,9 @@ impl<X: Exchange> Fated for Asked<X> {
 
 impl<X: Exchange> Brisk for Asked<X> {
     fn step_bare(&mut self, at: Place3, bare: Bare<'_>, faults: &mut Faults) -> Result<(), Memory> {
-        let cause = X::bare_cause(bare);
-        let answer = X::bare_answer(bare);
+        let event = NoteRef::Bare(bare);
+        let cause = X::cause(&event);
+        let answer = X::answer(&event);
         let fate = self.fate;
         let broken = is_unasked(self.binds, fate, self.opened, answer, &self.answered);
         let alloc = self.alloc;
@@ -238,7 +240,7 @@ impl<X: Exchange> Asks for Asked<X> {
     }
 
     fn count(&self, places: &mut u32, at: Place3, decided: u32, fate: Fate, note: &Note) {
-        let answered = is_answered(self.binds, fate, X::answer(note));
+        let answered = is_answered(self.binds, fate, X::answer(&NoteRef::Kept(note)));
         let here = excuse(surprises::<X>(fate), decided == at.position, answered);
         *places = places_after(here, *places, at.position);
     }

@@ -1,7 +1,7 @@
 //! What an exchange owes: all its statements.
 ghost use Rattle.std.specs.Prelude.{◌≡◌, ◌&&◌, ◌||◌, [], Some, is_some, refl};
 ghost use Rattle.mq_rules.specs.declared.fate.Fate.TheVariants.{Void};
-ghost use Rattle.mq_rules.specs.Notes.{note_of_bare};
+ghost use Rattle.mq_rules.specs.Notes.{note_in};
 ghost use Rattle.mq_rules.specs.Words.{is_some_and};
 ghost use Rattle.mq_rules.specs.Rules.{same_rule};
 ghost use Rattle.mq_rules.specs.Under.{turns_known, either_adds};
@@ -17,7 +17,7 @@ use crate::fated::Fated;
 use crate::owed::{Owed, OwedPlaces};
 use crate::selective::Selective;
 use mq_log::Place3;
-use mq_rules::{Bare, Both, Brisk, Fate, Faults, Memory, Note, Rule, Tested, Watch};
+use mq_rules::{Bare, Both, Brisk, Fate, Faults, Memory, Note, NoteRef, Rule, Tested, Watch};
 use std::alloc::Global;
 
 /// Watches all statements of an exchange: each answer was asked for, each cause is answered before
@@ -80,23 +80,22 @@ impl<X: Exchange> Fated for Debts<X> {
     ghost known_adds = { λ tested e past k r. either_adds (same_rule r X.asked && turns_known tested e past k r) ((same_rule r X.settled || is_some_and (same_rule r) X.ordered) && turns_known tested e past k r) (same_rule r X.asked) (same_rule r X.settled || is_some_and (same_rule r) X.ordered) (turns_known tested e past k r) refl refl };
 }
 
-// Whether a packet without properties is a cause or an answer of an exchange.
+// Whether an event is a cause or an answer of an exchange.
 #[inline(always)]
-fn is_of_exchange<X: Exchange>(bare: Bare<'_>) -> bool
-    ensures { result ≡ (is_some (X.exchange.cause (note_of_bare bare.entry)) || is_some (X.exchange.answer (note_of_bare bare.entry))) }
+fn is_of_exchange<X: Exchange>(event: &NoteRef<'_>) -> bool
+    ensures { result ≡ (is_some (X.exchange.cause (note_in event.now)) || is_some (X.exchange.answer (note_in event.now))) }
 {
-    X::bare_cause(bare).is_some() || X::bare_answer(bare).is_some()
+    X::cause(event).is_some() || X::answer(event).is_some()
 }
 
 impl<X: Exchange> Brisk for Debts<X> {
     #[inline(always)]
     fn step_bare(&mut self, at: Place3, bare: Bare<'_>, faults: &mut Faults) -> Result<(), Memory> {
-        if !is_of_exchange::<X>(bare) {
+        if !is_of_exchange::<X>(&NoteRef::Bare(bare)) {
             self.parts.passes();
             return Ok(());
         }
-        self.parts.step_bare(at, bare, faults)?;
-        Ok(())
+        self.parts.step_bare(at, bare, faults)
     }
 }
 

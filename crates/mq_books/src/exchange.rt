@@ -1,13 +1,7 @@
 //! Exchanges: what is received, the cause, asks for an answer, which is sent (MQTT 5.0, sections
 //! 3.8.4, 3.10.4 and 4.3).
 
-ghost use Rattle.std.specs.Prelude.{◌≡◌, Some, not};
-ghost use Rattle.mq_rules.specs.Words.{only};
-ghost use Rattle.mq_rules.specs.Notes.{is_at_least_once, is_exactly_once, refuses};
-
-use mq_log::Direction;
-use mq_packet::Qos;
-use mq_rules::{Bare, BareFields, Note, Rule};
+use mq_rules::{NoteRef, Rule};
 
 /// An exchange: under which Packet Identifier an event is a cause, and under which one it is an
 /// answer.
@@ -18,7 +12,7 @@ pub trait Exchange {
     ghost use Rattle.mq_rules.specs.Exchanges as exchanges;
     ghost use Rattle.mq_rules.specs.Statements.{statement, in_session, at_rest, if_early};
     ghost use Rattle.mq_rules.specs.Occasions.{occasion};
-    ghost use Rattle.mq_rules.specs.Notes.{note_of_bare};
+    ghost use Rattle.mq_rules.specs.Notes.{note_in};
     ghost use Rattle.mq_books.specs.Answering.{IsApart};
 
     // The cause, and the answer.
@@ -34,20 +28,12 @@ pub trait Exchange {
     ghost early: { Bool };
 
     /// The Packet Identifier under which an event is a cause.
-    fn cause(note: &Note) -> Option<u16>
-        ensures { result ≡ exchange.cause note.now };
+    fn cause(event: &NoteRef<'_>) -> Option<u16>
+        ensures { result ≡ exchange.cause (note_in event.now) };
 
     /// The Packet Identifier under which an event is an answer.
-    fn answer(note: &Note) -> Option<u16>
-        ensures { result ≡ exchange.answer note.now };
-
-    /// The Packet Identifier under which a packet without properties is a cause.
-    fn bare_cause(bare: Bare<'_>) -> Option<u16>
-        ensures { result ≡ exchange.cause (note_of_bare bare.entry) };
-
-    /// The Packet Identifier under which a packet without properties is an answer.
-    fn bare_answer(bare: Bare<'_>) -> Option<u16>
-        ensures { result ≡ exchange.answer (note_of_bare bare.entry) };
+    fn answer(event: &NoteRef<'_>) -> Option<u16>
+        ensures { result ≡ exchange.answer (note_in event.now) };
 
     /// The statement that each answer was asked for.
     fn asked_rule() -> Rule
@@ -84,39 +70,6 @@ pub trait Exchange {
     ghost says_ordered: { (role : Role) (rule : Rule) → ordered ≡ Some rule → statement role rule ≡ in_session (λ f. exchanges.breaks_O exchange) };
 }
 
-// The identifier of a PUBLISH of QoS 1.
-#[inline(always)]
-fn at_least_once(qos: Qos, identifier: Option<u16>) -> Option<u16>
-    ensures { result ≡ only (is_at_least_once qos) identifier }
-{
-    match qos {
-        Qos::AtLeastOnce => identifier,
-        Qos::AtMostOnce | Qos::ExactlyOnce => None,
-    }
-}
-
-// The identifier of a PUBLISH of QoS 2.
-#[inline(always)]
-fn exactly_once(qos: Qos, identifier: Option<u16>) -> Option<u16>
-    ensures { result ≡ only (is_exactly_once qos) identifier }
-{
-    match qos {
-        Qos::ExactlyOnce => identifier,
-        Qos::AtMostOnce | Qos::AtLeastOnce => None,
-    }
-}
-
-// The identifier of a PUBREC that doesn't refuse.
-#[inline(always)]
-fn accepted(identifier: u16, code: u8) -> Option<u16>
-    ensures { result ≡ only (not (refuses code)) (Some identifier) }
-{
-    if code < 0x80 {
-        return Some(identifier);
-    }
-    None
-}
-
 /// A PUBLISH of QoS 1 that is received, and its PUBACK.
 #[derive(Drop)]
 pub struct E1;
@@ -137,40 +90,14 @@ impl Exchange for E1 {
 
     ghost ordered = { Some E1O };
 
-    fn cause(note: &Note) -> Option<u16> {
-        note.received_at_least_once()
-    }
-
-    fn answer(note: &Note) -> Option<u16> {
-        note.sent_puback()
+    #[inline(always)]
+    fn cause(event: &NoteRef<'_>) -> Option<u16> {
+        event.received_at_least_once()
     }
 
     #[inline(always)]
-    #[tactic(auto, unfolding(mq_rules::specs::Notes::note_of_bare))]
-    fn bare_cause(bare: Bare<'_>) -> Option<u16> {
-        match bare.direction {
-            Direction::Sent => None,
-            Direction::Recv => match bare.fields {
-                BareFields::Publish {
-                    identifier,
-                    qos,
-                    ..
-                } => at_least_once(qos, identifier),
-                _ => None,
-            },
-        }
-    }
-
-    #[inline(always)]
-    #[tactic(auto, unfolding(mq_rules::specs::Notes::note_of_bare))]
-    fn bare_answer(bare: Bare<'_>) -> Option<u16> {
-        match bare.direction {
-            Direction::Sent => match bare.fields {
-                BareFields::Puback { identifier, .. } => Some(identifier),
-                _ => None,
-            },
-            Direction::Recv => None,
-        }
+    fn answer(event: &NoteRef<'_>) -> Option<u16> {
+        event.sent_puback()
     }
 
     fn asked_rule() -> Rule {
@@ -224,40 +151,14 @@ impl Exchange for E2 {
 
     ghost ordered = { Some E2O };
 
-    fn cause(note: &Note) -> Option<u16> {
-        note.received_exactly_once()
-    }
-
-    fn answer(note: &Note) -> Option<u16> {
-        note.sent_pubrec()
+    #[inline(always)]
+    fn cause(event: &NoteRef<'_>) -> Option<u16> {
+        event.received_exactly_once()
     }
 
     #[inline(always)]
-    #[tactic(auto, unfolding(mq_rules::specs::Notes::note_of_bare))]
-    fn bare_cause(bare: Bare<'_>) -> Option<u16> {
-        match bare.direction {
-            Direction::Sent => None,
-            Direction::Recv => match bare.fields {
-                BareFields::Publish {
-                    identifier,
-                    qos,
-                    ..
-                } => exactly_once(qos, identifier),
-                _ => None,
-            },
-        }
-    }
-
-    #[inline(always)]
-    #[tactic(auto, unfolding(mq_rules::specs::Notes::note_of_bare))]
-    fn bare_answer(bare: Bare<'_>) -> Option<u16> {
-        match bare.direction {
-            Direction::Sent => match bare.fields {
-                BareFields::Pubrec { identifier, .. } => Some(identifier),
-                _ => None,
-            },
-            Direction::Recv => None,
-        }
+    fn answer(event: &NoteRef<'_>) -> Option<u16> {
+        event.sent_pubrec()
     }
 
     fn asked_rule() -> Rule {
@@ -312,36 +213,14 @@ impl Exchange for E3 {
 
     ghost ordered = { Some E3O };
 
-    fn cause(note: &Note) -> Option<u16> {
-        note.received_accepting_pubrec()
-    }
-
-    fn answer(note: &Note) -> Option<u16> {
-        note.sent_pubrel()
+    #[inline(always)]
+    fn cause(event: &NoteRef<'_>) -> Option<u16> {
+        event.received_accepting_pubrec()
     }
 
     #[inline(always)]
-    #[tactic(auto, unfolding(mq_rules::specs::Notes::note_of_bare))]
-    fn bare_cause(bare: Bare<'_>) -> Option<u16> {
-        match bare.direction {
-            Direction::Sent => None,
-            Direction::Recv => match bare.fields {
-                BareFields::Pubrec { identifier, code } => accepted(identifier, code),
-                _ => None,
-            },
-        }
-    }
-
-    #[inline(always)]
-    #[tactic(auto, unfolding(mq_rules::specs::Notes::note_of_bare))]
-    fn bare_answer(bare: Bare<'_>) -> Option<u16> {
-        match bare.direction {
-            Direction::Sent => match bare.fields {
-                BareFields::Pubrel { identifier, .. } => Some(identifier),
-                _ => None,
-            },
-            Direction::Recv => None,
-        }
+    fn answer(event: &NoteRef<'_>) -> Option<u16> {
+        event.sent_pubrel()
     }
 
     fn asked_rule() -> Rule {
@@ -396,36 +275,14 @@ impl Exchange for E4 {
 
     ghost ordered = { None };
 
-    fn cause(note: &Note) -> Option<u16> {
-        note.received_pubrel()
-    }
-
-    fn answer(note: &Note) -> Option<u16> {
-        note.sent_pubcomp()
+    #[inline(always)]
+    fn cause(event: &NoteRef<'_>) -> Option<u16> {
+        event.received_pubrel()
     }
 
     #[inline(always)]
-    #[tactic(auto, unfolding(mq_rules::specs::Notes::note_of_bare))]
-    fn bare_cause(bare: Bare<'_>) -> Option<u16> {
-        match bare.direction {
-            Direction::Sent => None,
-            Direction::Recv => match bare.fields {
-                BareFields::Pubrel { identifier, .. } => Some(identifier),
-                _ => None,
-            },
-        }
-    }
-
-    #[inline(always)]
-    #[tactic(auto, unfolding(mq_rules::specs::Notes::note_of_bare))]
-    fn bare_answer(bare: Bare<'_>) -> Option<u16> {
-        match bare.direction {
-            Direction::Sent => match bare.fields {
-                BareFields::Pubcomp { identifier, .. } => Some(identifier),
-                _ => None,
-            },
-            Direction::Recv => None,
-        }
+    fn answer(event: &NoteRef<'_>) -> Option<u16> {
+        event.sent_pubcomp()
     }
 
     fn asked_rule() -> Rule {
@@ -480,24 +337,14 @@ impl Exchange for E5 {
 
     ghost ordered = { None };
 
-    fn cause(note: &Note) -> Option<u16> {
-        note.received_subscribe()
-    }
-
-    fn answer(note: &Note) -> Option<u16> {
-        note.sent_suback()
+    #[inline(always)]
+    fn cause(event: &NoteRef<'_>) -> Option<u16> {
+        event.received_subscribe()
     }
 
     #[inline(always)]
-    #[tactic(auto, unfolding(mq_rules::specs::Notes::note_of_bare))]
-    fn bare_cause(_: Bare<'_>) -> Option<u16> {
-        None
-    }
-
-    #[inline(always)]
-    #[tactic(auto, unfolding(mq_rules::specs::Notes::note_of_bare))]
-    fn bare_answer(_: Bare<'_>) -> Option<u16> {
-        None
+    fn answer(event: &NoteRef<'_>) -> Option<u16> {
+        event.sent_suback()
     }
 
     fn asked_rule() -> Rule {
@@ -552,24 +399,14 @@ impl Exchange for E6 {
 
     ghost ordered = { None };
 
-    fn cause(note: &Note) -> Option<u16> {
-        note.received_unsubscribe()
-    }
-
-    fn answer(note: &Note) -> Option<u16> {
-        note.sent_unsuback()
+    #[inline(always)]
+    fn cause(event: &NoteRef<'_>) -> Option<u16> {
+        event.received_unsubscribe()
     }
 
     #[inline(always)]
-    #[tactic(auto, unfolding(mq_rules::specs::Notes::note_of_bare))]
-    fn bare_cause(_: Bare<'_>) -> Option<u16> {
-        None
-    }
-
-    #[inline(always)]
-    #[tactic(auto, unfolding(mq_rules::specs::Notes::note_of_bare))]
-    fn bare_answer(_: Bare<'_>) -> Option<u16> {
-        None
+    fn answer(event: &NoteRef<'_>) -> Option<u16> {
+        event.sent_unsuback()
     }
 
     fn asked_rule() -> Rule {

@@ -29,7 +29,9 @@ use crate::selective::Selective;
 use crate::sizes::map_size;
 use indexmap::IndexMap;
 use mq_log::Place3;
-use mq_rules::{Bare, Brisk, Fate, Fault, FaultKey, Faults, Memory, Note, Rule, Tested, Watch};
+use mq_rules::{
+    Bare, Brisk, Fate, Fault, FaultKey, Faults, Memory, Note, NoteRef, Rule, Tested, Watch,
+};
 use std::alloc::Global;
 use std::collections::VecDeque;
 use std::marker::PhantomData;
@@ -231,8 +233,9 @@ impl<X: Exchange> Fated for Owed<X> {
         note: &Note,
         faults: &mut Faults,
     ) -> Result<(), Memory> {
-        let cause = X::cause(note);
-        let answer = X::answer(note);
+        let event = NoteRef::Kept(note);
+        let cause = X::cause(&event);
+        let answer = X::answer(&event);
         let ordered = X::ordered_rule();
         let rests = rests_now(self.binds, fate, decided == at.position, self.ended, note);
         let broken = is_out_of_order(self.order_binds, fate, &mut self.queue, &self.due, answer);
@@ -255,8 +258,9 @@ impl<X: Exchange> Fated for Owed<X> {
 
 impl<X: Exchange> Brisk for Owed<X> {
     fn step_bare(&mut self, at: Place3, bare: Bare<'_>, faults: &mut Faults) -> Result<(), Memory> {
-        let cause = X::bare_cause(bare);
-        let answer = X::bare_answer(bare);
+        let event = NoteRef::Bare(bare);
+        let cause = X::cause(&event);
+        let answer = X::answer(&event);
         let ordered = X::ordered_rule();
         let fate = self.fate;
         let broken = is_out_of_order(self.order_binds, fate, &mut self.queue, &self.due, answer);
@@ -347,7 +351,7 @@ impl<X: Exchange> Owed<X> {
     fn begins(&self, note: &Note) -> bool
         ensures { result ≡ is_some_and (λ i. not (is_some (get nat_eq self.now.due i))) (X.exchange.cause note.now) }
     {
-        match X::cause(note) {
+        match X::cause(&NoteRef::Kept(note)) {
             Some(i) => !self.due.contains_key(&i),
             None => false,
         }
@@ -357,7 +361,8 @@ impl<X: Exchange> Owed<X> {
     fn orders(&self, fate: Fate, note: &Note) -> bool
         ensures { result ≡ (self.now.order_binds && (accepts fate && chooses (get nat_eq self.now.due) (keys self.now.due) (X.exchange.answer note.now))) }
     {
-        self.order_binds && (fate.accepts() && has_choice(&self.due, X::answer(note)))
+        self.order_binds
+            && (fate.accepts() && has_choice(&self.due, X::answer(&NoteRef::Kept(note))))
     }
 }
 

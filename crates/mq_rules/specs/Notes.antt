@@ -42,6 +42,8 @@ use Rattle.mq_rules.specs.declared.text.NotedFilter.{NotedFilter}
 use Rattle.mq_rules.specs.declared.bare.Bare.{Bare}
 use Rattle.mq_rules.specs.declared.bare.BareFields.{BareFields}
 use Rattle.mq_rules.specs.declared.bare.BareFields.TheVariants as bares
+use Rattle.mq_rules.specs.declared.note_ref.NoteRef.{NoteRef}
+use Rattle.mq_rules.specs.declared.note_ref.NoteRef.TheVariants as refs
 use Rattle.mq_rules.specs.Words.{only, is_some_and, is_id}
 
 -- ---- the end that a log's header names
@@ -222,6 +224,11 @@ bare_fields direction bares.Pingresp = Pingresp
 
 unfoldable pub note_of_bare : Bare → Note
 note_of_bare b = bare_note b.direction b.size (bare_fields b.direction b.fields)
+
+-- the note of an event that is asked about by its note or by its numbers
+abbrev pub note_in : NoteRef → Note
+note_in (refs.Kept note) = note.now
+note_in (refs.Bare bare) = note_of_bare bare
 
 abbrev pub seen : Placed → Seen
 seen placed = record { place = placed.place; note = note_of placed.event }

@@ -19,6 +19,7 @@ mod history;
 mod naming;
 mod note;
 mod note_copy;
+mod note_ref;
 mod one_pass;
 mod packet_note;
 mod plain;
@@ -41,6 +42,7 @@ pub use faults::{FaultKey, Faults, Memory};
 pub use history::History;
 pub use naming::each_statement_is_named;
 pub use note::{ItemNote, Note, Seen};
+pub use note_ref::NoteRef;
 pub use one_pass::plain_connections;
 pub use packet_note::{
     ConnackNote, ConnectNote, DisconnectNote, PacketFields, PacketNote, PublishNote,

@@ -1,5 +1,5 @@
 //! What the statements look at in a packet.
-ghost use Rattle.std.specs.Prelude.{◌≡◌, option_map};
+ghost use Rattle.std.specs.Prelude.{◌≡◌, option_map, not, Some};
 ghost use Rattle.std.specs.Option.{option_and_then, option_or};
 ghost use Rattle.mq_rules.specs.Words.{only};
 ghost use Rattle.mq_rules.specs.Notes.{fate_by, resumed_by, refuses as is_refusing, delivery_in, opener_in, resend_in, is_at_least_once, is_exactly_once, fields_type, connect_in, connack_in, publish_in, disconnect_in, puback_in, pubrec_in, accepting_pubrec_in, pubrel_in, pubcomp_in, subscribe_in, suback_in, unsubscribe_in, unsuback_in, settled_in, ended_in, unmatched_pubrec_in, success_pubcomp_in, is_pingreq as pings, is_pingresp as answers_ping, is_session_packet as needs_a_session, may_explain as explains};
@@ -218,6 +218,39 @@ impl ConnackNote {
     }
 }
 
+// The Packet Identifier of a PUBLISH, if its QoS is 1.
+#[inline(always)]
+pub(crate) fn at_least_once(qos: Qos, identifier: Option<u16>) -> Option<u16>
+    ensures { result ≡ only (is_at_least_once qos) identifier }
+{
+    match qos {
+        Qos::AtLeastOnce => identifier,
+        Qos::AtMostOnce | Qos::ExactlyOnce => None,
+    }
+}
+
+// The Packet Identifier of a PUBLISH, if its QoS is 2.
+#[inline(always)]
+pub(crate) fn exactly_once(qos: Qos, identifier: Option<u16>) -> Option<u16>
+    ensures { result ≡ only (is_exactly_once qos) identifier }
+{
+    match qos {
+        Qos::ExactlyOnce => identifier,
+        Qos::AtMostOnce | Qos::AtLeastOnce => None,
+    }
+}
+
+// The Packet Identifier of a PUBREC, if its Reason Code doesn't refuse.
+#[inline(always)]
+pub(crate) fn accepted(identifier: u16, code: u8) -> Option<u16>
+    ensures { result ≡ only (not (is_refusing code)) (Some identifier) }
+{
+    if code < REFUSING {
+        return Some(identifier);
+    }
+    None
+}
+
 impl PublishNote {
     /// The Packet Identifier, if the QoS is above 0 (MQTT 5.0, section 2.2.1).
     #[inline]
@@ -261,10 +294,7 @@ impl PublishNote {
     pub fn at_least_once(&self) -> Option<u16>
         ensures { result ≡ only (is_at_least_once self.now.qos) self.now.identifier }
     {
-        match self.qos {
-            Qos::AtLeastOnce => self.identifier,
-            Qos::AtMostOnce | Qos::ExactlyOnce => None,
-        }
+        at_least_once(self.qos, self.identifier)
     }
 
     /// The Packet Identifier of a PUBLISH of QoS 2 (MQTT 5.0, section 4.3.3).
@@ -272,10 +302,7 @@ impl PublishNote {
     pub fn exactly_once(&self) -> Option<u16>
         ensures { result ≡ only (is_exactly_once self.now.qos) self.now.identifier }
     {
-        match self.qos {
-            Qos::ExactlyOnce => self.identifier,
-            Qos::AtMostOnce | Qos::AtLeastOnce => None,
-        }
+        exactly_once(self.qos, self.identifier)
     }
 }
 
@@ -443,7 +470,7 @@ impl PacketFields {
         ensures { result ≡ accepting_pubrec_in self.now }
     {
         match self {
-            PacketFields::Pubrec { identifier, code } => (*code < REFUSING).then_some(*identifier),
+            PacketFields::Pubrec { identifier, code } => accepted(*identifier, *code),
             _ => None,
         }
     }

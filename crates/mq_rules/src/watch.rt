@@ -152,8 +152,9 @@ impl<A: Brisk, B: Brisk> Brisk for Both<A, B> {
     #[inline(always)]
     #[tactic(auto, using(crate::proofs::GainLaws::gains_then, crate::proofs::GainLaws::within_first, crate::proofs::GainLaws::within_second))]
     fn step_bare(&mut self, at: Place3, bare: Bare<'_>, faults: &mut Faults) -> Result<(), Memory> {
-        self.a.step_bare(at, bare, faults)?;
-        self.b.step_bare(at, bare, faults)?;
-        Ok(())
+        match self.a.step_bare(at, bare, faults) {
+            Ok(()) => self.b.step_bare(at, bare, faults),
+            Err(Memory) => Err(Memory),
+        }
     }
 }

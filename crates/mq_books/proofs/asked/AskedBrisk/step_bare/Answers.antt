@@ -27,8 +27,8 @@ returns-clause-agrees g c = λ tested taken past follows known q.
           (asked-next tested x s.fate s.fate s.opened s.opened (get nat_eq s.answered) next e past g.met.X.Exchange.apart follows.placed.0 (subst (λ o. IsAsked x s.fate s.opened (get nat_eq s.answered) tested o past) k.before q.1)
           (sym (ap (λ t. cond t e.place.position s.opened) (bare-closed b)))
           (λ i. c.in_ok-take_answered.ensures i
-          ∙ ap (λ o. answered_by s.fate false o c.bare_answer-answer.result e.place.position i (get nat_eq s.answered i)) c.bare_cause-cause.ensures
-          ∙ ap (λ o. answered_by s.fate false (x.cause e.note) o e.place.position i (get nat_eq s.answered i)) c.bare_answer-answer.ensures
+          ∙ ap (λ o. answered_by s.fate false o c.answer-answer.result e.place.position i (get nat_eq s.answered i)) c.cause-cause.ensures
+          ∙ ap (λ o. answered_by s.fate false (x.cause e.note) o e.place.position i (get nat_eq s.answered i)) c.answer-answer.ensures
           ∙ sym (ap (λ t. answered_by s.fate t (x.cause e.note) (x.answer e.note) e.place.position i (get nat_eq s.answered i)) (bare-closed b)))),
     )
 
@@ -44,5 +44,5 @@ returns-clause-grows g c = λ tested taken past follows known q.
     (sym (c.in_ok-judge_by.ensures.ok ∙ ap (λ r. judged_by c.is_unasked-broken.result r e.place e.place.position m) c.asked_rule.ensures))
     (asked-gains tested g.X.Exchange.asked x g.X.Exchange.early g.met.X.Exchange.apart (g.met.X.Exchange.says_asked tested.role) s.fate s.fate s.opened (get nat_eq s.answered) e.place.position e past m s.binds c.is_unasked-broken.result
     k.under (subst (λ o. IsAsked x s.fate s.opened (get nat_eq s.answered) tested o past) k.before q.1) q.0
-    (c.is_unasked-broken.ensures ∙ ap (λ o. s.binds && is_unasked s.fate s.opened o (get nat_eq s.answered)) c.bare_answer-answer.ensures
+    (c.is_unasked-broken.ensures ∙ ap (λ o. s.binds && is_unasked s.fate s.opened o (get nat_eq s.answered)) c.answer-answer.ensures
     ∙ excused-late (g.X.Exchange.early && surprises s.fate) (s.binds && is_unasked s.fate s.opened (x.answer e.note) (get nat_eq s.answered)) e.place.position)))

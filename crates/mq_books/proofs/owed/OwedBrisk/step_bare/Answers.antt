@@ -31,17 +31,17 @@ returns-clause-agrees g c = λ tested taken past follows known q.
           (subst (λ o. IsOwing x g.X.Exchange.settled g.X.Exchange.ordered s.binds s.order_binds s.fate s.ended (get nat_eq s.due) s.queue.items tested o past) k.before q.1)
           (sym (ap (λ t. t || (not (false) && s.ended)) (bare-unended b)) ∙ sym (ap (λ t. ends_by e.note || (not t && s.ended)) (bare-closed b)))
           (λ accepted i. c.in_ok-take_due.ensures.due accepted i
-          ∙ ap (λ o. due_by false o c.bare_answer-answer.result e.place i (get nat_eq s.due i)) c.bare_cause-cause.ensures
-          ∙ ap (λ o. due_by false (x.cause e.note) o e.place i (get nat_eq s.due i)) c.bare_answer-answer.ensures
+          ∙ ap (λ o. due_by false o c.answer-answer.result e.place i (get nat_eq s.due i)) c.cause-cause.ensures
+          ∙ ap (λ o. due_by false (x.cause e.note) o e.place i (get nat_eq s.due i)) c.answer-answer.ensures
           ∙ sym (ap (λ t. due_by t (x.cause e.note) (x.answer e.note) e.place i (get nat_eq s.due i)) (bare-closed b)))
           c.in_ok-take_due.ensures.same
-          (c.is_out_of_order-broken.ensures.queue ∙ ap (λ o. cond (s.order_binds && accepts s.fate) (looked_at (get nat_eq s.due) o s.queue.items) s.queue.items) c.bare_answer-answer.ensures)
+          (c.is_out_of_order-broken.ensures.queue ∙ ap (λ o. cond (s.order_binds && accepts s.fate) (looked_at (get nat_eq s.due) o s.queue.items) s.queue.items) c.answer-answer.ensures)
           (c.in_ok-take_queue.ensures
-          ∙ ap (λ o. cond (is_some o && accepts s.fate) (queued_by false c.bare_cause-cause.result e.place.position (get nat_eq s.due) queue) queue) c.ordered_rule-ordered.ensures
-          ∙ ap (λ o. cond (is_some g.X.Exchange.ordered && accepts s.fate) (queued_by false o e.place.position (get nat_eq s.due) queue) queue) c.bare_cause-cause.ensures
+          ∙ ap (λ o. cond (is_some o && accepts s.fate) (queued_by false c.cause-cause.result e.place.position (get nat_eq s.due) queue) queue) c.ordered_rule-ordered.ensures
+          ∙ ap (λ o. cond (is_some g.X.Exchange.ordered && accepts s.fate) (queued_by false o e.place.position (get nat_eq s.due) queue) queue) c.cause-cause.ensures
           ∙ sym (ap (λ t. cond (is_some g.X.Exchange.ordered && accepts s.fate) (queued_by t (x.cause e.note) e.place.position (get nat_eq s.due) queue) queue) (bare-closed b)))
           c.tidy.ensures.tidied
-          (λ n test has queue passes. c.tidy.ensures.bounded n test (ap is_some c.bare_cause-cause.ensures ∙ has) queue passes)),
+          (λ n test has queue passes. c.tidy.ensures.bounded n test (ap is_some c.cause-cause.ensures ∙ has) queue passes)),
     )
 
 pub returns-clause-grows : goal.returns-clause-grows
@@ -60,4 +60,4 @@ returns-clause-grows g c = λ tested taken past follows known q.
     (subst (λ (n : FaultMap). Gains (λ k r. is_some_and (same_rule r) g.X.Exchange.ordered && turns_with tested s.fate e past k r) tested (e ∷ past) e.place.position m n)
     (sym (c.in_ok-judge_order.ensures.ok ∙ ap (λ o. ordered_by o c.is_out_of_order-broken.result e.place e.place.position m) c.ordered_rule-ordered.ensures))
     (answer-gains tested x g.met.X.Exchange.apart g.X.Exchange.settled g.X.Exchange.ordered (g.met.X.Exchange.says_ordered tested.role) s.binds s.order_binds s.fate s.fate s.ended (get nat_eq s.due) s.queue.items e.place.position e past m c.is_out_of_order-broken.result k.under v
-    (c.is_out_of_order-broken.ensures.broken ∙ ap (λ o. s.order_binds && (accepts s.fate && passes_over (get nat_eq s.due) o (looked_at (get nat_eq s.due) o s.queue.items))) c.bare_answer-answer.ensures))))
+    (c.is_out_of_order-broken.ensures.broken ∙ ap (λ o. s.order_binds && (accepts s.fate && passes_over (get nat_eq s.due) o (looked_at (get nat_eq s.due) o s.queue.items))) c.answer-answer.ensures))))
