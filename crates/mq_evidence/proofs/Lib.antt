@@ -18,3 +18,4 @@ pub mod SettlingLaws
 pub mod CeilingLaws
 pub mod ConnectionLaws
 pub mod ConnectionEvidence
+pub mod PassingLaws

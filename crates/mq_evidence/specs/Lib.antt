@@ -22,3 +22,4 @@ pub mod Unsettled
 pub mod Settling
 pub mod Ceilings
 pub mod ConnectionTrails
+pub mod Passing

@@ -6,6 +6,7 @@ ghost use Rattle.mq_evidence.specs.Answering.{IsAnswering, IsWaiting};
 
 use crate::asked::{Asked, Confirmed};
 use crate::exchange::Exchange;
+use crate::passing::passes_asked;
 use crate::requests::Requests;
 use crate::turn::Turn;
 use crate::unanswered::Unanswered;
@@ -52,6 +53,9 @@ impl Answering {
     pub fn take(&mut self, turn: Turn, note: &Note) -> Result<(), Memory>
         ensures { OnOk result ((m : Moment) (s : Stretches) → Comes turn note.now m → IsAnswering self.old s → IsAnswering self.new (advanced turn m s)) }
     {
+        if passes_asked(turn, note) {
+            return Ok(());
+        }
         self.pubacks.take(turn, note)?;
         self.pubrecs.take(turn, note)?;
         self.pubrels.take(turn, note)?;
@@ -96,6 +100,9 @@ impl Waiting {
     pub fn take(&mut self, turn: Turn, note: &Note) -> Result<(), Memory>
         ensures { OnOk result ((m : Moment) (s : Stretches) → Comes turn note.now m → IsWaiting self.old s → IsWaiting self.new (advanced turn m s)) }
     {
+        if passes_asked(turn, note) {
+            return Ok(());
+        }
         self.pubacks.take(turn, note)?;
         self.pubrecs.take(turn, note)?;
         self.pubrels.take(turn, note)?;

@@ -15,6 +15,7 @@ ghost use Rattle.mq_evidence.specs.Handshakes.{IsHandshake, IsFirstSent, IsGreet
 
 use crate::because::{from_short, from_word, if_announced, it, it_with, one_of, two_of, two_with};
 use crate::evidence::Evidence;
+use crate::passing::passes_handshake;
 use crate::tables::keep_once;
 use crate::turn::Turn;
 use mq_packet::PacketType;
@@ -353,6 +354,9 @@ impl Handshake {
     pub fn take(&mut self, turn: Turn, note: &Note)
         ensures { (role : TheRole) (m : Moment) (s : Stretches) → Comes turn note.now m → IsHandshake self.old role s → IsHandshake self.new role (advanced turn m s) }
     {
+        if passes_handshake(turn, note) {
+            return;
+        }
         let role = self.role;
         self.sent.take(turn, role, note);
         self.greetings.take(turn, role, note);

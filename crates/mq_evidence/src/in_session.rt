@@ -12,6 +12,7 @@ use std::alloc::Global;
 
 /// Keeps the position of an event of the session that gains an identifier, in place of an earlier
 /// one.
+#[inline(always)]
 pub fn keep_in_session(
     positions: &mut IndexMap<u16, u32>,
     alloc: Global,

@@ -19,6 +19,7 @@ mod handshake;
 mod in_session;
 mod last_requests;
 mod overtaking;
+mod passing;
 mod received;
 mod requests;
 mod rests;

@@ -9,6 +9,7 @@ ghost use Rattle.mq_evidence.specs.Stretches.{Stretches, Comes, advanced, longer
 ghost use Rattle.mq_evidence.specs.Received.{IsReceived, IsReceivedInSession};
 
 use crate::in_session::keep_in_session;
+use crate::passing::passes_asked;
 use crate::tables::{keep_earlier, keep_earliest, only_among, position_of};
 use crate::turn::Turn;
 use indexmap::{IndexMap, IndexSet};
@@ -94,6 +95,9 @@ impl Received {
     pub fn take(&mut self, turn: Turn, note: &Note) -> Result<(), Memory>
         ensures { OnOk result ((m : Moment) (s : Stretches) → Comes turn note.now m → IsReceived self.old s → IsReceived self.new (advanced turn m s)) }
     {
+        if passes_asked(turn, note) {
+            return Ok(());
+        }
         keep_earlier(&mut self.earlier, turn.begins, &self.in_session.brought)?;
         self.in_session.take(turn, note)?;
         Ok(())

@@ -8,6 +8,7 @@ ghost use Rattle.mq_evidence.specs.Evidence.{some_session, later as later_of};
 ghost use Rattle.mq_evidence.specs.Stretches.{Stretches, Comes, advanced, longer, nothing_yet, has_id, unended};
 ghost use Rattle.mq_evidence.specs.Senders.{IsSenders, IsSentInSession, IsSentOnConnection};
 
+use crate::passing::passes_asking;
 use crate::tables::{keep_earlier, keep_latest, later, only_among, position_of};
 use crate::turn::Turn;
 use indexmap::{IndexMap, IndexSet};
@@ -183,6 +184,9 @@ impl Senders {
     pub fn take(&mut self, turn: Turn, note: &Note) -> Result<(), Memory>
         ensures { OnOk result ((m : Moment) (s : Stretches) → Comes turn note.now m → IsSenders self.old s → IsSenders self.new (advanced turn m s)) }
     {
+        if passes_asking(turn, note) {
+            return Ok(());
+        }
         keep_earlier(&mut self.earlier, turn.begins, &self.in_session.openers)?;
         self.in_session.take(turn, note)?;
         self.on_connection.take(turn, note)?;

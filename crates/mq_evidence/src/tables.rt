@@ -1,6 +1,6 @@
 //! What is kept under each Packet Identifier (MQTT 5.0, section 2.2.1) of a stretch of the log: the
 //! positions of its latest or of its earliest events of one kind, or only that there are some.
-ghost use Rattle.std.specs.Prelude.{◌≡◌, ◌||◌, ℕ, OnOk, nat_eq, is_some};
+ghost use Rattle.std.specs.Prelude.{◌≡◌, ◌||◌, ◌&&◌, ℕ, OnOk, nat_eq, is_some, not};
 ghost use Rattle.std.specs.List.{list_any};
 ghost use Rattle.indexmap.specs.IndexMap.{get};
 ghost use Rattle.indexmap.specs.IndexSet.{contains};
@@ -11,9 +11,38 @@ use indexmap::{IndexMap, IndexSet};
 use mq_rules::Memory;
 use std::alloc::Global;
 
+// Whether an event changes nothing: no stretch begins anew with it, and it gains and loses nothing.
+// It is so of most events in most tables.
+#[inline(always)]
+fn changes_nothing(over: bool, gained: Option<u16>, lost: Option<u16>) -> bool
+    ensures { result ≡ (not over && (not (is_some gained) && not (is_some lost))) }
+{
+    !over && (gained.is_none() && lost.is_none())
+}
+
 /// Keeps the position of an event that gains an identifier, in place of an earlier one, and drops
 /// that of one which it loses. A stretch that begins anew with the event has none before.
+#[inline(always)]
 pub fn keep_latest(
+    positions: &mut IndexMap<u16, u32>,
+    alloc: Global,
+    over: bool,
+    inside: bool,
+    gained: Option<u16>,
+    lost: Option<u16>,
+    position: u32,
+) -> Result<(), Memory>
+    ensures { OnOk result ((i : ℕ) → get nat_eq positions.new i ≡ last_next over inside (is_id i gained) (is_id i lost) position (get nat_eq positions.old i)) }
+{
+    if changes_nothing(over, gained, lost) {
+        return Ok(());
+    }
+    change_latest(positions, alloc, over, inside, gained, lost, position)
+}
+
+// The same, of any event.
+#[inline(never)]
+fn change_latest(
     positions: &mut IndexMap<u16, u32>,
     alloc: Global,
     over: bool,
@@ -41,7 +70,27 @@ pub fn keep_latest(
 }
 
 /// The same, but keeps the position that is there.
+#[inline(always)]
 pub fn keep_earliest(
+    positions: &mut IndexMap<u16, u32>,
+    alloc: Global,
+    over: bool,
+    inside: bool,
+    gained: Option<u16>,
+    lost: Option<u16>,
+    position: u32,
+) -> Result<(), Memory>
+    ensures { OnOk result ((i : ℕ) → get nat_eq positions.new i ≡ first_next over inside (is_id i gained) (is_id i lost) position (get nat_eq positions.old i)) }
+{
+    if changes_nothing(over, gained, lost) {
+        return Ok(());
+    }
+    change_earliest(positions, alloc, over, inside, gained, lost, position)
+}
+
+// The same, of any event.
+#[inline(never)]
+fn change_earliest(
     positions: &mut IndexMap<u16, u32>,
     alloc: Global,
     over: bool,
@@ -71,6 +120,7 @@ pub fn keep_earliest(
 }
 
 /// The position of the earliest event of a stretch that passes a test, with one event more.
+#[inline]
 pub fn keep_once(
     over: bool,
     inside: bool,
@@ -88,6 +138,7 @@ pub fn keep_once(
 }
 
 /// That of the latest one.
+#[inline]
 pub fn keep_again(
     over: bool,
     inside: bool,
@@ -117,6 +168,7 @@ fn add_all(set: &mut IndexSet<u16>, identifiers: &[u16]) -> Result<(), Memory>
 
 /// Where a session begins anew, what was gained in the one before joins what was gained in earlier
 /// ones.
+#[inline]
 pub fn keep_earlier(
     earlier: &mut IndexSet<u16>,
     begins: bool,

@@ -1,8 +1,9 @@
-use Rattle.std.proofs.Common.{nat_eq}
+use Rattle.std.proofs.Common.{nat_eq, sym, ◌∙◌}
 use Rattle.indexmap.specs.IndexMap.{get}
 use Rattle.indexmap.specs.IndexSet.{contains}
 use Rattle.mq_rules.specs.Notes.{received_exactly_once}
 use Rattle.mq_evidence.proofs.StretchLaws.{earlier-kept}
+use Rattle.mq_evidence.proofs.PassingLaws.{received-stays}
 use Rattle.mq_evidence.proofs.received.Received.take.Goals as goal
 
 pub returns : goal.returns
@@ -11,3 +12,6 @@ returns c = λ m s comes before. record {
   earlier_are = earlier-kept c.args.turn.begins received_exactly_once (get nat_eq c.args.self.now.in_session.brought) (contains nat_eq c.args.self.now.earlier) (contains nat_eq c.keep_earlier.new.earlier)
       s.session s.earlier before.in_session.brought_are before.earlier_are c.in_ok-keep_earlier.ensures;
 }
+
+pub returns-then-passes_asked : goal.returns-then-passes_asked
+returns-then-passes_asked c = λ m s comes before. received-stays c.args.self.now c.args.turn c.args.note.now m s (sym c.passes_asked.ensures ∙ c.if-passes_asked.true) comes before

@@ -1,8 +1,9 @@
-use Rattle.std.proofs.Common.{nat_eq}
+use Rattle.std.proofs.Common.{nat_eq, sym, ◌∙◌}
 use Rattle.indexmap.specs.IndexMap.{get}
 use Rattle.indexmap.specs.IndexSet.{contains}
 use Rattle.mq_rules.specs.Notes.{opener_of}
 use Rattle.mq_evidence.proofs.StretchLaws.{earlier-kept}
+use Rattle.mq_evidence.proofs.PassingLaws.{senders-stay}
 use Rattle.mq_evidence.proofs.senders.Senders.take.Goals as goal
 
 pub returns : goal.returns
@@ -12,3 +13,6 @@ returns c = λ m s comes before. record {
   earlier_are = earlier-kept c.args.turn.begins opener_of (get nat_eq c.args.self.now.in_session.openers) (contains nat_eq c.args.self.now.earlier) (contains nat_eq c.keep_earlier.new.earlier)
       s.session s.earlier before.in_session.openers_are before.earlier_are c.in_ok-keep_earlier.ensures;
 }
+
+pub returns-then-passes_asking : goal.returns-then-passes_asking
+returns-then-passes_asking c = λ m s comes before. senders-stay c.args.self.now c.args.turn c.args.note.now m s (sym c.passes_asking.ensures ∙ c.if-passes_asking.true) comes before
