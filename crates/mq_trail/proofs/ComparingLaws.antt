@@ -2,7 +2,6 @@
 use Rattle.std.proofs.Common.{◌≡◌, ℕ, Bool, true, false, ◌&&◌, ◌==◌, cond, nat_eq, List, [], ◌∷◌, Option, Some, None, refl, sym, ap, ap₂, ◌∙◌, ◌↔◌}
 use Rattle.std.specs.Option.{option_or}
 use Rattle.std.specs.FinMap.{entries, find, get, empty, get-empty, get-entries, same_entries_map, same_map}
-use Rattle.std.specs.Ordering.{eq_by_cmp}
 use Rattle.std.proofs.lemmas.Bool.{eqb-true, eq-eqb}
 use denote.Enum.Bare.{same_true, true_same}
 use Rattle.mq_rules.specs.contracts.rule.Rule.{the_type}
@@ -11,7 +10,7 @@ use Rattle.mq_rules.specs.contracts.faults.FaultKeyOrd.TheImpl.Laws as laws
 use Rattle.mq_rules.specs.declared.rule.Rule.{Rule}
 use Rattle.mq_rules.specs.declared.fault.Fault.{Fault}
 use Rattle.mq_rules.specs.declared.faults.FaultKey.{FaultKey}
-use Rattle.mq_rules.specs.FaultKeys.{FaultMap, fault_at, key_cmp, with_fault}
+use Rattle.mq_rules.specs.FaultKeys.{FaultMap, key_cmp, with_fault}
 use Rattle.mq_rules.specs.Rules.{same_rule}
 use Rattle.mq_rules.specs.declared.role.Role.{Role}
 use Rattle.mq_rules.specs.declared.role.Role.TheVariants.{Client, Server}

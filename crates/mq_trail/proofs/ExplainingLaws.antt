@@ -1,6 +1,6 @@
 -- What the faults of a verdict conflict with, one after the other.
-use Rattle.std.proofs.Common.{◌≡◌, ◌≤◌, ◌+◌, ◌==◌, ◌&&◌, ℕ, Bool, true, false, cond, List, [], ◌∷◌, ◌++◌, length, map, Option, Some, None, Result, Ok, Err, refl, sym, ap, subst, ◌∙◌, append_assoc, append-nil, IfSome, inl, inr}
-use Rattle.std.specs.Prelude.{option_map, Vec, IfErr, IfOk, ◌↔◌}
+use Rattle.std.proofs.Common.{◌≡◌, ℕ, Bool, true, false, cond, List, [], ◌∷◌, ◌++◌, Option, Some, None, Result, Ok, Err, refl, sym, ap, subst, ◌∙◌, append_assoc, append-nil, IfSome}
+use Rattle.std.specs.Prelude.{option_map, Vec, ◌↔◌}
 use Rattle.std.specs.List.{Contains}
 use Rattle.std.proofs.lemmas.List.Elements.{Contains-append_left, Contains-append_right, Contains-push}
 use Rattle.std.specs.FinMap.{entries, same_entries_map}
@@ -12,12 +12,19 @@ use Rattle.mq_rules.specs.declared.fault.Fault.{Fault}
 use Rattle.mq_rules.specs.declared.faults.FaultKey.{FaultKey}
 use Rattle.mq_rules.specs.FaultKeys.{FaultMap, fault_at}
 use Rattle.mq_rules.specs.Moments.{moment}
-use Rattle.mq_rules.specs.Statements.{fails, statement}
+use Rattle.mq_rules.specs.Notes.{tested_by, seen_in}
+use Rattle.mq_rules.specs.Statements.{fails}
 use Rattle.mq_rules.specs.Faults.{decided, fault_in, listed_faults, reported}
 use Rattle.mq_rules.proofs.Exports.{entries-listed, listed-there}
 use Rattle.mq_report.specs.Chosen.{is_judged}
+use Rattle.mq_report.specs.Stopping.{IsJudged}
 use Rattle.mq_evidence.specs.declared.evidence.Evidence.{Evidence}
-use Rattle.mq_trail.specs.Explaining.{AreReasons, AreWanted, IsReason, IsSame, IsWanted}
+use Rattle.mq_trail.specs.declared.explaining.Unexplained.{Unexplained}
+use Rattle.mq_trail.specs.declared.explaining.Unexplained.TheVariants as why
+use Rattle.mq_trail.specs.Explaining.{AnswersFor, AreReasons, ExplainsOver, IsReason, IsSame, IsWanted, AreWanted}
+use Rattle.mq_rules.specs.declared.fate.Fate.{Fate}
+use Rattle.mq_rules.specs.Connections.{latest_fate}
+use Rattle.mq_trail.specs.Following.{HasFollowed}
 use Rattle.mq_trail.specs.Rejudging.{HasFound}
 
 -- ---- the faults that are explained
@@ -100,3 +107,19 @@ same-verdict tested named count events faults found past has end counts same = r
   counted = sym counts ∙ has.counted;
   listed = ap entries (sym same) ∙ entries-listed (is_judged tested) tested past found has.each;
 }
+
+-- the log was read to its end
+pub explained : {W : Type 0} (agrees : W → Tested → Option Fate → List Seen → Type 0) (tested named : Tested) (count : ℕ) (faults : List (FaultKey × Fault)) (reading : W)
+    (remaining left : Option (List ℕ)) (result : Result (Vec Evidence Global) Unexplained)
+    → IfSome remaining (λ log. IsJudged log × (named ≡ tested_by log) × HasFollowed agrees tested reading (seen_in log))
+    → ((taken : Option Fate) (past : List Seen) → agrees reading tested taken past → AnswersFor tested named count faults past result)
+    → IfSome remaining (λ log. ExplainsOver tested count faults log left result)
+explained agrees tested named count faults reading None left result over answers = tt
+explained agrees tested named count faults reading (Some log) left result over answers =
+    go result (subst (λ (n : Tested). AnswersFor tested n count faults (seen_in log) result) over.1 (answers (latest_fate tested.role (seen_in log)) (seen_in log) over.2))
+  where
+    go : (r : Result (Vec Evidence Global) Unexplained) → AnswersFor tested (tested_by log) count faults (seen_in log) r → ExplainsOver tested count faults log left r
+    go (Ok reasons) h = (over.0, h.0, h.1)
+    go (Err (why.Refused refusal)) h = absurd h
+    go (Err why.Changed) h = (over.0, h)
+    go (Err why.Memory) h = tt

@@ -5,14 +5,16 @@ use Rattle.mq_rules.specs.declared.role.Tested.{Tested}
 use Rattle.mq_rules.specs.declared.note.Seen.{Seen}
 use Rattle.mq_rules.specs.declared.fault.Fault.{Fault}
 use Rattle.mq_rules.specs.declared.faults.FaultKey.{FaultKey}
+use Rattle.mq_rules.specs.Notes.{tested_by, seen_in}
 use Rattle.mq_rules.specs.Statements.{fails}
 use Rattle.mq_rules.specs.Faults.{decided, listed_faults}
 use Rattle.mq_rules.specs.FaultKeys.{FaultMap, fault_at}
 use Rattle.mq_report.specs.Chosen.{is_judged}
+use Rattle.mq_report.specs.Stopping.{IsJudged, IsRefusedAt, default_limit}
 use Rattle.mq_evidence.specs.declared.evidence.Evidence.{Evidence}
 use Rattle.mq_evidence.specs.Evidence.{evidence}
 use Rattle.mq_trail.specs.declared.explaining.Unexplained.{Unexplained}
-use Rattle.mq_trail.specs.declared.explaining.Unexplained.TheVariants.{Changed, Memory}
+use Rattle.mq_trail.specs.declared.explaining.Unexplained.TheVariants.{Refused, Changed, Memory}
 
 -- ---- the reasons of faults
 
@@ -49,5 +51,13 @@ pub record IsSame (tested named : Tested) (count : ℕ) (faults : List (FaultKey
 -- What is answered for a verdict, once the log was read: what each fault conflicts with, or that the verdict is another one. There may be no memory for it.
 abbrev pub AnswersFor : (tested named : Tested) → ℕ → List (FaultKey × Fault) → List Seen → Result (Vec Evidence Global) Unexplained → Type 0
 AnswersFor tested named count faults past (Ok reasons) = IsSame tested named count faults past × AreReasons tested past faults reasons.items
+AnswersFor tested named count faults past (Err (Refused refusal)) = ⊥
 AnswersFor tested named count faults past (Err Changed) = ¬ IsSame tested named count faults past
 AnswersFor tested named count faults past (Err Memory) = ⊤
+
+-- The result of explaining the faults of a verdict by this log, and what the reader has left. Nothing is said of the log if there was no memory for the faults.
+abbrev pub ExplainsOver : Tested → ℕ → List (FaultKey × Fault) → List ℕ → Option (List ℕ) → Result (Vec Evidence Global) Unexplained → Type 0
+ExplainsOver tested count faults log left (Ok reasons) = IsJudged log × IsSame tested (tested_by log) count faults (seen_in log) × AreReasons tested (seen_in log) faults reasons.items
+ExplainsOver tested count faults log left (Err (Refused refusal)) = IsRefusedAt default_limit log left refusal
+ExplainsOver tested count faults log left (Err Changed) = IsJudged log × (¬ IsSame tested (tested_by log) count faults (seen_in log))
+ExplainsOver tested count faults log left (Err Memory) = ⊤

@@ -16,7 +16,7 @@ use Rattle.mq_evidence.specs.Evidence.{connack_at}
 abbrev pub connack_before_at : Role → List Seen → ℕ → Option ℕ
 connack_before_at role past p = option_and_then (λ t. option_map position (connack_at role t)) (moment past p)
 
--- The positions that are kept are those that show a fault of S06 among these; for each that is among these events, its connection's CONNACK is kept.
+-- The positions that are kept are those that show a fault of S06 among these; for each that is among these events, its connection's CONNACK is kept. Positions begin at 1.
 pub record IsResting (r : Rests) (wanted : FaultMap) (role : Role) (past : List Seen) : Type 0 where
   pub kept : (p : ℕ) → is_some (get nat_eq r.connacks p) ≡ list_any (shows_at p) (entries wanted)
-  pub connacks_are : (p : ℕ) → p ≤ length past → is_some (get nat_eq r.connacks p) ≡ true → connack_of (get nat_eq r.connacks p) ≡ connack_before_at role past p
+  pub connacks_are : (p : ℕ) → 1 ≤ p → p ≤ length past → is_some (get nat_eq r.connacks p) ≡ true → connack_of (get nat_eq r.connacks p) ≡ connack_before_at role past p

@@ -1,39 +1,190 @@
-//! What the faults of a verdict conflict with, once a log was read again.
-ghost use Rattle.std.specs.Prelude.{◌≡◌, ◌∷◌, ◌++◌, [], List, Option, IfOk, OnOk};
+//! What the faults of a log conflict with: the log is read a second time to find that.
+ghost use Rattle.std.specs.Prelude.{◌≡◌, ◌∷◌, ◌++◌, [], List, Option, Some, IfOk, IfSome, OnOk};
 ghost use Rattle.std.specs.FinMap as map;
 ghost use Rattle.mq_rules.specs.declared.role.Tested.{Tested as TheTested};
 ghost use Rattle.mq_rules.specs.declared.fate.Fate.{Fate as TheFate};
+ghost use Rattle.mq_rules.specs.declared.fate.Fate.TheVariants.{Void};
 ghost use Rattle.mq_rules.specs.declared.note.Seen.{Seen};
-ghost use Rattle.mq_trail.specs.Explaining.{AnswersFor, AreReasons, AreWanted};
+ghost use Rattle.mq_trail.specs.Explaining.{AnswersFor, AreReasons, AreWanted, ExplainsOver};
 
-use crate::comparing::same_end;
+use crate::comparing::{copy_of, same_end};
 use crate::finding::evidence_of;
+use crate::following::Follower;
 use crate::introducing::Introducing;
 use crate::rejudging::Rejudging;
 use crate::reviewing::{Reviewing, Wanted};
+use crate::second_reading::follow_reader;
 use mq_books::Early;
-use mq_evidence::Evidence;
+use mq_evidence::{ConnectionExplaining, Evidence, Explaining, Rests};
+use mq_log::Refusal;
 use mq_report::Verdict;
 use mq_rules::{Both, Fault, FaultKey, Faults, Memory, Role, Tested, Watch};
 use std::alloc::Global;
+use std::io::Read;
+use std::marker::Brand;
 
 /// Why nothing is said of what the faults of a verdict conflict with.
 #[derive(Clone, Copy, Debug, PartialEq, Eq)]
 pub enum Unexplained {
+    /// The log that is read again is refused, couldn't be read, or there was no memory to judge it.
+    Refused(Refusal),
     /// The verdict on the log that is read again is another one.
     Changed,
     /// There was no memory for what the faults conflict with.
     Memory,
 }
 
-/// What each fault of a verdict on this tested end conflicts with, in their order, once a log was read
-/// to its end as that of this end. `named` is the end that the log's header names. Nothing is said
-/// unless the verdict on the log is the same.
+/// Reads a log again of which this was the verdict, for this tested end, and says of each fault, in
+/// their order, what it conflicts with. The log is judged again, and nothing is said unless the
+/// verdict is the same. It reads at most 4,294,967,295 times, and at most 8,192 bytes each time.
 ///
 /// # Errors
 ///
-/// `Changed` if the verdict on the log is another one; `Memory`.
-pub fn reasons_in<K: Wanted>(
+/// `Refused` if the log is refused now: that is also `Read` if the reader fails, or hasn't ended
+/// after the last turn, and `Memory` if there is no memory to judge it; `Changed` if the verdict on
+/// it is another one; `Memory`.
+pub fn explain_reader<R: Read>(
+    alloc: Global,
+    reader: &mut R,
+    tested: Tested,
+    verdict: &Verdict,
+) -> Result<Vec<Evidence>, Unexplained>
+    ensures { IfSome (R.remaining reader.old) (λ log. ExplainsOver tested verdict.now.events (map.entries verdict.now.faults) log (R.remaining reader.new) result) }
+{
+    explain_as::<R, Brand>(alloc, reader, tested, verdict)
+}
+
+// Explains the faults of the verdict, which are those that are picked.
+fn explain_as<R: Read, K: Wanted>(
+    alloc: Global,
+    reader: &mut R,
+    tested: Tested,
+    verdict: &Verdict,
+) -> Result<Vec<Evidence>, Unexplained>
+    requires { K.wanted ≡ verdict.now.faults }
+    ensures { IfSome (R.remaining reader.old) (λ log. ExplainsOver tested verdict.now.events (map.entries verdict.now.faults) log (R.remaining reader.new) result) }
+{
+    let watcher = watcher_of::<K>(alloc, tested, &verdict.faults);
+    explain_by(alloc, reader, tested, watcher, verdict)
+}
+
+// Explains the faults of the verdict by this watcher, which is before any event, if there was memory
+// for it. It is of any type, so that what it consists of and frees needn't be spelled out here.
+fn explain_by<R: Read, W: Answers + Drop>(
+    alloc: Global,
+    reader: &mut R,
+    tested: Tested,
+    watcher: Result<W, Memory>,
+    verdict: &Verdict,
+) -> Result<Vec<Evidence>, Unexplained>
+    requires sought { W.sought ≡ verdict.now.faults }
+    requires agrees { IfOk watcher (λ w. W.agrees w tested (Some Void) []) }
+    ensures { IfSome (R.remaining reader.old) (λ log. ExplainsOver tested verdict.now.events (map.entries verdict.now.faults) log (R.remaining reader.new) result) }
+{
+    match watcher {
+        Ok(watcher) => match follow_reader(alloc, reader, tested, watcher) {
+            Ok((reading, named)) => reading.answer(alloc, tested, named, verdict),
+            Err(refusal) => Err(Unexplained::Refused(refusal)),
+        },
+        Err(Memory) => Err(Unexplained::Memory),
+    }
+}
+
+/// A watcher that judges a log again, and finds what the faults of its verdict conflict with.
+pub trait Answers: Follower {
+    ghost use Rattle.mq_rules.specs.FaultKeys.{FaultMap};
+
+    /// The faults whose reasons it finds.
+    ghost sought: { FaultMap };
+
+    /// What each fault of the verdict conflicts with, once the log was read to its end, which names
+    /// this tested end.
+    ///
+    /// # Errors
+    ///
+    /// `Changed` if the log's verdict is another one; `Memory`.
+    fn answer(
+        &self,
+        alloc: Global,
+        tested: Tested,
+        named: Tested,
+        verdict: &Verdict,
+    ) -> Result<Vec<Evidence>, Unexplained>
+        requires { sought ≡ verdict.now.faults }
+        ensures { (taken : Option TheFate) (past : List Seen) → Self.agrees self.now tested taken past → AnswersFor tested named verdict.now.events (map.entries verdict.now.faults) past result };
+}
+
+impl<K: Wanted> Answers for Both<Rejudging, Both<Introducing<K>, Early<Reviewing<K>>>> {
+    ghost sought = { K.wanted };
+
+    fn answer(
+        &self,
+        alloc: Global,
+        tested: Tested,
+        named: Tested,
+        verdict: &Verdict,
+    ) -> Result<Vec<Evidence>, Unexplained> {
+        reasons_in(alloc, self, tested, named, verdict)
+    }
+}
+
+// What judges a log again, and explains these faults, before any event.
+//
+// Errors: `Memory` if there is no memory for the faults.
+fn watcher_of<K: Wanted>(
+    alloc: Global,
+    tested: Tested,
+    faults: &Faults,
+) -> Result<Both<Rejudging, Both<Introducing<K>, Early<Reviewing<K>>>>, Memory>
+    requires { K.wanted ≡ faults.now }
+    ensures { IfOk result (λ watcher. ⟦<Both<Rejudging, Both<Introducing<K>, Early<Reviewing<K>>>> as Watch>⟧.agrees watcher tested (Some Void) []) }
+{
+    let introducing = introducing_of::<K>(alloc, tested, faults)?;
+    let reviewing = reviewing_of::<K>(alloc, tested, faults)?;
+    let rejudging = Rejudging::new(alloc, tested);
+    let explaining = Both::new(introducing, reviewing);
+    Ok(Both::new(rejudging, explaining))
+}
+
+// What explains these faults on connections, before any event.
+//
+// Errors: `Memory` if there is no memory for the faults.
+fn introducing_of<K: Wanted>(
+    alloc: Global,
+    tested: Tested,
+    faults: &Faults,
+) -> Result<Introducing<K>, Memory>
+    requires { K.wanted ≡ faults.now }
+    ensures { IfOk result (λ introducing. ⟦<Introducing<K> as Watch>⟧.agrees introducing tested (Some Void) []) }
+{
+    let rests = Rests::of(alloc, faults)?;
+    let copy = copy_of(alloc, faults)?;
+    let explaining = ConnectionExplaining::new(alloc, tested, copy);
+    Ok(Introducing::new(explaining, rests))
+}
+
+// What explains these faults on sessions, before any event.
+//
+// Errors: `Memory` if there is no memory for the faults.
+fn reviewing_of<K: Wanted>(
+    alloc: Global,
+    tested: Tested,
+    faults: &Faults,
+) -> Result<Early<Reviewing<K>>, Memory>
+    requires { K.wanted ≡ faults.now }
+    ensures { IfOk result (λ reviewing. ⟦<Early<Reviewing<K>> as Watch>⟧.agrees reviewing tested (Some Void) []) }
+{
+    let copy = copy_of(alloc, faults)?;
+    let explaining = Explaining::new(alloc, tested, copy);
+    let reviewing = Reviewing::<K>::new(explaining);
+    Ok(Early::new(alloc, tested, reviewing))
+}
+
+// What each fault of the verdict conflicts with, once the log was read to its end, which names this
+// tested end.
+//
+// Errors: `Changed` if the log's verdict is another one; `Memory`.
+fn reasons_in<K: Wanted>(
     alloc: Global,
     reading: &Both<Rejudging, Both<Introducing<K>, Early<Reviewing<K>>>>,
     tested: Tested,

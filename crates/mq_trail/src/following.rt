@@ -1,13 +1,15 @@
 //! A sink that drives a watcher over the events of a log.
-ghost use Rattle.std.specs.Prelude.{◌≡◌, ◌∷◌, List, OnOk, map};
+ghost use Rattle.std.specs.Prelude.{◌≡◌, ◌∷◌, List, OnOk, map, unwrap_or};
+ghost use Rattle.mq_packet.specs.Sizes.{size_with, remaining_length};
 ghost use Rattle.mq_log.specs.Events.{Placed};
-ghost use Rattle.mq_log.specs.Reception.{AreEvents, placed_at};
+ghost use Rattle.mq_log.specs.Reception.{AreEvents, placed_at, packet_event_at};
 ghost use Rattle.mq_rules.specs.declared.role.Tested.{Tested as TheTested};
-ghost use Rattle.mq_rules.specs.Notes.{seen as seen_of};
+ghost use Rattle.mq_rules.specs.Notes.{seen as seen_of, note_of};
 ghost use Rattle.mq_trail.specs.Following.{HasFollowed};
 
 use mq_books::{Early, Fated};
-use mq_log::{Event, Place3, Refusal};
+use mq_log::{Direction, Event, Place3, Refusal};
+use mq_packet::Packet;
 use mq_rules::{Both, Faults, Memory, Note, Watch};
 use mq_trace::Sink;
 use std::alloc::Global;
@@ -90,8 +92,34 @@ impl<W: Follower, K> Following<W, K> {
         ensures { OnOk result ((tested : TheTested) (earlier : List Placed) → AreEvents (placed_at place event.now ∷ earlier) → HasFollowed W.agrees tested self.old.watcher (map seen_of earlier) → HasFollowed W.agrees tested self.new.watcher (map seen_of (placed_at place event.now ∷ earlier))) }
     {
         let note = Note::of(self.alloc, event)?;
+        self.take_note(place, &note)?;
+        Ok(())
+    }
+
+    // The same of a packet of `size` bytes in this direction, without an event that is made of it.
+    #[inline(never)]
+    fn take_packet(
+        &mut self,
+        place: Place3,
+        direction: Direction,
+        size: u32,
+        packet: Packet<'_>,
+    ) -> Result<(), Memory>
+        ensures { OnOk result ((tested : TheTested) (earlier : List Placed) → size ≡ unwrap_or (size_with (remaining_length packet.entry)) 0 → AreEvents (packet_event_at place direction packet.entry ∷ earlier) → HasFollowed W.agrees tested self.old.watcher (map seen_of earlier)
+            → HasFollowed W.agrees tested self.new.watcher (map seen_of (packet_event_at place direction packet.entry ∷ earlier))) }
+    {
+        let note = Note::of_packet(self.alloc, direction, size, &packet)?;
+        self.take_note(place, &note)?;
+        Ok(())
+    }
+
+    // Takes in the note of an event.
+    #[inline(always)]
+    fn take_note(&mut self, place: Place3, note: &Note) -> Result<(), Memory>
+        ensures { OnOk result ((tested : TheTested) (earlier : List Placed) (p : Placed) → p.place ≡ place → note.now ≡ note_of p.event → AreEvents (p ∷ earlier) → HasFollowed W.agrees tested self.old.watcher (map seen_of earlier) → HasFollowed W.agrees tested self.new.watcher (map seen_of (p ∷ earlier))) }
+    {
         let mut faults = Faults::new(self.alloc);
-        self.watcher.step(place, &note, &mut faults)?;
+        self.watcher.step(place, note, &mut faults)?;
         Ok(())
     }
 }
@@ -111,5 +139,20 @@ impl<W: Follower, K: Watched> Sink for Following<W, K> {
             Ok(()) => Ok(()),
             Err(Memory) => Err(Refusal::Memory(0)),
         }
+    }
+
+    // An event that is made of a packet would only be taken apart again.
+    #[inline(always)]
+    fn packet(
+        &mut self,
+        place: Place3,
+        direction: Direction,
+        size: u32,
+        packet: Packet<'_>,
+    ) -> Result<(), Refusal> {
+        let Ok(()) = self.take_packet(place, direction, size, packet) else {
+            return Err(Refusal::Memory(0));
+        };
+        Ok(())
     }
 }

@@ -16,13 +16,24 @@ use std::marker::PhantomData;
 /// Explains faults as their events come, whatever becomes of the connection. It judges no statement.
 ///
 /// No code uses `K`. It is there for the proofs: by it `agrees` can say which faults are explained.
-#[derive(Drop)]
 pub struct Introducing<K> {
     /// What it has explained.
     pub explaining: ConnectionExplaining,
     /// The RESTs that show faults of S06.
     pub rests: Rests,
     wanted: PhantomData<K>,
+}
+
+// A function of its own, so that whoever drops it needn't spell out all that is freed.
+impl<K> Drop for Introducing<K> {
+    #[inline(never)]
+    fn drop(self) {
+        let Introducing {
+            explaining: _explaining,
+            rests: _rests,
+            wanted: _wanted,
+        } = self;
+    }
 }
 
 impl<K: Wanted> Introducing<K> {

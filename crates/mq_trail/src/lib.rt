@@ -11,7 +11,7 @@ mod reviewing;
 mod second_reading;
 
 pub use comparing::{copy_of, same_end, same_faults};
-pub use explaining::{Reasons, Unexplained, reasons_in};
+pub use explaining::{Answers, Reasons, Unexplained, explain_reader};
 pub use finding::{connection_evidence, evidence_of, session_evidence};
 pub use following::{Follower, Following, Watched};
 pub use introducing::Introducing;

@@ -28,12 +28,25 @@ impl Wanted for Brand {
 /// statement.
 ///
 /// No code uses `K`. It is there for the proofs: by it `agrees` can say which faults are explained.
-#[derive(Drop)]
 pub struct Reviewing<K> {
     fate: Fate,
     /// What it has explained.
     pub explaining: Explaining,
     wanted: PhantomData<K>,
+}
+
+// A function of its own, so that whoever drops it needn't spell out all that is freed. Nor does this
+// one: what is much to free is passed to `drop`.
+impl<K> Drop for Reviewing<K> {
+    #[inline(never)]
+    fn drop(self) {
+        let Reviewing {
+            fate: _fate,
+            explaining,
+            wanted: _wanted,
+        } = self;
+        drop(explaining);
+    }
 }
 
 impl<K: Wanted> Reviewing<K> {

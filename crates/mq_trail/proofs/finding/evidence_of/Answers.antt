@@ -1,4 +1,4 @@
-use Rattle.std.proofs.Common.{◌≡◌, ap, sym, ◌∙◌, true, false, Some, nat_eq}
+use Rattle.std.proofs.Common.{◌≡◌, ap, sym, ◌∙◌, true, false, nat_eq}
 use Rattle.std.specs.Prelude.{is_some, unwrap_or}
 use denote.Enum.Bare.{same_true}
 use Rattle.indexmap.specs.IndexMap.{get}
@@ -33,10 +33,11 @@ returns-then-eq g c = λ tested taken past role agrees wanted failing at.
     let r = c.args.key.rule in
     let d = c.args.fault.decided in
     let here = moment-where-fails tested past k r failing in
+    let there = rest-there tested past k d r here at in
     let is : r ≡ S06 = same_true the_type tt r S06 (sym c.eq.ensures ∙ c.if-eq.true) in
     let kept : is_some (get nat_eq c.args.reading.now.a.rests.connacks d) ≡ true = agrees.0.2.kept d ∙ rest-kept g.K.Wanted.wanted k c.args.fault (ap (fault_at g.K.Wanted.wanted k) (sym is) ∙ wanted) in
     c.of-then-eq.ensures
-    ∙ ap (λ o. record { because = o; numbers = Nothing }) (c.connack.ensures ∙ agrees.0.2.connacks_are d (rest-there tested past k d r here at).1 kept)
+    ∙ ap (λ o. record { because = o; numbers = Nothing }) (c.connack.ensures ∙ agrees.0.2.connacks_are d there.0 there.1 kept)
     ∙ evidence-resumed tested past k d r here at failing is
 
 pub returns : goal.returns
