@@ -4,3 +4,4 @@ pub mod PacketLaws
 pub mod MessageLaws
 pub mod BeginningLaws
 pub mod ConvertingLaws
+pub mod InquiringLemmas

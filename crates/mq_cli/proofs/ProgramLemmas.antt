@@ -7,16 +7,18 @@ use Rattle.clap.specs.Words.{Text}
 use Rattle.mq_command.specs.declared.command_line.Task.{Task}
 use Rattle.mq_command.specs.declared.command_line.Task.TheVariants.{Check, Show, Packet, Rules, Explain}
 use Rattle.mq_command.specs.declared.command_line.Work.{Work}
-use Rattle.mq_command.specs.declared.command_line.Work.TheVariants.{Once, Twice, Convert}
+use Rattle.mq_command.specs.declared.command_line.Work.TheVariants.{Once, Again, Why, Convert}
 use Rattle.mq_host.specs.declared.failure.Failure.{Failure}
 use Rattle.mq_host.specs.declared.failure.Failure.TheVariants as failures
 use Rattle.mq_host.specs.declared.failure.Obstacle.TheVariants as obstacles
 use Rattle.mq_host.specs.declared.trouble.Trouble.TheVariants as troubles
+use Rattle.mq_judge.specs.declared.Form.{Form}
 use Rattle.mq_report.specs.Display.{is_timed}
 use Rattle.mq_command.specs.CommandLine.{path_of, reads_input}
 use Rattle.mq_cli.specs.Converting.{Files, files_of}
+use Rattle.mq_cli.specs.Inquiring.{log_of}
 use Rattle.mq_host.specs.Given.{Given, bytes_at}
-use Rattle.mq_cli.specs.Messages.{AppendsReportOf, AppendsReportPart, FailsMisnamed, HasFailed, HasPassed, IsMisnamed, IsMisread, IsMisspelled, IsRefusedOn, IsReportedOn, SpellsNoPacket, SpellsPacket, StopsGiven, StopsCheck, StopsShow, StopsTask, form_of, text_for}
+use Rattle.mq_cli.specs.Messages.{AppendsReportOf, AppendsReportPart, FailsMisnamed, HasFailed, HasPassed, IsMisnamed, IsMisread, IsMisspelled, IsRefusedOn, IsReportedOn, RefusesCheck, SpellsNoPacket, SpellsPacket, StopsGiven, StopsCheck, StopsShow, StopsTask, form_of, text_for}
 use Rattle.mq_command.specs.Digits.{OfDigits}
 use Rattle.mq_cli.specs.Program.{FailsLog, FailsRead, FailsTaskOn, IsHinted, MisusesTask, Refuses, RefusesSource, RefusesWork, input_of}
 use Rattle.mq_cli.specs.Reviewing.{Plan, RefusesPlan, plan_of}
@@ -203,7 +205,7 @@ misuse_stops task place log left old new is_closed error (inr misnamed) = inr mi
 
 -- whatever the log is, no more is said than the line on its first bytes
 planned_hint : (given : Given) (plan : Result Plan Text) (old new : Option (List ℕ)) (error : Stream)
-    → IsOkAnd plan (λ p. IfSome (given.file p.path) (λ log. RefusesPlan p log log old new) × IsHinted (given.file p.path) error) → IsHinted None error
+    → IsOkAnd plan (λ p. IfSome (given.file p.path) (λ log. RefusesPlan p log log log old new) × IsHinted (given.file p.path) error) → IsHinted None error
 planned_hint given (Ok plan) old new error h = record { start = h.1.start; shows = tt; told = h.1.told }
 planned_hint given (Err line) old new error h = absurd h
 
@@ -212,9 +214,15 @@ converted_hint : (given : Given) (files : Result Files Text) (old new : Option (
 converted_hint given (Ok files) old new error h = record { start = h.1.start; shows = tt; told = h.1.told }
 converted_hint given (Err line) old new error h = absurd h
 
+judged_hint : (given : Given) (asked : Result Text Text) (form : Form) (old new : Option (List ℕ)) (error : Stream)
+    → IsOkAnd asked (λ path. IfSome (given.file path) (λ log. RefusesCheck form log old new) × IsHinted (given.file path) error) → IsHinted None error
+judged_hint given (Ok path) form old new error h = record { start = h.1.start; shows = tt; told = h.1.told }
+judged_hint given (Err line) form old new error h = absurd h
+
 work_hint : (work : Work) (given : Given) (old new : Option (List ℕ)) (error : Stream) → RefusesWork given work old new error → IsHinted None error
 work_hint (Once task) given old new error h = record { start = h.1.start; shows = tt; told = h.1.told }
-work_hint (Twice review) given old new error h = planned_hint given (plan_of review) old new error h
+work_hint (Again review) given old new error h = planned_hint given (plan_of review) old new error h
+work_hint (Why inquiry) given old new error h = judged_hint given (log_of inquiry) (form_of inquiry.form) old new error h
 work_hint (Convert conversion) given old new error h = converted_hint given (files_of conversion) old new error h
 
 pub refusal_hint : (words : List Text) (given : Given) (old new : Option (List ℕ)) (error : Stream) → Refuses words given old new error → IsHinted None error

@@ -2,3 +2,4 @@ pub mod Converting
 pub mod Messages
 pub mod Reviewing
 pub mod Program
+pub mod Inquiring

@@ -4,10 +4,11 @@ use Rattle.std.specs.Io.KnownBytes.{Appends, Keeps}
 use Rattle.clap.specs.Words.{Text}
 use Rattle.mq_command.specs.declared.command_line.EarlyExit.{EarlyExit}
 use Rattle.mq_command.specs.declared.command_line.Conversion.{Conversion}
+use Rattle.mq_command.specs.declared.command_line.Inquiry.{Inquiry}
 use Rattle.mq_command.specs.declared.command_line.Review.{Review}
 use Rattle.mq_command.specs.declared.command_line.Task.{Task}
 use Rattle.mq_command.specs.declared.command_line.Work.{Work}
-use Rattle.mq_command.specs.declared.command_line.Work.TheVariants.{Once, Twice, Convert}
+use Rattle.mq_command.specs.declared.command_line.Work.TheVariants.{Once, Again, Why, Convert}
 use Rattle.mq_command.specs.declared.command_line.EarlyExit.TheVariants as exits
 use Rattle.mq_host.specs.declared.failure.Failure.TheVariants.{Memory}
 use Rattle.mq_host.specs.declared.host.Unmade.{Unmade}
@@ -18,8 +19,11 @@ use Rattle.mq_command.specs.CommandLine.{ReadsAsAsked, StopsFor, word_faults, pa
 use Rattle.mq_cli.specs.Converting.{DoesToFiles, FailsConverting, Files, IsConvertible, RefusesConverting, files_of}
 use Rattle.mq_host.specs.Effects.{Doing}
 use Rattle.mq_host.specs.Given.{Given, bytes_at}
-use Rattle.mq_cli.specs.Reviewing.{IfBoth, IsReviewed, Plan, RefusesPlan, StopsPlan, plan_of}
-use Rattle.mq_cli.specs.Messages.{FailsMisnamed, StopsTask, HasFailed, HasPassed, IsMisnamed, IsRefusedOn, IsReportedOn, IsShownOn, IsPrintedOn}
+use Rattle.mq_judge.specs.declared.Form.{Form}
+use Rattle.mq_cli.specs.Inquiring.{HasChanged, IsPassed, IsReasoned, StopsInquiry, changed_line, log_of}
+use Rattle.mq_cli.specs.declared.inquiring.Lapse.TheVariants as lapses
+use Rattle.mq_cli.specs.Reviewing.{IfAll, IfBoth, IsReviewed, Plan, RefusesPlan, StopsPlan, plan_of}
+use Rattle.mq_cli.specs.Messages.{RefusesCheck, form_of, FailsMisnamed, StopsTask, HasFailed, HasPassed, IsMisnamed, IsRefusedOn, IsReportedOn, IsShownOn, IsPrintedOn}
 use Rattle.mq_host.specs.Streams.{AppendsPart, IsCutOff, IsTold, Stream, exists_line, failure_line, same_file_line}
 use Rattle.mq_host.specs.Troubles.{Tells, failure_in, hint_line, place_of, words_place}
 
@@ -83,30 +87,41 @@ FailsRead given task is_closed old new error = IsUnopened given (path_of task) i
 
 -- 0: what is asked for was shown
 abbrev pub PassesReview : Given → Review → Option (List ℕ) → Option (List ℕ) → Type 0
-PassesReview given review old new = IsOkAnd (plan_of review) (λ plan. IfSome (given.file plan.path) (λ log. IsReviewed plan log log old new))
+PassesReview given review old new = IsOkAnd (plan_of review) (λ plan. IfSome (given.file plan.path) (λ log. IsReviewed plan log log log old new))
 
 -- 2: the log is refused, and the line that says so was written
 abbrev pub RefusesReview : Given → Review → (old new : Option (List ℕ)) → Stream → Type 0
-RefusesReview given review old new error = IsOkAnd (plan_of review) (λ plan. IfSome (given.file plan.path) (λ log. RefusesPlan plan log log old new)
+RefusesReview given review old new error = IsOkAnd (plan_of review) (λ plan. IfSome (given.file plan.path) (λ log. RefusesPlan plan log log log old new)
     × IsHinted (given.file plan.path) error)
 
 -- 3: there is nothing to show, and the line that says so was written
 abbrev pub MisusesReview : Review → Option (List ℕ) → Option (List ℕ) → Type 0
 MisusesReview review error_old error_new = IsErrAnd (plan_of review) (λ line. Appends error_old error_new line)
 
--- Reading or writing failed, or memory ran out, while one log was judged or while the other one was shown, and it is said what failed. What the two readers
--- have left isn't specified.
-pub record StopsReaders (plan : Plan) (judged shown : Option Text) (is_closed : Bool) (old new : Option (List ℕ)) (error : Stream) : Type 0 where
+-- Reading or writing failed, or memory ran out, while one log was judged, the next one read again or the last one shown, and it is said what failed. What the
+-- three readers have left isn't specified.
+pub record StopsReaders (plan : Plan) (judged again shown : Option Text) (is_closed : Bool) (old new : Option (List ℕ)) (error : Stream) : Type 0 where
   pub judged_left : Option (List ℕ)
+  pub again_left : Option (List ℕ)
   pub shown_left : Option (List ℕ)
   pub trouble : Trouble
-  pub stops : IfBoth judged shown (λ first second. StopsPlan plan (failure_in trouble) first second judged_left shown_left old new)
+  pub stops : IfAll judged again shown (λ first second third. StopsPlan plan (lapses.Failed (failure_in trouble)) first second third judged_left again_left shown_left old new)
   pub told : Tells is_closed plan.path trouble error
 
--- 4: the first bytes of the log couldn't be read, or judging or showing it failed
-abbrev pub FailsReaders : Plan → (judged shown : Option Text) → (is_closed : Bool) → (old new : Option (List ℕ)) → Stream → Type 0
-FailsReaders plan judged shown is_closed old new error =
-    IsUnbegun plan.path is_closed old new error ⊎ StopsReaders plan judged shown is_closed old new error
+-- The log changed between the first two readings, and it is said so.
+pub record ChangesReaders (judged again shown : Option Text) (old new : Option (List ℕ)) (error : Stream) : Type 0 where
+  pub changed : IfAll judged again shown (λ first second third. HasChanged first second old new)
+  pub told : IsTold error changed_line
+
+-- 4: judging the log, reading it again or showing it failed, or it changed
+abbrev pub FailsBegun : Plan → (judged again shown : Option Text) → (is_closed : Bool) → (old new : Option (List ℕ)) → Stream → Type 0
+FailsBegun plan judged again shown is_closed old new error =
+    StopsReaders plan judged again shown is_closed old new error ⊎ ChangesReaders judged again shown old new error
+
+-- 4: the same, or the first bytes of the log couldn't be read
+abbrev pub FailsReaders : Plan → (judged again shown : Option Text) → (is_closed : Bool) → (old new : Option (List ℕ)) → Stream → Type 0
+FailsReaders plan judged again shown is_closed old new error =
+    IsUnbegun plan.path is_closed old new error ⊎ FailsBegun plan judged again shown is_closed old new error
 
 -- The file couldn't be opened: nothing was written, and it is said why, and which file it is.
 pub record IsUnopenedPlan (given : Given) (plan : Plan) (is_closed : Bool) (old new : Option (List ℕ)) (error : Stream) : Type 0 where
@@ -115,10 +130,10 @@ pub record IsUnopenedPlan (given : Given) (plan : Plan) (is_closed : Bool) (old 
   pub unwritten : Keeps old new
   pub told : Tells is_closed plan.path trouble error
 
--- 4: the file couldn't be opened, or not be read, judged or shown
+-- 4: the file couldn't be opened, or not be read, judged or shown, or it changed
 abbrev pub FailsFile : Given → Plan → (is_closed : Bool) → (old new : Option (List ℕ)) → Stream → Type 0
 FailsFile given plan is_closed old new error = IsUnopenedPlan given plan is_closed old new error
-    ⊎ FailsReaders plan (given.file plan.path) (given.file plan.path) is_closed old new error
+    ⊎ FailsReaders plan (given.file plan.path) (given.file plan.path) (given.file plan.path) is_closed old new error
 
 -- 4: there is nothing to do, and the line that says so couldn't be written to the error stream, or memory ran out for it
 pub record FailsUnplanned (line : Text) (old new : Option (List ℕ)) (error : Stream) : Type 0 where
@@ -129,6 +144,66 @@ pub record FailsUnplanned (line : Text) (old new : Option (List ℕ)) (error : S
 abbrev pub FailsReview : Given → Review → (is_closed : Bool) → (old new : Option (List ℕ)) → Stream → Type 0
 FailsReview given review is_closed old new error = IsOkAnd (plan_of review) (λ plan. FailsFile given plan is_closed old new error)
     ⊎ IsErrAnd (plan_of review) (λ line. FailsUnplanned line old new error)
+
+-- ---- a log that is judged with what its faults conflict with
+
+-- 0: the log has no fault, and the report was written
+abbrev pub PassesInquiry : Given → Inquiry → Option (List ℕ) → Option (List ℕ) → Type 0
+PassesInquiry given inquiry old new = IsOkAnd (log_of inquiry) (λ path. IfSome (given.file path) (λ log. IsPassed (form_of inquiry.form) log old new))
+
+-- 1: it has faults, and the report that says what they conflict with was written
+abbrev pub FindsReasons : Given → Inquiry → Option (List ℕ) → Option (List ℕ) → Type 0
+FindsReasons given inquiry old new = IsOkAnd (log_of inquiry) (λ path. IfSome (given.file path) (λ log. IsReasoned (form_of inquiry.form) log log old new))
+
+-- 2: the log is refused, and the line that says so was written
+abbrev pub RefusesInquiry : Given → Inquiry → (old new : Option (List ℕ)) → Stream → Type 0
+RefusesInquiry given inquiry old new error = IsOkAnd (log_of inquiry) (λ path. IfSome (given.file path) (λ log. RefusesCheck (form_of inquiry.form) log old new)
+    × IsHinted (given.file path) error)
+
+-- 3: no file is named, or another report is asked for too, and the line that says so was written
+abbrev pub MisusesInquiry : Inquiry → Option (List ℕ) → Option (List ℕ) → Type 0
+MisusesInquiry inquiry error_old error_new = IsErrAnd (log_of inquiry) (λ line. Appends error_old error_new line)
+
+-- Reading or writing failed, or memory ran out, while one log was judged or while the other one was read, and it is said what failed. What the two readers have left
+-- isn't specified.
+pub record StopsInquiryReaders (path : Text) (form : Form) (judged again : Option Text) (is_closed : Bool) (old new : Option (List ℕ)) (error : Stream) : Type 0 where
+  pub judged_left : Option (List ℕ)
+  pub again_left : Option (List ℕ)
+  pub trouble : Trouble
+  pub stops : IfBoth judged again (λ first second. StopsInquiry form (lapses.Failed (failure_in trouble)) first second judged_left again_left old new)
+  pub told : Tells is_closed path trouble error
+
+-- The log changed between the two readings, and it is said so.
+pub record ChangesInquiry (judged again : Option Text) (old new : Option (List ℕ)) (error : Stream) : Type 0 where
+  pub changed : IfBoth judged again (λ first second. HasChanged first second old new)
+  pub told : IsTold error changed_line
+
+-- 4: judging the log or reading it again failed, or it changed
+abbrev pub FailsInquiryBegun : (path : Text) → Form → (judged again : Option Text) → (is_closed : Bool) → (old new : Option (List ℕ)) → Stream → Type 0
+FailsInquiryBegun path form judged again is_closed old new error =
+    StopsInquiryReaders path form judged again is_closed old new error ⊎ ChangesInquiry judged again old new error
+
+-- 4: the same, or the first bytes of the log couldn't be read
+abbrev pub FailsInquiryReaders : (path : Text) → Form → (judged again : Option Text) → (is_closed : Bool) → (old new : Option (List ℕ)) → Stream → Type 0
+FailsInquiryReaders path form judged again is_closed old new error =
+    IsUnbegun path is_closed old new error ⊎ FailsInquiryBegun path form judged again is_closed old new error
+
+-- The file couldn't be opened: nothing was written, and it is said why, and which file it is.
+pub record IsUnopenedLog (given : Given) (path : Text) (is_closed : Bool) (old new : Option (List ℕ)) (error : Stream) : Type 0 where
+  pub trouble : Trouble
+  pub refused : given.unopened path trouble
+  pub unwritten : Keeps old new
+  pub told : Tells is_closed path trouble error
+
+-- 4: the file couldn't be opened, or not be read or judged, or it changed
+abbrev pub FailsInquiryFile : Given → (path : Text) → Form → (is_closed : Bool) → (old new : Option (List ℕ)) → Stream → Type 0
+FailsInquiryFile given path form is_closed old new error = IsUnopenedLog given path is_closed old new error
+    ⊎ FailsInquiryReaders path form (given.file path) (given.file path) is_closed old new error
+
+-- 4: the check failed, or it is misused, and the line that says so couldn't be written
+abbrev pub FailsInquiry : Given → Inquiry → (is_closed : Bool) → (old new : Option (List ℕ)) → Stream → Type 0
+FailsInquiry given inquiry is_closed old new error = IsOkAnd (log_of inquiry) (λ path. FailsInquiryFile given path (form_of inquiry.form) is_closed old new error)
+    ⊎ IsErrAnd (log_of inquiry) (λ line. FailsUnplanned line old new error)
 
 -- ---- a log that is converted. The file that was made is gone when the program ends, so nothing is said of it here.
 
@@ -196,32 +271,37 @@ FailsConversion given conversion is_closed old new error = IsOkAnd (files_of con
 -- 0: it was done, and all of its output was written, which of a conversion is nothing
 abbrev pub PassesWork : Given → Work → Option (List ℕ) → Option (List ℕ) → Type 0
 PassesWork given (Once task) old new = HasPassed task (input_of given task) × IsReportedOn task (input_of given task) old new
-PassesWork given (Twice review) old new = PassesReview given review old new
+PassesWork given (Again review) old new = PassesReview given review old new
+PassesWork given (Why inquiry) old new = PassesInquiry given inquiry old new
 PassesWork given (Convert conversion) old new = PassesConversion given conversion × Keeps old new
 
 -- 1: it found faults, and all of its output was written
 abbrev pub FindsFaultsIn : Given → Work → Option (List ℕ) → Option (List ℕ) → Type 0
 FindsFaultsIn given (Once task) old new = HasFailed task (input_of given task) × IsReportedOn task (input_of given task) old new
-FindsFaultsIn given (Twice review) old new = ⊥
+FindsFaultsIn given (Again review) old new = ⊥
+FindsFaultsIn given (Why inquiry) old new = FindsReasons given inquiry old new
 FindsFaultsIn given (Convert conversion) old new = ⊥
 
 -- 2: its log is refused, and all of its output was written
 abbrev pub RefusesWork : Given → Work → (old new : Option (List ℕ)) → Stream → Type 0
 RefusesWork given (Once task) old new error = IsRefusedOn task (input_of given task) old new × IsHinted (input_of given task) error
-RefusesWork given (Twice review) old new error = RefusesReview given review old new error
+RefusesWork given (Again review) old new error = RefusesReview given review old new error
+RefusesWork given (Why inquiry) old new error = RefusesInquiry given inquiry old new error
 RefusesWork given (Convert conversion) old new error = RefusesConversion given conversion old new error
 
--- 3: the digits of a packet spell no bytes, a word isn't an end, a statement or a number, there is no file to read twice, or a log is to be converted into itself, or
--- into a file that is there, and the line that says so was written to the error stream
+-- 3: the digits of a packet spell no bytes, a word isn't an end, a statement or a number, there is no file to read again, two reports are asked for, or a log is to be
+-- converted into itself, or into a file that is there, and the line that says so was written to the error stream
 abbrev pub MisusesWork : Given → Work → Option (List ℕ) → Option (List ℕ) → Type 0
 MisusesWork given (Once task) error_old error_new = MisusesTask task (input_of given task) error_old error_new
-MisusesWork given (Twice review) error_old error_new = MisusesReview review error_old error_new
+MisusesWork given (Again review) error_old error_new = MisusesReview review error_old error_new
+MisusesWork given (Why inquiry) error_old error_new = MisusesInquiry inquiry error_old error_new
 MisusesWork given (Convert conversion) error_old error_new = MisusesConversion given conversion error_old error_new
 
 -- 4: it failed, or its file couldn't be opened
 abbrev pub FailsWork : Given → Work → (is_closed : Bool) → (old new : Option (List ℕ)) → Stream → Type 0
 FailsWork given (Once task) is_closed old new error = FailsRead given task is_closed old new error
-FailsWork given (Twice review) is_closed old new error = FailsReview given review is_closed old new error
+FailsWork given (Again review) is_closed old new error = FailsReview given review is_closed old new error
+FailsWork given (Why inquiry) is_closed old new error = FailsInquiry given inquiry is_closed old new error
 FailsWork given (Convert conversion) is_closed old new error = FailsConversion given conversion is_closed old new error
 
 -- ---- what a status means if the words ask for no work
@@ -268,7 +348,8 @@ FailsWords words given is_closed old new error = ((stop : EarlyExit) × StopsAt 
 -- What the words ask for was done to files, with this status: nothing, unless they ask for a conversion. `did` says of effects that they are what was done.
 abbrev pub DoesForWork : Given → Work → (status : ℕ) → Doing → Type 0
 DoesForWork given (Once task) status did = did []
-DoesForWork given (Twice review) status did = did []
+DoesForWork given (Again review) status did = did []
+DoesForWork given (Why inquiry) status did = did []
 DoesForWork given (Convert conversion) status did =
     MatchResult (files_of conversion) (λ files. DoesToFiles (bytes_at given files.log) files.made files.force status did) (λ _. did [])
 

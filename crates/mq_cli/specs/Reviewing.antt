@@ -1,5 +1,5 @@
--- Showing a log with the faults at its events, which reads it twice: what the words ask for, and what each status means.
-use Rattle.std.specs.Prelude.{◌⊎◌, ◌^◌, ◌&&◌, Bool, nat_lt, List, [], ℕ, Option, None, Some, Result, Ok, Err, if◌then◌else◌, length, option_map, string_bytes, IfSome}
+-- Showing a log with the faults at its events and what they conflict with, which reads it twice, and once more if it has faults: what the words ask for, and what each status means.
+use Rattle.std.specs.Prelude.{◌≡◌, ◌⊎◌, ◌^◌, ◌&&◌, ⊤, Bool, nat_lt, List, [], ℕ, Option, None, Some, Result, Ok, Err, if◌then◌else◌, length, option_map, string_bytes, IfSome}
 use Rattle.std.specs.Char.{digit_value}
 use Rattle.std.specs.Io.KnownBytes.{Appends, Keeps}
 use Rattle.std.specs.List.{list_all}
@@ -9,16 +9,25 @@ use Rattle.mq_judge.specs.declared.Form.TheVariants as forms
 use Rattle.mq_judge.specs.declared.Refusal.{Refusal}
 use Rattle.mq_judge.specs.declared.Refusal.TheVariants as refusals
 use Rattle.mq_report.specs.Report.{refused_line}
-use Rattle.mq_judge.specs.Runner.{found_in}
+use Rattle.mq_judge.specs.Runner.{IsFaultless, found_in}
 use Rattle.mq_report.specs.Stopping.{IsJudged, default_limit, IsRefusedAt}
 use Rattle.mq_report.specs.Display.{annotated, is_timed}
-use Rattle.mq_rules.specs.Notes.{tested_by}
+use Rattle.mq_rules.specs.Notes.{tested_by, seen_in}
+use Rattle.mq_rules.specs.declared.role.Role.{Role}
+use Rattle.mq_rules.specs.declared.role.Tested.{Tested}
+use Rattle.mq_rules.specs.declared.fault.Fault.{Fault}
+use Rattle.mq_rules.specs.declared.faults.FaultKey.{FaultKey}
+use Rattle.mq_evidence.specs.declared.evidence.Evidence.{Evidence}
+use Rattle.mq_trail.specs.Explaining.{AreReasons, IsSame}
 use Rattle.mq_log.specs.Events.{Placed, events}
 use Rattle.mq_command.specs.declared.command_line.Review.{Review}
 use Rattle.mq_cli.specs.declared.reviewing.Plan.{Plan as SourcePlan}
 use Rattle.mq_host.specs.declared.failure.Failure.{Failure}
 use Rattle.mq_host.specs.declared.failure.Failure.TheVariants as failures
 use Rattle.mq_command.specs.CommandLine.{path_named}
+use Rattle.mq_cli.specs.declared.inquiring.Lapse.{Lapse}
+use Rattle.mq_cli.specs.declared.inquiring.Lapse.TheVariants.{Failed, Changed}
+use Rattle.mq_cli.specs.Inquiring.{AreReasonsAgain, HasChanged}
 use Rattle.mq_cli.specs.Messages.{IsRefusedBy, RefusesCheck, RefusesShow, StopsShow}
 use Rattle.mq_host.specs.Streams.{AppendsPart, no_faults_line, no_file_line, no_number_line}
 
@@ -42,7 +51,7 @@ pub record Plan : Type 0 where
 abbrev pub plan_view : SourcePlan → Plan
 plan_view plan = record { path = plan.path.now; around = plan.extent.around; long = plan.extent.long }
 
--- what to show of the log in a file, if a file is named that can be read twice; else the message
+-- what to show of the log in a file, if a file is named that can be read more than once; else the message
 abbrev pub plan_on : (path : Option Text) → (around : Option ℕ) → (long : Bool) → Result Plan Text
 plan_on None around long = Err no_file_line
 plan_on (Some path) around long = Ok (record { path = path; around = around; long = long })
@@ -62,20 +71,37 @@ abbrev pub plan_of : Review → Result Plan Text
 plan_of review = if review.faults then plan_around (path_named (option_map string_bytes review.file)) (option_map string_bytes review.around) review.long
     else Err no_faults_line
 
--- ---- what each status means for the log that was judged and the one that was shown: one log, unless its file changed between the two readings
+-- ---- what each status means for the log that was judged, the one that was read again and the one that was shown: one log, unless its file changed between the readings
 
--- the text of events with the faults of the log that was judged, of which no reason is said, with moments if the records of the log that is shown have them
-abbrev pub reviewed : Plan → (judged shown : List ℕ) → List Placed → List ℕ
-reviewed plan judged shown = annotated (is_timed shown) (record { role = (tested_by judged).role; faults = found_in judged; reasons = []; around = plan.around; long = plan.long })
+-- what is said of the faults of the log that was judged: nothing if it has none, else what they conflict with, by the log that is read again
+abbrev pub AreShownReasons : (judged again : List ℕ) → List Evidence → Type 0
+AreShownReasons judged again reasons = (IsFaultless judged × (reasons ≡ [])) ⊎ AreReasonsAgain judged again reasons
 
--- 0: both can be judged, and the text of the events was written and nothing else
-abbrev pub IsReviewed : Plan → (judged shown : List ℕ) → (old new : Option (List ℕ)) → Type 0
-IsReviewed plan judged shown old new = IsJudged judged × IsJudged shown × Appends old new (reviewed plan judged shown (events shown))
+-- the text of events with these faults on this end, each with what it conflicts with, and with moments if the records of the log that is shown have them
+abbrev pub text_with : Plan → Role → List (FaultKey × Fault) → List Evidence → (shown : List ℕ) → List Placed → List ℕ
+text_with plan role faults reasons shown = annotated (is_timed shown) (record { role = role; faults = faults; reasons = reasons; around = plan.around; long = plan.long })
+
+-- the same with the faults of the log that was judged
+abbrev pub reviewed : Plan → (judged shown : List ℕ) → List Evidence → List Placed → List ℕ
+reviewed plan judged shown reasons = text_with plan (tested_by judged).role (found_in judged) reasons shown
+
+-- 0: The log can be judged and shown; and the text of the events, with the faults and what they conflict with, was written and nothing else.
+pub record IsReviewed (plan : Plan) (judged again shown : List ℕ) (old new : Option (List ℕ)) : Type 0 where
+  pub first : IsJudged judged
+  pub reasons : List Evidence
+  pub are : AreShownReasons judged again reasons
+  pub last : IsJudged shown
+  pub written : Appends old new (reviewed plan judged shown reasons (events shown))
+
+-- what is shown of the log that was judged, by this; and what its faults conflict with was found before
+abbrev pub IsShownBy : (judged again : List ℕ) → (List Evidence → Type 0) → Type 0
+IsShownBy judged again P = IsJudged judged × ((reasons : List Evidence) × AreShownReasons judged again reasons × P reasons)
 
 -- 2: the log is refused while it is judged, and the line that says so was written and nothing else; or it is refused only while it is shown, and that line was
 -- written after the text of the preceding events
-abbrev pub RefusesPlan : Plan → (judged shown : List ℕ) → (old new : Option (List ℕ)) → Type 0
-RefusesPlan plan judged shown old new = RefusesCheck forms.Text judged old new ⊎ (IsJudged judged × RefusesShow (reviewed plan judged shown) shown old new)
+abbrev pub RefusesPlan : Plan → (judged again shown : List ℕ) → (old new : Option (List ℕ)) → Type 0
+RefusesPlan plan judged again shown old new = RefusesCheck forms.Text judged old new
+    ⊎ IsShownBy judged again (λ reasons. RefusesShow (reviewed plan judged shown reasons) shown old new)
 
 -- 4, while the log was judged: reading it failed, or memory ran out, and nothing was written; or part of the line on its refusal was
 abbrev pub StopsJudging : Failure → List ℕ → (left old new : Option (List ℕ)) → Type 0
@@ -83,11 +109,44 @@ StopsJudging failures.Read log left old new = (at : ℕ) × IsRefusedAt default_
 StopsJudging failures.Memory log left old new = (at : ℕ) × IsRefusedAt default_limit log left (refusals.Memory at) × Keeps old new
 StopsJudging failures.Write log left old new = (refusal : Refusal) × IsRefusedBy log refusal × AppendsPart old new (refused_line refusal)
 
--- 4: what failed, while the log was judged or while it was shown, and what had been written; the two readers have these bytes left
-abbrev pub StopsPlan : Plan → Failure → (judged shown : List ℕ) → (judged_left shown_left old new : Option (List ℕ)) → Type 0
-StopsPlan plan failure judged shown judged_left shown_left old new = StopsJudging failure judged judged_left old new
-    ⊎ (IsJudged judged × StopsShow (reviewed plan judged shown) failure shown shown_left old new)
+-- 4, while the log was read again: reading it failed, or memory ran out. This log is the one whose reader has these bytes left.
+abbrev pub StopsReading : Failure → List ℕ → (left : Option (List ℕ)) → Type 0
+StopsReading failures.Read log left = (at : ℕ) × IsRefusedAt default_limit log left (refusals.Read at)
+StopsReading failures.Memory log left = ⊤
+StopsReading failures.Write log left = ⊥
 
--- this holds for the bytes of the log that was judged and of the one that was shown, if they are known
-abbrev pub IfBoth : (judged shown : Option (List ℕ)) → (List ℕ → List ℕ → Type 0) → Type 0
-IfBoth judged shown P = IfSome judged (λ first. IfSome shown (λ second. P first second))
+-- 4: that failed for a log that was judged and has faults, and nothing was written
+abbrev pub StopsRereading : Failure → (judged again : List ℕ) → (left old new : Option (List ℕ)) → Type 0
+StopsRereading failure judged again left old new = IsJudged judged × (¬ IsFaultless judged) × StopsReading failure again left × Keeps old new
+
+-- 4: why, while the log was judged, read again or shown, and what had been written; the three readers have these bytes left
+abbrev pub StopsPlan : Plan → Lapse → (judged again shown : List ℕ) → (judged_left again_left shown_left old new : Option (List ℕ)) → Type 0
+StopsPlan plan (Failed failure) judged again shown judged_left again_left shown_left old new = StopsJudging failure judged judged_left old new
+    ⊎ (StopsRereading failure judged again again_left old new
+    ⊎ IsShownBy judged again (λ reasons. StopsShow (reviewed plan judged shown reasons) failure shown shown_left old new))
+StopsPlan plan Changed judged again shown judged_left again_left shown_left old new = HasChanged judged again old new
+
+-- this holds for the bytes of the log that was judged and of another one, if they are known
+abbrev pub IfBoth : (judged other : Option (List ℕ)) → (List ℕ → List ℕ → Type 0) → Type 0
+IfBoth judged other P = IfSome judged (λ first. IfSome other (λ second. P first second))
+
+-- this holds for the bytes of the three logs, if they are known
+abbrev pub IfAll : (judged again shown : Option (List ℕ)) → (List ℕ → List ℕ → List ℕ → Type 0) → Type 0
+IfAll judged again shown P = IfSome judged (λ first. IfBoth again shown (P first))
+
+-- ---- the parts of that
+
+-- these are what the faults of a verdict conflict with: none if there is no fault; else the log that was read again has this verdict, and these are those of its faults
+abbrev pub AreFoundReasons : Tested → ℕ → List (FaultKey × Fault) → List ℕ → List Evidence → Type 0
+AreFoundReasons tested count faults log reasons = ((faults ≡ []) × (reasons ≡ []))
+    ⊎ (IsJudged log × IsSame tested (tested_by log) count faults (seen_in log) × AreReasons tested (seen_in log) faults reasons)
+
+-- these weren't found: reading failed, or memory ran out; or the log is refused or has another verdict
+abbrev pub LacksReasons : Tested → ℕ → List (FaultKey × Fault) → Lapse → List ℕ → (left : Option (List ℕ)) → Type 0
+LacksReasons tested count faults (Failed failure) log left = StopsReading failure log left
+LacksReasons tested count faults Changed log left = ((refusal : Refusal) × IsRefusedBy log refusal) ⊎ (IsJudged log × (¬ IsSame tested (tested_by log) count faults (seen_in log)))
+
+-- showing the log by this text of events failed so, and for no other reason
+abbrev pub StopsShowing : (List Placed → List ℕ) → Lapse → List ℕ → (left old new : Option (List ℕ)) → Type 0
+StopsShowing text_of (Failed failure) log left old new = StopsShow text_of failure log left old new
+StopsShowing text_of Changed log left old new = ⊥

@@ -2,6 +2,7 @@
 #![tactic(auto)]
 
 mod converting;
+mod inquiring;
 mod meter;
 mod program;
 mod reviewing;

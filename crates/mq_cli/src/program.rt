@@ -8,6 +8,7 @@ ghost use Rattle.mq_host.specs.Streams.{IsTold, stream};
 ghost use Rattle.mq_host.specs.Troubles.{hint_line};
 
 use crate::converting::convert_file;
+use crate::inquiring::inquire;
 use crate::reviewing::review;
 use crate::tasks::{attempt, stop};
 use mq_command::{Task, Work, parse};
@@ -24,9 +25,9 @@ use std::io::Read;
 const COMMAND_LINE: &str = "the command line";
 
 /// Does what the words of the command line ask for, and returns the status to exit with: that of
-/// `attempt` for a task, of `review` for a log that is read twice, of `convert_file` for one that
-/// is converted, and of `stop` for help, the version and a misuse; 3 too if a word names nothing,
-/// and 4 if something failed.
+/// `attempt` for a task, of `review` for a log that is shown with its faults, of `inquire` for one
+/// whose faults are explained, of `convert_file` for one that is converted, and of `stop` for help,
+/// the version and a misuse; 3 too if a word names nothing, and 4 if something failed.
 ///
 /// What failed is reported on `error`, unless nobody reads `output` any more. If that was reading,
 /// a second line says what couldn't be read, and why. For a refused log whose first bytes show that
@@ -118,7 +119,8 @@ fn work_on<H: Host, W: Output, E: ErrorStream, P: Progress>(
 {
     match work {
         Work::Once(task) => read_and_do(alloc, host, task, output, error, progress),
-        Work::Twice(asked) => review(alloc, host, asked, output, error),
+        Work::Again(asked) => review(alloc, host, asked, output, error),
+        Work::Why(asked) => inquire(alloc, host, asked, output, error),
         Work::Convert(asked) => convert_file(alloc, host, asked, output, error),
     }
 }

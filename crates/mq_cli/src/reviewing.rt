@@ -1,19 +1,29 @@
-//! Showing a log with the faults at its events, which reads it twice.
-ghost use Rattle.std.specs.Prelude.{◌≡◌, ◌⊎◌, Some, Ok, Err, IfErr, IfOk, IfSome, option_map, string_bytes};
-ghost use Rattle.std.specs.Io.KnownBytes.{Keeps, prepend_known};
+//! Showing a log with the faults at its events, and what each conflicts with. The log is read twice,
+//! and once more if it has faults.
+ghost use Rattle.std.specs.Prelude.{◌≡◌, ◌⊎◌, ◌==◌, false, Some, Ok, Err, IfErr, IfOk, IfSome, option_map, slice_index, string_bytes};
+ghost use Rattle.std.specs.FinMap as map;
+ghost use Rattle.std.specs.Io.KnownBytes.{Appends, Keeps, prepend_known};
+ghost use Rattle.mq_log.specs.Events.{events};
+ghost use Rattle.mq_report.specs.Stopping.{IsJudged};
 ghost use Rattle.mq_command.specs.CommandLine.{path_named};
-ghost use Rattle.mq_cli.specs.Program.{FailsFile, FailsReaders, FailsReview, IsHinted, MisusesReview, PassesReview, RefusesReview, StopsReaders};
-ghost use Rattle.mq_cli.specs.Reviewing.{IfBoth, IsReviewed, RefusesPlan, StopsPlan, count_of, plan_near, plan_of, plan_on, plan_view};
+ghost use Rattle.mq_cli.specs.Messages.{RefusesShow};
+ghost use Rattle.mq_cli.specs.Inquiring.{HasReleases};
+ghost use Rattle.mq_cli.specs.Program.{FailsBegun, FailsFile, FailsReaders, FailsReview, IsHinted, MisusesReview, PassesReview, RefusesReview};
+ghost use Rattle.mq_cli.specs.Reviewing.{AreFoundReasons, IfAll, IsReviewed, LacksReasons, RefusesPlan, StopsPlan, StopsShowing, count_of, plan_near, plan_of, plan_on, plan_view, text_with};
 ghost use Rattle.mq_host.specs.Streams.{IsTold, misuse_line, stream};
 ghost use Rattle.mq_host.specs.Troubles.{hint_line};
 
+use crate::inquiring::{Lapse, has_releases, lapse_of, tell_of_change};
 use crate::tasks::{EventView, refuse, show_log};
 use mq_command::{Review, path_named};
+use mq_evidence::Evidence;
 use mq_host::{
     ErrorStream, FAILED, Failure, Host, MISUSED, Misuse, Noting, Output, PASSED, REFUSED, Trouble,
     give_hint, read_start,
 };
-use mq_judge::{Extent, Form, judge_reader};
+use mq_judge::{Extent, Form, Verdict, judge_reader};
+use mq_rules::{Role, Tested};
+use mq_trail::{Unexplained, explain_reader};
 use std::alloc::Global;
 use std::io::{Read, Write};
 
@@ -28,12 +38,14 @@ pub struct Plan<'a> {
 
 /// Shows a log with the faults at its events, and returns the status to exit with.
 ///
-/// The file is read twice, to find the faults and to show the events. The line of each event is
-/// written to `output`, and the faults at it after it: 0. If the log is refused, only the line on
-/// the refusal is written, since nothing is known of its faults: 2. Words that name no file, or no
-/// number after `--around`, or don't ask for faults are a misuse, which is reported on `error`: 3.
-/// If reading or writing failed or memory ran out, what failed is reported on `error`: 4; what was
-/// written until then is part of what would have been. For a refused log whose first bytes show
+/// The file is read to find the faults; again, if there are any, to find what each conflicts with,
+/// which has to give the same verdict; and to show the events. The line of each event is written to
+/// `output`, and the faults at it after it, each with what it conflicts with: 0. If the log is
+/// refused, only the line on the refusal is written, since nothing is known of its faults: 2. Words
+/// that name no file, or no number after `--around`, or don't ask for faults are a misuse, which is
+/// reported on `error`: 3. If reading or writing failed, memory ran out, or the file changed between
+/// the first two readings, that is reported on `error`: 4; what was written until then is part of
+/// what would have been, and nothing if the file changed. For a refused log whose first bytes show
 /// that it is another kind of file, a line on `error` says what to do with it.
 pub fn review<H: Host, W: Output, E: ErrorStream>(
     alloc: Global,
@@ -112,7 +124,7 @@ fn count_of(word: &str) -> Option<u32>
     word.parse::<u32>().ok()
 }
 
-// Opens the file twice and shows it, and returns the status.
+// Opens the file three times and shows it, and returns the status.
 fn show_file<H: Host, W: Output, E: ErrorStream>(
     alloc: Global,
     host: &H,
@@ -121,9 +133,9 @@ fn show_file<H: Host, W: Output, E: ErrorStream>(
     error: &mut E,
 ) -> u8
     ensures passed { result ≡ PASSED → IfSome ((H.gives host.now).file plan.entry.path.now)
-        (λ log. IsReviewed (plan_view plan.entry) log log (W.contents output.old) (W.contents output.new)) }
+        (λ log. IsReviewed (plan_view plan.entry) log log log (W.contents output.old) (W.contents output.new)) }
     ensures refused { result ≡ REFUSED → IfSome ((H.gives host.now).file plan.entry.path.now)
-        (λ log. RefusesPlan (plan_view plan.entry) log log (W.contents output.old) (W.contents output.new)) }
+        (λ log. RefusesPlan (plan_view plan.entry) log log log (W.contents output.old) (W.contents output.new)) }
     ensures hinted { result ≡ REFUSED → IsHinted ((H.gives host.now).file plan.entry.path.now)
         (stream E.contents E.has_failed error.old error.new) }
     ensures failed { result ≡ FAILED → FailsFile (H.gives host.now) (plan_view plan.entry) (W.is_closed output.new)
@@ -133,108 +145,209 @@ fn show_file<H: Host, W: Output, E: ErrorStream>(
 {
     match host.open(plan.path) {
         Ok(judged) => match host.open(plan.path) {
-            Ok(shown) => show_readers(alloc, plan, judged, shown, output, error),
+            Ok(again) => match host.open(plan.path) {
+                Ok(shown) => show_readers(alloc, plan, judged, again, shown, output, error),
+                Err(trouble) => trouble.report(plan.path, output, error),
+            },
             Err(trouble) => trouble.report(plan.path, output, error),
         },
         Err(trouble) => trouble.report(plan.path, output, error),
     }
 }
 
-// Judges the log from one reader and shows the log from the other, and returns the status.
+// Judges the log from one reader, explains its faults by the next, shows the log from the last one,
+// and returns the status.
 fn show_readers<R: Read + Drop, W: Output, E: ErrorStream>(
     alloc: Global,
     plan: Plan<'_>,
     judged: R,
+    again: R,
     shown: R,
     output: &mut W,
     error: &mut E,
 ) -> u8
-    ensures passed { result ≡ PASSED → IfBoth (R.remaining judged) (R.remaining shown)
-        (λ first second. IsReviewed (plan_view plan.entry) first second (W.contents output.old) (W.contents output.new)) }
-    ensures refused { result ≡ REFUSED → IfBoth (R.remaining judged) (R.remaining shown)
-        (λ first second. RefusesPlan (plan_view plan.entry) first second (W.contents output.old) (W.contents output.new)) }
+    ensures passed { result ≡ PASSED → IfAll (R.remaining judged) (R.remaining again) (R.remaining shown)
+        (λ first second third. IsReviewed (plan_view plan.entry) first second third (W.contents output.old) (W.contents output.new)) }
+    ensures refused { result ≡ REFUSED → IfAll (R.remaining judged) (R.remaining again) (R.remaining shown)
+        (λ first second third. RefusesPlan (plan_view plan.entry) first second third (W.contents output.old) (W.contents output.new)) }
     ensures hinted { result ≡ REFUSED → IsHinted (R.remaining judged) (stream E.contents E.has_failed error.old error.new) }
-    ensures failed { result ≡ FAILED → FailsReaders (plan_view plan.entry) (R.remaining judged) (R.remaining shown) (W.is_closed output.new)
+    ensures failed { result ≡ FAILED → FailsReaders (plan_view plan.entry) (R.remaining judged) (R.remaining again) (R.remaining shown) (W.is_closed output.new)
         (W.contents output.old) (W.contents output.new) (stream E.contents E.has_failed error.old error.new) }
     ensures statuses { (result ≡ PASSED) ⊎ ((result ≡ REFUSED) ⊎ (result ≡ FAILED)) }
     ensures quiet { result ≡ PASSED → Keeps (E.contents error.old) (E.contents error.new) }
 {
     let mut judged = judged;
     match read_start(alloc, &mut judged) {
-        Ok(start) => show_on(alloc, plan, start.as_slice(), judged, shown, output, error),
+        Ok(start) => show_on(
+            alloc,
+            plan,
+            start.as_slice(),
+            judged,
+            again,
+            shown,
+            output,
+            error,
+        ),
         Err(trouble) => trouble.report(plan.path, output, error),
     }
 }
 
-// Judges the log that begins with these bytes and goes on with what `judged` gives, shows the other
-// one with its faults, and returns the status.
+// Judges the log that begins with these bytes and goes on with what `judged` gives, explains its
+// faults by the next one, shows the last one with them, and returns the status.
 fn show_on<R: Read + Drop, W: Output, E: ErrorStream>(
     alloc: Global,
     plan: Plan<'_>,
     start: &[u8],
     judged: R,
+    again: R,
     shown: R,
     output: &mut W,
     error: &mut E,
 ) -> u8
-    ensures passed { result ≡ PASSED → IfBoth (prepend_known start.now (R.remaining judged)) (R.remaining shown)
-        (λ first second. IsReviewed (plan_view plan.entry) first second (W.contents output.old) (W.contents output.new)) }
-    ensures refused { result ≡ REFUSED → IfBoth (prepend_known start.now (R.remaining judged)) (R.remaining shown)
-        (λ first second. RefusesPlan (plan_view plan.entry) first second (W.contents output.old) (W.contents output.new)) }
+    ensures passed { result ≡ PASSED → HasReleases (slice_index start.now 6 == 1) (prepend_known start.now (R.remaining judged))
+        → IfAll (prepend_known start.now (R.remaining judged)) (R.remaining again) (R.remaining shown)
+        (λ first second third. IsReviewed (plan_view plan.entry) first second third (W.contents output.old) (W.contents output.new)) }
+    ensures refused { result ≡ REFUSED → HasReleases (slice_index start.now 6 == 1) (prepend_known start.now (R.remaining judged))
+        → IfAll (prepend_known start.now (R.remaining judged)) (R.remaining again) (R.remaining shown)
+        (λ first second third. RefusesPlan (plan_view plan.entry) first second third (W.contents output.old) (W.contents output.new)) }
     ensures hinted { result ≡ REFUSED → IsTold (stream E.contents E.has_failed error.old error.new) (hint_line start.now) }
-    ensures failed { result ≡ FAILED → StopsReaders (plan_view plan.entry) (prepend_known start.now (R.remaining judged)) (R.remaining shown) (W.is_closed output.new)
+    ensures failed { result ≡ FAILED → HasReleases (slice_index start.now 6 == 1) (prepend_known start.now (R.remaining judged))
+        → FailsBegun (plan_view plan.entry) (prepend_known start.now (R.remaining judged)) (R.remaining again) (R.remaining shown) (W.is_closed output.new)
         (W.contents output.old) (W.contents output.new) (stream E.contents E.has_failed error.old error.new) }
     ensures statuses { (result ≡ PASSED) ⊎ ((result ≡ REFUSED) ⊎ (result ≡ FAILED)) }
     ensures quiet { result ≡ PASSED → Keeps (E.contents error.old) (E.contents error.new) }
 {
+    let releases = has_releases(start);
     let mut judged = Noting::new(start.chain(judged));
+    let mut again = Noting::new(again);
     let mut shown = Noting::new(shown);
-    match show_twice(alloc, plan, &mut judged, &mut shown, output) {
+    match show_reasoned(
+        alloc,
+        plan,
+        releases,
+        &mut judged,
+        &mut again,
+        &mut shown,
+        output,
+    ) {
         Ok(REFUSED) => {
             give_hint(start, error);
             REFUSED
         }
         Ok(status) => status,
-        Err(failure) => {
-            Trouble::of(failure, judged.reason().or(shown.reason())).report(
-                plan.path, output, error,
-            )
+        Err(Lapse::Changed) => tell_of_change(error),
+        Err(Lapse::Failed(failure)) => {
+            let reason = judged.reason().or(again.reason()).or(shown.reason());
+            Trouble::of(failure, reason).report(plan.path, output, error)
         }
     }
 }
 
-/// Judges the log from one reader, shows the log from the other with the faults that were found,
-/// and returns the status. The two are one log, unless its file changed between the readings.
+/// Judges the log from one reader; if it has faults, reads the log from the next one for what each
+/// conflicts with; shows the log from the last one with these; and returns the status. The three are
+/// one log, unless its file changed between the readings. `releases` says what the header of the
+/// first one says of releases.
 ///
 /// # Errors
 ///
-/// What failed.
-pub fn show_twice<R: Read, S: Read, W: Write>(
+/// `Changed` if the log that is read again is refused or gives another verdict; and what failed.
+pub fn show_reasoned<R: Read, S: Read, T: Read, W: Write>(
     alloc: Global,
     plan: Plan<'_>,
+    releases: bool,
     judged: &mut R,
-    shown: &mut S,
+    again: &mut S,
+    shown: &mut T,
     output: &mut W,
-) -> Result<u8, Failure>
-    ensures passed { IfOk result (λ status. status ≡ PASSED → IfBoth (R.remaining judged.old) (S.remaining shown.old)
-        (λ first second. IsReviewed (plan_view plan.entry) first second (W.contents output.old) (W.contents output.new))) }
-    ensures refused { IfOk result (λ status. status ≡ REFUSED → IfBoth (R.remaining judged.old) (S.remaining shown.old)
-        (λ first second. RefusesPlan (plan_view plan.entry) first second (W.contents output.old) (W.contents output.new))) }
-    ensures stops { IfErr result (λ failure. IfBoth (R.remaining judged.old) (S.remaining shown.old)
-        (λ first second. StopsPlan (plan_view plan.entry) failure first second (R.remaining judged.new) (S.remaining shown.new)
-        (W.contents output.old) (W.contents output.new))) }
+) -> Result<u8, Lapse>
+    ensures passed { IfOk result (λ status. status ≡ PASSED → HasReleases releases (R.remaining judged.old)
+        → IfAll (R.remaining judged.old) (S.remaining again.old) (T.remaining shown.old)
+        (λ first second third. IsReviewed (plan_view plan.entry) first second third (W.contents output.old) (W.contents output.new))) }
+    ensures refused { IfOk result (λ status. status ≡ REFUSED → HasReleases releases (R.remaining judged.old)
+        → IfAll (R.remaining judged.old) (S.remaining again.old) (T.remaining shown.old)
+        (λ first second third. RefusesPlan (plan_view plan.entry) first second third (W.contents output.old) (W.contents output.new))) }
+    ensures stops { IfErr result (λ lapse. HasReleases releases (R.remaining judged.old)
+        → IfAll (R.remaining judged.old) (S.remaining again.old) (T.remaining shown.old)
+        (λ first second third. StopsPlan (plan_view plan.entry) lapse first second third
+        (R.remaining judged.new) (S.remaining again.new) (T.remaining shown.new) (W.contents output.old) (W.contents output.new))) }
     ensures statuses { IfOk result (λ status. (status ≡ PASSED) ⊎ (status ≡ REFUSED)) }
 {
     match judge_reader(alloc, judged) {
         Ok((verdict, role)) => {
-            let view = EventView::Faults {
-                faults: &verdict.faults,
-                reasons: &[],
-                role,
-                extent: plan.extent,
-            };
-            show_log(alloc, view, shown, output)
+            let tested = Tested { role, releases };
+            match reasons_for(alloc, tested, &verdict, again) {
+                Ok(reasons) => show_verdict(
+                    alloc,
+                    plan,
+                    &verdict,
+                    reasons.as_slice(),
+                    role,
+                    shown,
+                    output,
+                ),
+                Err(lapse) => Err(lapse),
+            }
         }
-        Err(refusal) => refuse(alloc, &refusal, Form::Text, output),
+        Err(refusal) => match refuse(alloc, &refusal, Form::Text, output) {
+            Ok(status) => Ok(status),
+            Err(failure) => Err(Lapse::Failed(failure)),
+        },
+    }
+}
+
+// What each fault of a verdict conflicts with, by the log that a reader gives: that isn't read if
+// there is no fault.
+#[tactic(auto, using(crate::proofs::ReviewingLemmas::nothing_found, crate::proofs::ReviewingLemmas::those_found, crate::proofs::ReviewingLemmas::refused_lacks, crate::proofs::ReviewingLemmas::changed_lacks, crate::proofs::ReviewingLemmas::memory_lacks))]
+fn reasons_for<S: Read>(
+    alloc: Global,
+    tested: Tested,
+    verdict: &Verdict,
+    again: &mut S,
+) -> Result<Vec<Evidence>, Lapse>
+    ensures found { IfOk result (λ reasons. IfSome (S.remaining again.old)
+        (λ log. AreFoundReasons tested verdict.now.events (map.entries verdict.now.faults) log reasons.items)) }
+    ensures lacking { IfErr result (λ lapse. IfSome (S.remaining again.old)
+        (λ log. LacksReasons tested verdict.now.events (map.entries verdict.now.faults) lapse log (S.remaining again.new))) }
+    ensures faulty { IfErr result (λ lapse. (map.len verdict.now.faults == 0) ≡ false) }
+{
+    if verdict.faults.is_empty() {
+        return Ok(Vec::new(alloc));
+    }
+    match explain_reader(alloc, again, tested, verdict) {
+        Ok(reasons) => Ok(reasons),
+        Err(Unexplained::Refused(refusal)) => Err(lapse_of(refusal)),
+        Err(Unexplained::Changed) => Err(Lapse::Changed),
+        Err(Unexplained::Memory) => Err(Lapse::Failed(Failure::Memory)),
+    }
+}
+
+// Shows a log with the faults of a verdict and what they conflict with, and returns the status.
+fn show_verdict<T: Read, W: Write>(
+    alloc: Global,
+    plan: Plan<'_>,
+    verdict: &Verdict,
+    reasons: &[Evidence],
+    role: Role,
+    shown: &mut T,
+    output: &mut W,
+) -> Result<u8, Lapse>
+    ensures passed { IfOk result (λ status. status ≡ PASSED → IfSome (T.remaining shown.old) (λ log. IsJudged log
+        × Appends (W.contents output.old) (W.contents output.new) (text_with (plan_view plan.entry) role (map.entries verdict.now.faults) reasons.now log (events log)))) }
+    ensures refused { IfOk result (λ status. status ≡ REFUSED → IfSome (T.remaining shown.old)
+        (λ log. RefusesShow (text_with (plan_view plan.entry) role (map.entries verdict.now.faults) reasons.now log) log (W.contents output.old) (W.contents output.new))) }
+    ensures stops { IfErr result (λ lapse. IfSome (T.remaining shown.old)
+        (λ log. StopsShowing (text_with (plan_view plan.entry) role (map.entries verdict.now.faults) reasons.now log) lapse log (T.remaining shown.new)
+        (W.contents output.old) (W.contents output.new))) }
+    ensures statuses { IfOk result (λ status. (status ≡ PASSED) ⊎ (status ≡ REFUSED)) }
+{
+    let view = EventView::Faults {
+        faults: &verdict.faults,
+        reasons,
+        role,
+        extent: plan.extent,
+    };
+    match show_log(alloc, view, shown, output) {
+        Ok(status) => Ok(status),
+        Err(failure) => Err(Lapse::Failed(failure)),
     }
 }

@@ -116,8 +116,8 @@ pub fn attempt<'a, R: Read, W: Write, P: Progress>(
     }
 }
 
-// The judge's form of report for the one that the words ask for.
-fn form_of(form: AskedForm) -> Form
+/// The judge's form of report for the one that the words ask for.
+pub fn form_of(form: AskedForm) -> Form
     ensures { result ≡ form_of form }
 {
     match form {
@@ -445,8 +445,12 @@ fn print<'a, W: Write>(text: &str, output: &mut W) -> Result<u8, Obstacle<'a>>
     }
 }
 
-// Flushes what was written, and returns the status.
-fn see_out<W: Write>(status: u8, output: &mut W) -> Result<u8, Failure>
+/// Flushes what was written, and returns the status.
+///
+/// # Errors
+///
+/// `Write`.
+pub fn see_out<W: Write>(status: u8, output: &mut W) -> Result<u8, Failure>
     ensures status { IfOk result (λ given. given ≡ status) }
     ensures kept { Keeps (W.contents output.old) (W.contents output.new) }
     ensures failed { IfErr result (λ failure. failure ≡ Failure.Write) }

@@ -6,6 +6,7 @@ mod converting;
 mod coverage;
 mod desk;
 mod harness;
+mod inquiring;
 mod large;
 mod meter;
 mod packets;

@@ -252,10 +252,11 @@ pub form_with_neither : (check : ArgMatches) → is_true (first_value (found_of 
     → forms.Text ≡ form_in (rows_of (found_of check))
 form_with_neither check j s = rw (sym (first_value-rows (found_of check) (codes "json")), j, sym (first_value-rows (found_of check) (codes "summary")), s) refl
 
-pub same_check : {file file' : Option Text} {form form' : Form} {coverage coverage' : Bool} → file ≡ file' → form ≡ form' → coverage ≡ coverage'
-    → Some (check_request file form coverage) ≡ Some (check_request file' form' coverage')
-same_check {file} {file'} {form} {form'} {coverage} {coverage'} f r v = ap (λ (x : Option Text). Some (check_request x form coverage)) f
-    ∙ ap (λ (x : Form). Some (check_request file' x coverage)) r ∙ ap (λ (x : Bool). Some (check_request file' form' x)) v
+pub same_check : {file file' : Option Text} {form form' : Form} {coverage coverage' why why' : Bool} → file ≡ file' → form ≡ form' → coverage ≡ coverage' → why ≡ why'
+    → Some (check_request file form coverage why) ≡ Some (check_request file' form' coverage' why')
+same_check {file} {file'} {form} {form'} {coverage} {coverage'} {why} {why'} f r v w = ap (λ (x : Option Text). Some (check_request x form coverage why)) f
+    ∙ ap (λ (x : Form). Some (check_request file' x coverage why)) r ∙ ap (λ (x : Bool). Some (check_request file' form' x why)) v
+    ∙ ap (λ (x : Bool). Some (check_request file' form' coverage' x)) w
 
 pub same_show : {file file' : Option Text} {long long' faults faults' : Bool} {around around' : Option Text} → file ≡ file' → long ≡ long' → faults ≡ faults' → around ≡ around'
     → Some (show_request file long faults around) ≡ Some (show_request file' long' faults' around')
@@ -265,10 +266,11 @@ same_show {file} {file'} {long} {long'} {faults} {faults'} {around} {around'} f 
 
 pub request_is_check : (words : List Text) (m check : ArgMatches) → subcommand_rows_of m ≡ subcommand_of mqjudge words → subcommand_name_of m ≡ Some (codes "check")
     → option_map (λ p. p.1) (subcommand_rows_of m) ≡ Some (rows_of (found_of check)) → request_of words ≡ Some (check_request (first_value (found_of check) (codes "FILE"))
-    (form_in (rows_of (found_of check))) (is_true (first_value (found_of check) (codes "coverage"))))
+    (form_in (rows_of (found_of check))) (is_true (first_value (found_of check) (codes "coverage"))) (is_true (first_value (found_of check) (codes "why"))))
 request_is_check words m check same named rows =
     ap (option_map request_in) (met_by words m check (codes "check") same named rows)
     ∙ same_check (sym (first_value-rows (found_of check) (codes "FILE"))) refl (ap is_true (sym (first_value-rows (found_of check) (codes "coverage"))))
+    (ap is_true (sym (first_value-rows (found_of check) (codes "why"))))
 
 pub request_is_show : (words : List Text) (m shown : ArgMatches) → subcommand_rows_of m ≡ subcommand_of mqjudge words → subcommand_name_of m ≡ Some (codes "show")
     → option_map (λ p. p.1) (subcommand_rows_of m) ≡ Some (rows_of (found_of shown)) → request_of words ≡ Some (show_request (first_value (found_of shown) (codes "FILE"))

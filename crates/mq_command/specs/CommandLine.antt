@@ -15,7 +15,7 @@ use Rattle.mq_command.specs.Operands.{EndsWith, many_logs_line, names_many_logs}
 use Rattle.mq_command.specs.declared.command_line.Form.{Form}
 use Rattle.mq_command.specs.declared.command_line.Form.TheVariants as forms
 use Rattle.mq_command.specs.declared.command_line.Work.{Work}
-use Rattle.mq_command.specs.declared.command_line.Work.TheVariants.{Once, Twice, Convert}
+use Rattle.mq_command.specs.declared.command_line.Work.TheVariants.{Once, Again, Why, Convert}
 use Rattle.mq_command.specs.declared.command_line.Task.{Task}
 use Rattle.mq_command.specs.declared.command_line.Task.TheVariants.{Check, Show, Packet, Rules, Explain}
 use Rattle.mq_command.specs.declared.command_line.EarlyExit.{EarlyExit}
@@ -25,10 +25,10 @@ use Rattle.mq_command.specs.declared.command_line.EarlyExit.TheVariants.{Help, U
 abbrev pub flag : Text → Rule
 flag name = record (new_rule name) { long = Some name; action = Some SetTrue }
 
--- `check [--json] [--summary] [--coverage] [FILE]`
+-- `check [--json] [--summary] [--coverage] [--why] [FILE]`
 abbrev pub check_command : App
-check_command = with_rule (with_rule (with_rule (with_rule (new_app (codes "check")) (new_rule (codes "FILE"))) (flag (codes "json"))) (flag (codes "summary")))
-    (flag (codes "coverage"))
+check_command = with_rule (with_rule (with_rule (with_rule (with_rule (new_app (codes "check")) (new_rule (codes "FILE"))) (flag (codes "json"))) (flag (codes "summary")))
+    (flag (codes "coverage"))) (flag (codes "why"))
 
 -- `--around N`
 abbrev pub around_option : Rule
@@ -86,6 +86,7 @@ pub record Request : Type 0 where
   pub operand : Option Text
   pub form : Form
   pub coverage : Bool
+  pub why : Bool
   pub long : Bool
   pub faults : Bool
   pub around : Option Text
@@ -101,6 +102,7 @@ plain_request subcommand operand =
       operand = operand;
       form = forms.Text;
       coverage = false;
+      why = false;
       long = false;
       faults = false;
       around = None;
@@ -109,9 +111,9 @@ plain_request subcommand operand =
       force = false;
     }
 
--- `check` on this file, with a report in this form, with coverage or without
-abbrev pub check_request : Option Text → Form → (coverage : Bool) → Request
-check_request file form coverage = record (plain_request (codes "check") file) { form = form; coverage = coverage }
+-- `check` on this file, with a report in this form, with coverage or without, and with what the faults conflict with or without
+abbrev pub check_request : Option Text → Form → (coverage why : Bool) → Request
+check_request file form coverage why = record (plain_request (codes "check") file) { form = form; coverage = coverage; why = why }
 
 -- `show` of this file, with these flags and this number
 abbrev pub show_request : Option Text → (long faults : Bool) → (around : Option Text) → Request
@@ -150,6 +152,7 @@ form_in rows = if is_true (first_of (codes "json") rows) then forms.Json
 -- the request in a subcommand's name and matches
 abbrev pub request_in : Text × List Row → Request
 request_in met = if bytes_eq met.0 (codes "check") then check_request (first_of (codes "FILE") met.1) (form_in met.1) (is_true (first_of (codes "coverage") met.1))
+    (is_true (first_of (codes "why") met.1))
     else (if bytes_eq met.0 (codes "show") then show_request (first_of (codes "FILE") met.1) (is_true (first_of (codes "long") met.1))
     (is_true (first_of (codes "faults") met.1)) (first_of (codes "N") met.1)
     else (if bytes_eq met.0 (codes "packet") then packet_request (all_of (codes "HEX") met.1) (is_true (first_of (codes "long") met.1))
@@ -167,18 +170,20 @@ word_faults words = fault_of mqjudge words
 
 -- the request that corresponds to some work
 abbrev pub request_by : Work → Request
-request_by (Once (Check file form coverage)) = check_request (option_map string_bytes file) form coverage
+request_by (Once (Check file form coverage)) = check_request (option_map string_bytes file) form coverage false
 request_by (Once (Show file long)) = show_request (option_map string_bytes file) long false None
 request_by (Once (Packet hex long)) = digits_request (string_bytes hex) long
 request_by (Once (Rules role)) = rules_request (option_map string_bytes role)
 request_by (Once (Explain code)) = explain_request (Some (string_bytes code))
-request_by (Twice review) = show_request (option_map string_bytes review.file) review.long review.faults (option_map string_bytes review.around)
+request_by (Again review) = show_request (option_map string_bytes review.file) review.long review.faults (option_map string_bytes review.around)
+request_by (Why inquiry) = check_request (option_map string_bytes inquiry.file) inquiry.form inquiry.coverage true
 request_by (Convert conversion) = convert_request (Some (string_bytes conversion.input)) (Some (string_bytes conversion.output)) conversion.force
 
--- work that reads its log twice is asked for by `--faults` or by a number of positions; without them the log is read once
+-- what shows a log and reads it again is asked for by `--faults` or by a number of positions; without them the log is read once
 abbrev pub ReadsAsAsked : Work → Type 0
 ReadsAsAsked (Once task) = ⊤
-ReadsAsAsked (Twice review) = (review.faults ≡ true) ⊎ IsSome review.around
+ReadsAsAsked (Again review) = (review.faults ≡ true) ⊎ IsSome review.around
+ReadsAsAsked (Why inquiry) = ⊤
 ReadsAsAsked (Convert conversion) = ⊤
 
 -- the kind asks for a text to be shown: help, or the version

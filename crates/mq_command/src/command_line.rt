@@ -59,8 +59,10 @@ const CONVERT_HELP: &str =
 pub enum Work {
     /// A task that reads its log once, or no log.
     Once(Task),
-    /// A review, which reads its log twice.
-    Twice(Review),
+    /// A review, which reads its log again.
+    Again(Review),
+    /// A check that reads a log with faults twice.
+    Why(Inquiry),
     /// A conversion, which makes a log of the one that it reads.
     Convert(Conversion),
 }
@@ -88,6 +90,19 @@ pub struct Review {
     pub around: Option<String>,
     /// Say what else each packet says.
     pub long: bool,
+}
+
+/// Judge a log and say what each fault conflicts with: one reading finds the faults, and another
+/// one what they conflict with.
+#[derive(Debug, Drop)]
+pub struct Inquiry {
+    /// The log's path. Standard input can't be read twice.
+    pub file: Option<String>,
+    /// The form of the report.
+    pub form: Form,
+    /// Whether it is also asked for how often each statement was put to the test. No report says
+    /// both.
+    pub coverage: bool,
 }
 
 /// The form of the report that a check writes.
@@ -187,7 +202,8 @@ pub enum EarlyExit {
     Memory,
 }
 
-/// Reads the words of a command line, `mqjudge check [--json] [--summary] [--coverage] [FILE]`,
+/// Reads the words of a command line,
+/// `mqjudge check [--json] [--summary] [--coverage] [--why] [FILE]`,
 /// `mqjudge show [--long] [--faults] [--around N] [FILE]`,
 /// `mqjudge packet [--long] HEX..`, `mqjudge rules [--role ROLE]`, `mqjudge explain CODE` or
 /// `mqjudge convert [--force] IN OUT`, of which the first is the program's name. A request for help
@@ -207,6 +223,7 @@ pub fn parse<S: AsStr>(alloc: Global, words: &[S]) -> Result<Work, EarlyExit>
                 check.get_str("FILE"),
                 form_in(check),
                 is_true(check.get_str("coverage")),
+                is_true(check.get_str("why")),
             ),
             None => match matches.subcommand_matches("show") {
                 Some(show) => show_task(
@@ -349,6 +366,11 @@ fn check_command<'a>(alloc: Global) -> Result<Command<'a>, AllocError>
             alloc,
             "coverage",
             "Say how often each statement was put to the test",
+        ))?
+        .arg(flag(
+            alloc,
+            "why",
+            "Say what each fault conflicts with; reads FILE twice if it has faults",
         ))
 }
 
@@ -369,7 +391,7 @@ fn show_command<'a>(alloc: Global) -> Result<Command<'a>, AllocError>
         .arg(flag(
             alloc,
             "faults",
-            "Show the faults under their events; reads FILE twice",
+            "Show the faults under their events; reads FILE more than once",
         ))?
         .arg(around_option(alloc))
 }
@@ -504,19 +526,28 @@ fn form_in(check: &ArgMatches<'_>) -> Form
     }
 }
 
-// The task of `check` on this operand, with a report in this form, with coverage or without.
+// The work of `check` on this operand, with a report in this form, with coverage or without, and
+// with what the faults conflict with or without.
 fn check_task(
     alloc: Global,
     file: Option<&str>,
     form: Form,
     coverage: bool,
+    why: bool,
 ) -> Result<Work, EarlyExit>
     ensures work { IfOk result (λ work.
-        request_by work ≡ check_request (option_map (λ path. path.now) file.entry) form coverage) }
+        request_by work ≡ check_request (option_map (λ path. path.now) file.entry) form coverage why) }
     ensures readings { IfOk result ReadsAsAsked }
     ensures stop { IfErr result (λ stop. stop ≡ EarlyExit.Memory) }
 {
     let file = copy_word(alloc, file)?;
+    if why {
+        return Ok(Work::Why(Inquiry {
+            file,
+            form,
+            coverage,
+        }));
+    }
     Ok(Work::Once(Task::Check {
         file,
         form,
@@ -543,7 +574,7 @@ fn show_task(
     if !faults && around.is_none() {
         return Ok(Work::Once(Task::Show { file, long }));
     }
-    Ok(Work::Twice(Review {
+    Ok(Work::Again(Review {
         file,
         faults,
         around,

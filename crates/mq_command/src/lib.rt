@@ -7,7 +7,9 @@ mod digits;
 mod oddity;
 mod operands;
 
-pub use command_line::{Conversion, EarlyExit, Form, Review, Task, Work, parse, path_named};
+pub use command_line::{
+    Conversion, EarlyExit, Form, Inquiry, Review, Task, Work, parse, path_named,
+};
 pub use digits::{is_dash, packed};
 pub use oddity::{Oddity, first_oddity};
 

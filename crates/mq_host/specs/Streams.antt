@@ -6,7 +6,7 @@ use Rattle.mq_explain.specs.Listing.{all_codes}
 use Rattle.mq_host.specs.declared.failure.Failure.{Failure}
 use Rattle.mq_host.specs.declared.failure.Failure.TheVariants as failures
 use Rattle.mq_host.specs.declared.misuse.Misuse.{Misuse}
-use Rattle.mq_host.specs.declared.misuse.Misuse.TheVariants.{NotHex, TooLong, NoRole, NoStatement, NoFaults, NoFile, NoNumber, SameFile, OutExists}
+use Rattle.mq_host.specs.declared.misuse.Misuse.TheVariants.{NotHex, TooLong, NoRole, NoStatement, NoFaults, NoFile, NoNumber, NoFileForWhy, TwoReports, SameFile, OutExists}
 
 -- The known bytes grew by a beginning of the text, or by all of it, and by nothing else.
 pub record AppendsPart (old new : Option (List ℕ)) (text : List ℕ) : Type 0 where
@@ -63,10 +63,17 @@ abbrev pub no_faults_line : List ℕ
 no_faults_line = codes "mqjudge: --around needs --faults" ++ 10 ∷ []
 
 abbrev pub no_file_line : List ℕ
-no_file_line = codes "mqjudge: --faults reads the log twice, so it needs a FILE, not standard input" ++ 10 ∷ []
+no_file_line = codes "mqjudge: --faults reads the log more than once, so it needs a FILE, not standard input" ++ 10 ∷ []
 
 abbrev pub no_number_line : List ℕ → List ℕ
 no_number_line word = codes "mqjudge: no number " ++ (word ++ 10 ∷ [])
+
+-- for `--why` without a file that can be read twice, and beside `--coverage`
+abbrev pub no_file_for_why_line : List ℕ
+no_file_for_why_line = codes "mqjudge: --why may read the log twice, so it needs a FILE, not standard input" ++ 10 ∷ []
+
+abbrev pub two_reports_line : List ℕ
+two_reports_line = codes "mqjudge: --why and --coverage are two reports: ask for one at a time" ++ 10 ∷ []
 
 -- for a log that is to be converted into itself
 abbrev pub same_file_line : List ℕ
@@ -85,5 +92,7 @@ misuse_line (NoStatement word) = no_statement_line word.now
 misuse_line NoFaults = no_faults_line
 misuse_line NoFile = no_file_line
 misuse_line (NoNumber word) = no_number_line word.now
+misuse_line NoFileForWhy = no_file_for_why_line
+misuse_line TwoReports = two_reports_line
 misuse_line SameFile = same_file_line
 misuse_line (OutExists path) = exists_line path.now

@@ -27,6 +27,10 @@ pub enum Misuse<'a> {
     NoFile,
     /// The word isn't a number of positions.
     NoNumber(&'a str),
+    /// It is asked for what faults conflict with, but no file is named that can be read twice.
+    NoFileForWhy,
+    /// It is asked for two reports: with what faults conflict with, and with what was tested.
+    TwoReports,
     /// The log that is to be converted and the file that is to be made are the same.
     SameFile,
     /// There is something at the path of the file that is to be made.
@@ -58,10 +62,18 @@ impl Misuse<'_> {
             Misuse::NoStatement(word) => refuse_statement(alloc, word, error),
             Misuse::NoFaults => write_misuse("mqjudge: --around needs --faults\n", error),
             Misuse::NoFile => write_misuse(
-                "mqjudge: --faults reads the log twice, so it needs a FILE, not standard input\n",
+                "mqjudge: --faults reads the log more than once, so it needs a FILE, not standard input\n",
                 error,
             ),
             Misuse::NoNumber(word) => refuse_word(alloc, "mqjudge: no number ", word, "", error),
+            Misuse::NoFileForWhy => write_misuse(
+                "mqjudge: --why may read the log twice, so it needs a FILE, not standard input\n",
+                error,
+            ),
+            Misuse::TwoReports => write_misuse(
+                "mqjudge: --why and --coverage are two reports: ask for one at a time\n",
+                error,
+            ),
             Misuse::SameFile => write_misuse(
                 "mqjudge: OUT has to be another file than IN\n",
                 error,

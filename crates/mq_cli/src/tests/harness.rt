@@ -132,7 +132,9 @@ impl Printed {
 fn task_of(alloc: Global, words: &[&str]) -> Result<Task, EarlyExit> {
     match parse(alloc, words)? {
         Work::Once(task) => Ok(task),
-        Work::Twice(_) | Work::Convert(_) => Err(EarlyExit::Usage(String::new(alloc))),
+        Work::Again(_) | Work::Why(_) | Work::Convert(_) => Err(EarlyExit::Usage(String::new(
+            alloc,
+        ))),
     }
 }
 

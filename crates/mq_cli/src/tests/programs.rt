@@ -275,7 +275,7 @@ const NEAR_LINES: &str = "..\n\
     \x20 fault W09 sec-2.2.1 A Packet Identifier isn't 0. (offset 5)\n";
 
 const NO_FILE: &str =
-    "mqjudge: --faults reads the log twice, so it needs a FILE, not standard input\n";
+    "mqjudge: --faults reads the log more than once, so it needs a FILE, not standard input\n";
 
 static REVIEWS: [Row; 16] = [
     Row {
@@ -421,6 +421,90 @@ static REVIEWS: [Row; 16] = [
     },
 ];
 
+const FAIL_WHY: &str = "fault 4 W09 sec-2.2.1 decided 4 record 4 offset 5\n\
+    because 4 W09 event -\n\
+    fail 1 faults 4 events\n";
+
+const NO_FILE_FOR_WHY: &str =
+    "mqjudge: --why may read the log twice, so it needs a FILE, not standard input\n";
+
+const TWO_REPORTS: &str = "mqjudge: --why and --coverage are two reports: ask for one at a time\n";
+
+static INQUIRIES: [Row; 9] = [
+    Row {
+        words: &["mqjudge", "check", "--why", "a.log"],
+        file: FAULTY,
+        input: NESTED,
+        status: 1,
+        output: FAIL_WHY,
+        error: "",
+    },
+    Row {
+        words: &["mqjudge", "check", "a.log", "--why"],
+        file: GOOD,
+        input: FAULTY,
+        status: 0,
+        output: PASS,
+        error: "",
+    },
+    Row {
+        words: &["mqjudge", "check", "--why", "--json", "a.log"],
+        file: GOOD,
+        input: FAULTY,
+        status: 0,
+        output: "{\"events\":4,\"faults\":[],\"verdict\":\"pass\"}\n",
+        error: "",
+    },
+    Row {
+        words: &["mqjudge", "check", "--why", "a.log"],
+        file: NESTED,
+        input: GOOD,
+        status: 2,
+        output: REFUSED,
+        error: "",
+    },
+    Row {
+        words: &["mqjudge", "check", "--why"],
+        file: GOOD,
+        input: GOOD,
+        status: 3,
+        output: "",
+        error: NO_FILE_FOR_WHY,
+    },
+    Row {
+        words: &["mqjudge", "check", "--why", "-"],
+        file: GOOD,
+        input: FAULTY,
+        status: 3,
+        output: "",
+        error: NO_FILE_FOR_WHY,
+    },
+    Row {
+        words: &["mqjudge", "check", "--why", "--coverage", "a.log"],
+        file: FAULTY,
+        input: GOOD,
+        status: 3,
+        output: "",
+        error: TWO_REPORTS,
+    },
+    Row {
+        words: &["mqjudge", "check", "--why", "--coverage"],
+        file: FAULTY,
+        input: GOOD,
+        status: 3,
+        output: "",
+        error: TWO_REPORTS,
+    },
+    Row {
+        words: &["mqjudge", "check", "--why", "b.log"],
+        file: GOOD,
+        input: GOOD,
+        status: 4,
+        output: "",
+        error: B_MISSING,
+    },
+];
+
 // The host fails at these for want of memory.
 static UNREADABLE: [Row; 3] = [
     Row {
@@ -474,6 +558,14 @@ fn does_what_the_words_ask_for(rt: HostRuntime) {
 #[test]
 fn shows_the_faults_that_the_words_ask_for(rt: HostRuntime) {
     for row in &REVIEWS {
+        let mut desk = desk_of(rt.alloc(), row);
+        assert!(rt; does(&mut desk, row), "{:?}", row.words);
+    }
+}
+
+#[test]
+fn says_why_if_the_words_ask_for_it(rt: HostRuntime) {
+    for row in &INQUIRIES {
         let mut desk = desk_of(rt.alloc(), row);
         assert!(rt; does(&mut desk, row), "{:?}", row.words);
     }

@@ -1,6 +1,7 @@
 //! `show --faults`.
 use super::harness::{CONNECTED, CONNECTED_LINES, NESTED, Narrow, Trickle, add_record};
-use crate::reviewing::{Plan, show_twice};
+use crate::inquiring::Lapse;
+use crate::reviewing::{Plan, show_reasoned};
 use mq_host::{Failure, PASSED, REFUSED};
 use mq_judge::Extent;
 use std::alloc::{AllocError, Global};
@@ -25,7 +26,8 @@ const ALL: &str = "1 record 1 OPEN\n\
     2 record 2 SENT CONNECT size 15\n\
     3 record 3 RECV CONNACK size 5\n\
     4 record 4 RECV PUBLISH size 9 qos 1 dup 0 id 1\n\
-    \x20 fault E1R MQTT-4.3.2-4 A PUBLISH of QoS 1 is answered by a PUBACK. (decided at event 7)\n\
+    \x20 fault E1R MQTT-4.3.2-4 A PUBLISH of QoS 1 is answered by a PUBACK. \
+    (because of event 7: the REST, with no answer before it) (decided at event 7)\n\
     5 record 5 SENT PINGREQ size 2\n\
     6 record 6 RECV PINGRESP size 2\n\
     7 record 7 REST\n\
@@ -36,7 +38,8 @@ const ALL: &str = "1 record 1 OPEN\n\
 
 const AROUND_0: &str = "..\n\
     4 record 4 RECV PUBLISH size 9 qos 1 dup 0 id 1\n\
-    \x20 fault E1R MQTT-4.3.2-4 A PUBLISH of QoS 1 is answered by a PUBACK. (decided at event 7)\n\
+    \x20 fault E1R MQTT-4.3.2-4 A PUBLISH of QoS 1 is answered by a PUBACK. \
+    (because of event 7: the REST, with no answer before it) (decided at event 7)\n\
     ..\n\
     8 record 8 SENT BAD W09 offset 2 type SUBACK bytes 90 03 [00] 00 00\n\
     \x20 fault W09 sec-2.2.1 A Packet Identifier isn't 0. (offset 2)\n\
@@ -46,7 +49,8 @@ const AROUND_0: &str = "..\n\
 const AROUND_1: &str = "..\n\
     3 record 3 RECV CONNACK size 5\n\
     4 record 4 RECV PUBLISH size 9 qos 1 dup 0 id 1\n\
-    \x20 fault E1R MQTT-4.3.2-4 A PUBLISH of QoS 1 is answered by a PUBACK. (decided at event 7)\n\
+    \x20 fault E1R MQTT-4.3.2-4 A PUBLISH of QoS 1 is answered by a PUBACK. \
+    (because of event 7: the REST, with no answer before it) (decided at event 7)\n\
     5 record 5 SENT PINGREQ size 2\n\
     ..\n\
     7 record 7 REST\n\
@@ -57,7 +61,8 @@ const AROUND_1: &str = "..\n\
 
 const LONG_AROUND_0: &str = "..\n\
     4 record 4 RECV PUBLISH size 9 qos 1 dup 0 id 1 retain 0 topic \"a\" payload 1\n\
-    \x20 fault E1R MQTT-4.3.2-4 A PUBLISH of QoS 1 is answered by a PUBACK. (decided at event 7)\n\
+    \x20 fault E1R MQTT-4.3.2-4 A PUBLISH of QoS 1 is answered by a PUBACK. \
+    (because of event 7: the REST, with no answer before it) (decided at event 7)\n\
     ..\n\
     8 record 8 SENT BAD W09 offset 2 type SUBACK bytes 90 03 [00] 00 00\n\
     \x20 fault W09 sec-2.2.1 A Packet Identifier isn't 0. (offset 2)\n\
@@ -84,19 +89,27 @@ fn plan(around: Option<u32>, long: bool) -> Plan<'static> {
     }
 }
 
-// Whether judging the one log and showing the other one, byte by byte, has this status and writes
-// this.
-fn is_shown(alloc: Global, plan: Plan<'_>, logs: [&[u8]; 2], status: u8, text: &str) -> bool {
-    let [judged, shown] = logs;
+// Whether judging the first log, reading the second one again and showing the third one, byte by
+// byte, gives this and writes this.
+fn gives(
+    alloc: Global,
+    plan: Plan<'_>,
+    logs: [&[u8]; 3],
+    wanted: Result<u8, Lapse>,
+    text: &str,
+) -> bool {
+    let [judged, again, shown] = logs;
     let mut output = Vec::new(alloc);
-    let given = show_twice(
+    let given = show_reasoned(
         alloc,
         plan,
+        true,
         &mut Trickle::of(judged, None),
+        &mut Trickle::of(again, None),
         &mut Trickle::of(shown, None),
         &mut output,
     );
-    given == Ok(status) && output.as_slice() == text.as_bytes()
+    given == wanted && output.as_slice() == text.as_bytes()
 }
 
 #[test]
@@ -104,7 +117,7 @@ fn shows_faults_under_their_events(rt: HostRuntime) {
     for (log, around, long, text) in ROWS {
         let plan = plan(around, long);
         assert!(rt;
-            is_shown(rt.alloc(), plan, [log, log], PASSED, text),
+            gives(rt.alloc(), plan, [log, log, log], Ok(PASSED), text),
             "{text}"
         );
     }
@@ -117,50 +130,74 @@ fn shows_nothing_of_a_refused_log(rt: HostRuntime) {
         (&NESTED[..7], "refused 10 Cut at 7\n"),
         (NESTED, "refused 7 Nested at 13\n"),
     ] {
-        let logs = [log, log];
+        let logs = [log, log, log];
         assert!(rt;
-            is_shown(rt.alloc(), plan(Some(1), true), logs, REFUSED, line),
+            gives(rt.alloc(), plan(Some(1), true), logs, Ok(REFUSED), line),
             "{line}"
         );
     }
 }
 
-// The file changed after it was judged: the faults are those of what was judged.
+// The file changed after it was judged and read again: the faults are those of what was judged.
 #[test]
-fn shows_what_the_second_reading_gives(rt: HostRuntime) {
-    let from_the_second = "..\n2 record 2 SENT CONNECT size 15\n3 record 3 RECV CONNACK size 5\n";
+fn shows_what_the_last_reading_gives(rt: HostRuntime) {
+    let from_the_last = "..\n2 record 2 SENT CONNECT size 15\n3 record 3 RECV CONNACK size 5\n";
     let cut = "..\nrefused 10 Cut at 14\n";
     for (judged, shown, status, text) in [
         (CONNECTED, THREE_FAULTS, PASSED, "..\n"),
-        (THREE_FAULTS, CONNECTED, PASSED, from_the_second),
+        (THREE_FAULTS, CONNECTED, PASSED, from_the_last),
         (THREE_FAULTS, &CONNECTED[..14], REFUSED, cut),
     ] {
-        let printed = is_shown(
-            rt.alloc(),
-            plan(Some(2), false),
-            [judged, shown],
-            status,
-            text,
-        );
+        let logs = [judged, judged, shown];
+        let printed = gives(rt.alloc(), plan(Some(2), false), logs, Ok(status), text);
         assert!(rt; printed, "{text}");
+    }
+}
+
+// It was refused when it was read again, or had another verdict: nothing is shown.
+#[test]
+fn shows_nothing_of_a_log_that_changed(rt: HostRuntime) {
+    for again in [CONNECTED, &THREE_FAULTS[..14], NESTED] {
+        let logs = [THREE_FAULTS, again, THREE_FAULTS];
+        assert!(rt; gives(rt.alloc(), plan(None, false), logs, Err(Lapse::Changed), ""));
+    }
+}
+
+// A log without faults isn't read again.
+#[test]
+fn reads_a_faultless_log_twice(rt: HostRuntime) {
+    for again in [THREE_FAULTS, NESTED, b""] {
+        let logs = [CONNECTED, again, CONNECTED];
+        assert!(rt;
+            gives(
+                rt.alloc(),
+                plan(None, false),
+                logs,
+                Ok(PASSED),
+                CONNECTED_LINES
+            )
+        );
     }
 }
 
 #[test]
 fn reports_a_failed_reading(rt: HostRuntime) {
-    for (judging, display, written) in [
-        (Some(20), None, ""),
-        (None, Some(13), "1 record 1 OPEN\n"),
+    for (judging, explaining, display, written) in [
+        (Some(20), None, None, ""),
+        (None, Some(20), None, ""),
+        (None, None, Some(13), "1 record 1 OPEN\n"),
     ] {
         let mut output = Vec::new(rt.alloc());
-        let given = show_twice(
+        let given = show_reasoned(
             rt.alloc(),
             plan(None, false),
+            true,
             &mut Trickle::of(THREE_FAULTS, judging),
+            &mut Trickle::of(THREE_FAULTS, explaining),
             &mut Trickle::of(THREE_FAULTS, display),
             &mut output,
         );
-        assert_eq!(rt; given, Err(Failure::Read));
+        assert_eq!(rt; given, Err(Lapse::Failed(Failure::Read)));
         assert!(rt; output.as_slice() == written.as_bytes());
     }
 }
@@ -173,14 +210,16 @@ fn reports_a_failed_write(rt: HostRuntime) {
         (THREE_FAULTS, 10_000, true),
         (&THREE_FAULTS[..7], 10, false),
     ] {
-        let given = show_twice(
+        let given = show_reasoned(
             rt.alloc(),
             plan(None, false),
+            true,
+            &mut Trickle::of(log, None),
             &mut Trickle::of(log, None),
             &mut Trickle::of(log, None),
             &mut Narrow { room, stays },
         );
-        assert_eq!(rt; given, Err(Failure::Write), "{room} bytes");
+        assert_eq!(rt; given, Err(Lapse::Failed(Failure::Write)), "{room} bytes");
     }
 }
 
@@ -189,9 +228,11 @@ fn reports_a_failed_write(rt: HostRuntime) {
 #[test]
 fn reports_a_review_without_memory(rt: HostRuntime) {
     let mut output = Cursor::new([0; 1024]);
-    let given = show_twice(
+    let given = show_reasoned(
         rt.alloc(),
         plan(None, false),
+        true,
+        &mut &THREE_FAULTS[..],
         &mut &THREE_FAULTS[..],
         &mut &THREE_FAULTS[..],
         &mut output,
@@ -202,7 +243,7 @@ fn reports_a_review_without_memory(rt: HostRuntime) {
     if given == Ok(PASSED) {
         assert_eq!(rt; written, ALL.len());
     } else {
-        assert_eq!(rt; given, Err(Failure::Memory));
+        assert_eq!(rt; given, Err(Lapse::Failed(Failure::Memory)));
     }
 }
 
@@ -235,15 +276,8 @@ fn lines_of_faults(alloc: Global) -> Result<String, Fail> {
 fn shows_3000_faults(rt: HostRuntime) -> Result<(), Fail> {
     let log = log_of_faults(rt.alloc())?;
     let text = lines_of_faults(rt.alloc())?;
-    let logs = [log.as_slice(), log.as_slice()];
-    assert!(rt;
-        is_shown(
-            rt.alloc(),
-            plan(Some(0), false),
-            logs,
-            PASSED,
-            text.as_str()
-        )
-    );
+    let logs = [log.as_slice(), log.as_slice(), log.as_slice()];
+    let plan = plan(Some(0), false);
+    assert!(rt; gives(rt.alloc(), plan, logs, Ok(PASSED), text.as_str()));
     Ok(())
 }

@@ -35,7 +35,7 @@ const IS_COMPRESSED: &str = "mqjudge: it is compressed by gzip: unpack it first;
     of a capture recorders/from-capture makes logs\n";
 
 // Words, the bytes of their log, what is written to the output, and to the error stream.
-static OTHER_FILES: [(&[&str], &[u8], &str, &str); 13] = [
+static OTHER_FILES: [(&[&str], &[u8], &str, &str); 14] = [
     (
         &["mqjudge", "check", "a.log"],
         CAPTURE,
@@ -63,6 +63,12 @@ static OTHER_FILES: [(&[&str], &[u8], &str, &str); 13] = [
     ),
     (
         &["mqjudge", "show", "--faults", "a.log"],
+        NEW_CAPTURE,
+        REFUSED_AT_0,
+        IS_CAPTURE,
+    ),
+    (
+        &["mqjudge", "check", "--why", "a.log"],
         NEW_CAPTURE,
         REFUSED_AT_0,
         IS_CAPTURE,
@@ -188,7 +194,7 @@ fn lists_the_codes_for_a_word_that_is_none(rt: HostRuntime) -> Result<(), Fail> 
 
 // Words whose reading fails at its beginning, in the first bytes, or later; after how many bytes;
 // what is read; and what is written before.
-static UNREAD: [(&[&str], usize, &str, &str); 9] = [
+static UNREAD: [(&[&str], usize, &str, &str); 11] = [
     (&["mqjudge", "check", "a.log"], 0, "a.log", ""),
     (&["mqjudge", "check", "a.log"], 3, "a.log", ""),
     (&["mqjudge", "check", "a.log"], 30, "a.log", ""),
@@ -203,6 +209,8 @@ static UNREAD: [(&[&str], usize, &str, &str); 9] = [
     ),
     (&["mqjudge", "show", "--faults", "a.log"], 2, "a.log", ""),
     (&["mqjudge", "show", "--faults", "a.log"], 20, "a.log", ""),
+    (&["mqjudge", "check", "--why", "a.log"], 2, "a.log", ""),
+    (&["mqjudge", "check", "--why", "a.log"], 20, "a.log", ""),
 ];
 
 // A host with these words and a good log, whose readers fail after so many bytes, with an error of
@@ -294,9 +302,10 @@ fn gives_up_a_reader_that_is_always_interrupted(rt: HostRuntime) {
 }
 
 // Words of each kind that writes.
-static WRITERS: [&[&str]; 9] = [
+static WRITERS: [&[&str]; 10] = [
     &["mqjudge", "check", "a.log"],
     &["mqjudge", "check", "--json", "a.log"],
+    &["mqjudge", "check", "--why", "a.log"],
     &["mqjudge", "show", "a.log"],
     &["mqjudge", "show", "--faults", "a.log"],
     &["mqjudge", "packet", "C000"],

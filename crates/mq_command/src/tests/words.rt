@@ -9,7 +9,9 @@ const VERSION: &str = "mqjudge 0.1.0 (reads log versions 1 and 2, judges 74 stat
 fn task_of(alloc: Global, words: &[&str]) -> Result<Task, EarlyExit> {
     match parse(alloc, words)? {
         Work::Once(task) => Ok(task),
-        Work::Twice(_) | Work::Convert(_) => Err(EarlyExit::Usage(String::new(alloc))),
+        Work::Again(_) | Work::Why(_) | Work::Convert(_) => Err(EarlyExit::Usage(String::new(
+            alloc,
+        ))),
     }
 }
 
@@ -247,7 +249,7 @@ fn is_review_of(
     number: Option<&str>,
     is_long: bool,
 ) -> Result<bool, EarlyExit> {
-    let Work::Twice(
+    let Work::Again(
         Review {
             file,
             faults,
@@ -269,6 +271,39 @@ fn reads_the_words_of_a_review(rt: HostRuntime) -> Result<(), Fail> {
     assert!(rt; is_review_of(rt.alloc(), &words, Some("a.log"), Some("3"), false)?);
     let words = ["mqjudge", "show", "--faults", "--long"];
     assert!(rt; is_review_of(rt.alloc(), &words, None, None, true)?);
+    Ok(())
+}
+
+// Whether these words ask for a check of this file with what its faults conflict with, in this form,
+// and for coverage too or not.
+fn is_inquiry_of(
+    alloc: Global,
+    words: &[&str],
+    path: Option<&str>,
+    report: (Form, bool),
+) -> Result<bool, EarlyExit> {
+    let Work::Why(
+        Inquiry {
+            file,
+            form,
+            coverage,
+        },
+    ) = parse(alloc, words)?
+    else {
+        return Ok(false);
+    };
+    let file = file.as_ref().map(|path| path.as_str());
+    Ok(file == path && (form, coverage) == report)
+}
+
+#[test]
+fn reads_the_words_of_an_inquiry(rt: HostRuntime) -> Result<(), Fail> {
+    let words = ["mqjudge", "check", "--why", "a.log"];
+    assert!(rt; is_inquiry_of(rt.alloc(), &words, Some("a.log"), (Form::Text, false))?);
+    let words = ["mqjudge", "check", "a.log", "--json", "--why"];
+    assert!(rt; is_inquiry_of(rt.alloc(), &words, Some("a.log"), (Form::Json, false))?);
+    let words = ["mqjudge", "check", "--why", "--coverage", "--summary"];
+    assert!(rt; is_inquiry_of(rt.alloc(), &words, None, (Form::Summary, true))?);
     Ok(())
 }
 

@@ -22,7 +22,8 @@ returns-in-Some-clause-work g c =
     let words = map g.S.AsStr.text c.args.words.now in
     let asked = request_is_check words c.in-Ok.matches c.in-Some.check.now c.in-Ok.ensures.met (c.in-Some.ensures.found.0 refl) c.in-Some.ensures.rows in
     let coverage = c.is_true.ensures ∙ ap is_true c.get_str-in-Some.ensures in
-    IfOk-weaker c.check_task.result _ _ (λ work h. asked ∙ same_check (sym c.get_str.ensures) (sym c.form_in.ensures) (sym coverage) ∙ ap Some (sym h)) c.check_task.ensures.work
+    let why = c.is_true-in-Some.ensures ∙ ap is_true c.get_str-in-Some-2.ensures in
+    IfOk-weaker c.check_task.result _ _ (λ work h. asked ∙ same_check (sym c.get_str.ensures) (sym c.form_in.ensures) (sym coverage) (sym why) ∙ ap Some (sym h)) c.check_task.ensures.work
 
 pub returns-in-Some-subcommand_matches-clause-work : goal.returns-in-Some-subcommand_matches-clause-work
 returns-in-Some-subcommand_matches-clause-work g c =

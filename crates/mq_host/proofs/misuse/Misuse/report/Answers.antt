@@ -18,6 +18,12 @@ returns-in-NoFile-clause-printed g c = rw c.in-NoFile.is c.write_misuse-in-NoFil
 pub returns-in-NoNumber-clause-printed : goal.returns-in-NoNumber-clause-printed
 returns-in-NoNumber-clause-printed g c = rw c.in-NoNumber.is c.refuse_word-in-NoNumber.ensures.printed
 
+pub returns-in-NoFileForWhy-clause-printed : goal.returns-in-NoFileForWhy-clause-printed
+returns-in-NoFileForWhy-clause-printed g c = rw c.in-NoFileForWhy.is c.write_misuse-in-NoFileForWhy.ensures.printed
+
+pub returns-in-TwoReports-clause-printed : goal.returns-in-TwoReports-clause-printed
+returns-in-TwoReports-clause-printed g c = rw c.in-TwoReports.is c.write_misuse-in-TwoReports.ensures.printed
+
 pub returns-in-OutExists-clause-printed : goal.returns-in-OutExists-clause-printed
 returns-in-OutExists-clause-printed g c = rw c.in-OutExists.is c.refuse_word-in-OutExists.ensures.printed
 
