@@ -26,11 +26,11 @@ OBJECTS: dict[str, tuple[set[str], dict[str, Any]]] = {  # what it must have, an
                                              "toolExecutionNotifications": ["notification"], "properties": BAG}),
     "notification": ({"message"}, {"level": LEVEL, "message": "message", "locations": ["location"], "properties": BAG}),
     "result": ({"message"}, {"ruleId": TEXT, "ruleIndex": NUMBER, "level": LEVEL, "message": "message",
-                             "locations": ["location"], "partialFingerprints": BAG, "suppressions": ["suppression"],
-                             "properties": BAG}),
+                             "locations": ["location"], "relatedLocations": ["location"], "partialFingerprints": BAG,
+                             "suppressions": ["suppression"], "properties": BAG}),
     "message": ({"text"}, {"text": TEXT, "markdown": TEXT, "properties": BAG}),  # or an id, which isn't used
-    "location": (set(), {"physicalLocation": "physicalLocation", "logicalLocations": ["logicalLocation"],
-                         "properties": BAG}),
+    "location": (set(), {"id": NUMBER, "physicalLocation": "physicalLocation", "logicalLocations": ["logicalLocation"],
+                         "message": "message", "properties": BAG}),
     "physicalLocation": ({"artifactLocation"}, {"artifactLocation": "artifactLocation", "region": "region",
                                                 "properties": BAG}),  # or an address, which isn't used
     "artifactLocation": (set(), {"uri": TEXT, "uriBaseId": TEXT, "properties": BAG}),
@@ -73,6 +73,8 @@ def of_object(value: dict[str, Any], kind: str, place: str) -> list[str]:
         return [f"{place}.startLine is below 1"]
     if kind == "artifactLocation" and not URI.fullmatch(value.get("uri", "")):
         return [f"{place}.uri is no reference"]
+    if kind == "location" and value.get("id", 0) < -1:
+        return [f"{place}.id is below -1"]
     if kind == "result" and value.get("ruleIndex", 0) < -1:
         return [f"{place}.ruleIndex is below -1"]
     return []

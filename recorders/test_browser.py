@@ -20,6 +20,7 @@ sys.dont_write_bytecode = True  # the repository stays as it is
 sys.path.insert(0, str(Path(__file__).resolve().parent))
 from browser import CHROMIUM, Browser
 from exercising.table_file import KEPT as HELD
+from judge_calls import Told, WithStandIn
 from judging.coverage import Coverage, Demand
 from judging.explain import Explanation
 from judging.page import Page
@@ -31,7 +32,7 @@ from surveying.findings import kinds_of
 from surveying.gallery import write_page
 from test_survey import BROKEN, said, surveyed
 from test_survey import run as made_run
-from testing import judge_program, missing
+from testing import judge_program, missing, needs_why
 
 WIDTHS = (390, 1280)  # of a phone, and of a small screen
 
@@ -133,6 +134,7 @@ class Opened(InBrowser):
                       "</title><script>window.hit = 5</script>U+202E"):
             self.assertIn(words, shown)
 
+    @needs_why
     def test_what_belongs_to_a_fault_is_lit(self) -> None:
         self.page(*RECORDED, name="examples")
         lit = "[...document.querySelectorAll('.lit')].map((place) => place.id.split('-')[1]).join(' ')"
@@ -140,10 +142,11 @@ class Opened(InBrowser):
         self.assertEqual(self.browser.value(lit), "4 5 6 12 13")
         self.assertEqual(self.browser.value(lit.replace("'.lit'", "'.other'")), "4 5")
         self.browser.open(self.place, place="f5-6-S06")
-        self.assertEqual(self.browser.value(lit.replace("'.lit'", "'.near'")), "11")  # the REST that shows it
+        near = lit.replace("'.lit'", "'.near'")
+        self.assertEqual(self.browser.value(near), "10 11")  # the CONNACK that resumed, and the REST that shows it
         self.browser.open(self.place, place="f1-9-S07")  # client-flood
         self.assertEqual(self.browser.value(lit), "9 18")
-        self.assertEqual(self.browser.value(lit.replace("'.lit'", "'.near'")), "3")  # the CONNACK
+        self.assertEqual(self.browser.value(near), "3")  # the CONNACK
         self.click("#e1-10 line")
         self.assertEqual(self.browser.value("location.hash"), "#f1-10-S07")
 
@@ -250,6 +253,107 @@ class Matrix(InBrowser):
         self.assertLess(len(sizes), 8)
 
 
+class Causes(WithStandIn, InBrowser):
+    """Lines from faults to the events that they conflict with, by a program of a few lines that names these."""
+
+    OPENING = ("OPEN", 'SENT CONNECT size 15 client "me" clean-start 1 keep-alive 60',
+               "RECV CONNACK size 8 code 0x00 session-present 0 receive-maximum 2")
+    PINGS = ("SENT PINGREQ size 2", "RECV PINGRESP size 2")
+    UPRIGHT, ARROW = ".d .b path:not(.to)", ".d .b path.to"
+
+    def setUp(self) -> None:
+        super().setUp()
+        self.put_program()
+
+    @staticmethod
+    def sent(*numbers: int) -> list[str]:
+        return [f'SENT PUBLISH size 9 qos 1 dup 0 id {number} retain 0 topic "a" payload 1' for number in numbers]
+
+    def flood(self, pings: int) -> None:
+        """A page of a log in which the last two of four messages are too many, so many pings after the CONNACK."""
+        events = [*self.OPENING, *self.PINGS * pings, *self.sent(1, 2, 3, 4)]
+        self.last = len(events)
+        self.tell(events, [Told(self.last - 1, "S07", "3 numbers 3 2"), Told(self.last, "S07", "3 numbers 4 2")])
+        self.page(program=self.program, name="causes")
+
+    def check_ends(self) -> None:
+        """A line begins at the fault's arrow, and ends at the arrow of what it conflicts with."""
+        self.assertAlmostEqual(self.edge(self.ARROW), self.edge("#e1-3 line"), delta=1)
+        uprights = self.browser.value(f"[...document.querySelectorAll({self.UPRIGHT!r})].map((place) => [place"
+                                      ".getBoundingClientRect().top, place.getBoundingClientRect().bottom])")
+        self.assertAlmostEqual(uprights[0][0], self.edge("#e1-3 line"), delta=1)
+        self.assertAlmostEqual(uprights[-1][1], self.edge(f"#e1-{self.last} line"), delta=1)
+        for above, below in zip(uprights, uprights[1:]):
+            self.assertLessEqual(abs(above[1] - below[0]), 2)
+
+    def test_they_lead_from_event_to_event(self) -> None:
+        """Over the parts of a chart, at both widths; nothing is wider than the page."""
+        for pings in (2, 17):
+            self.flood(pings)
+            for width in WIDTHS:
+                for scheme in ("light", "dark"):
+                    self.browser.open(self.place, width, scheme)
+                    self.check_ends()
+                    self.assertEqual(self.browser.value("document.documentElement.scrollWidth"), width)
+                    self.assertLessEqual(self.edge(self.UPRIGHT, "right"), self.edge(".picture", "right"))
+            self.assertEqual(self.browser.value(DEAD_LINKS), [])
+
+    def test_a_fold_between_opens(self) -> None:
+        self.flood(100)
+        self.open()
+        self.check_ends()
+        before = self.edge(f"#e1-{self.last} line")
+        self.click(".gap > text a")
+        self.assertGreater(self.edge(f"#e1-{self.last} line"), before + 1_000)
+        self.check_ends()
+        self.click(".gap > text a")
+        self.check_ends()
+
+    def test_the_line_of_the_chosen_fault_stands_out(self) -> None:
+        events = [*self.OPENING, *self.sent(1, 2, 1), *self.PINGS * 15, *self.sent(2)]
+        self.tell(events, [Told(6, "S01", "4"), Told(len(events), "S01", "5")])
+        self.page(program=self.program, name="chosen")
+        on = "[...document.querySelectorAll('.d .on')].map((line) => line.dataset.t)"
+        for place, cause in (("f1-6-S01", "e1-4"), (f"f1-{len(events)}-S01", "e1-5")):
+            self.open(place)
+            self.assertEqual(set(self.browser.value(on)), {cause})
+            self.assertEqual(self.browser.value("document.querySelector('.near').id"), cause)
+        self.open()
+        self.assertEqual(self.browser.value(on), [])
+
+    def test_what_is_in_a_fold_is_shown(self) -> None:
+        """Of a run only the first faults and the last one are drawn, with what they conflict with."""
+        numbers = range(1, 11)
+        events = [*self.OPENING, *self.sent(*numbers), *self.PINGS * 100, *self.sent(*numbers)]
+        first = len(events) - 9
+        self.tell(events, [Told(first + at, "S01", str(4 + at)) for at in range(10)])
+        self.page(program=self.program, name="run")
+        self.open()
+        self.assertEqual([self.edge(f"#e1-{place}", "height") > 0 for place in (4, 5, 6, 9, 13)],
+                         [True, True, True, False, True])
+        self.open(f"f1-{first + 5}-S01")
+        self.assertGreater(self.edge("#e1-9", "height"), 0)
+        self.assertEqual(self.browser.value("document.querySelector('.near').id"), "e1-9")
+
+    def test_they_have_names(self) -> None:
+        self.flood(17)
+        self.open()
+        self.browser.call("Accessibility.enable")
+        nodes = self.browser.call("Accessibility.getFullAXTree")["nodes"]
+        names = [(node["role"]["value"], node["name"]["value"]) for node in nodes if "role" in node and "name" in node]
+        words = f"S07 at event {self.last - 1}, S07 at event {self.last}, because of event 3"
+        self.assertEqual([role for role, name in names if name == words], ["image"])  # once, though it has parts
+        self.assertIn(("link", "event 3"), names)
+
+    def test_on_paper(self) -> None:
+        self.flood(17)
+        self.open(width=720)
+        self.browser.call("Emulation.setEmulatedMedia", media="print")
+        self.addCleanup(self.browser.call, "Emulation.setEmulatedMedia", media="")
+        self.check_ends()
+        self.assertLessEqual(self.edge(self.UPRIGHT, "right"), self.edge(".faults", "left"))
+
+
 class Used(InBrowser):
     """What a page does where it is clicked."""
 
@@ -278,11 +382,12 @@ class Used(InBrowser):
             self.assertGreaterEqual(self.edge(card), self.edge(picture, "bottom"))
             self.assertLessEqual(self.edge(card, "bottom"), 1000)
 
+    @needs_why
     def test_the_line_of_a_fault_in_a_run_is_marked(self) -> None:
         self.page(*RECORDED, name="examples")
         self.open("f1-11-S07")
         self.assertEqual(self.browser.value("document.querySelector('.run .here').textContent"),
-                         "11 PUBLISH id 8 · QoS 1 · flood")
+                         "11 PUBLISH id 8 · QoS 1 · flood, 8 in flight, at most 5 allowed")
         self.click("#f1-9-S07 h4")
         self.assertEqual(self.browser.value("document.querySelector('.run .here').textContent").split()[0], "9")
 
@@ -316,11 +421,11 @@ class Used(InBrowser):
         edges = ("((place) => [place.getBoundingClientRect().top, place.getBoundingClientRect().bottom])")
         bands = self.browser.value(f"[...document.querySelectorAll('.part > rect.new')].map({edges})")
         self.assertEqual(len(bands), count)
-        links = self.browser.value(f"[...document.querySelectorAll('.d path')].map({edges})")
+        links = self.browser.value(f"[...document.querySelectorAll('.d path:not(.to)')].map({edges})")
         self.assertEqual(len(links), count)
         for shapes in (bands, links):
             self.assertTrue(all(0 <= before[1] - after[0] <= 2 for before, after in zip(shapes, shapes[1:])), shapes)
-        self.assertEqual(self.browser.value("document.querySelectorAll('.d path:not(.on)').length"), 1)  # an arrow
+        self.assertEqual(self.browser.value("document.querySelectorAll('.d path.to').length"), 1)  # an arrow
 
     def test_a_fold_opens(self) -> None:
         apart = [part for number in range(2, 102) for part in (record(2, publish("a", number)),

@@ -16,7 +16,7 @@ sys.path.insert(0, str(Path(__file__).resolve().parent))
 from exercising.evidence import BINDING
 from made_logs import WithLogs, log, publish, reconnected, record, run
 from sarif_schema import problems
-from testing import TOP
+from testing import TOP, needs_why
 
 EXAMPLES = TOP / "examples/sessions"
 
@@ -74,6 +74,7 @@ class CodeHosts(WithLogs):
         ignored = run(self.logs, "--github", "--ignore", "S01")[1]
         self.assertIn(f"::warning file={name},title=S01 MQTT-2.2.1-3::ignored by --ignore: 1 fault", ignored)
 
+    @needs_why
     def test_a_publish_that_is_sent_again(self) -> None:
         sent = [record(2, publish(topic, number)) for number, topic in enumerate("abc", 1)]
         changed = [sent[0], record(2, publish("d", 2)), sent[2]]
@@ -81,14 +82,15 @@ class CodeHosts(WithLogs):
         place = self.folder / "report.sarif"
         printed = run(self.logs, "--github", "--sarif", place)[1]
         (line,) = [line for line in printed.splitlines() if line.lstrip().startswith("::")]
-        self.assertIn("that is in use. This looks like the PUBLISH of event 4 sent again: ", line)
+        because = " Because of event {}: it holds the identifier."
+        self.assertIn(f"that is in use.{because.format(4)} This looks like the PUBLISH of event 4 sent again: ", line)
         texts = [result["message"]["text"] for result in json.loads(place.read_text())["runs"][0]["results"]]
         said = [text.partition("in use.")[2].partition(" sent again")[0] for text in texts]
         words = " This looks like the PUBLISH of event "
-        self.assertEqual(said, [f"{words}4", "", f"{words}6"])
+        self.assertEqual(said, [f"{because.format(4)}{words}4", because.format(5), f"{because.format(6)}{words}6"])
         changed = [record(2, publish("d", 1)), *sent[1:]]  # the first fault is about another message
         (self.logs / "a.log").write_bytes(reconnected(sent, changed))
-        self.assertIn("that is in use. Event 12 looks like the PUBLISH of event 5 sent again: ",
+        self.assertIn(f"that is in use.{because.format(4)} Event 12 looks like the PUBLISH of event 5 sent again: ",
                       run(self.logs, "--github")[1])
 
     def test_a_place_that_cannot_be_written(self) -> None:

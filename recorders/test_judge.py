@@ -20,7 +20,7 @@ from xml.etree import ElementTree
 sys.dont_write_bytecode = True  # the repository stays as it is
 sys.path.insert(0, str(Path(__file__).resolve().parent))
 from judge_calls import BROKEN, FAIL, LOG, PASS, REFUSED, Case, log_of
-from testing import PATIENCE, TOP, judge_program, wait_until
+from testing import PATIENCE, TOP, judge_program, needs_why, says_why, wait_until
 
 CONNECT = bytes.fromhex("100e00044d5154540502003c0000 0161")  # of a client a
 HELLO = bytes.fromhex("160301 00c8 01 0000c4 0303") + bytes(199)  # as TLS begins
@@ -214,6 +214,7 @@ class Printed(Case):
         self.assertTrue(lines[-1].startswith(beginning), lines[-1])
         self.assertTrue(lines[-1].endswith(" ..") and len(lines[-1]) < 340)
 
+    @needs_why
     def test_the_values_that_decide(self) -> None:
         """The limit that a packet breaks is beside it, if the packet that announced it is."""
         printed = self.judged(TOP / "examples/sessions/client-large-packet.log", program=judge_program())[1]
@@ -221,16 +222,15 @@ class Printed(Case):
         self.assertIn("SENT PUBLISH size 214 ", printed)
         self.assertEqual(printed.count("A packet isn't larger than the peer's Maximum Packet Size."), 1)
         report = self.folder / "report.xml"
-        wanted = {"large-packet": "Maximum Packet Size 100, announced by event 3 (CONNACK); this packet: 214",
-                  "qos": "Maximum QoS 1, announced by event 3 (CONNACK); this packet: 2",
-                  "flood": "Receive Maximum 5, announced by event 3 (CONNACK)"}
-        for name, words in wanted.items():
+        numbers = {"large-packet": "214 bytes, at most 100", "qos": "QoS 2, at most 1", "flood": "6 in flight, at most 5"}
+        for name, words in ((name, f"because of event 3: {said} allowed") for name, said in numbers.items()):
             log = TOP / f"examples/sessions/client-{name}.log"
             printed = self.judged(log, "--junit", report, program=judge_program())[1].splitlines()
-            place = printed.index(f"      {words}")  # under the fault lines
+            place = printed.index(f"      {words}")  # under the fault's line
             self.assertTrue(printed[place - 1].startswith("    fault ") and " record " in printed[place + 1])
             self.assertIn(f"\n    {words}\n", ElementTree.parse(report).findtext(".//failure") or "")
 
+    @needs_why
     def test_limits_that_are_announced_far_away(self) -> None:
         """That of the fault's connection holds, and what holds without one."""
         def sent(number: int) -> tuple[int, bytes]:
@@ -241,9 +241,9 @@ class Printed(Case):
         alias = (2, bytes.fromhex("300900016103230007") + b"xx")
         for records, words in (
             ([(2, CONNECT), limits[0], (4, b""), (1, b""), (2, CONNECT), limits[1], *pings, *map(sent, (1, 2, 3))],
-             "Receive Maximum 2, announced by event 7 (CONNACK)"),
+             "because of event 7: 3 in flight, at most 2 allowed"),
             ([(2, CONNECT), (3, bytes.fromhex("2003000000")), *pings, alias],
-             "Topic Alias Maximum isn't in event 3 (CONNACK), so 0 holds; this packet: 7"),
+             "Topic Alias 7, at most 0 allowed by default"),
         ):
             (self.logs / "a.log").write_bytes(log_of((1, b""), *records, (4, b"")))
             for option in ("--json", "--html", "--most"):
@@ -442,7 +442,8 @@ class Lines(Case):
         self.assertTrue(line["notes"][0].startswith("the client begins TLS"))
         self.assertEqual(self.said[0], "no REST in 1 of 1 log: missing answers aren't judged there")
         log = TOP / "examples/sessions/server-killed.log"
-        answer = subprocess.run([judge_program(), "check", "--json", str(log)], capture_output=True, text=True)
+        why = ["--why"] if says_why() else []
+        answer = subprocess.run([judge_program(), "check", *why, "--json", str(log)], capture_output=True, text=True)
         (line,) = self.lines(log, program=judge_program())
         self.assertEqual(line["faults"], json.loads(answer.stdout)["faults"])
 

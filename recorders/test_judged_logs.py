@@ -19,7 +19,7 @@ import log_format
 from judge_calls import FAIL, LOG, PASS, REFUSED, Case, log_of
 from judging.resends import Resends
 from made_logs import KEEPING, RESUMED, packet, publish, reconnected, record, text
-from testing import PATIENCE, TOP, judge_program
+from testing import PATIENCE, TOP, judge_program, says_why
 
 
 class Policies(Case):
@@ -397,24 +397,27 @@ class Times(Case):
         self.assertNotIn("UTC", self.judged()[1])
 
 
+@unittest.skipUnless(says_why(), "the program that judges doesn't know `check --why`")
 class SentAgain(Case):
     """A PUBLISH under an identifier in use that looks like an earlier connection's, sent again with DUP 0."""
 
     FIRST = record(2, publish("a/b", 1))  # event 4 of its log; the next connection's first event after the CONNACK is 9
+    HOLDER = "      because of event {}: it holds the identifier"
     SENTENCE = ("      This looks like the PUBLISH of event {} sent again: then its Packet Identifier is right, and DUP"
                 " has to be 1 (section 3.3.1.1).")
 
     def said(self, made: bytes, *words: str) -> tuple[list[str], list[str]]:
-        """The positions of the faults of S01, and the lines on PUBLISHes that are sent again, with those before."""
+        """The positions of the faults of S01, and the lines on PUBLISHes that are sent again, each with two before it."""
         (self.logs / "a.log").write_bytes(made)
         printed = self.judged(self.logs, *words, program=judge_program())[1].splitlines()
         faults = [line.split()[1] for line in printed if line.startswith("    fault ") and line.split()[2] == "S01"]
-        return faults, [line for pair in zip(printed, printed[1:]) for line in pair if "sent again" in pair[1]]
+        return faults, [line for three in zip(printed, printed[1:], printed[2:]) for line in three
+                        if "sent again" in three[2]]
 
     def repeated(self, position: int, at: int) -> list[str]:
         """The lines on the event at a position, which is sent again at another."""
         fault = f"    fault {at} S01 MQTT-2.2.1-3 decided {at} record {at} offset -"
-        return [fault, self.SENTENCE.format(position)]
+        return [fault, self.HOLDER.format(position), self.SENTENCE.format(position)]
 
     def test_it_is_said_at_the_first(self) -> None:
         self.assertEqual(self.said(reconnected([self.FIRST], [self.FIRST])), (["9"], self.repeated(4, 9)))
@@ -430,7 +433,8 @@ class SentAgain(Case):
         """What is around the first one is printed nevertheless. The other PUBLISH is far away."""
         pings = [record(2, packet(0xC0, b"")), record(3, packet(0xD0, b""))] * 300
         made = reconnected([self.FIRST, *pings], [self.FIRST])
-        self.assertEqual(self.said(made, "--most", "0"), ([], ["    and 1 more", self.SENTENCE.format(4)]))
+        self.assertEqual(self.said(made, "--most", "0"),
+                         ([], ["    and 1 more", self.HOLDER.format(4), self.SENTENCE.format(4)]))
 
     def test_what_differs_is_another_message(self) -> None:
         whole = publish("a/b", 1)
@@ -487,12 +491,13 @@ class SentAgain(Case):
             sent = [record(2, publish("z" * size, 1))]
             self.assertEqual(self.said(reconnected(sent, sent)), (["9"], self.repeated(4, 9) * count))
 
-    def test_a_new_session_has_nothing_unacknowledged(self) -> None:
+    def test_only_what_the_program_names_is_compared(self) -> None:
+        """The PUBLISH of event 3 is the same, and on an earlier connection."""
         sent = 'SENT PUBLISH size 11 qos 1 dup 0 id 1 retain 0 topic "a/b" payload 1'
-        for is_present, found in ((1, {7: 3}), (0, {})):
-            connacks = [f"RECV CONNACK size 5 code 0x00 session-present {number}" for number in (0, is_present)]
-            resends = Resends("client", {7: 1})
-            for place, event in enumerate(["OPEN", connacks[0], sent, "CLOSE", "OPEN", connacks[1], sent], 1):
+        for holder, between, found in ((3, "RECV PINGRESP size 2", {7: 3}), (5, "RECV PINGRESP size 2", {}),
+                                       (3, "RECV PUBREC size 4 id 1 code 0x00", {})):
+            resends = Resends({7: holder})
+            for place, event in enumerate(["OPEN", "REST", sent, between, "CLOSE", "OPEN", sent], 1):
                 resends.take(f"{place} record {place} {event}")
             self.assertEqual((resends.found, resends.is_done), (found, True))
 
@@ -505,7 +510,7 @@ class SentAgain(Case):
             self.assertEqual(self.said(made), (["14"], self.repeated(4, 14) * count), topic)
         made = reconnected([self.FIRST], [], early=(self.FIRST,))
         fault = "    fault 8 S01 MQTT-2.2.1-3 decided 9 record 8 offset -"
-        self.assertEqual(self.said(made), (["8"], [fault, self.SENTENCE.format(4)]))
+        self.assertEqual(self.said(made), (["8"], [fault, self.HOLDER.format(4), self.SENTENCE.format(4)]))
 
     def test_a_server(self) -> None:
         begin, resume = [(1, b""), (3, KEEPING)], (2, RESUMED)
@@ -513,7 +518,7 @@ class SentAgain(Case):
         made = log_of(*begin, (2, bytes.fromhex("2003000000")), first, (4, b""), *begin, resume, first, (4, b""),
                       is_server=True)
         faults, lines = self.said(made)
-        self.assertEqual((faults, lines[1:]), (["9"], [self.SENTENCE.format(4)]))
+        self.assertEqual((faults, lines[1:]), (["9"], [self.HOLDER.format(4), self.SENTENCE.format(4)]))
 
 
 if __name__ == "__main__":

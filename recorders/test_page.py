@@ -15,6 +15,7 @@ from pathlib import Path
 
 sys.dont_write_bytecode = True  # the repository stays as it is
 sys.path.insert(0, str(Path(__file__).resolve().parent))
+from judging.causes import Evidence
 from judging.events import Bytes, Event, bytes_of, read_event
 from judging.explain import Explanation
 from judging.labels import difference, label
@@ -26,7 +27,7 @@ from judging.verdict import FAULTS, Verdict
 from made_logs import CONNECT, log, packet, publish, reconnected, record, run, text
 from page_calls import ACCEPTED, OVERRIDE, RECORDED, Case, timed
 from sarif_schema import problems
-from testing import TOP
+from testing import TOP, needs_why
 
 
 class Lines(unittest.TestCase):
@@ -179,7 +180,7 @@ class Written(Case):
         (self.logs / "a.log").write_bytes(log(record(2, publish("a", 1)), record(2, publish("a", 1)), record(4)))
         self.assertNotIn("ignored by", self.page())
         page = self.page(self.logs, "--ignore", "S01")
-        self.assertIn("<article id=f1-5-S01 class=ignored>", page)
+        self.assertIn("<article id=f1-5-S01 class=ignored data-a=e1-4>", page)
         self.assertIn('ignored by --ignore', page)
         self.assertIn('<tr class="ignored"><th scope=row><a class="code" href="#f1-5-S01">S01</a>', page)
         self.assertIn('<span class="badge pass">pass</span>', page)
@@ -221,18 +222,16 @@ class Written(Case):
         self.assertIn("     0  <mark>41</mark> 00", page)
         self.assertIn("The byte at offset 0 is marked.", page)
 
+    @needs_why
     def test_the_limit_that_the_peer_announced(self) -> None:
         page = self.page(*RECORDED)
-        self.assertIn("<b>Receive Maximum 5</b>, announced by <a href=#e1-3>event 3</a> (CONNACK)", page)
-        self.assertIn("<b>Maximum Packet Size 100</b>, announced by <a href=#e2-3>event 3</a> (CONNACK);"
-                      " this packet: <b>214</b>", page)
-        self.assertIn("<b>Maximum QoS 1</b>, announced by <a href=#e3-3>event 3</a> (CONNACK);"
-                      " this packet: <b>2</b>", page)
-        self.assertIn("<b>Receive Maximum 2</b>, announced by", page)
+        for number, words in ((1, "<b>6</b> in flight, at most <b>5</b>"), (2, "<b>214</b> bytes, at most <b>100</b>"),
+                              (3, "QoS <b>2</b>, at most <b>1</b>")):
+            self.assertIn(f"<dt>Because<dd><a href=#e{number}-3>event 3</a> (CONNACK): {words} allowed<", page)
+        self.assertIn(">event 9</a> (CONNECT): <b>3</b> in flight, at most <b>2</b> allowed<", page)
         alias = b"\x23" + (7).to_bytes(2, "big")
         (self.logs / "a.log").write_bytes(log(record(2, publish("a", 1, alias)), record(4)))
-        self.assertIn("Topic Alias Maximum isn't in <a href=#e1-3>event 3</a> (CONNACK), so 0 holds; this packet:"
-                      " <b>7</b>", self.page())
+        self.assertIn("<dt>Because<dd>Topic Alias <b>7</b>, at most <b>0</b> allowed by default<", self.page())
 
     def test_events_far_from_a_fault_are_one_line(self) -> None:
         apart = [part for number in range(2, 102) for part in (record(2, publish("a", number)),
@@ -264,6 +263,7 @@ class Written(Case):
             self.assertEqual("class=gap" in page, is_folded)
             self.assertEqual('<svg id=e1-10 class=s y=' in page, True)
 
+    @needs_why
     def test_a_run_of_a_fault_is_one_card(self) -> None:
         limit = bytes.fromhex("2006000003210002")  # Receive Maximum 2
         sent = [record(2, publish("a", number)) for number in range(1, 61)]
@@ -272,15 +272,16 @@ class Written(Case):
         self.assertEqual(page.count("<article "), 1)
         self.assertIn("<a href=#e1-6>Events 6</a> to <a href=#e1-63>63</a>, 58 faults:", page)
         for position in range(7, 64):
-            self.assertIn(f"<i id=f1-{position}-S07></i>", page)
-            self.assertIn(f"<li><a href=#e1-{position}>{position}</a><span> PUBLISH id {position - 3} · QoS 1 · a</span>",
-                          page)
+            self.assertIn(f"<i id=f1-{position}-S07 data-a=e1-3></i>", page)
+            self.assertIn(f"<li><a href=#e1-{position}>{position}</a><span> PUBLISH id {position - 3} · QoS 1 · a,"
+                          f" {position - 3} in flight, at most 2 allowed</span>", page)
         self.assertEqual(page.count("<text class=c>"), 58)
         self.assertIn("<text><a href=#e1-11>Show 50 events</a></text>", page)  # those between the first and the last
         two = [part for number in (1, 2, 1, 2) for part in [record(2, publish("a", number))]]
         (self.logs / "a.log").write_bytes(log(*two, record(4)))
         self.assertEqual(self.page().count("<article "), 2)  # two are no run
 
+    @needs_why
     def test_what_tells_the_faults_of_a_run_from_each_other(self) -> None:
         """When they were, where their bytes are wrong, how large they are, and what shows them."""
         limit = record(3, bytes.fromhex("2006000003270000000c".replace("2006000003", "2008000005")))
@@ -288,7 +289,7 @@ class Written(Case):
         wrong = [record(2, packet(0x30, text("a" * count).replace(b"a", b"\xff") + b"\0")) for count in (1, 2, 3)]
         silent = [record(3, publish("a", number)) for number in (1, 2, 3)]
         for records, accepted, wanted in (
-            (sizes, limit, [f"· {'t' * count}, {count + 8} bytes, 12:04:05.00{count - 2}001" for count in (5, 6, 7)]),
+            (sizes, limit, [f"· {'t' * count}, {count + 8} bytes, at most 12 allowed, 12:04:05.00{count - 2}001" for count in (5, 6, 7)]),
             (wrong, ACCEPTED, [f"PUBLISH, malformed, offset 2, 12:04:05.00{place}001" for place in (3, 4, 5)]),
             ([*silent, record(5)], ACCEPTED,
              [f"12:04:05.00{place}001, decided at <a href=#e1-7>7</a></span>" for place in (3, 4, 5)]),
@@ -308,13 +309,14 @@ class Written(Case):
         made = log(record(2, publish("a", 1, alias)), *pings, record(4), *begin, *pings, use, record(4))
         (self.logs / "a.log").write_bytes(made.replace(ACCEPTED, record(3, aliases)))
         page = self.page()
-        self.assertIn("<article id=f1-129-C16 data-a=e1-4>", page)
+        self.assertIn("<article id=f1-129-C16 data-a=e1-4>", page)  # which the program doesn't name
         self.assertIn("<dt>Topic Alias<dd>3 was set by <a href=#e1-4>event 4</a> on connection 1: an alias ends with"
                       " its connection", page)
         self.assertLess(page.index("<svg id=e1-4 "), page.index("class=gap"))  # it isn't in a fold
         (self.logs / "a.log").write_bytes(log(use, record(4)).replace(ACCEPTED, record(3, aliases)))
         self.assertIn("<dt>Topic Alias<dd>nothing before it sets 3", self.page())
 
+    @needs_why
     def test_a_publish_that_is_sent_again(self) -> None:
         """That is said before what is usual, on the card of each such fault."""
         said = ("<p class=advice>This looks like the PUBLISH of <a href=#e1-{0}>event {0}</a> sent again: then its"
@@ -331,7 +333,7 @@ class Written(Case):
         self.assertEqual(page.count("<article "), 1)
         self.assertIn("<p class=advice><a href=#e1-12>Event 12</a> looks like the PUBLISH of <a href=#e1-5>event 5</a>"
                       " sent again: ", page)
-        self.assertIn("· c, looks like <a href=#e1-6>6</a> sent again</span>", page)
+        self.assertIn("· c, because of <a href=#e1-6>6</a>, looks like <a href=#e1-6>6</a> sent again</span>", page)
         for sent, again in (([first, first], []), ([first], [record(2, publish("b", 1))])):
             (self.logs / "a.log").write_bytes(reconnected(sent, again))
             self.assertNotIn("sent again:", self.page())
@@ -490,11 +492,12 @@ class Sizes(unittest.TestCase):
         for fault in range(count):
             at = 5 + 20 * fault
             verdict.take(f"fault {at} S01 MQTT-2.2.1-3 decided {at} record {at} offset -", 20)
+            verdict.evidence[at, "S01"] = Evidence(at - 1)
         verdict.take(f"fail {count} faults {len(events)} events", 20)
         lines = [f"{number} record {number} {event}" for number, event in enumerate(events, 1)]
         found = (IDENTIFIER.match(lines[fault.position - 1]) for fault in verdict.found[:250])
         identifiers = {fault.position: int(match[1]) for fault, match in zip(verdict.found, found) if match}
-        teller = Teller("client", verdict.found[:250], identifiers)
+        teller = Teller("client", verdict.found[:250], identifiers, verdict.evidence)
         for line in lines:
             teller.take(line)
         verdict.story = teller.story()

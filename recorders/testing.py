@@ -2,6 +2,7 @@
 from __future__ import annotations
 
 import contextlib
+import functools
 import importlib.util
 import os
 import shutil
@@ -78,6 +79,18 @@ def judge_program() -> str:
     """The program that judges: the environment's, the built one, that of the PATH, or else the second opinion."""
     built = str(BUILT) if BUILT.is_file() else shutil.which("mqjudge")
     return os.environ.get(PROGRAM_VARIABLE) or built or str(TOP / "bench/reference.py")
+
+
+@functools.cache
+def says_why() -> bool:
+    """Whether the program that judges says what faults conflict with."""
+    words = [judge_program(), "check", "--why", str(TOP / "examples/identifier-in-use.log")]
+    return "\nbecause " in subprocess.run(words, stdin=subprocess.DEVNULL, capture_output=True, text=True).stdout
+
+
+def needs_why(test: Callable[..., None]) -> Callable[..., None]:
+    """Leaves a test out where it doesn't."""
+    return unittest.skipUnless(says_why(), "the program that judges doesn't know `check --why`")(test)
 
 
 def free_port() -> int:

@@ -3,11 +3,11 @@ from __future__ import annotations
 
 from html import escape
 
+from judging.causes import OF_EVENTS, words
 from judging.chart import FULL, LEAN, PEERS, SHORT, Drawing
 from judging.events import Event, Text
 from judging.explain import Explanation
 from judging.labels import WORDS, fate_of, label, short_label
-from judging.limits import LIMITS, TOO_LARGE, limit_said
 from judging.markup import counted, escaped, isolated, number
 from judging.reasons import reason
 from judging.resends import TAKEN, looks_like
@@ -50,12 +50,10 @@ class Cards:
         facts = self._facts(fault, scene)
         if each := self._each(run):
             facts = [("All of them", each), ("The first", facts[0][1]), *facts[1:]]
-        cause = self._cause(fault, scene)
-        shown = f" data-a={self._drawing.place(cause.position)}" if cause else ""
         kind = " class=ignored" if way else ""
         place = self._advised.get(fault.code, name) if self._detail == FULL else f"r-{fault.code}"
         return (
-            f"<article id={name}{kind}{shown}{self._decider(fault)}>{self._places(run)}"
+            f"<article id={name}{kind}{self._near(fault)}>{self._places(run)}"
             f"<h4>{self._head(run)} <a href=#{place}>{fault.code}</a> <i>{escaped(fault.citation)}</i>"
             f"{ignored_by(way)}</h4>"
             f"<p>{escaped(explanation.sentence if explanation else '')}"
@@ -72,7 +70,7 @@ class Cards:
 
     def _places(self, run: list[Fault]) -> str:
         """Where links to the other faults of a run lead to: the head of their card."""
-        return "".join(f"<i id={self._drawing.card(fault)}{self._decider(fault)}></i>" for fault in run[1:])
+        return "".join(f"<i id={self._drawing.card(fault)}{self._near(fault)}></i>" for fault in run[1:])
 
     def _each(self, run: list[Fault]) -> str:
         """The faults of a run: a line for each, or where there is less room only a link."""
@@ -80,28 +78,36 @@ class Cards:
             return ""
         if self._detail < FULL:
             return ", ".join(self._link(fault.position, str(fault.position)) for fault in run)
-        return f"<ol class=run tabindex=0>{''.join(map(self._line, run))}</ol>"
+        reasons = [self._story.reason(fault) for fault in run]
+        are_alike = len({reason.because for reason in reasons if reason}) <= 1
+        return f"<ol class=run tabindex=0>{''.join(self._line(fault, are_alike) for fault in run)}</ol>"
 
-    def _line(self, fault: Fault) -> str:
-        """A fault of a run: what tells it from the others."""
+    def _line(self, fault: Fault, are_alike: bool) -> str:
+        """A fault of a run: what tells it from the others, which may all conflict with one event."""
         scene = self._story.scenes.get(fault.position)
         link = self._link(fault.position, str(fault.position))
         if scene is None:
             return f"<li>{link}"
         event, first = scene.event, self._resent.get(fault.position) if fault.code == TAKEN else None
+        reason = self._story.reason(fault)
+        because = reason.because if reason else None
         facts = [
             escaped(label(event)),
             f"offset {fault.offset}" if fault.offset is not None else "",
-            f"{event.field('size')} bytes" if fault.code == TOO_LARGE else "",
+            words(fault.code, reason) if reason and reason.numbers else "",
+            f"because of {self._link(because, str(because))}" if because and not are_alike else "",
             f"{event.time:%H:%M:%S.%f}" if event.time else self._time(event),
             f"decided at {self._link(fault.decided, str(fault.decided))}" if fault.decided > fault.position else "",
             f"looks like {self._link(first, str(first))} sent again" if first else "",
         ]
         return f"<li>{link}<span> {', '.join(fact for fact in facts if fact)}</span>"
 
-    def _decider(self, fault: Fault) -> str:
-        """Which event to light with a fault, since it shows it."""
-        return f" data-d={self._drawing.place(fault.decided)}" if fault.decided != fault.position else ""
+    def _near(self, fault: Fault) -> str:
+        """Which events to light with a fault: what it conflicts with, or what set its Topic Alias; and what shows it."""
+        reason, setter = self._story.reason(fault), self._story.setters.get(fault.position)
+        cause = setter.position if setter and fault.code == STALE_ALIAS else reason.because if reason else None
+        shown = f" data-a={self._drawing.place(cause)}" if cause is not None else ""
+        return shown + (f" data-d={self._drawing.place(fault.decided)}" if fault.decided != fault.position else "")
 
     def _link(self, position: int, words: str = "") -> str:
         text = words or f"Event {position}"
@@ -121,7 +127,7 @@ class Cards:
             *facts,
             ("Time", self._time(event)),
             ("Decided", self._decided(fault)),
-            ("Limit", self._limit(fault, scene)),
+            ("Because", self._because(fault, scene)),
             ("Topic Alias", self._alias(fault, scene)),
             ("Bytes", bytes_shown(event, fault.offset)),
             (f"Identifier {event.identifier}", self._mates(scene) if self._detail > SHORT else ""),
@@ -149,13 +155,25 @@ class Cards:
         """The time of an event, or its moment where that is none; empty where the log has no moments but 0."""
         return time_text(event.moment) or f"moment {event.moment}" if self._drawing.is_timed else ""
 
-    def _limit(self, fault: Fault, scene: Scene) -> str:
-        """The limit that the peer announced, and the event that announced it."""
-        announcer = self._announcer(fault, scene)
-        if announcer is None:
+    def _because(self, fault: Fault, scene: Scene) -> str:
+        """What a fault conflicts with: the event, where it is, what it is, and the numbers."""
+        reason = self._story.reason(fault)
+        if reason is None:
             return ""
-        link = self._link(announcer.position, f"event {announcer.position}")
-        return limit_said(fault.code, announcer, scene.event, link, lambda text: f"<b>{text}</b>")
+        is_brief = self._detail == SHORT and not reason.numbers
+        said = words(fault.code, reason, self._position if fault.code in OF_EVENTS else strong)
+        if reason.because is None:
+            return said
+        said = "" if is_brief or not said else f": {said}"
+        cause = self._story.scenes.get(reason.because)
+        what = cause.event.name if cause and self._detail > SHORT else ""
+        name = f" ({what})" if what and what not in said else ""
+        place = cause.connection if cause else None
+        where = f" on connection {place.number}" if place and place is not scene.connection else ""
+        return f"{self._link(reason.because, f'event {reason.because}')}{name}{where}{said}"
+
+    def _position(self, position: int) -> str:
+        return self._link(position, str(position))
 
     def _alias(self, fault: Fault, scene: Scene) -> str:
         """What set a Topic Alias, where that was on an earlier connection."""
@@ -169,15 +187,6 @@ class Cards:
         where = f" on connection {place.number}" if place else ""
         link = self._link(setter.position, f"event {setter.position}")
         return f"{escaped(alias)} was set by {link}{where}: an alias ends with its connection"
-
-    def _cause(self, fault: Fault, scene: Scene | None) -> Event | None:
-        """The event to light with a fault, since it announced the limit, or set the Topic Alias."""
-        return self._story.setters.get(fault.position) or self._announcer(fault, scene)
-
-    def _announcer(self, fault: Fault, scene: Scene | None) -> Event | None:
-        """The event in which the peer announced the limit that a fault is about, or could have announced it."""
-        connection = scene.connection if scene and fault.code in LIMITS else None
-        return connection.announcer(self._story.end) if connection else None
 
     def _mates(self, scene: Scene) -> str:
         """The events under the same Packet Identifier in the session: first those of the end that chose it."""
@@ -225,6 +234,10 @@ class Cards:
             return f"<a href=#{self._advised[code]}>What usually breaks it, and what to change</a>"
         self._advised[code] = name
         return f"<div class=advice>{advice(explanation, self._story.end)}</div>"
+
+
+def strong(count: int) -> str:
+    return f"<b>{number(count)}</b>"
 
 
 def advice(explanation: Explanation, end: str) -> str:

@@ -10,6 +10,7 @@ from collections.abc import Iterable
 from dataclasses import dataclass, field
 from html import escape
 
+from judging.causes import places_named
 from judging.events import Event
 from judging.labels import difference, fate_of, label, label_shown, time_shown, title
 from judging.markup import attribute, counted, number
@@ -21,7 +22,8 @@ ROW, CODES = 28, 14  # what a row takes, and codes under it
 GAP = 30
 LINE = 18  # of an arrow, from the top of its row
 EARLY = 9  # pixels before the line of a gap where a band ends that ended in the gap
-ROOM, LANE, LANES = 12, 7, 4  # lines to what shows a fault are beside each other, this far from the chart
+ROOM, LANE, LANES = 12, 7, 5  # lines from faults to other events are beside each other, this far from the chart
+NAMED = 3  # faults of a line that its title names
 FOOT = 6  # under the last row
 LEAST_BAND = 4
 DIGITS = 3  # of positions that have room beside a chart: for more the style has its classes
@@ -91,8 +93,9 @@ def choose_scenes(story: Story, runs: list[list[Fault]], context: int, most: int
               if not places or place in near or scene.key in keys or scene.event.position in places}
     if len(chosen) > most:
         chosen = {place: chosen[place] for place in nearest(chosen, places or [0], most)}
-    setters = [story.setters[place] for place in places if place in story.setters]
-    chosen |= {event.position: story.scenes[event.position] for event in setters}
+    setters = [story.setters[place].position for place in places if place in story.setters]
+    causes = {place for fault in seen for place in causes_of(story, fault)}
+    chosen |= {place: story.scenes[place] for place in sorted(causes.union(setters)) if place in story.scenes}
     for scene in [*chosen.values()]:
         for event in beginning(scene.connection):
             chosen.setdefault(event.position, Scene(event, scene.connection))
@@ -116,6 +119,12 @@ def fill(chosen: dict[int, Scene], story: Story, most: int) -> None:
 def places_of(faults: Iterable[Fault]) -> list[int]:
     """Where faults are, and the events that show them."""
     return sorted({place for fault in faults for place in (fault.position, fault.decided)})
+
+
+def causes_of(story: Story, fault: Fault) -> set[int]:
+    """The events that a fault conflicts with."""
+    reason = story.reason(fault)
+    return places_named(fault.code, reason) if reason else set()
 
 
 def keys_of(story: Story, faults: list[Fault]) -> set[str]:
@@ -337,18 +346,43 @@ class Chart:
         return f"<text class={place}>{' '.join(links)}</text>"
 
     def _links(self) -> list[Link]:
-        """Lines from faults to the later events that show them. Those that overlap are beside each other."""
-        lines, ignored = self._lines, self._drawing.overlooked
-        pairs = sorted({(lines[fault.position], lines[fault.decided], fault.code in ignored)
-                        for fault in self._story.told
-                        if fault.decided > fault.position and {fault.position, fault.decided} <= lines.keys()})
+        """Lines from faults to the events that show them, and to those that they conflict with.
+
+        Those to one cause are one line. Lines that overlap are beside each other.
+        """
+        lines: dict[tuple[bool, int, int], list[Fault]] = {}
+        for fault in self._story.told:
+            reason = self._story.reason(fault)
+            cause = reason.because if reason else None
+            others = [(False, fault.decided, fault.position)] if fault.decided > fault.position else []
+            if cause is not None and cause not in (fault.position, fault.decided):
+                others.append((True, cause, 0))
+            for is_cause, other, own in others:
+                if {fault.position, other} <= self._lines.keys():
+                    lines.setdefault((is_cause, other, own), []).append(fault)
+        found = [self._link(faults, other, is_cause) for (is_cause, other, _), faults in lines.items()]
         ends = [0] * LANES
         links = []
-        for first, last, is_ignored in pairs:
-            lane = next((lane for lane in range(LANES) if ends[lane] < first), LANES - 1)
-            ends[lane] = max(ends[lane], last)
-            links.append(Link(first, last, ROOM + LANE * lane, is_ignored))
+        for link in sorted(found, key=lambda link: (link.first, link.last)):
+            lane = next((lane for lane in range(LANES) if ends[lane] < link.first), LANES - 1)
+            ends[lane] = max(ends[lane], link.last)
+            links.append(link._replace(x=ROOM + LANE * lane))
         return links
+
+    def _link(self, faults: list[Fault], other: int, is_cause: bool) -> Link:
+        """A line from faults to another event, without its place beside others."""
+        named = ", ".join(f"{fault.code} at event {fault.position}" for fault in faults[:NAMED])
+        named += f" and {number(len(faults) - NAMED)} more" if len(faults) > NAMED else ""
+        words = f"{named}, because of event {other}" if is_cause else f"{named}, shown by event {other}"
+        return Link(
+            ends=sorted({self._lines[fault.position] for fault in faults}),
+            target=self._lines[other],
+            x=ROOM,
+            is_ignored=all(fault.code in self._drawing.overlooked for fault in faults),
+            is_cause=is_cause,
+            place=self._drawing.place(other) if is_cause and self._drawing.detail > SHORT else "",
+            title=words if self._drawing.detail == FULL else "",
+        )
 
     def _end_band(self, end: int) -> None:
         """Ends the band of the connection that is drawn."""

@@ -43,6 +43,8 @@ def of_log(verdict: Verdict, explanations: dict[str, Explanation]) -> list[str]:
         time = verdict.time_at(first.position)
         place = f"event {first.position}, {time}" if time else f"event {first.position}"
         text = f"{counted(counts[code], 'fault')}, the first at {place}: {explanations[code].sentence}"
+        if cause := verdict.cause_of(first.position, code):
+            text += f" {cause[:1].upper()}{cause[1:]}."
         again = next((fault for fault in verdict.found if fault.code == code and verdict.resend_at(fault)), first)
         text += verdict.resend_at(again, "This" if again is first else f"Event {again.position}")
         advice = explanations[code].advice(verdict.end)

@@ -38,6 +38,8 @@ def of_places(key: str, count: int) -> dict[str, Any]:
 
 
 def of_fault(verdict: Verdict, fault: Fault) -> dict[str, Any]:
-    """A fault, as `mqjudge check --json` has it, with its time, and the option by which it is ignored."""
+    """A fault, as `mqjudge check --why --json` has it, with its time, and the option by which it is ignored."""
+    evidence = verdict.evidence.get((fault.position, fault.code))
+    why = {"because": evidence.because, "numbers": [*evidence.numbers]} if evidence else {}
     more = {"time": verdict.time_at(fault.position), "ignored": verdict.overlooked.get(fault.code, "")}
-    return fault._asdict() | {name: value for name, value in more.items() if value}
+    return fault._asdict() | why | {name: value for name, value in more.items() if value}

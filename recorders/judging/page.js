@@ -3,7 +3,7 @@
   const find = (name) => document.getElementById(name);
   const all = (selector, place) => [...(place || document).querySelectorAll(selector)];
   const [form, verdict, code, name, count] = ["filter", "verdict", "code", "name", "count"].map(find);
-  const marks = ["lit", "other", "near", "chosen", "choosing", "here"];
+  const marks = ["lit", "other", "near", "on", "chosen", "choosing", "here"];
 
   // Shows the logs, and what is said of them, that have this verdict, this statement, and this in their names.
   function choose() {
@@ -122,7 +122,13 @@
         if (!place.classList.contains(key)) place.classList.add("other");
       }
     }
-    for (const other of [card.dataset.a, target.dataset.d]) if (other && find(other)) find(other).classList.add("near");
+    for (const other of [target.dataset.a, target.dataset.d].map((place) => place && find(place))) {
+      if (!other) continue;
+      other.classList.add("near");
+      const gap = other.closest(".gap");
+      if (gap && !gap.classList.contains("open")) toggle(gap);
+    }
+    for (const line of all(".d [data-t]", chart)) line.classList.toggle("on", line.dataset.t === target.dataset.a);
   }
 
   // Chooses a fault where it is clicked: its arrow leads to its card, and the card lights its chart and stays in place.

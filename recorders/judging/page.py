@@ -309,7 +309,7 @@ MARKERS = (
     + "".join(
         f'<marker id="{name}" viewBox="0 0 10 10" refX="10" refY="5" markerWidth="9" markerHeight="9"'
         ' markerUnits="userSpaceOnUse" orient="auto"><path d="M0 1L10 5L0 9z"/></marker>'
-        for name in ("a", "af", "ai", "al")
+        for name in ("a", "af", "ai", "al", "ab")
     )
     + "</defs></svg>"
 )
@@ -323,10 +323,11 @@ LEGEND = (
     "<li>REST says that the tested end had sent all that it was going to send: what is missing then never came. RELEASE"
     " says that it passed a QoS 2 message on."
     "<li>A red arrow breaks a statement: the code under it leads to what that says and what to change. A thin red line"
-    " leads to a later event that shows the fault. What is ignored is grey."
+    " leads to a later event that shows the fault; a dashed line leads to the event that the fault conflicts with, such"
+    " as the packet that announced a limit or that holds the identifier. What is ignored is grey."
     "<li>Choose a fault, in the chart or by its card, and all events under its Packet Identifier in the session are"
     " lit: those of the same exchange with whole lines, those in which the other end chose the number with dashed ones; and"
-    " what announced the limit, or set the Topic Alias, that it is about.</ul></details>"
+    " so is the event that the fault conflicts with, or that set the Topic Alias.</ul></details>"
 )
 END = "</main></body></html>\n"
 

@@ -31,12 +31,23 @@ class Band(NamedTuple):
 
 
 class Link(NamedTuple):
-    """A line from a fault to the later event that shows it."""
+    """A line from faults to another event: to the later one that shows one of them, or to that which they conflict with."""
 
-    first: int
-    last: int
+    ends: list[int]  # where the faults are
+    target: int  # where the other event is
     x: int
     is_ignored: bool
+    is_cause: bool
+    place: str  # the name of what a fault conflicts with in the page; this and the title are empty where there is no room
+    title: str
+
+    @property
+    def first(self) -> int:
+        return min(self.target, *self.ends)
+
+    @property
+    def last(self) -> int:
+        return max(self.target, *self.ends)
 
 
 def in_parts(rows: list[Row], bands: list[Band], links: list[Link], heads: str, height: int, least: int) -> str:
@@ -80,16 +91,31 @@ def shape(band: Band, first: int, last: int) -> str:
 
 def paths(links: list[Link], first: int, last: int) -> str:
     """What there is of some links between two places."""
-    words = []
-    for link in links:
-        if link.last < first or link.first >= last:
-            continue
-        begin = f"M3 {link.first - first}H{link.x}" if link.first >= first else f"M{link.x} 0"
-        is_end = link.last < last
-        end = f"V{link.last - first}H5" if is_end else f"V{last - first}"
-        kinds = " ".join(["i"] * link.is_ignored + ["on"] * (not is_end))
-        words.append(f'<path{f" class={kinds!r}" if kinds else ""} d="{begin}{end}"/>')
+    words = [path(link, first, last) for link in links if link.last >= first and link.first < last]
     return f"<svg class=d x=100%>{''.join(words)}</svg>" if words else ""
+
+
+def path(link: Link, first: int, last: int) -> str:
+    """What there is of a link between two places: a line beside the chart with one to each fault, and an arrow."""
+    kinds = [*(["i"] if link.is_ignored else []), *(["b"] if link.is_cause else [])]
+    ends = [end - first for end in link.ends if first <= end < last]
+    target = link.target - first
+    is_there = first <= link.target < last
+    if is_there and not link.title and len(ends) == len(link.ends) == 1:  # in few bytes
+        return f'<path{named([*kinds, "to"], link)} d="M3 {ends[0]}H{link.x}V{target}H5"/>'
+    top, bottom = max(link.first, first) - first, min(link.last, last) - first
+    lines = f'<path d="M{link.x} {top}V{bottom}{"".join(f"M3 {end}H{link.x}" for end in ends)}"/>'
+    arrow = f'<path class=to d="M{link.x} {target}H5"/>' if is_there else ""
+    role = (" role=img" if is_there else " aria-hidden=true") if link.title else ""
+    title = f"<title>{link.title}</title>" if link.title else ""
+    return f"<g{named(kinds, link)}{role}>{title}{lines}{arrow}</g>"
+
+
+def named(kinds: list[str], link: Link) -> str:
+    """The classes of what is drawn of a link, and which event it leads to, so that it can be lit."""
+    words = " ".join(kinds)
+    classes = (f' class="{words}"' if len(kinds) > 1 else f" class={words}") if kinds else ""
+    return classes + (f" data-t={link.place}" if link.place else "")
 
 
 def lifelines(first: int, last: int) -> str:

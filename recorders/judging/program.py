@@ -13,8 +13,8 @@ from pathlib import Path
 from typing import BinaryIO
 
 from arguments import naming, why
-from judging.excerpt import sentence_in
-from judging.limits import LIMITS, Limits
+from judging.causes import Causes, Evidence, Key, read_because
+from judging.excerpt import AROUND, GAP, sentence_in
 from judging.looking import look_at
 from judging.places import what_else
 from judging.resends import TAKEN, Resends
@@ -24,12 +24,12 @@ from judging.verdict import FAILED, FAULTS, REFUSED, TOO_SHORT, Verdict, show
 from log_format import HEADER_SIZE, body_size, version_of
 
 STATUSES = (0, 1, 2, 4)
+MISUSE = 3
 CUT = "refused 10 Cut "
 NO_LOG = "refused 1 Header "
 HINT = "mqjudge: it is "  # what the program says beside that of some files: `what_else` says it of them
 STANDARD_INPUT_FILE = "/dev/stdin"
 CHUNK = 1 << 20
-AROUND = 2  # events before and after a fault that are shown
 IDENTIFIER = re.compile(
     r"\d+ record \d+(?: moment \d+)? (?:(?:SENT|RECV) \S+ size \d+(?: qos \d dup \d)? id|RELEASE) (\d+)"
 )
@@ -49,6 +49,7 @@ class Judge:
         """
         self._program, self._most, self._weigh = program, most, weigh
         self._keeps, self._tells, self._covers = keeps, tells, covers
+        self._says_why = True  # until the program doesn't know that option
         self._running: set[subprocess.Popen[bytes]] = set()
         self._lock = threading.Lock()  # for what runs
         self.copies: dict[Path, Path] = {}  # files that stand for logs which can't be read twice
@@ -91,6 +92,7 @@ class Judge:
 
     def _finish(self, verdict: Verdict, log: Path) -> None:
         """Weighs a verdict, and has its faults explained, or says what a file is that isn't a log."""
+        verdict.evidence = self._reasons(verdict, log)
         self._weigh(verdict)
         verdict.is_foreign = self._look(verdict, log)
         if verdict.status == REFUSED and verdict.last.startswith(NO_LOG) and (note := what_else(log)):
@@ -101,18 +103,14 @@ class Judge:
             identifiers = self._explain(verdict, log)
         if verdict.is_foreign:
             verdict.excerpts = {}  # what is spoken says more than its bytes do
-        suspects = {place: identifiers[place] for place in verdict.suspects & identifiers.keys()}
-        is_kept = self._keeps or self._covers
-        end = end_of(header_of(log)) if is_kept or suspects or LIMITS.keys() & verdict.positions.keys() else ""
-        if is_kept:
-            verdict.end = end
-        resends, limits = Resends(end, suspects), Limits(end, verdict.positions)
+        if self._keeps or self._covers:
+            verdict.end = end_of(header_of(log))
+        finders = resends, causes = Resends(holders_in(verdict)), causes_in(verdict)
         if self._is_told(verdict):
-            self._tell(verdict, log, identifiers, [resends, limits])
+            self._tell(verdict, log, identifiers, finders)
         else:
-            are_resends_said = bool(suspects) and (self._keeps or TAKEN in verdict.positions)
-            self._find(log, [*([resends] if are_resends_said else []), limits])
-        verdict.resent, verdict.limits = resends.confirmed(log), limits.found
+            self._find(log, finders)
+        verdict.resent, verdict.causes = resends.confirmed(log), causes.lines
         mark_texts(verdict.excerpts, verdict.story, log)
 
     def _is_told(self, verdict: Verdict) -> bool:
@@ -149,6 +147,30 @@ class Judge:
             verdict.found.clear()
         return verdict
 
+    def _reasons(self, verdict: Verdict, log: Path) -> dict[Key, Evidence]:
+        """Asks what the faults conflict with that are said; nothing of a log that can't be read again, such as a pipe.
+
+        A program that doesn't know the option isn't asked again. What it says of other faults is left out.
+        """
+        found: dict[Key, Evidence] = {}
+        if verdict.status != FAULTS or not self._says_why or not log.is_file():
+            return found
+        wanted, last = verdict.explained, ""
+
+        def take(line: str) -> None:
+            nonlocal last
+            last = line
+            if (because := read_because(line)) and because[0] in wanted:
+                found.setdefault(*because)
+
+        try:
+            status = self._read(take, "check", "--why", log=log)
+        except OSError:
+            return {}
+        if status == MISUSE:
+            self._says_why = False
+        return found if status == FAULTS and last == verdict.last else {}
+
     def _explain(self, verdict: Verdict, log: Path) -> dict[int, int]:
         """Asks what happened around the first fault of each code, and when each that is shown happened.
 
@@ -157,7 +179,7 @@ class Judge:
         """
         wanted = {code: verdict.positions[code] for code in sorted(verdict.positions)}
         excerpts: dict[str, list[str]] = {code: [] for code in wanted}
-        at_fault, moments = verdict.shown | verdict.suspects, verdict.moments
+        at_fault, moments = verdict.shown, verdict.moments
         identifiers: dict[int, int] = {}
         at = 0
 
@@ -172,7 +194,7 @@ class Judge:
             if at in at_fault and (moment := MOMENT.match(line)):
                 moments[at] = int(moment[1])
             for code, position in wanted.items():
-                if at and abs(at - position) <= AROUND and line != "..":
+                if at and abs(at - position) <= AROUND and line != GAP:
                     excerpts[code].append(line)
 
         try:
@@ -183,11 +205,14 @@ class Judge:
             verdict.excerpts = excerpts
         return identifiers
 
-    def _tell(self, verdict: Verdict, log: Path, identifiers: dict[int, int], others: list[Resends | Limits]) -> None:
+    def _tell(
+        self, verdict: Verdict, log: Path, identifiers: dict[int, int], others: tuple[Resends | Causes, ...]
+    ) -> None:
         """Asks what happened, for the faults that are told of."""
         told = choose(verdict.found, verdict.overlooked)
         places = {fault.position for fault in told}
-        teller = Teller(verdict.end, told, {place: identifiers[place] for place in places & identifiers.keys()})
+        known = {place: identifiers[place] for place in places & identifiers.keys()}
+        teller = Teller(verdict.end, told, known, verdict.evidence)
 
         def take(line: str) -> None:
             teller.take(line)
@@ -201,8 +226,8 @@ class Judge:
             return
         verdict.story = teller.story()
 
-    def _find(self, log: Path, finders: list[Resends | Limits]) -> None:
-        """Asks what happened, as far as is needed: up to a PUBLISH that may be an earlier one, or beyond a limit."""
+    def _find(self, log: Path, finders: tuple[Resends | Causes, ...]) -> None:
+        """Asks what happened, as far as is needed: up to what a fault conflicts with, or to what may be sent again."""
         def is_enough() -> bool:
             return all(finder.is_done for finder in finders)
 
@@ -251,6 +276,18 @@ class Judge:
     def _ended(self, child: subprocess.Popen[bytes]) -> None:
         with self._lock:
             self._running.discard(child)
+
+
+def holders_in(verdict: Verdict) -> dict[int, int]:
+    """The events that hold the identifiers of PUBLISHes at fault, by the positions of these."""
+    return {position: reason.because for (position, code), reason in verdict.evidence.items()
+            if code == TAKEN and reason.because is not None}
+
+
+def causes_in(verdict: Verdict) -> Causes:
+    """What finds the events that the first fault of each code conflicts with."""
+    first = (verdict.evidence.get((position, code)) for code, position in verdict.positions.items())
+    return Causes(reason.because for reason in first if reason and reason.because is not None)
 
 
 @contextlib.contextmanager

@@ -83,24 +83,34 @@ def result(verdict: Verdict, fault: Fault, explanations: dict[str, Explanation],
     place += f", offset {fault.offset}" if fault.offset is not None else ""
     place += f", {time}" if time else ""
     place += f", decided at event {fault.decided}" if fault.decided != fault.position else ""
+    cause = verdict.cause_of(fault.position, fault.code)
+    because = f" {cause[:1].upper()}{cause[1:]}." if cause else ""
     found: Json = {
         "ruleId": fault.code,
         "ruleIndex": numbers[fault.code],
         "level": "error",
-        "message": {"text": f"{fault.code} {fault.citation} at {place}: {sentence}{verdict.resend_at(fault)}"},
-        "locations": [
-            {
-                "physicalLocation": {"artifactLocation": artifact(verdict.path), "region": {"startLine": 1}},
-                "logicalLocations": [{"fullyQualifiedName": f"event {fault.position}", "kind": "event"}],
-            }
-        ],
+        "message": {"text": f"{fault.code} {fault.citation} at {place}: {sentence}{because}{verdict.resend_at(fault)}"},
+        "locations": [location(verdict, fault.position)],
         "partialFingerprints": {"event/v1": f"{fault.code}:{fault.position}"},
         "properties": {"position": fault.position, "decided": fault.decided, "record": fault.record,
                        "offset": fault.offset},
     }
+    evidence = verdict.evidence.get((fault.position, fault.code))
+    if evidence is not None:
+        found["properties"] |= {"because": evidence.because, "numbers": [*evidence.numbers]}
+    if evidence is not None and evidence.because is not None:
+        found["relatedLocations"] = [{"id": 1, "message": {"text": cause}, **location(verdict, evidence.because)}]
     if way := verdict.overlooked.get(fault.code):
         found["suppressions"] = [{"kind": "external", "justification": f"ignored by {way}"}]
     return found
+
+
+def location(verdict: Verdict, position: int) -> Json:
+    """Where an event of a log is."""
+    return {
+        "physicalLocation": {"artifactLocation": artifact(verdict.path), "region": {"startLine": 1}},
+        "logicalLocations": [{"fullyQualifiedName": f"event {position}", "kind": "event"}],
+    }
 
 
 def untested(short: Shortfall, file: Path, number: int) -> Json:

@@ -11,6 +11,7 @@ from dataclasses import dataclass, field, replace
 from functools import cached_property
 from typing import NamedTuple
 
+from judging.causes import Evidence, Key, places_named
 from judging.events import LONG_TEXT, Event, identifier_in, read_event, shortened
 from log_format import HEADER_SIZE
 
@@ -55,10 +56,6 @@ class Connection:
     connack: Event | None = None  # the first one of the server
     closing: Event | None = None  # its CLOSE
 
-    def announcer(self, end: str) -> Event | None:
-        """The packet in which the peer of an end announced its limits."""
-        return self.connect if end == "server" else self.connack
-
 
 @dataclass(eq=False)
 class Scene:
@@ -93,6 +90,7 @@ class Story:
 
     end: str  # the tested one: client, server, or else empty
     told: list[Fault] = field(default_factory=list)
+    evidence: dict[Key, Evidence] = field(default_factory=dict)  # what those that are told of conflict with
     scenes: dict[int, Scene] = field(default_factory=dict)  # by their positions
     events: int = 0  # of the whole log
     connections: int = 0
@@ -102,6 +100,10 @@ class Story:
     counts: Counter[str] = field(default_factory=Counter)  # how often each packet went each way: `SENT PUBLISH`
     span: tuple[int, int] | None = None  # the first moment and the last one, where the log has moments
     spare: list[Passing] = field(default_factory=list)  # other events, for those who open a fold
+
+    def reason(self, fault: Fault) -> Evidence | None:
+        """What a fault conflicts with; None where the program didn't say it."""
+        return self.evidence.get((fault.position, fault.code))
 
     def opened(self, told: list[Fault]) -> Story:
         """The same for some of the faults, with all events that are known."""
@@ -164,11 +166,15 @@ def place_of(story: Story, fault: Fault) -> int:
 class Teller:
     """Takes in the lines of `show --long`, and keeps what a story of some faults needs."""
 
-    def __init__(self, end: str, told: list[Fault], identifiers: dict[int, int]) -> None:
-        """Identifiers are those of the events at fault, by their positions."""
-        self._story = Story(end, told)
+    def __init__(
+        self, end: str, told: list[Fault], identifiers: dict[int, int], evidence: dict[Key, Evidence] | None = None
+    ) -> None:
+        """Identifiers are those of the events at fault, by their positions; evidence is what the faults conflict with."""
+        keys = [(fault.position, fault.code) for fault in told]
+        known = {key: evidence[key] for key in keys if key in evidence} if evidence else {}
+        self._story = Story(end, told, known)
         self._handshake = HANDSHAKES.get(end, HANDSHAKES["client"])
-        self._wanted = near(told)
+        self._wanted = near(told).union(*(places_named(code, reason) for (_, code), reason in known.items()))
         self._told = {fault.position for fault in told}
         self._stale = {fault.position for fault in told if fault.code == STALE_ALIAS}
         self._setters: dict[tuple[str, str], Scene] = {}  # by how they go, and the alias

@@ -7,7 +7,8 @@ from collections import Counter
 from dataclasses import dataclass, field
 from pathlib import Path
 
-from judging.excerpt import told
+from judging.causes import Evidence, Key, said
+from judging.excerpt import sentence_in, told, with_causes
 from judging.resends import TAKEN, looks_like
 from judging.story import Fault, Story
 
@@ -77,7 +78,8 @@ class Verdict:
     sentences: dict[str, str] = field(default_factory=dict)  # what each code says
     excerpts: dict[str, list[str]] = field(default_factory=dict)  # what happened around each code's first fault
     moments: dict[int, int] = field(default_factory=dict)  # of the events at fault, where the log has moments
-    limits: dict[str, str] = field(default_factory=dict)  # what a code's first fault goes beyond, and who announced it
+    evidence: dict[Key, Evidence] = field(default_factory=dict)  # what faults conflict with, where the program says it
+    causes: dict[int, str] = field(default_factory=dict)  # the lines of what the first fault of each code conflicts with
     resent: dict[int, int] = field(default_factory=dict)  # of PUBLISHes under an identifier in use: which each repeats
     keeps: bool = False  # whether each fault is kept, for a report that names all
     found: list[Fault] = field(default_factory=list)  # all faults, where they are kept
@@ -182,12 +184,16 @@ class Verdict:
         return {int(line[1]) for line in lines if line} | {fault.position for fault in self.found}
 
     @property
-    def suspects(self) -> set[int]:
-        """The positions of the faults at which a PUBLISH may be an earlier one: those that are shown, and the first."""
+    def explained(self) -> set[Key]:
+        """The faults of which it is said what they conflict with: those that are printed, and all that are kept."""
+        return self._printed | {(fault.position, fault.code) for fault in self.found}
+
+    @property
+    def _printed(self) -> set[Key]:
+        """The faults of which it is printed: those that have a line, and the first of each code."""
         lines = (FAULT.fullmatch(line) for line in self.first)
-        shown = {int(line[1]) for line in lines if line and line[2] == TAKEN}
-        shown |= {fault.position for fault in self.found if fault.code == TAKEN}
-        return shown | ({self.positions[TAKEN]} if TAKEN in self.positions else set())
+        shown = {(int(line[1]), line[2]) for line in lines if line}
+        return shown | {(position, code) for code, position in self.positions.items()}
 
     @property
     def refused(self) -> tuple[int, str, int] | None:
@@ -201,8 +207,12 @@ class Verdict:
 
     def resend_at(self, fault: Fault, subject: str = "This") -> str:
         """A sentence, after a space, if a fault's PUBLISH looks like an earlier one; else nothing."""
-        first = self.resent.get(fault.position) if fault.code == TAKEN else None
+        first = self._repeated(fault.position, fault.code)
         return f" {looks_like(f'event {first}', subject)}" if first else ""
+
+    def cause_of(self, position: int, code: str) -> str:
+        """What a fault conflicts with, in words; empty where that isn't known, or is nothing but its packet."""
+        return said(code, self.evidence.get((position, code)))
 
     def _with_time(self, line: str) -> str:
         """A line as the program printed it; that of a fault with the time of its record, if that is known."""
@@ -216,31 +226,52 @@ class Verdict:
         for key in sorted(self.faults):
             code = key.split()[0]
             groups.setdefault(self.positions.get(code, code), []).append(key)
-        said = {key.split()[0] for key in self.faults} & self.sentences.keys()
+        known = {key.split()[0] for key in self.faults} & self.sentences.keys()
         lines = []
         for keys in groups.values():
             for key in keys:
                 lines += self._of_code(key)
-            lines += [f"    {told(line, said)}" for line in self.excerpts.get(keys[0].split()[0], ())]
+            lines += [f"    {line}" for line in self._told(self._around([key.split()[0] for key in keys]), known)]
         return lines
+
+    def _told(self, excerpt: list[str], known: set[str]) -> list[str]:
+        """An excerpt as it is printed, below the sentences of these codes and what some faults conflict with."""
+        explained, position, lines = self._printed & self.evidence.keys(), 0, []
+        for line in excerpt:
+            number, fault = line.partition(" ")[0], sentence_in(line)
+            position = int(number) if number.isdecimal() else position
+            lines.append(told(line, known, bool(fault) and (position, fault[0]) in explained))
+        return lines
+
+    def _around(self, codes: list[str]) -> list[str]:
+        """What happened around the first fault of codes that have it at one event, with what it conflicts with."""
+        excerpt, position = self.excerpts.get(codes[0], []), self.positions.get(codes[0], 0)
+        if not excerpt:
+            return []
+        reasons = (self.evidence.get((position, code)) for code in codes)
+        places = {reason.because for reason in reasons if reason} & self.causes.keys()
+        return with_causes(excerpt, position, {place: self.causes[place] for place in places})
 
     def _of_code(self, key: str) -> list[str]:
         """A code's faults: how many, what they mean, and the first of them."""
         code, count = key.split()[0], self.faults[key]
         sentence = f": {self.sentences[code]}" if code in self.sentences else ""
         kept = [line for line in self.first if line.startswith("fault ") and line.split()[2] == code]
-        lines = [f"  {self._with_time(line)}" for line in kept]
+        places = [int(fault[1]) if (fault := FAULT.fullmatch(line)) else 0 for line in kept]
+        again = next((place for place in [*places, self.positions.get(code, 0)] if self._repeated(place, code)), None)
+        lines = []
+        for line, place in zip(kept, places):
+            lines += [f"  {self._with_time(line)}", *self._under(place, code, place == again)]
         lines += [f"  and {count - len(kept)} more"] if count > len(kept) else []
-        lines += [f"    {self.limits[code]}"] if code in self.limits else []
-        if code == TAKEN:
-            self._tell_of_resend(kept, lines)
+        if (first := self.positions.get(code, 0)) not in places:
+            lines += self._under(first, code, first == again)
         return [f"{key} {counted(count, 'fault')}{sentence}", *lines]
 
-    def _tell_of_resend(self, kept: list[str], lines: list[str]) -> None:
-        """Says under the first fault that looks so, or before the events around the code's first fault, what it is."""
-        faults = [FAULT.fullmatch(line) for line in kept]
-        places = {int(fault[1]): at for at, fault in enumerate(faults, 1) if fault}
-        places.setdefault(self.positions.get(TAKEN, 0), len(lines))
-        first = next((place for place in places if place in self.resent), None)
-        if first is not None:
-            lines.insert(places[first], f"    {looks_like(f'event {self.resent[first]}')}")
+    def _under(self, position: int, code: str, is_again: bool) -> list[str]:
+        """What a fault conflicts with, and that it looks like an earlier PUBLISH, where that is to be said."""
+        words = [self.cause_of(position, code), looks_like(f"event {self.resent[position]}") if is_again else ""]
+        return [f"    {word}" for word in words if word]
+
+    def _repeated(self, position: int, code: str) -> int | None:
+        """The event that a fault's PUBLISH looks like."""
+        return self.resent.get(position) if code == TAKEN else None
