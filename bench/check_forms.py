@@ -5,10 +5,11 @@ usage: bench/check_forms.py PROGRAM [LOG ..]
 
 The text report of each log is made into the other forms here, in Python: each of the worked logs of check_rows.py, a log of
 3,000 faults, one of long packets that break a rule, one of texts that do, refused logs, some of all these in version 2, one with
-moments of a century, and the logs that are named. What each tests (`--coverage`) is what occasions.py finds, but for a log that is
-too long for that. JSON is also read back by Python's json module. What `show --faults` is to print is made from the text report, from
-what `show` prints, and from Python's dates. The bytes of packets that break a rule are those that reading.py finds in the log. Each
-line of `show` is that of showing.py, and each of `show --long` begins with it.
+moments of a century, and the logs that are named. What each tests (`--coverage`) is what occasions.py finds, and what its faults
+conflict with (`--why`, `show --faults`) what because.py finds, but for a log that is too long for that. JSON is also read back by
+Python's json module. What `show --faults` is to print is made from the text report, from what `show` prints, and from Python's
+dates. The bytes of packets that break a rule are those that reading.py finds in the log. Each line of `show` is that of showing.py,
+and each of `show --long` begins with it.
 """
 import json
 import os
@@ -24,6 +25,7 @@ from itertools import zip_longest
 from pathlib import Path
 
 sys.dont_write_bytecode = True  # the repository stays as it is
+import because
 import check_rows
 import occasions
 import reading
@@ -34,6 +36,7 @@ CONNECT = bytes.fromhex("100D00044D5154540502003C000000")
 CONNACK = bytes.fromhex("2003000000")
 DAY = timedelta(days=1) // showing.MICROSECOND
 SHORT = 20_000  # bytes of a log in which occasions.py finds what was tested
+FEW = 20  # faults of a longer log for which because.py finds what they conflict with
 SELDOM = 20  # of so many worked logs one is tried in version 2 too
 
 
@@ -182,7 +185,22 @@ def time_words(event: str) -> str:
     return showing.time_words(int(words[1])) if words[0] == "moment" else ""
 
 
-def under_events(events: str, text: str, sentences: dict[str, str], around: int | None) -> str:
+def said_of_faults(name: str, log: bytes, text: str) -> dict[tuple[int, str], str] | None:
+    """What is said of each fault of a text report after its statement, by its position and code, unless there are too many to find it.
+
+    It is known by how the log was made, or is what because.py finds.
+    """
+    faults = [(int(words[1]), words[2]) for words in map(str.split, text.splitlines()) if words[0] == "fault"]
+    if name.startswith("3,000 faults"):
+        return {(at, code): because.Evidence("it holds the identifier", at - 1).said() for at, code in faults}
+    if len(log) >= SHORT and len(faults) > FEW:
+        return None
+    recording = reading.Recording(log)
+    known = because.Log(recording.events, recording.role, recording.releases)
+    return {(at, code): because.evidence(known, at, code).said() for at, code in faults}
+
+
+def under_events(events: str, text: str, sentences: dict[str, str], said: dict[tuple[int, str], str], around: int | None) -> str:
     """What `show` prints, with the faults of a text report under their events, and `..` for events that are farther from any."""
     *faults, last = text.splitlines()
     if last.startswith("refused"):
@@ -190,7 +208,7 @@ def under_events(events: str, text: str, sentences: dict[str, str], around: int 
     notes: dict[int, list[str]] = {}
     for line in faults:
         _, position, code, citation, _, decided, _, _, _, offset = line.split()
-        note = f"  fault {code} {citation} {sentences[code]}"
+        note = f"  fault {code} {citation} {sentences[code]}{said[int(position), code]}"
         note += f" (decided at event {decided})" if decided != position else ""
         note += f" (offset {offset})" if offset != "-" else ""
         notes.setdefault(int(position), []).append(note)
@@ -242,14 +260,22 @@ def wanted_of(program: str, name: str, log: bytes, path: str, sentences: dict[st
             ("check", "--coverage", "--summary"): (status, in_short(covered), errors),
             ("check", "--summary", "--coverage", "--json"): (status, as_json(covered), errors),
         }
+    told = with_reasons(log, text)
+    if told is not None:
+        wanted |= {
+            ("check", "--why", path): (status, told, errors),
+            ("check", "--json", "--why", path): (status, as_reasoned_json(told), errors),
+            ("check", "--why", "--summary", path): (status, in_short(text), errors),
+        }
+    said = said_of_faults(name, log, text)
     for long in ((), ("--long",)):
         shown = run(program, log, "show", *long)
         events = with_bytes(shown[1], log)
         if long:
             wanted["show", *long] = (shown[0], events, shown[2])
-        for around in (None, 0, 1, 3):
+        for around in (None, 0, 1, 3) if said is not None else ():
             nearness = () if around is None else ("--around", str(around))
-            answer = (shown[0], under_events(events, text, sentences, around), shown[2])
+            answer = (shown[0], under_events(events, text, sentences, said, around), shown[2])
             wanted["show", "--faults", *long, *nearness, path] = answer
     return wanted
 
@@ -267,6 +293,31 @@ def with_coverage(name: str, log: bytes, text: str) -> str | None:
     if name.startswith("3,000 faults"):
         return occasions.covering(text, occasions.of_publishes(3_001))
     return occasions.covering(text, occasions.lines(reading.Recording(log))) if len(log) < SHORT else None
+
+
+def with_reasons(log: bytes, text: str) -> str | None:
+    """The text report with what each fault conflicts with, as because.py finds it, if the log isn't too long."""
+    if text.startswith("refused"):
+        return text
+    return reasoned(reading.Recording(log)) if len(log) < SHORT else None
+
+
+def reasoned(recording: reading.Recording) -> str:
+    """The text report on a log that isn't refused, with what each fault conflicts with."""
+    return "".join(f"{line}\n" for line in because.lines(recording))
+
+
+def as_reasoned_json(text: str) -> str:
+    """The JSON report with what each fault conflicts with, made from the text report that says it."""
+    if text.startswith("refused"):
+        return as_json(text)
+    lines = text.splitlines()
+    plain = json.loads(as_json("".join(f"{line}\n" for line in lines if not line.startswith("because "))))
+    reasons = [line.split() for line in lines if line.startswith("because ")]
+    for fault, words in zip(plain["faults"], reasons, strict=True):
+        fault["because"] = None if words[4] == "-" else int(words[4])
+        fault["numbers"] = [int(word) for word in words[6:]]
+    return json.dumps(plain, sort_keys=True, separators=(",", ":")) + "\n"
 
 
 def is_compact(text: str) -> bool:

@@ -1,5 +1,5 @@
-"""What version 2 of the log costs `check` and `show`, what `--coverage` costs `check`, what `convert` costs, and whether an event takes
-more instructions than it may.
+"""What version 2 of the log costs `check` and `show`, what `--coverage` and `--why` cost `check`, what `convert` costs, and whether an
+event takes more instructions than it may.
 """
 import tempfile
 from collections.abc import Iterator
@@ -17,12 +17,16 @@ COLUMNS = "{:<24} {:<6} {:>12} {:>12} {:>6}  {}"
 
 
 def words_for(mqjudge: Path, task: str, log: Path) -> list[str]:
-    """The command that does a task with a log: `coverage` is a `check` with that."""
+    """The command that does a task with a log: `coverage` and `why` are a `check` with that, `faults` is a `show` with that."""
     match task:
         case "convert":
             return [str(mqjudge), task, "--force", str(log), str(log.with_suffix(".out"))]
         case "coverage":
             return [str(mqjudge), "check", "--coverage", str(log)]
+        case "why":
+            return [str(mqjudge), "check", "--why", str(log)]
+        case "faults":
+            return [str(mqjudge), "show", "--faults", str(log)]
     return [str(mqjudge), task, str(log)]
 
 
@@ -34,9 +38,25 @@ def cost(kind: str, version: int, mqjudge: Path, task: str, amount: int, folder:
         if not log.exists():
             kinds.write(log, kind, number, version)
         counts.append(instructions(words_for(mqjudge, task, log), folder, bounds)[0])
+    return an_event(kind, counts, halves)
+
+
+def cost_with_faults(kind: str, mqjudge: Path, task: str, amount: int, folder: Path, bounds: Bounds) -> float | None:
+    """The same of a log of version 1 that has two faults, both of them before the events that are counted."""
+    counts, halves = [], (amount // 2, amount)
+    for number in halves:
+        log = folder / f"{kind}-{number}-faulty.log"
+        if not log.exists():
+            kinds.write_faulty(log, kind, number)
+        counts.append(instructions(words_for(mqjudge, task, log), folder, bounds, 0 if task in ("show", "faults") else 1)[0])
+    return an_event(kind, counts, halves)
+
+
+def an_event(kind: str, counts: list[int | None], amounts: tuple[int, int]) -> float | None:
+    """How many instructions an event takes, by those of a log and of a longer one."""
     if None in counts:
         return None
-    return (counts[1] - counts[0]) / (kinds.events(kind, halves[1]) - kinds.events(kind, halves[0]))
+    return (counts[1] - counts[0]) / (kinds.events(kind, amounts[1]) - kinds.events(kind, amounts[0]))
 
 
 def most_allowed(table: Path) -> Iterator[tuple[str, str, int]]:
@@ -101,6 +121,25 @@ def print_coverage(mqjudge: Path, chosen: list[str], messages: int, bounds: Boun
             is_known = None not in costs
             unknown += not is_known
             figures = [*(f"{one:,.0f}" for one in costs), f"{costs[1] / max(costs[0], 1e-9):.2f}"] if is_known else ["-"] * 3
+            print(columns.format(kind, *figures, "").rstrip(), flush=True)
+    print(f"{unknown} couldn't be counted")
+    return unknown == 0
+
+
+def print_why(mqjudge: Path, chosen: list[str], messages: int, bounds: Bounds) -> bool:
+    """Prints how many instructions an event of a log with faults takes `check` and `show`, without what the faults conflict with and with
+    it, and says whether they could be counted."""
+    if counter() is None:
+        print("instructions can't be counted: perf can't, and there is no valgrind")
+        return False
+    unknown, columns = 0, "{:<24} {:>12} {:>12} {:>12} {:>12}  {}"
+    print(columns.format("log", "check", "--why", "show", "--faults", f"instructions an event, by {counter()}"), flush=True)
+    with tempfile.TemporaryDirectory(prefix="mqjudge-bench-") as name:
+        for kind in chosen:
+            amount = min(messages, 8) if kind == "large" else messages
+            costs = [cost_with_faults(kind, mqjudge, task, amount, Path(name), bounds) for task in ("check", "why", "show", "faults")]
+            unknown += None in costs
+            figures = ["-" if one is None else f"{one:,.0f}" for one in costs]
             print(columns.format(kind, *figures, "").rstrip(), flush=True)
     print(f"{unknown} couldn't be counted")
     return unknown == 0

@@ -44,6 +44,8 @@ EVENTS_OF_A_KIND = 100_100
 
 Task = tuple[str, ...]
 CHECKS: list[Task] = [("check",), ("check", "--json"), ("check", "--summary"), ("check", "--coverage")]
+WHY: Task = ("check", "--why")
+FAULTS: Task = ("show", "--faults")
 CONVERT: Task = ("convert",)
 
 
@@ -51,13 +53,14 @@ CONVERT: Task = ("convert",)
 class Log:
     """A log: so many times each of some whole records of version 1; what is known of it, and what is tried with it.
 
-    A fault is that of a PUBLISH that takes a Packet Identifier in use: its position, and its record.
+    A fault is that of a PUBLISH that takes a Packet Identifier in use: its position, its record, and the position of the PUBLISH that
+    holds the identifier.
     """
 
     name: str
     parts: list[tuple[bytes, int]]
     events: int
-    faults: list[tuple[int, int]] = field(default_factory=list)
+    faults: list[tuple[int, int, int]] = field(default_factory=list)
     header: bytes = HEADER
     lines: Callable[[], Iterable[str]] | None = None  # as `show` prints them
     tested: list[str] = field(default_factory=list)  # as `check --coverage` says it
@@ -69,10 +72,14 @@ class Log:
         for records, times in self.parts:
             yield from many_times(in_version(records, version), times)
 
-    def report(self) -> str:
-        faults = [f"fault {at} S01 MQTT-2.2.1-3 decided {at} record {number} offset -\n" for at, number in self.faults]
-        verdict = f"fail {len(faults)} faults" if faults else "pass"
-        return f"{''.join(faults)}{verdict} {self.events} events\n"
+    def report(self, is_reasoned: bool = False) -> str:
+        """The report as text, with what each fault conflicts with or without it."""
+        lines = []
+        for at, number, holder in self.faults:
+            lines.append(f"fault {at} S01 MQTT-2.2.1-3 decided {at} record {number} offset -\n")
+            lines += [f"because {at} S01 event {holder}\n"] * is_reasoned
+        verdict = f"fail {len(self.faults)} faults" if self.faults else "pass"
+        return f"{''.join(lines)}{verdict} {self.events} events\n"
 
     def write(self, path: Path) -> None:
         """Writes it to a file, without the zeros at the end of a chunk."""
@@ -112,16 +119,16 @@ def of_bytes() -> Log:
         yield from (f"{at} record {at} SENT PUBLISH size {len(packet)} qos 0 dup 0\n" for at in range(5, events))
         yield line_of_used(events)
 
-    return Log("900 MB", [(CONNECTED + USED, 1), (record(SENT, packet), count), (USED, 1)], events, [(events, events)],
+    return Log("900 MB", [(CONNECTED + USED, 1), (record(SENT, packet), count), (USED, 1)], events, [(events, events, 4)],
                lines=lines, tested=occasions.of_publishes(2, count),
-               by_pipe=[*CHECKS, CONVERT], by_name=[*CHECKS, ("show",), ("show", "--faults"), CONVERT])
+               by_pipe=[*CHECKS, CONVERT], by_name=[*CHECKS, WHY, ("show",), FAULTS, CONVERT])
 
 
 def of_events() -> Log:
     """Many events in one record, and many records of them."""
     block, count = record(SENT, PINGREQ * (LARGEST_BODY // len(PINGREQ))), 20
     events = count * LARGEST_BODY // len(PINGREQ) + 5
-    return Log("10 million pings", [(CONNECTED + USED, 1), (block, count), (USED, 1)], events, [(events, count + 5)],
+    return Log("10 million pings", [(CONNECTED + USED, 1), (block, count), (USED, 1)], events, [(events, count + 5, 4)],
                tested=occasions.of_publishes(2, pings=events - 5), by_pipe=[*CHECKS[:2], CHECKS[-1]], by_name=CHECKS[:1])
 
 
@@ -134,7 +141,7 @@ def of_lines() -> Log:
             yield f"{at} record {at} SENT PINGREQ size 2\n{at + 1} record {at + 1} RECV PINGRESP size 2\n"
 
     return Log("500,000 lines that are shown", [(CONNECTED, 1), (record(SENT, PINGREQ) + record(RECV, PINGRESP), pairs)],
-               3 + 2 * pairs, lines=lines, by_pipe=[("show",), CONVERT], by_name=[("show", "--faults"), ("show",)])
+               3 + 2 * pairs, lines=lines, by_pipe=[("show",), CONVERT], by_name=[FAULTS, ("show",)])
 
 
 def of_packets() -> Log:
@@ -168,8 +175,8 @@ def of_faults() -> Log:
             yield f"{first + size - 1} record {first + size - 1} CLOSE\n"
 
     return Log("150,000 faults", [(CONNECTED + USED * (count + 1) + record(CLOSE), connections)], size * connections,
-               [(at, at) for at in at_fault], lines=lines, tested=occasions.of_publishes(count + 1, connections=connections),
-               by_pipe=[*CHECKS, ("show",)], by_name=[*CHECKS, ("show", "--faults")])
+               [(at, at, at - 1) for at in at_fault], lines=lines, tested=occasions.of_publishes(count + 1, connections=connections),
+               by_pipe=[*CHECKS, ("show",)], by_name=[*CHECKS, WHY, FAULTS])
 
 
 def of_early(header: bytes, toward: int, back: int) -> Log:
@@ -313,6 +320,8 @@ class Runner:
                 text = in_short(log.report())
             case ("check", "--coverage"):
                 text = occasions.covering(log.report(), log.tested)
+            case ("check", "--why"):
+                text = log.report(is_reasoned=True)
             case ("show",):
                 text = "".join(log.lines())
             case _:
@@ -330,12 +339,12 @@ def finish(process: subprocess.Popen) -> tuple[bytes, bytes]:
 
 
 def with_faults(log: Log) -> Iterator[str]:
-    """The lines of its events, each with its fault under it."""
-    at_fault = {at for at, _ in log.faults}
+    """The lines of its events, each with its fault under it, and what that conflicts with."""
+    holders = {at: holder for at, _, holder in log.faults}
     for line in chain.from_iterable(some.splitlines(keepends=True) for some in log.lines()):
         yield line
-        if int(line.split(maxsplit=1)[0]) in at_fault:
-            yield f"  fault S01 MQTT-2.2.1-3 {SENTENCE}\n"
+        if holder := holders.get(int(line.split(maxsplit=1)[0])):
+            yield f"  fault S01 MQTT-2.2.1-3 {SENTENCE} (because of event {holder}: it holds the identifier)\n"
 
 
 def last_of(text: bytes) -> bytes:

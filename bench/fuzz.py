@@ -4,10 +4,10 @@ others do.
 
 The logs are those of hostile_logs.py: sessions in which the tested end does right, others, the same changed, and garbage; a third
 of them are of version 2, with moments of any kind, and records that are cut inside their heads. `check`, as text and as JSON, is
-compared with reference.py; `check --coverage`, on a third of the logs, with occasions.py; `show` and `packet` with reference.py's
-reading and, where there is rustc, with the plain program of this folder. A log in which the tested end does right must pass. A
-divergence is printed with its seed, its number, and a log that is made as short as it can be, which is also written to a file. The
-last line says how many there were, and how many logs it tried a minute.
+compared with reference.py; `check --coverage`, on a third of the logs, with occasions.py; `check --why`, on another third, with
+because.py; `show` and `packet` with reference.py's reading and, where there is rustc, with the plain program of this folder. A log
+in which the tested end does right must pass. A divergence is printed with its seed, its number, and a log that is made as short as
+it can be, which is also written to a file. The last line says how many there were, and how many logs it tried a minute.
 
 With --seconds it ends after that time, and says how many logs it has tried; with --only it tries the log of one number.
 --self-test tries programs, and plain ones, that each have one flaw, and checks that it is found.
@@ -55,9 +55,9 @@ PORTION = 10_000  # logs after which it says how many there were
 HERE = Path(__file__).resolve().parent
 FOUND = Path(tempfile.gettempdir()) / "mqjudge-fuzz"
 LOG_TASKS = ("check", "check --json", "show")
-COVERAGE = "check --coverage"
-COVERED = 3  # of so many logs what was tested is compared in one
-MOST_COVERED = 10_000  # bytes of such a log, since occasions.py takes time by the square of it
+COVERAGE, WHY = "check --coverage", "check --why"
+SELDOM = 3  # of so many logs what was tested is compared in one, and what faults conflict with in the next
+MOST_SELDOM = 10_000  # bytes of such a log, since occasions.py and because.py take time by the square of it
 PACKET = "packet"
 # The bytes that captures begin with (pcap in microseconds and nanoseconds, of both byte orders, and pcapng), and those of gzip.
 CAPTURES = (b"\xd4\xc3\xb2\xa1", b"\xa1\xb2\xc3\xd4", b"\x4d\x3c\xb2\xa1", b"\xa1\xb2\x3c\x4d", b"\x0a\x0d\x0d\x0a")
@@ -96,6 +96,8 @@ def by_reference(task: str, data: bytes) -> Answer:
     text = report_of(data)
     if task == COVERAGE:
         text = occasions.covering(text, occasions.lines(read(data)))
+    if task == WHY and verdict(text) == "fail":
+        text = check_forms.reasoned(read(data))
     return STATUSES[verdict(text)], check_forms.as_json(text) if "--json" in task else text, hint(data)
 
 
@@ -109,7 +111,7 @@ class Programs:
     def __init__(self, program: Path, plain: Path | None):
         self.program, self.plain = str(program), Server(plain) if plain else None
         self.log = Memory("log")
-        self.runners = {task: Runner() for task in (*LOG_TASKS, COVERAGE, PACKET)}
+        self.runners = {task: Runner() for task in (*LOG_TASKS, COVERAGE, WHY, PACKET)}
         signal.signal(signal.SIGALRM, lambda *_: self.kill())
 
     def command(self, task: str, packet: bytes) -> list[str]:
@@ -196,8 +198,8 @@ def work(plan: Plan) -> Tally:
             break
         made = hostile_logs.made(plan.seed, number)
         tally.logs += 1
-        is_covered = number % COVERED == 0 and len(made.log) < MOST_COVERED
-        tasks = (*LOG_TASKS, *([COVERAGE] if is_covered else []), PACKET)
+        seldom = {0: [COVERAGE], 1: [WHY]}.get(number % SELDOM, []) if len(made.log) < MOST_SELDOM else []
+        tasks = (*LOG_TASKS, *seldom, PACKET)
         found = programs.divergences(tasks, made.log, made.packet)
         word = verdict(report_of(made.log))
         tally.verdicts[word] += 1
@@ -285,6 +287,7 @@ FLAWS = {
     "a decided position in JSON": (r's/"decided":\([0-9]*\),/"decided":1\1,/', 40),
     "DUP as it is shown": ("s/dup 1/dup 0/", 40),
     "a place too many": (r"s/^\(tested .* places\) 1$/\1 2/", 40),
+    "an event that a fault conflicts with": (r"s/^\(because .* event\) \([0-9]\)/\1 1\2/", 60),
     "an offset of a packet": ("s/^BAD W13 offset 2/BAD W13 offset 3/", 12),
     "a moment as it is shown": (r"s/ moment \([0-9]*\) / moment 1\1 /", 40),
     "a refusal's byte": (r"s/^refused 5 Kind at \(.*\)/refused 5 Kind at 1\1/", 40),

@@ -7,6 +7,7 @@ import session_logs
 
 KINDS = (*make_log.KINDS, *session_logs.KINDS)
 SAMPLE = 10_000
+ROLE_AT, SERVER = 5, 1  # of a header: where it says which end is tested, and what it says of a server
 
 
 def log(kind: str, amount: int, version: int = 1) -> Iterator[bytes]:
@@ -16,6 +17,16 @@ def log(kind: str, amount: int, version: int = 1) -> Iterator[bytes]:
 def write(path: Path, kind: str, amount: int, version: int = 1) -> None:
     with open(path, "wb") as file:
         file.writelines(log(kind, amount, version))
+
+
+def write_faulty(path: Path, kind: str, amount: int) -> None:
+    """Writes the same with two faults: on a connection before all others the tested end sends a packet that it may not send."""
+    write(path, kind, amount)
+    text = path.read_bytes()
+    header, rest = text[: len(make_log.HEADER)], text[len(make_log.HEADER) :]
+    astray = make_log.PINGREQ if header[ROLE_AT] == SERVER else make_log.PINGRESP
+    records = [make_log.record(make_log.OPEN), make_log.record(make_log.SENT, astray), make_log.record(make_log.CLOSE)]
+    path.write_bytes(b"".join([header, *records, rest]))
 
 
 def events(kind: str, amount: int) -> int:

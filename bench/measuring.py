@@ -82,8 +82,8 @@ def counter() -> str | None:
     return "perf" if counts_by_perf() else "valgrind" if shutil.which("valgrind") else None
 
 
-def instructions(command: list[str], folder: Path, bounds: Bounds) -> tuple[int | None, Measure]:
-    """How many instructions a command takes, if it passes, and what else is known of the run."""
+def instructions(command: list[str], folder: Path, bounds: Bounds, status: int = 0) -> tuple[int | None, Measure]:
+    """How many instructions a command takes, if it ends with this status, and what else is known of the run."""
     counts = folder / "counts"
     if counter() == "perf":
         words = ["perf", "stat", "-x", ",", "-e", "instructions:u", "-o", str(counts), *command]
@@ -94,7 +94,7 @@ def instructions(command: list[str], folder: Path, bounds: Bounds) -> tuple[int 
         found = rb"Collected : (\d+)"
     counts.unlink(missing_ok=True)
     ran = measure(words, folder, bounds)
-    if ran.status != "status 0":
+    if ran.status != f"status {status}":
         return None, ran
     number = re.search(found, counts.read_bytes(), re.MULTILINE)
     return (int(number[1]) if number else None), ran

@@ -64,6 +64,11 @@ TOO_LONG = f"mqjudge: standard input has more than {MOST_TEXT} bytes, the most t
 
 PASS = "pass 4 events\n"
 FAIL = "fault 5 S01 MQTT-2.2.1-3 decided 5 record 5 offset -\nfail 1 faults 5 events\n"
+REASONED = FAIL.replace("\nfail", "\nbecause 5 S01 event 4\nfail")
+REASONED_JSON = (
+    '{"events":5,"faults":[{"because":4,"citation":"MQTT-2.2.1-3","code":"S01","decided":5,"numbers":[],"offset":null,"position":5,'
+    '"record":5}],"verdict":"fail"}\n'
+)
 SUMMARY = "S01 MQTT-2.2.1-3 faults 1 first 5 record 5\nfail 1 faults 5 events\n"
 LONG_FAIL = FAIL.replace(" 5 events", " 115 events")
 REFUSED = "refused 7 Nested at 13\n"
@@ -81,7 +86,7 @@ NEAR_LINES = """\
 ..
 4 record 4 SENT PUBLISH size 9 qos 1 dup 0 id 1
 5 record 5 SENT PUBLISH size 9 qos 1 dup 0 id 1
-  fault S01 MQTT-2.2.1-3 A new PUBLISH, SUBSCRIBE or UNSUBSCRIBE takes no Packet Identifier that is in use.
+  fault S01 MQTT-2.2.1-3 A new PUBLISH, SUBSCRIBE or UNSUBSCRIBE takes no Packet Identifier that is in use. (because of event 4: it holds the identifier)
 """
 TIMED_LINES = """\
 1 record 1 moment 0 OPEN
@@ -92,7 +97,7 @@ TIMED_LINES = """\
 """
 TIMED_NEAR = "..\n" + "".join(TIMED_LINES.splitlines(keepends=True)[3:]) + NEAR_LINES.splitlines(keepends=True)[3]
 WRITE_FAILED = "mqjudge: write failed\n"
-NO_FILE = "mqjudge: --faults reads the log twice, so it needs a FILE, not standard input\n"
+NO_FILE = "mqjudge: --faults reads the log more than once, so it needs a FILE, not standard input\n"
 SAME_FILE = "mqjudge: OUT has to be another file than IN\n"
 NO_FAULTS = "mqjudge: --around needs --faults\n"
 CODES = (
@@ -108,6 +113,9 @@ mqjudge: there are {" ".join(CODES)}, and citations such as MQTT-4.4.0-1: see mq
 NO_BROKER = "mqjudge: no role broker\nmqjudge: there are client and server\n"
 CAPTURE_HINT = "mqjudge: it is a capture: recorders/from-capture makes logs of it\n"
 GZIP_HINT = "mqjudge: it is compressed by gzip: unpack it first; of a capture recorders/from-capture makes logs\n"
+NO_FILE_FOR_WHY = "mqjudge: --why may read the log twice, so it needs a FILE, not standard input\n"
+TWO_REPORTS = "mqjudge: --why and --coverage are two reports: ask for one at a time\n"
+CHANGED = "mqjudge: the log changed between two readings\n"
 NOT_UTF8 = "a word isn't UTF-8; give a file of that name on standard input: mqjudge check < FILE"
 LONG_NAME = 300 * "x" + ".log"
 
@@ -146,6 +154,7 @@ Options:
       --json      Report as one line of JSON, also with --summary
       --summary   Report a line for each statement that has faults
       --coverage  Say how often each statement was put to the test
+      --why       Say what each fault conflicts with; reads FILE twice if it has faults
   -h, --help      Print help
 
 Statuses: 0 for no fault, 1 for faults, 2 for a refused log, 3 for misuse,
@@ -163,7 +172,7 @@ Arguments:
 
 Options:
       --long        Show the other fields and the properties of each packet
-      --faults      Show the faults under their events; reads FILE twice
+      --faults      Show the faults under their events; reads FILE more than once
       --around <N>  With --faults: only the events within N positions of a fault
   -h, --help        Print help
 
@@ -330,6 +339,28 @@ RUNS = [
     Run(["check", "--coverage", "a.pcap"], 2, "refused 1 Header at 0\n", CAPTURE_HINT),
     Run(["show", "--coverage", "good.log"], 3, errors=FOR_CHECK_ALONE),
     Run(["check", "--coverage", "--coverage", "good.log"], 3, errors=TWICE),
+    # What a fault conflicts with is said after it, by a second reading of the file.
+    Run(["check", "--why", "good.log"], 0, PASS, stdin=FAULTY),
+    Run(["check", "faulty.log", "--why"], 1, REASONED, stdin=GOOD),
+    Run(["check", "--why", "./-"], 1, REASONED, stdin=GOOD),
+    Run(["check", "--why", "timed.log"], 1, REASONED),
+    Run(["check", "--why", "--json", "--summary", "faulty.log"], 1, REASONED_JSON),
+    Run(["check", "--summary", "--why", "faulty.log"], 1, SUMMARY),
+    Run(["check", "--why", "nested.log"], 2, REFUSED, stdin=GOOD),
+    Run(["check", "--why", "short.log"], 2, f"refused 10 Cut at {len(GOOD) - 1}\n"),
+    Run(["check", "--why", "a.pcap"], 2, "refused 1 Header at 0\n", CAPTURE_HINT),
+    Run(["check", "--why"], 3, errors=NO_FILE_FOR_WHY, stdin=GOOD),
+    Run(["check", "--why", "-"], 3, errors=NO_FILE_FOR_WHY, stdin=Path("good.log")),
+    Run(["check", "--coverage", "--why", "good.log"], 3, errors=TWO_REPORTS),
+    Run(["check", "--why", "--coverage"], 3, errors=TWO_REPORTS, stdin=GOOD),
+    Run(["show", "--why", "good.log"], 3, errors=FOR_CHECK_ALONE.replace("--coverage", "--why")),
+    Run(["check", "--why", "missing.log"], 4, errors=missing("missing.log"), stdin=GOOD),
+    Run(["check", "--why", "."], 4, errors=directory("."), stdin=GOOD),
+    # (By its path, standard input can be read twice if it is a file. A pipe is empty then, as if a file had changed.)
+    Run(["check", "--why", "/dev/stdin"], 1, REASONED, stdin=Path("faulty.log")),
+    Run(["check", "--why", "/dev/stdin"], 0, PASS, stdin=GOOD),
+    Run(["check", "--why", "/dev/stdin"], 4, errors=CHANGED, stdin=FAULTY),
+    Run(["show", "--faults", "/dev/stdin"], 4, errors=CHANGED, stdin=FAULTY),
     # Without a file, or with `-`, standard input is.
     Run(["check"], 0, PASS, stdin=GOOD),
     Run(["check"], 1, FAIL, stdin=FAULTY),
@@ -344,7 +375,7 @@ RUNS = [
     Run(["show", "-"], 0, LINES, stdin=GOOD),
     Run(["check"], 0, PASS, stdin=Path("good.log")),
     Run(["show", "-"], 0, LINES, stdin=Path("good.log")),
-    # A log that is shown with its faults is read twice.
+    # A log that is shown with its faults is read more than once.
     Run(["show", "--faults", "good.log"], 0, LINES, stdin=FAULTY),
     Run(["show", "--faults", "--around", "1", "faulty.log"], 0, NEAR_LINES, stdin=GOOD),
     Run(["show", "--around=0", "--faults", "--long", "many.log"], 0, "..\n"),
@@ -477,6 +508,7 @@ UNWRITTEN = [
     ["check", "--coverage", "good.log"],
     ["check", "--coverage", "nested.log"],
     ["check", "faulty.log"],
+    ["check", "--why", "faulty.log"],
     ["check", "nested.log"],
     ["show", "good.log"],
     ["show", "nested.log"],
@@ -499,6 +531,8 @@ UNTOLD = [
     ([], 4),
     (["packet", "4"], 4),
     (["show", "--faults"], 4),
+    (["check", "--why"], 4),
+    (["check", "--why", "--coverage", "good.log"], 4),
     (["convert", "good.log", "good.log"], 4),
     (["convert", "good.log", "kept.log"], 4),
     (["check", "missing.log"], 4),
@@ -627,7 +661,7 @@ def kept(path: Path) -> tuple[bytes, int, int, int]:
 
 # Nothing but `convert` changes a file; these read one.
 CHECKS = [["check"], ["check", "--json"], ["check", "--summary"], ["check", "--coverage"]]
-READING = [*CHECKS, ["show"], ["show", "--long"], ["show", "--faults"]]
+READING = [*CHECKS, ["check", "--why"], ["show"], ["show", "--long"], ["show", "--faults"]]
 
 
 def changes(program: Path) -> Iterator[tuple[str, tuple, tuple]]:

@@ -40,7 +40,7 @@ LEAST_READ, LEAST_WRITE, FEW_MORE = 8_192, 4_096, 20
 LOG, MADE = "a.log", "made.log"
 
 SHOWS = [["show"], ["show", "--long"]]
-AGAIN = [["show", "--faults", "--around", "0"]]  # it reads the log twice, so it needs a file
+AGAIN = [["check", "--why"], ["show", "--faults", "--around", "0"]]  # they read the log more than once, so they need a file
 CONVERTS = [["convert"]]
 LOGS = {"a pass": GOOD, "a fault": FAULTY, "refused": NESTED, "cut": GOOD[:-1], "moments": TIMED, "a header": HEADER, "nothing": b""}
 LONG_LOGS = {"many pings": MANY, "many pings in version 2": MANY_2}

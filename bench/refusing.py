@@ -59,6 +59,8 @@ ON_LOGS = [
     ["check", "--coverage"],
     ["check", "--coverage", "--json"],
     ["check", "--coverage", "--summary"],
+    ["check", "--why"],
+    ["check", "--why", "--json"],
     ["show"],
     ["show", "--long"],
     ["show", "--faults", "--around", "0"],

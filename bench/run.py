@@ -16,13 +16,15 @@ linear.
 With --versions it shows how many instructions an event takes `check` and `show` in version 2 of the log, beside version 1 of the
 same events; the status is 1 if one takes more than 1.05 times as many. With --convert it shows what `convert` of a log of small
 records takes beside `show` of it; the status is 1 if that is more than twice the time, or its memory grows with the log. With
---coverage it shows how many instructions an event takes `check --coverage`, beside `check`.
+--coverage it shows how many instructions an event takes `check --coverage`, beside `check`; with --why how many one of a log with
+faults takes `check --why` and `show --faults`, beside `check` and `show`.
 
 usage: bench/run.py [--mqjudge PATH] [--megabytes 200] [--rounds 1]
        bench/run.py --instructions [--mqjudge PATH] [--messages 4000] [--at-most TABLE]
        bench/run.py --growth [--mqjudge PATH] [--events 66000] [--by-time]
        bench/run.py --versions [--mqjudge PATH] [--messages 4000]
        bench/run.py --coverage [--mqjudge PATH] [--messages 4000]
+       bench/run.py --why [--mqjudge PATH] [--messages 4000]
        bench/run.py --convert [--mqjudge PATH] [--megabytes 200] [--rounds 1]
 """
 import argparse
@@ -36,7 +38,7 @@ from pathlib import Path
 sys.dont_write_bytecode = True  # the repository stays as it is
 import kinds
 import make_log
-from costs import print_bounded, print_convert, print_coverage, print_versions, quickest
+from costs import print_bounded, print_convert, print_coverage, print_versions, print_why, quickest
 from growth import print_growth
 from measuring import Bounds, Measure, counter, instructions
 
@@ -158,6 +160,7 @@ def parse() -> argparse.Namespace:
     words.add_argument("--by-time", action="store_true", help="with --growth, measure processor time, and count no instructions")
     words.add_argument("--versions", action="store_true", help="show instead what version 2 of the log costs")
     words.add_argument("--coverage", action="store_true", help="show instead what `--coverage` costs `check`")
+    words.add_argument("--why", action="store_true", help="show instead what `--why` costs `check`, and `--faults` costs `show`")
     words.add_argument("--convert", action="store_true", help="show instead what `convert` costs")
     return words.parse_args()
 
@@ -177,6 +180,8 @@ def main() -> int:
         return 0 if mqjudge_tasks(mqjudge) and print_versions(mqjudge, chosen, given.messages, bounds) else 1
     if given.coverage:
         return 0 if mqjudge_tasks(mqjudge) and print_coverage(mqjudge, chosen, given.messages, bounds) else 1
+    if given.why:
+        return 0 if mqjudge_tasks(mqjudge) and print_why(mqjudge, chosen, given.messages, bounds) else 1
     if given.convert:
         return 0 if mqjudge_tasks(mqjudge) and print_convert(mqjudge, given.megabytes, given.rounds, bounds) else 1
     if given.instructions:

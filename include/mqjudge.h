@@ -35,7 +35,7 @@
  * the PUBLISH that holds a Packet Identifier, the CONNACK that announced a limit, or how many messages are in flight. A
  * judge keeps no more of a session than it needs for the verdict, so that takes a second reading of the log, and no call
  * here makes one. Write what you tell the judge into a log too (docs/LOG_FORMAT.md), with the same events, and have
- * `bench/because.py FILE` say it: of each fault, by its position and code, the event's position and the numbers.
+ * `mqjudge check --why FILE` say it: under each fault, by its position and code, the event's position and the numbers.
  *
  * Want of memory. Only mqjudge_new answers MQJUDGE_MEMORY: then it may be called again. Where a judge has no memory for
  * what it is told, its log is refused (16, `Memory`), at the byte that was being taken in, and stays so. Whatever is
