@@ -40,3 +40,4 @@ pub mod TallyLaws
 pub mod TrialLaws
 pub mod ByteTallyLaws
 pub mod HistoryLaws
+pub mod ByIdentifierLaws

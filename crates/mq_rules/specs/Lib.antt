@@ -32,3 +32,4 @@ pub mod Counter
 pub mod FirstRests
 pub mod Naming
 pub mod Histories
+pub mod ByIdentifier

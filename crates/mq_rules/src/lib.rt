@@ -8,6 +8,7 @@
 #![tactic(auto)]
 
 mod bare;
+mod by_identifier;
 mod byte_tally;
 mod conn;
 mod conversion;
@@ -34,6 +35,7 @@ mod text;
 mod watch;
 
 pub use bare::{Bare, BareFields, is_bare};
+pub use by_identifier::ByIdentifier;
 pub use byte_tally::ByteTally;
 pub use conn::{Conn, ConnTally, CountingConn, One, Tally, Tried, conn_places, places_after};
 pub use fate::Fate;
