@@ -1,9 +1,8 @@
 -- What is kept stays as it is, where an event passes by it.
-use Rattle.std.proofs.Common.{◌≡◌, ℕ, Bool, true, false, cond, ◌&&◌, ◌||◌, not, List, [], ◌∷◌, Option, None, Some, refl, ap, sym, ◌∙◌}
-use Rattle.std.specs.Prelude.{is_some, nat_eq, option_map}
+use Rattle.std.proofs.Common.{◌≡◌, ℕ, Bool, true, false, cond, ◌&&◌, ◌||◌, not, List, Option, None, Some, refl, ap, sym, ◌∙◌}
+use Rattle.std.specs.Prelude.{is_some, option_map}
 use Rattle.std.specs.Option.{option_and_then, option_or}
-use Rattle.indexmap.specs.IndexMap.{get}
-use Rattle.indexmap.specs.IndexSet.{contains}
+use Rattle.mq_rules.specs.ByIdentifier.{is_kept, kept}
 use Rattle.mq_packet.specs.declared.packet.Qos.{Qos}
 use Rattle.mq_packet.specs.declared.packet.Qos.TheVariants as quality
 use Rattle.mq_packet.specs.declared.packet.PacketType.TheVariants as types
@@ -13,9 +12,8 @@ use Rattle.mq_rules.specs.declared.role.Role.TheVariants.{Client, Server}
 use Rattle.mq_rules.specs.declared.note.Note.{Note}
 use Rattle.mq_rules.specs.declared.note.Note.TheVariants as notes
 use Rattle.mq_rules.specs.declared.note.ItemNote.TheVariants as items
-use Rattle.mq_rules.specs.declared.packet_note.PublishNote.{PublishNote}
 use Rattle.mq_rules.specs.declared.packet_note.PacketFields.{PacketFields}
-use Rattle.mq_rules.specs.declared.packet_note.PacketFields.TheVariants.{Connect, Connack, Publish, Puback, Pubrec, Pubrel, Pubcomp, Subscribe, Suback, Unsubscribe, Unsuback, Pingreq, Pingresp, Disconnect, Auth}
+use Rattle.mq_rules.specs.declared.packet_note.PacketFields.TheVariants.{Connect, Connack, Publish, Puback, Pubrec, Pubrel, Pubcomp, Subscribe, Suback, Unsubscribe, Unsuback, Disconnect}
 use Rattle.mq_rules.specs.Words.{is_id, is_some_and, only}
 use Rattle.mq_rules.specs.Notes.{is_acknowledged, is_exactly_once, is_at_least_once, received_once_acknowledged, received_exactly_once, released_id, sent_as, received_as, accepting_pubrec_in, pubrel_in, subscribe_in, unsubscribe_in, puback_in, pubrec_in, pubcomp_in, suback_in, unsuback_in, ended_in, opener_of, delivery_of, closer_of, settled_in, opener_in, delivery_in, publish_in, sent_fields, received_fields, connect_in, connack_in, disconnect_in, fields_type, refuses, sends_type, connect_of, connack_of}
 use Rattle.mq_rules.specs.Exchanges as exchanges
@@ -321,12 +319,12 @@ earlier-stays false b old h = refl
 pub asked-stays : (x : exchanges.Exchange) (a : Asked) (t : Turn) (n : Note) (m : Moment) (s : Stretches) → (goes_on t && is_unasked n) ≡ true → Comes t n m → IsAsked x a s → IsAsked x a (advanced t m s)
 asked-stays x a t n m s passes comes before = record {
   about = before.about;
-  causes_are = latest-kept t.begins t.inside t.position n m s.session comes.at comes.same x.cause (get nat_eq a.causes) (get nat_eq a.causes) before.causes_are
-      (λ i. last-stays t.begins t.inside (x.cause n) None t.position i (get nat_eq a.causes i) starts (sym (ap (λ y. y.cause n) before.about) ∙ unasked-cause a.exchange n quiet) refl);
-  answers_are = latest-kept t.opens true t.position n m s.connection comes.at comes.same x.answer (get nat_eq a.answers) (get nat_eq a.answers) before.answers_are
-      (λ i. last-stays t.opens true (x.answer n) None t.position i (get nat_eq a.answers i) (opens-not t (is_unasked n) passes) (sym (ap (λ y. y.answer n) before.about) ∙ unasked-answer a.exchange n quiet) refl);
-  earlier_are = earlier-kept t.begins x.cause (get nat_eq a.causes) (contains nat_eq a.earlier) (contains nat_eq a.earlier) s.session s.earlier before.causes_are before.earlier_are
-      (λ i. earlier-stays t.begins (is_some (get nat_eq a.causes i)) (contains nat_eq a.earlier i) starts);
+  causes_are = latest-kept t.begins t.inside t.position n m s.session comes.at comes.same x.cause (kept a.causes) (kept a.causes) before.causes_are
+      (λ i. last-stays t.begins t.inside (x.cause n) None t.position i (kept a.causes i) starts (sym (ap (λ y. y.cause n) before.about) ∙ unasked-cause a.exchange n quiet) refl);
+  answers_are = latest-kept t.opens true t.position n m s.connection comes.at comes.same x.answer (kept a.answers) (kept a.answers) before.answers_are
+      (λ i. last-stays t.opens true (x.answer n) None t.position i (kept a.answers i) (opens-not t (is_unasked n) passes) (sym (ap (λ y. y.answer n) before.about) ∙ unasked-answer a.exchange n quiet) refl);
+  earlier_are = earlier-kept t.begins x.cause (kept a.causes) (is_kept a.earlier) (is_kept a.earlier) s.session s.earlier before.causes_are before.earlier_are
+      (λ i. earlier-stays t.begins (is_some (kept a.causes i)) (is_kept a.earlier i) starts);
 }
   where
     starts : t.begins ≡ false
@@ -338,8 +336,8 @@ asked-stays x a t n m s passes comes before = record {
 pub confirmed-stays : (a : Confirmed) (t : Turn) (n : Note) (m : Moment) (s : Stretches) → (goes_on t && is_unasked n) ≡ true → Comes t n m → IsConfirmed a s → IsConfirmed a (advanced t m s)
 confirmed-stays a t n m s passes comes before = record {
   asked_is = asked-stays exchanges.pubrec_pubrel a.asked t n m s passes comes before.asked_is;
-  refusals_are = latest-kept t.begins t.inside t.position n m s.session comes.at comes.same (received_as refusing_pubrec_in) (get nat_eq a.refusals) (get nat_eq a.refusals) before.refusals_are
-      (λ i. last-stays t.begins t.inside (received_as refusing_pubrec_in n) None t.position i (get nat_eq a.refusals i) (begins-not t (is_unasked n) passes)
+  refusals_are = latest-kept t.begins t.inside t.position n m s.session comes.at comes.same (received_as refusing_pubrec_in) (kept a.refusals) (kept a.refusals) before.refusals_are
+      (λ i. last-stays t.begins t.inside (received_as refusing_pubrec_in n) None t.position i (kept a.refusals i) (begins-not t (is_unasked n) passes)
       (received-none refusing_pubrec_in unasking-refusing n (passes-then t (is_unasked n) passes)) refl);
 }
 
@@ -356,7 +354,7 @@ waits-on x false m ms at es p o is answer cause before = waits-kept x false m ms
 pub unanswered-stays : (x : exchanges.Exchange) (a : Unanswered) (t : Turn) (n : Note) (m : Moment) (s : Stretches) → (goes_on t && is_unasked n) ≡ true → Comes t n m → IsUnanswered x a s → IsUnanswered x a (advanced t m s)
 unanswered-stays x a t n m s passes comes before = record {
   about = before.about;
-  in_order = waits-on x t.opens m s.connection (get nat_eq a.firsts) a.order.entries t.position (opens-not t (is_unasked n) passes) comes.at
+  in_order = waits-on x t.opens m s.connection (kept a.firsts) a.order.entries t.position (opens-not t (is_unasked n) passes) comes.at
       (ap x.answer comes.same ∙ sym (ap (λ y. y.answer n) before.about) ∙ unasked-answer a.exchange n quiet)
       (ap x.cause comes.same ∙ sym (ap (λ y. y.cause n) before.about) ∙ unasked-cause a.exchange n quiet)
       before.in_order;
@@ -372,10 +370,10 @@ request-stays false r i (Some q) o = refl
 
 pub requests-stay : (a : Requests) (t : Turn) (n : Note) (m : Moment) (s : Stretches) → (goes_on t && is_unasked n) ≡ true → Comes t n m → IsRequests a s → IsRequests a (advanced t m s)
 requests-stay a t n m s passes comes before = record {
-  subscribes_are = request-kept filters_of (received_as subscribe_in) (sent_as suback_in) t.opens n (request_of filters_of m) None None m s.connection (get nat_eq a.subscribes) (get nat_eq a.subscribes) comes.same refl
-      (sym (unasked-cause SubscribeSuback n quiet)) (sym (unasked-answer SubscribeSuback n quiet)) before.subscribes_are (λ i. request-stays t.opens (request_of filters_of m) i (get nat_eq a.subscribes i) opens);
-  unsubscribes_are = request-kept count_of (received_as unsubscribe_in) (sent_as unsuback_in) t.opens n (request_of count_of m) None None m s.connection (get nat_eq a.unsubscribes) (get nat_eq a.unsubscribes) comes.same refl
-      (sym (unasked-cause UnsubscribeUnsuback n quiet)) (sym (unasked-answer UnsubscribeUnsuback n quiet)) before.unsubscribes_are (λ i. request-stays t.opens (request_of count_of m) i (get nat_eq a.unsubscribes i) opens);
+  subscribes_are = request-kept filters_of (received_as subscribe_in) (sent_as suback_in) t.opens n (request_of filters_of m) None None m s.connection (kept a.subscribes) (kept a.subscribes) comes.same refl
+      (sym (unasked-cause SubscribeSuback n quiet)) (sym (unasked-answer SubscribeSuback n quiet)) before.subscribes_are (λ i. request-stays t.opens (request_of filters_of m) i (kept a.subscribes i) opens);
+  unsubscribes_are = request-kept count_of (received_as unsubscribe_in) (sent_as unsuback_in) t.opens n (request_of count_of m) None None m s.connection (kept a.unsubscribes) (kept a.unsubscribes) comes.same refl
+      (sym (unasked-cause UnsubscribeUnsuback n quiet)) (sym (unasked-answer UnsubscribeUnsuback n quiet)) before.unsubscribes_are (λ i. request-stays t.opens (request_of count_of m) i (kept a.unsubscribes i) opens);
 }
   where
     quiet : is_unasked n ≡ true
@@ -388,14 +386,14 @@ requests-stay a t n m s passes comes before = record {
 pub received-stays : (a : Received) (t : Turn) (n : Note) (m : Moment) (s : Stretches) → (goes_on t && is_unasked n) ≡ true → Comes t n m → IsReceived a s → IsReceived a (advanced t m s)
 received-stays a t n m s passes comes before = record {
   in_session = record {
-    brought_are = kept received_exactly_once (get nat_eq a.in_session.brought) before.in_session.brought_are (unasked-twice n quiet);
-    firsts_are = earliest-kept t.begins t.inside t.position n m s.session comes.at comes.same received_exactly_once (sent_as ended_in) (get nat_eq a.in_session.firsts) (get nat_eq a.in_session.firsts) before.in_session.firsts_are
-        (λ i. first-stays t.begins t.inside (received_exactly_once n) (sent_as ended_in n) t.position i (get nat_eq a.in_session.firsts i) starts (unasked-twice n quiet) (sent-none ended_in unanswering-ended n quiet));
-    enders_are = kept (sent_as ended_in) (get nat_eq a.in_session.enders) before.in_session.enders_are (sent-none ended_in unanswering-ended n quiet);
-    releases_are = kept released_id (get nat_eq a.in_session.releases) before.in_session.releases_are (unasked-released n quiet);
+    brought_are = still received_exactly_once (kept a.in_session.brought) before.in_session.brought_are (unasked-twice n quiet);
+    firsts_are = earliest-kept t.begins t.inside t.position n m s.session comes.at comes.same received_exactly_once (sent_as ended_in) (kept a.in_session.firsts) (kept a.in_session.firsts) before.in_session.firsts_are
+        (λ i. first-stays t.begins t.inside (received_exactly_once n) (sent_as ended_in n) t.position i (kept a.in_session.firsts i) starts (unasked-twice n quiet) (sent-none ended_in unanswering-ended n quiet));
+    enders_are = still (sent_as ended_in) (kept a.in_session.enders) before.in_session.enders_are (sent-none ended_in unanswering-ended n quiet);
+    releases_are = still released_id (kept a.in_session.releases) before.in_session.releases_are (unasked-released n quiet);
   };
-  earlier_are = earlier-kept t.begins received_exactly_once (get nat_eq a.in_session.brought) (contains nat_eq a.earlier) (contains nat_eq a.earlier) s.session s.earlier before.in_session.brought_are before.earlier_are
-      (λ i. earlier-stays t.begins (is_some (get nat_eq a.in_session.brought i)) (contains nat_eq a.earlier i) starts);
+  earlier_are = earlier-kept t.begins received_exactly_once (kept a.in_session.brought) (is_kept a.earlier) (is_kept a.earlier) s.session s.earlier before.in_session.brought_are before.earlier_are
+      (λ i. earlier-stays t.begins (is_some (kept a.in_session.brought i)) (is_kept a.earlier i) starts);
 }
   where
     starts : t.begins ≡ false
@@ -404,34 +402,34 @@ received-stays a t n m s passes comes before = record {
     quiet : is_unasked n ≡ true
     quiet = passes-then t (is_unasked n) passes
 
-    kept : (found : Note → Option ℕ) (at : ℕ → Option ℕ) → IsLatest at found s.session → found n ≡ None → IsLatest at found (longer t.begins t.inside m s.session)
-    kept found at are none = latest-kept t.begins t.inside t.position n m s.session comes.at comes.same found at at are (λ i. last-stays t.begins t.inside (found n) None t.position i (at i) starts none refl)
+    still : (found : Note → Option ℕ) (at : ℕ → Option ℕ) → IsLatest at found s.session → found n ≡ None → IsLatest at found (longer t.begins t.inside m s.session)
+    still found at are none = latest-kept t.begins t.inside t.position n m s.session comes.at comes.same found at at are (λ i. last-stays t.begins t.inside (found n) None t.position i (at i) starts none refl)
 
 -- what the tested end asks for
 pub senders-stay : (a : Senders) (t : Turn) (n : Note) (m : Moment) (s : Stretches) → (goes_on t && is_unasking n) ≡ true → Comes t n m → IsSenders a s → IsSenders a (advanced t m s)
 senders-stay a t n m s passes comes before = record {
   in_session = record {
-    openers_are = latest-kept t.begins t.inside t.position n m s.session comes.at comes.same opener_of (get nat_eq a.in_session.openers) (get nat_eq a.in_session.openers) before.in_session.openers_are
-        (λ i. last-stays t.begins t.inside (opener_of n) None t.position i (get nat_eq a.in_session.openers i) starts opener refl);
-    held_are = unended-kept t.begins t.inside t.position n m s.session comes.at comes.same opener_of closer_of (get nat_eq a.in_session.held) (get nat_eq a.in_session.held) before.in_session.held_are
-        (λ i. last-stays t.begins t.inside (opener_of n) (closer_of n) t.position i (get nat_eq a.in_session.held i) starts opener closer);
-    closers_are = latest-kept t.begins t.inside t.position n m s.session comes.at comes.same closer_of (get nat_eq a.in_session.closers) (get nat_eq a.in_session.closers) before.in_session.closers_are
-        (λ i. last-stays t.begins t.inside (closer_of n) None t.position i (get nat_eq a.in_session.closers i) starts closer refl);
-    pubrels_are = latest-kept t.begins t.inside t.position n m s.session comes.at comes.same (sent_as pubrel_in) (get nat_eq a.in_session.pubrels) (get nat_eq a.in_session.pubrels) before.in_session.pubrels_are
-        (λ i. last-stays t.begins t.inside (sent_as pubrel_in n) None t.position i (get nat_eq a.in_session.pubrels i) starts (asking-none pubrel_in unasking-pubrel n quiet) refl);
+    openers_are = latest-kept t.begins t.inside t.position n m s.session comes.at comes.same opener_of (kept a.in_session.openers) (kept a.in_session.openers) before.in_session.openers_are
+        (λ i. last-stays t.begins t.inside (opener_of n) None t.position i (kept a.in_session.openers i) starts opener refl);
+    held_are = unended-kept t.begins t.inside t.position n m s.session comes.at comes.same opener_of closer_of (kept a.in_session.held) (kept a.in_session.held) before.in_session.held_are
+        (λ i. last-stays t.begins t.inside (opener_of n) (closer_of n) t.position i (kept a.in_session.held i) starts opener closer);
+    closers_are = latest-kept t.begins t.inside t.position n m s.session comes.at comes.same closer_of (kept a.in_session.closers) (kept a.in_session.closers) before.in_session.closers_are
+        (λ i. last-stays t.begins t.inside (closer_of n) None t.position i (kept a.in_session.closers i) starts closer refl);
+    pubrels_are = latest-kept t.begins t.inside t.position n m s.session comes.at comes.same (sent_as pubrel_in) (kept a.in_session.pubrels) (kept a.in_session.pubrels) before.in_session.pubrels_are
+        (λ i. last-stays t.begins t.inside (sent_as pubrel_in n) None t.position i (kept a.in_session.pubrels i) starts (asking-none pubrel_in unasking-pubrel n quiet) refl);
   };
   on_connection = record {
-    deliveries_are = latest-kept t.opens true t.position n m s.connection comes.at comes.same delivery_of (get nat_eq a.on_connection.deliveries) (get nat_eq a.on_connection.deliveries) before.on_connection.deliveries_are
-        (λ i. last-stays t.opens true (delivery_of n) None t.position i (get nat_eq a.on_connection.deliveries i) opens (unasking-delivery n quiet) refl);
-    subscribes_are = unended-kept t.opens true t.position n m s.connection comes.at comes.same (sent_as subscribe_in) (received_as suback_in) (get nat_eq a.on_connection.subscribes) (get nat_eq a.on_connection.subscribes) before.on_connection.subscribes_are
-        (λ i. last-stays t.opens true (sent_as subscribe_in n) (received_as suback_in n) t.position i (get nat_eq a.on_connection.subscribes i) opens (asking-none subscribe_in unasking-subscribe n quiet)
+    deliveries_are = latest-kept t.opens true t.position n m s.connection comes.at comes.same delivery_of (kept a.on_connection.deliveries) (kept a.on_connection.deliveries) before.on_connection.deliveries_are
+        (λ i. last-stays t.opens true (delivery_of n) None t.position i (kept a.on_connection.deliveries i) opens (unasking-delivery n quiet) refl);
+    subscribes_are = unended-kept t.opens true t.position n m s.connection comes.at comes.same (sent_as subscribe_in) (received_as suback_in) (kept a.on_connection.subscribes) (kept a.on_connection.subscribes) before.on_connection.subscribes_are
+        (λ i. last-stays t.opens true (sent_as subscribe_in n) (received_as suback_in n) t.position i (kept a.on_connection.subscribes i) opens (asking-none subscribe_in unasking-subscribe n quiet)
         (answered-none suback_in unanswering-suback n quiet));
-    unsubscribes_are = unended-kept t.opens true t.position n m s.connection comes.at comes.same (sent_as unsubscribe_in) (received_as unsuback_in) (get nat_eq a.on_connection.unsubscribes) (get nat_eq a.on_connection.unsubscribes) before.on_connection.unsubscribes_are
-        (λ i. last-stays t.opens true (sent_as unsubscribe_in n) (received_as unsuback_in n) t.position i (get nat_eq a.on_connection.unsubscribes i) opens (asking-none unsubscribe_in unasking-unsubscribe n quiet)
+    unsubscribes_are = unended-kept t.opens true t.position n m s.connection comes.at comes.same (sent_as unsubscribe_in) (received_as unsuback_in) (kept a.on_connection.unsubscribes) (kept a.on_connection.unsubscribes) before.on_connection.unsubscribes_are
+        (λ i. last-stays t.opens true (sent_as unsubscribe_in n) (received_as unsuback_in n) t.position i (kept a.on_connection.unsubscribes i) opens (asking-none unsubscribe_in unasking-unsubscribe n quiet)
         (answered-none unsuback_in unanswering-unsuback n quiet));
   };
-  earlier_are = earlier-kept t.begins opener_of (get nat_eq a.in_session.openers) (contains nat_eq a.earlier) (contains nat_eq a.earlier) s.session s.earlier before.in_session.openers_are before.earlier_are
-      (λ i. earlier-stays t.begins (is_some (get nat_eq a.in_session.openers i)) (contains nat_eq a.earlier i) starts);
+  earlier_are = earlier-kept t.begins opener_of (kept a.in_session.openers) (is_kept a.earlier) (is_kept a.earlier) s.session s.earlier before.in_session.openers_are before.earlier_are
+      (λ i. earlier-stays t.begins (is_some (kept a.in_session.openers i)) (is_kept a.earlier i) starts);
 }
   where
     starts : t.begins ≡ false

@@ -1,7 +1,7 @@
 -- What is kept of the requests that wait for their answers, for B03 and B04.
-use Rattle.std.specs.Prelude.{ℕ, ◌≡◌, nat_eq, Bool, cond, List, length, Option, Some, None, option_map, unwrap_or}
+use Rattle.std.specs.Prelude.{ℕ, ◌≡◌, Bool, cond, List, length, Option, Some, None, option_map, unwrap_or}
 use Rattle.std.specs.Option.{option_and_then, option_or}
-use Rattle.indexmap.specs.IndexMap.{get}
+use Rattle.mq_rules.specs.ByIdentifier.{kept}
 use Rattle.mq_rules.specs.declared.note.Note.{Note}
 use Rattle.mq_rules.specs.Notes.{sent_grant, sent_unsuback, received_subscription, received_unsubscription, sent_as, received_as, subscribe_in, suback_in, unsubscribe_in, unsuback_in}
 use Rattle.mq_rules.specs.Moments.{Moment, position, note, earliest_since}
@@ -52,5 +52,5 @@ compared r codes = record { because = option_map (λ q. q.position) r; numbers =
 
 -- Under each identifier this is the first request that waits for its answer.
 pub record IsRequests (r : Requests) (seen : Stretches) : Type 0 where
-  pub subscribes_are : (i : ℕ) → get nat_eq r.subscribes i ≡ option_map (request_of filters_of) (first_subscribe i seen.connection)
-  pub unsubscribes_are : (i : ℕ) → get nat_eq r.unsubscribes i ≡ option_map (request_of count_of) (first_unsubscribe i seen.connection)
+  pub subscribes_are : (i : ℕ) → kept r.subscribes i ≡ option_map (request_of filters_of) (first_subscribe i seen.connection)
+  pub unsubscribes_are : (i : ℕ) → kept r.unsubscribes i ≡ option_map (request_of count_of) (first_unsubscribe i seen.connection)

@@ -3,7 +3,7 @@ use Rattle.std.specs.Prelude.{ℕ, ◌≡◌, ◌<◌, ◌==◌, ◌⊎◌, ◌&
 use Rattle.std.specs.Ordering.{nat_cmp}
 use Rattle.std.specs.Map.{remove_entry}
 use Rattle.std.specs.BTreeMap.{insert_entry, is_at}
-use Rattle.indexmap.specs.IndexMap.{get}
+use Rattle.mq_rules.specs.ByIdentifier.{kept}
 use Rattle.mq_rules.specs.Words.{is_some_and}
 use Rattle.mq_rules.specs.Moments.{Moment, position, note, is_unended, Among, IsDescending}
 use Rattle.mq_rules.specs.Exchanges.{Exchange, answers}
@@ -71,4 +71,4 @@ pub record IsInOrder (x : Exchange) (at : ℕ → Option ℕ) (es : Line) (ms : 
 -- It is about this exchange, and these stretches lead to what is kept, if each moment on the connection has a later position than those before it.
 pub record IsUnanswered (x : Exchange) (u : Unanswered) (seen : Stretches) : Type 0 where
   pub about : exchange_of u.exchange ≡ x
-  pub in_order : IsDescending seen.connection → IsInOrder x (get nat_eq u.firsts) u.order.entries seen.connection
+  pub in_order : IsDescending seen.connection → IsInOrder x (kept u.firsts) u.order.entries seen.connection

@@ -15,8 +15,7 @@ use crate::exchange::Exchange;
 use crate::in_session::keep_in_session;
 use crate::tables::{keep_earlier, keep_latest, later, only_among, position_of};
 use crate::turn::Turn;
-use indexmap::{IndexMap, IndexSet};
-use mq_rules::{Memory, Note, PacketFields};
+use mq_rules::{ByIdentifier, Memory, Note, PacketFields};
 use std::alloc::Global;
 
 /// The lowest Reason Code that refuses (MQTT 5.0, section 2.4).
@@ -29,11 +28,11 @@ pub struct Asked {
     alloc: Global,
     exchange: Exchange,
     /// The latest cause in the session.
-    causes: IndexMap<u16, u32>,
+    causes: ByIdentifier<u32>,
     /// The latest answer on the connection.
-    answers: IndexMap<u16, u32>,
+    answers: ByIdentifier<u32>,
     /// The identifiers of causes in earlier sessions.
-    earlier: IndexSet<u16>,
+    earlier: ByIdentifier<()>,
 }
 
 /// What asked for a PUBREL, and what was answered; and what told the tested end to send none.
@@ -42,7 +41,7 @@ pub struct Confirmed {
     alloc: Global,
     asked: Asked,
     /// The latest PUBREC of 0x80 or more in the session, by Packet Identifiers.
-    refusals: IndexMap<u16, u32>,
+    refusals: ByIdentifier<u32>,
 }
 
 // The Packet Identifier of a PUBREC of 0x80 or more, which refuses the PUBLISH (MQTT 5.0, section
@@ -71,9 +70,9 @@ impl Asked {
         Asked {
             alloc,
             exchange,
-            causes: IndexMap::new(alloc),
-            answers: IndexMap::new(alloc),
-            earlier: IndexSet::new(alloc),
+            causes: ByIdentifier::new(alloc),
+            answers: ByIdentifier::new(alloc),
+            earlier: ByIdentifier::new(alloc),
         }
     }
 
@@ -106,7 +105,7 @@ impl Asked {
     fn answered(&self, i: u16) -> Option<u32>
         ensures { (x : exchanges.Exchange) (s : Stretches) → IsAsked x self.now s → result ≡ option_map position (only (some (has_id x.cause i) s.session) (latest (has_id x.answer i) s.connection)) }
     {
-        if self.causes.contains_key(&i) {
+        if self.causes.contains(i) {
             position_of(&self.answers, i)
         } else {
             None
@@ -141,7 +140,7 @@ impl Confirmed {
         Confirmed {
             alloc,
             asked: Asked::new(alloc, Exchange::PubrecPubrel),
-            refusals: IndexMap::new(alloc),
+            refusals: ByIdentifier::new(alloc),
         }
     }
 

@@ -12,8 +12,7 @@ use crate::in_session::keep_in_session;
 use crate::passing::passes_asked;
 use crate::tables::{keep_earlier, keep_earliest, only_among, position_of};
 use crate::turn::Turn;
-use indexmap::{IndexMap, IndexSet};
-use mq_rules::{Memory, Note};
+use mq_rules::{ByIdentifier, Memory, Note};
 use std::alloc::Global;
 
 /// What was received and released in the session, by Packet Identifiers.
@@ -21,13 +20,13 @@ use std::alloc::Global;
 pub struct ReceivedInSession {
     alloc: Global,
     /// The latest PUBLISH of QoS 2.
-    brought: IndexMap<u16, u32>,
+    brought: ByIdentifier<u32>,
     /// The first PUBLISH of QoS 2 whose exchange hasn't ended since.
-    firsts: IndexMap<u16, u32>,
+    firsts: ByIdentifier<u32>,
     /// What ended an exchange last: a PUBCOMP, or a PUBREC of 0x80 or more.
-    enders: IndexMap<u16, u32>,
+    enders: ByIdentifier<u32>,
     /// The latest RELEASE.
-    releases: IndexMap<u16, u32>,
+    releases: ByIdentifier<u32>,
 }
 
 /// What was received and released.
@@ -35,7 +34,7 @@ pub struct ReceivedInSession {
 pub struct Received {
     in_session: ReceivedInSession,
     /// The identifiers of PUBLISHes of QoS 2 in earlier sessions.
-    earlier: IndexSet<u16>,
+    earlier: ByIdentifier<()>,
 }
 
 impl ReceivedInSession {
@@ -45,10 +44,10 @@ impl ReceivedInSession {
     {
         ReceivedInSession {
             alloc,
-            brought: IndexMap::new(alloc),
-            firsts: IndexMap::new(alloc),
-            enders: IndexMap::new(alloc),
-            releases: IndexMap::new(alloc),
+            brought: ByIdentifier::new(alloc),
+            firsts: ByIdentifier::new(alloc),
+            enders: ByIdentifier::new(alloc),
+            releases: ByIdentifier::new(alloc),
         }
     }
 
@@ -83,7 +82,7 @@ impl Received {
     {
         Received {
             in_session: ReceivedInSession::new(alloc),
-            earlier: IndexSet::new(alloc),
+            earlier: ByIdentifier::new(alloc),
         }
     }
 
@@ -110,7 +109,7 @@ impl Received {
         ensures { (s : Stretches) → IsReceived self.now s → result ≡ cond (some (has_id received_exactly_once i) s.session) (option_map position (latest (has_id (sent_as ended_in) i) s.session))
             (only (some_session (has_id received_exactly_once i) s.earlier) begun) }
     {
-        if self.in_session.brought.contains_key(&i) {
+        if self.in_session.brought.contains(i) {
             return position_of(&self.in_session.enders, i);
         }
         only_among(&self.earlier, i, begun)

@@ -1,7 +1,7 @@
 //! The requests that wait for their answers, with their numbers of Topic Filters (MQTT 5.0,
 //! sections 3.9.3 and 3.11.3): the evidence of B03 and B04.
-ghost use Rattle.std.specs.Prelude.{◌≡◌, ℕ, OnOk, Some, nat_eq, length, option_map};
-ghost use Rattle.indexmap.specs.IndexMap.{get};
+ghost use Rattle.std.specs.Prelude.{◌≡◌, ℕ, OnOk, Some, length, option_map};
+ghost use Rattle.mq_rules.specs.ByIdentifier.{kept};
 ghost use Rattle.mq_rules.specs.Words.{is_id};
 ghost use Rattle.mq_rules.specs.Notes.{sent_grant, sent_unsuback};
 ghost use Rattle.mq_rules.specs.Moments.{Moment};
@@ -10,8 +10,7 @@ ghost use Rattle.mq_evidence.specs.Requests.{IsRequests, request_next, filters_o
 
 use crate::evidence::{Evidence, Numbers};
 use crate::turn::Turn;
-use indexmap::IndexMap;
-use mq_rules::{Memory, Note, PacketFields};
+use mq_rules::{ByIdentifier, Memory, Note, PacketFields};
 use std::alloc::Global;
 
 /// A request that waits for its answer.
@@ -28,9 +27,9 @@ pub struct Request {
 pub struct Requests {
     alloc: Global,
     /// A SUBSCRIBE, which waits for its SUBACK.
-    subscribes: IndexMap<u16, Request>,
+    subscribes: ByIdentifier<Request>,
     /// An UNSUBSCRIBE, which waits for its UNSUBACK.
-    unsubscribes: IndexMap<u16, Request>,
+    unsubscribes: ByIdentifier<Request>,
 }
 
 // How many Topic Filters a SUBSCRIBE has that was received.
@@ -76,24 +75,23 @@ fn acknowledged(note: &Note) -> Option<(u16, u64)>
 // Keeps a request under the identifier that it gains, unless one is there, and drops that under the
 // identifier of an answer. On a connection that begins with the event there was none.
 fn keep_request(
-    requests: &mut IndexMap<u16, Request>,
+    requests: &mut ByIdentifier<Request>,
     alloc: Global,
     opens: bool,
     gained: Option<u16>,
     lost: Option<u16>,
     request: Request,
 ) -> Result<(), Memory>
-    ensures { OnOk result ((i : ℕ) → get nat_eq requests.new i ≡ request_next opens (is_id i gained) (is_id i lost) request (get nat_eq requests.old i)) }
+    ensures { OnOk result ((i : ℕ) → kept requests.new i ≡ request_next opens (is_id i gained) (is_id i lost) request (kept requests.old i)) }
 {
     if opens {
-        // A large map that is cleared costs its size each time.
-        *requests = IndexMap::new(alloc);
+        *requests = ByIdentifier::new(alloc);
     }
     if let Some(i) = lost {
-        requests.swap_remove(&i);
+        requests.remove(i);
     }
     if let Some(i) = gained {
-        if requests.get(&i).is_none() {
+        if !requests.contains(i) {
             requests.insert(i, request)?;
         }
     }
@@ -117,10 +115,10 @@ fn compare(request: Option<Request>, codes: u64) -> Evidence
 }
 
 // What such an answer under this identifier conflicts with.
-fn compare_under(requests: &IndexMap<u16, Request>, i: u16, codes: u64) -> Evidence
-    ensures { result ≡ compared (get nat_eq requests.now i) codes }
+fn compare_under(requests: &ByIdentifier<Request>, i: u16, codes: u64) -> Evidence
+    ensures { result ≡ compared (kept requests.now i) codes }
 {
-    compare(requests.get(&i).copied(), codes)
+    compare(requests.get(i), codes)
 }
 
 impl Requests {
@@ -130,8 +128,8 @@ impl Requests {
     {
         Requests {
             alloc,
-            subscribes: IndexMap::new(alloc),
-            unsubscribes: IndexMap::new(alloc),
+            subscribes: ByIdentifier::new(alloc),
+            unsubscribes: ByIdentifier::new(alloc),
         }
     }
 

@@ -11,8 +11,7 @@ ghost use Rattle.mq_evidence.specs.Senders.{IsSenders, IsSentInSession, IsSentOn
 use crate::passing::passes_asking;
 use crate::tables::{keep_earlier, keep_latest, later, only_among, position_of};
 use crate::turn::Turn;
-use indexmap::{IndexMap, IndexSet};
-use mq_rules::{Memory, Note};
+use mq_rules::{ByIdentifier, Memory, Note};
 use std::alloc::Global;
 
 /// What was sent in the session, and what set it free, by Packet Identifiers.
@@ -20,13 +19,13 @@ use std::alloc::Global;
 pub struct SentInSession {
     alloc: Global,
     /// The latest new PUBLISH.
-    openers: IndexMap<u16, u32>,
+    openers: ByIdentifier<u32>,
     /// The latest new PUBLISH, if nothing set its identifier free after it.
-    held: IndexMap<u16, u32>,
+    held: ByIdentifier<u32>,
     /// What set the identifier free last.
-    closers: IndexMap<u16, u32>,
+    closers: ByIdentifier<u32>,
     /// The latest PUBREL.
-    pubrels: IndexMap<u16, u32>,
+    pubrels: ByIdentifier<u32>,
 }
 
 /// What was sent on the connection, by Packet Identifiers.
@@ -34,11 +33,11 @@ pub struct SentInSession {
 pub struct SentOnConnection {
     alloc: Global,
     /// The latest PUBLISH of QoS 1 or 2, new or sent again.
-    deliveries: IndexMap<u16, u32>,
+    deliveries: ByIdentifier<u32>,
     /// The latest SUBSCRIBE, if no SUBACK came after it.
-    subscribes: IndexMap<u16, u32>,
+    subscribes: ByIdentifier<u32>,
     /// The latest UNSUBSCRIBE, if no UNSUBACK came after it.
-    unsubscribes: IndexMap<u16, u32>,
+    unsubscribes: ByIdentifier<u32>,
 }
 
 /// What the tested end sends under Packet Identifiers.
@@ -47,7 +46,7 @@ pub struct Senders {
     in_session: SentInSession,
     on_connection: SentOnConnection,
     /// The identifiers of new PUBLISHes in earlier sessions.
-    earlier: IndexSet<u16>,
+    earlier: ByIdentifier<()>,
 }
 
 impl SentInSession {
@@ -57,10 +56,10 @@ impl SentInSession {
     {
         SentInSession {
             alloc,
-            openers: IndexMap::new(alloc),
-            held: IndexMap::new(alloc),
-            closers: IndexMap::new(alloc),
-            pubrels: IndexMap::new(alloc),
+            openers: ByIdentifier::new(alloc),
+            held: ByIdentifier::new(alloc),
+            closers: ByIdentifier::new(alloc),
+            pubrels: ByIdentifier::new(alloc),
         }
     }
 
@@ -118,9 +117,9 @@ impl SentOnConnection {
     {
         SentOnConnection {
             alloc,
-            deliveries: IndexMap::new(alloc),
-            subscribes: IndexMap::new(alloc),
-            unsubscribes: IndexMap::new(alloc),
+            deliveries: ByIdentifier::new(alloc),
+            subscribes: ByIdentifier::new(alloc),
+            unsubscribes: ByIdentifier::new(alloc),
         }
     }
 
@@ -172,7 +171,7 @@ impl Senders {
         Senders {
             in_session: SentInSession::new(alloc),
             on_connection: SentOnConnection::new(alloc),
-            earlier: IndexSet::new(alloc),
+            earlier: ByIdentifier::new(alloc),
         }
     }
 
@@ -213,7 +212,7 @@ impl Senders {
         ensures { (s : Stretches) → IsSenders self.now s → result ≡ cond (is_some (latest (has_id opener_of i) s.session)) (option_map position (latest (has_id closer_of i) s.session))
             (only (some_session (has_id opener_of i) s.earlier) begun) }
     {
-        if self.in_session.openers.contains_key(&i) {
+        if self.in_session.openers.contains(i) {
             return position_of(&self.in_session.closers, i);
         }
         only_among(&self.earlier, i, begun)

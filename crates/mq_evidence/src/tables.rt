@@ -1,14 +1,11 @@
 //! What is kept under each Packet Identifier (MQTT 5.0, section 2.2.1) of a stretch of the log: the
 //! positions of its latest or of its earliest events of one kind, or only that there are some.
-ghost use Rattle.std.specs.Prelude.{◌≡◌, ◌||◌, ◌&&◌, ℕ, OnOk, nat_eq, is_some, not};
-ghost use Rattle.std.specs.List.{list_any};
-ghost use Rattle.indexmap.specs.IndexMap.{get};
-ghost use Rattle.indexmap.specs.IndexSet.{contains};
+ghost use Rattle.std.specs.Prelude.{◌≡◌, ◌&&◌, ℕ, OnOk, is_some, not};
+ghost use Rattle.mq_rules.specs.ByIdentifier.{is_kept, kept};
 ghost use Rattle.mq_rules.specs.Words.{is_id, only};
 ghost use Rattle.mq_evidence.specs.Stretches.{last_next, first_next, once_next, again_next, earlier_next, later_at};
 
-use indexmap::{IndexMap, IndexSet};
-use mq_rules::Memory;
+use mq_rules::{ByIdentifier, Memory};
 use std::alloc::Global;
 
 // Whether an event changes nothing: no stretch begins anew with it, and it gains and loses nothing.
@@ -24,7 +21,7 @@ fn changes_nothing(over: bool, gained: Option<u16>, lost: Option<u16>) -> bool
 /// that of one which it loses. A stretch that begins anew with the event has none before.
 #[inline(always)]
 pub fn keep_latest(
-    positions: &mut IndexMap<u16, u32>,
+    positions: &mut ByIdentifier<u32>,
     alloc: Global,
     over: bool,
     inside: bool,
@@ -32,7 +29,7 @@ pub fn keep_latest(
     lost: Option<u16>,
     position: u32,
 ) -> Result<(), Memory>
-    ensures { OnOk result ((i : ℕ) → get nat_eq positions.new i ≡ last_next over inside (is_id i gained) (is_id i lost) position (get nat_eq positions.old i)) }
+    ensures { OnOk result ((i : ℕ) → kept positions.new i ≡ last_next over inside (is_id i gained) (is_id i lost) position (kept positions.old i)) }
 {
     if changes_nothing(over, gained, lost) {
         return Ok(());
@@ -43,7 +40,7 @@ pub fn keep_latest(
 // The same, of any event.
 #[inline(never)]
 fn change_latest(
-    positions: &mut IndexMap<u16, u32>,
+    positions: &mut ByIdentifier<u32>,
     alloc: Global,
     over: bool,
     inside: bool,
@@ -51,17 +48,16 @@ fn change_latest(
     lost: Option<u16>,
     position: u32,
 ) -> Result<(), Memory>
-    ensures { OnOk result ((i : ℕ) → get nat_eq positions.new i ≡ last_next over inside (is_id i gained) (is_id i lost) position (get nat_eq positions.old i)) }
+    ensures { OnOk result ((i : ℕ) → kept positions.new i ≡ last_next over inside (is_id i gained) (is_id i lost) position (kept positions.old i)) }
 {
     if over {
-        // A large map that is cleared costs its size each time.
-        *positions = IndexMap::new(alloc);
+        *positions = ByIdentifier::new(alloc);
     }
     if !inside {
         return Ok(());
     }
     if let Some(i) = lost {
-        positions.swap_remove(&i);
+        positions.remove(i);
     }
     if let Some(i) = gained {
         positions.insert(i, position)?;
@@ -72,7 +68,7 @@ fn change_latest(
 /// The same, but keeps the position that is there.
 #[inline(always)]
 pub fn keep_earliest(
-    positions: &mut IndexMap<u16, u32>,
+    positions: &mut ByIdentifier<u32>,
     alloc: Global,
     over: bool,
     inside: bool,
@@ -80,7 +76,7 @@ pub fn keep_earliest(
     lost: Option<u16>,
     position: u32,
 ) -> Result<(), Memory>
-    ensures { OnOk result ((i : ℕ) → get nat_eq positions.new i ≡ first_next over inside (is_id i gained) (is_id i lost) position (get nat_eq positions.old i)) }
+    ensures { OnOk result ((i : ℕ) → kept positions.new i ≡ first_next over inside (is_id i gained) (is_id i lost) position (kept positions.old i)) }
 {
     if changes_nothing(over, gained, lost) {
         return Ok(());
@@ -91,7 +87,7 @@ pub fn keep_earliest(
 // The same, of any event.
 #[inline(never)]
 fn change_earliest(
-    positions: &mut IndexMap<u16, u32>,
+    positions: &mut ByIdentifier<u32>,
     alloc: Global,
     over: bool,
     inside: bool,
@@ -99,20 +95,19 @@ fn change_earliest(
     lost: Option<u16>,
     position: u32,
 ) -> Result<(), Memory>
-    ensures { OnOk result ((i : ℕ) → get nat_eq positions.new i ≡ first_next over inside (is_id i gained) (is_id i lost) position (get nat_eq positions.old i)) }
+    ensures { OnOk result ((i : ℕ) → kept positions.new i ≡ first_next over inside (is_id i gained) (is_id i lost) position (kept positions.old i)) }
 {
     if over {
-        // As above.
-        *positions = IndexMap::new(alloc);
+        *positions = ByIdentifier::new(alloc);
     }
     if !inside {
         return Ok(());
     }
     if let Some(i) = lost {
-        positions.swap_remove(&i);
+        positions.remove(i);
     }
     if let Some(i) = gained {
-        if positions.get(&i).is_none() {
+        if !positions.contains(i) {
             positions.insert(i, position)?;
         }
     }
@@ -154,30 +149,18 @@ pub fn keep_again(
     if over { None } else { old }
 }
 
-// Adds these identifiers to a set.
-fn add_all(set: &mut IndexSet<u16>, identifiers: &[u16]) -> Result<(), Memory>
-    ensures { OnOk result ((i : ℕ) → contains nat_eq set.new i ≡ (list_any (nat_eq i) identifiers.now || contains nat_eq set.old i)) }
-{
-    let mut identifiers = identifiers;
-    while let Some((i, next)) = identifiers.split_first() {
-        set.insert(*i)?;
-        identifiers = next;
-    }
-    Ok(())
-}
-
 /// Where a session begins anew, what was gained in the one before joins what was gained in earlier
 /// ones.
 #[inline]
 pub fn keep_earlier(
-    earlier: &mut IndexSet<u16>,
+    earlier: &mut ByIdentifier<()>,
     begins: bool,
-    before: &IndexMap<u16, u32>,
+    before: &ByIdentifier<u32>,
 ) -> Result<(), Memory>
-    ensures { OnOk result ((i : ℕ) → contains nat_eq earlier.new i ≡ earlier_next begins (is_some (get nat_eq before.now i)) (contains nat_eq earlier.old i)) }
+    ensures { OnOk result ((i : ℕ) → is_kept earlier.new i ≡ earlier_next begins (is_some (kept before.now i)) (is_kept earlier.old i)) }
 {
     if begins {
-        add_all(earlier, before.keys().as_slice())?;
+        earlier.insert_all(before, ())?;
     }
     Ok(())
 }
@@ -196,15 +179,15 @@ pub fn later(a: Option<u32>, b: Option<u32>) -> Option<u32>
 }
 
 /// A position, if an identifier is in a set.
-pub fn only_among(set: &IndexSet<u16>, i: u16, position: Option<u32>) -> Option<u32>
-    ensures { result ≡ only (contains nat_eq set.now i) position }
+pub fn only_among(set: &ByIdentifier<()>, i: u16, position: Option<u32>) -> Option<u32>
+    ensures { result ≡ only (is_kept set.now i) position }
 {
-    if set.contains(&i) { position } else { None }
+    if set.contains(i) { position } else { None }
 }
 
 /// The position that is kept under an identifier.
-pub fn position_of(positions: &IndexMap<u16, u32>, i: u16) -> Option<u32>
-    ensures { result ≡ get nat_eq positions.now i }
+pub fn position_of(positions: &ByIdentifier<u32>, i: u16) -> Option<u32>
+    ensures { result ≡ kept positions.now i }
 {
-    positions.get(&i).copied()
+    positions.get(i)
 }

@@ -1,8 +1,8 @@
 //! The causes of an exchange that wait for their answers, in their order (MQTT 5.0, section 4.6):
 //! the evidence of E1O to E3O.
-ghost use Rattle.std.specs.Prelude.{◌≡◌, ℕ, [], None, Some, OnOk, nat_eq, cond, option_map};
+ghost use Rattle.std.specs.Prelude.{◌≡◌, ℕ, [], None, Some, OnOk, cond, option_map};
 ghost use Rattle.std.specs.Option.{option_and_then, option_or};
-ghost use Rattle.indexmap.specs.IndexMap.{get};
+ghost use Rattle.mq_rules.specs.ByIdentifier.{kept};
 ghost use Rattle.mq_rules.specs.Words.{is_id};
 ghost use Rattle.mq_rules.specs.Exchanges as exchanges;
 ghost use Rattle.mq_rules.specs.Moments.{Moment, position, IsDescending};
@@ -12,8 +12,7 @@ ghost use Rattle.mq_evidence.specs.Unanswered.{IsUnanswered, first_but, other_of
 
 use crate::exchange::Exchange;
 use crate::turn::Turn;
-use indexmap::IndexMap;
-use mq_rules::{Memory, Note};
+use mq_rules::{ByIdentifier, Memory, Note};
 use std::alloc::Global;
 use std::collections::BTreeMap;
 
@@ -23,37 +22,31 @@ pub struct Unanswered {
     alloc: Global,
     exchange: Exchange,
     /// Its position, by Packet Identifiers.
-    firsts: IndexMap<u16, u32>,
+    firsts: ByIdentifier<u32>,
     /// The same in their order: the Packet Identifiers by the positions.
     order: BTreeMap<u32, u16>,
 }
 
 // Where a connection begins, nothing waits on it.
-fn begin(
-    firsts: &mut IndexMap<u16, u32>,
-    order: &mut BTreeMap<u32, u16>,
-    alloc: Global,
-    opens: bool,
-)
-    ensures firsts { (i : ℕ) → get nat_eq firsts.new i ≡ cond opens None (get nat_eq firsts.old i) }
+fn begin(firsts: &mut ByIdentifier<u32>, order: &mut BTreeMap<u32, u16>, alloc: Global, opens: bool)
+    ensures firsts { (i : ℕ) → kept firsts.new i ≡ cond opens None (kept firsts.old i) }
     ensures order { order.new.entries ≡ cond opens [] order.old.entries }
 {
     if opens {
-        // A large map that is cleared costs its size each time.
-        *firsts = IndexMap::new(alloc);
+        *firsts = ByIdentifier::new(alloc);
         *order = BTreeMap::new(alloc);
     }
 }
 
 // Takes out what waits under the identifier of an answer.
-fn settle(firsts: &mut IndexMap<u16, u32>, order: &mut BTreeMap<u32, u16>, answer: Option<u16>)
-    ensures firsts { (i : ℕ) → get nat_eq firsts.new i ≡ cond (is_id i answer) None (get nat_eq firsts.old i) }
-    ensures order { order.new.entries ≡ left_of (option_and_then (get nat_eq firsts.old) answer) order.old.entries }
+fn settle(firsts: &mut ByIdentifier<u32>, order: &mut BTreeMap<u32, u16>, answer: Option<u16>)
+    ensures firsts { (i : ℕ) → kept firsts.new i ≡ cond (is_id i answer) None (kept firsts.old i) }
+    ensures order { order.new.entries ≡ left_of (option_and_then (kept firsts.old) answer) order.old.entries }
 {
     let Some(i) = answer else {
         return;
     };
-    let Some(first) = firsts.swap_remove(&i) else {
+    let Some(first) = firsts.remove(i) else {
         return;
     };
     order.remove(&first);
@@ -61,18 +54,18 @@ fn settle(firsts: &mut IndexMap<u16, u32>, order: &mut BTreeMap<u32, u16>, answe
 
 // Adds a cause, if nothing waits under its identifier.
 fn wait(
-    firsts: &mut IndexMap<u16, u32>,
+    firsts: &mut ByIdentifier<u32>,
     order: &mut BTreeMap<u32, u16>,
     cause: Option<u16>,
     position: u32,
 ) -> Result<(), Memory>
-    ensures firsts { OnOk result ((i : ℕ) → get nat_eq firsts.new i ≡ option_or (get nat_eq firsts.old i) (cond (is_id i cause) (Some position) None)) }
-    ensures order { OnOk result (order.new.entries ≡ joined (get nat_eq firsts.old) cause position order.old.entries) }
+    ensures firsts { OnOk result ((i : ℕ) → kept firsts.new i ≡ option_or (kept firsts.old i) (cond (is_id i cause) (Some position) None)) }
+    ensures order { OnOk result (order.new.entries ≡ joined (kept firsts.old) cause position order.old.entries) }
 {
     let Some(i) = cause else {
         return Ok(());
     };
-    if firsts.contains_key(&i) {
+    if firsts.contains(i) {
         return Ok(());
     }
     firsts.insert(i, position)?;
@@ -101,7 +94,7 @@ impl Unanswered {
         Unanswered {
             alloc,
             exchange,
-            firsts: IndexMap::new(alloc),
+            firsts: ByIdentifier::new(alloc),
             order: BTreeMap::new(alloc),
         }
     }

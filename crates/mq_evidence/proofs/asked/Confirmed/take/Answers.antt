@@ -1,5 +1,5 @@
-use Rattle.std.proofs.Common.{ap, ◌∙◌, nat_eq, false}
-use Rattle.indexmap.specs.IndexMap.{get}
+use Rattle.std.proofs.Common.{ap, ◌∙◌, false}
+use Rattle.mq_rules.specs.ByIdentifier.{kept}
 use Rattle.mq_rules.specs.Words.{is_id}
 use Rattle.mq_rules.specs.Notes.{received_as}
 use Rattle.mq_rules.specs.Exchanges.{pubrec_pubrel}
@@ -15,6 +15,6 @@ returns c = λ m s comes before.
     let old = c.args.self.now in
     record {
       asked_is = c.in_ok-take.ensures pubrec_pubrel m s comes before.asked_is;
-      refusals_are = latest-kept t.begins t.inside t.position n m s.session comes.at comes.same (received_as refusing_pubrec_in) (get nat_eq old.refusals) (get nat_eq c.keep_in_session.new.positions) before.refusals_are
-          (λ i. c.in_ok-keep_in_session.ensures i ∙ ap (λ o. last_next t.begins t.inside (is_id i o) false t.position (get nat_eq old.refusals i)) c.received_refusal-refusal.ensures);
+      refusals_are = latest-kept t.begins t.inside t.position n m s.session comes.at comes.same (received_as refusing_pubrec_in) (kept old.refusals) (kept c.keep_in_session.new.positions) before.refusals_are
+          (λ i. c.in_ok-keep_in_session.ensures i ∙ ap (λ o. last_next t.begins t.inside (is_id i o) false t.position (kept old.refusals i)) c.received_refusal-refusal.ensures);
     }

@@ -1,5 +1,5 @@
-use Rattle.std.proofs.Common.{ap, sym, ◌∙◌, nat_eq}
-use Rattle.indexmap.specs.IndexMap.{get}
+use Rattle.std.proofs.Common.{ap, sym, ◌∙◌}
+use Rattle.mq_rules.specs.ByIdentifier.{kept}
 use Rattle.mq_evidence.proofs.UnansweredLaws.{waits-kept}
 use Rattle.mq_evidence.proofs.unanswered.Unanswered.take.Goals as goal
 
@@ -9,7 +9,7 @@ returns c = λ x m s comes before.
     record {
       about = before.about;
       in_order = waits-kept x c.args.turn.opens m s.connection
-          (get nat_eq old.firsts) (get nat_eq c.begin.new.firsts) (get nat_eq c.settle.new.firsts) (get nat_eq c.wait.new.firsts)
+          (kept old.firsts) (kept c.begin.new.firsts) (kept c.settle.new.firsts) (kept c.wait.new.firsts)
           old.order.entries c.begin.new.order.entries c.settle.new.order.entries c.wait.new.order.entries
           c.answer-answer.result c.cause-cause.result c.args.turn.position
           comes.at
