@@ -1,6 +1,7 @@
 pub mod FindingLaws
 pub mod RestLaws
 pub mod FollowingLaws
+pub mod UntilLaws
 pub mod SecondReadingLaws
 pub mod SourceLaws
 pub mod ComparingLaws

@@ -138,7 +138,7 @@ decided-within tested (e ∷ past) k d r h = go (decided tested past k r) refl (
 
 -- ---- the whole evidence
 
-whole : (tested : Tested) (log : List Seen) (k : ℕ) (r : Rule) (of : Reason) → fails tested log k r ≡ true → reason tested.role r ≡ of
+pub whole : (tested : Tested) (log : List Seen) (k : ℕ) (r : Rule) (of : Reason) → fails tested log k r ≡ true → reason tested.role r ≡ of
     → evidence tested log k r ≡ unwrap_or (option_map (λ m. found of (fate tested.role (number m) log) (option_and_then (moment log) (decided tested log k r)) m) (moment log k)) nothing
 unfolding evidence
 whole tested log k r of failing is =

@@ -14,6 +14,7 @@ use crate::introducing::Introducing;
 use crate::rejudging::Rejudging;
 use crate::reviewing::{Reviewing, Wanted};
 use crate::second_reading::follow_reader;
+use crate::until::Until;
 use mq_books::Early;
 use mq_evidence::{ConnectionExplaining, Evidence, Explaining, Rests};
 use mq_log::Refusal;
@@ -114,7 +115,7 @@ pub trait Answers: Follower {
         ensures { (taken : Option TheFate) (past : List Seen) → Self.agrees self.now tested taken past → AnswersFor tested named verdict.now.events (map.entries verdict.now.faults) past result };
 }
 
-impl<K: Wanted> Answers for Both<Rejudging, Both<Introducing<K>, Early<Reviewing<K>>>> {
+impl<K: Wanted> Answers for Both<Rejudging, Until<Both<Introducing<K>, Early<Reviewing<K>>>, K>> {
     ghost sought = { K.wanted };
 
     fn answer(
@@ -135,14 +136,15 @@ fn watcher_of<K: Wanted>(
     alloc: Global,
     tested: Tested,
     faults: &Faults,
-) -> Result<Both<Rejudging, Both<Introducing<K>, Early<Reviewing<K>>>>, Memory>
+) -> Result<Both<Rejudging, Until<Both<Introducing<K>, Early<Reviewing<K>>>, K>>, Memory>
     requires { K.wanted ≡ faults.now }
-    ensures { IfOk result (λ watcher. ⟦<Both<Rejudging, Both<Introducing<K>, Early<Reviewing<K>>>> as Watch>⟧.agrees watcher tested (Some Void) []) }
+    ensures { IfOk result (λ watcher. ⟦<Both<Rejudging, Until<Both<Introducing<K>, Early<Reviewing<K>>>, K>> as Watch>⟧.agrees watcher tested (Some Void) []) }
 {
     let introducing = introducing_of::<K>(alloc, tested, faults)?;
     let reviewing = reviewing_of::<K>(alloc, tested, faults)?;
     let rejudging = Rejudging::new(alloc, tested);
-    let explaining = Both::new(introducing, reviewing);
+    let both = Both::new(introducing, reviewing);
+    let explaining = Until::new(both, faults);
     Ok(Both::new(rejudging, explaining))
 }
 
@@ -186,13 +188,13 @@ fn reviewing_of<K: Wanted>(
 // Errors: `Changed` if the log's verdict is another one; `Memory`.
 fn reasons_in<K: Wanted>(
     alloc: Global,
-    reading: &Both<Rejudging, Both<Introducing<K>, Early<Reviewing<K>>>>,
+    reading: &Both<Rejudging, Until<Both<Introducing<K>, Early<Reviewing<K>>>, K>>,
     tested: Tested,
     named: Tested,
     verdict: &Verdict,
 ) -> Result<Vec<Evidence>, Unexplained>
     requires { K.wanted ≡ verdict.now.faults }
-    ensures { (taken : Option TheFate) (past : List Seen) → ⟦<Both<Rejudging, Both<Introducing<K>, Early<Reviewing<K>>>> as Watch>⟧.agrees reading.now tested taken past
+    ensures { (taken : Option TheFate) (past : List Seen) → ⟦<Both<Rejudging, Until<Both<Introducing<K>, Early<Reviewing<K>>>, K>> as Watch>⟧.agrees reading.now tested taken past
         → AnswersFor tested named verdict.now.events (map.entries verdict.now.faults) past result }
 {
     if !same_end(named, tested) {
@@ -225,16 +227,16 @@ pub trait Reasons {
         ensures { (tested : Tested) (past : List Seen) → role ≡ tested.role → knows self.now tested past → IsWanted wanted tested past (key, fault) → IsReason tested past key result };
 }
 
-impl<K: Wanted> Reasons for Both<Introducing<K>, Early<Reviewing<K>>> {
+impl<K: Wanted> Reasons for Until<Both<Introducing<K>, Early<Reviewing<K>>>, K> {
     ghost use Rattle.std.specs.Prelude.{Option};
     ghost use Rattle.mq_rules.specs.declared.fate.Fate.{Fate};
 
-    ghost knows = { λ s tested past. (taken : Option Fate) × ⟦<Both<Introducing<K>, Early<Reviewing<K>>> as Watch>⟧.agrees s tested taken past };
+    ghost knows = { λ s tested past. (taken : Option Fate) × ⟦<Until<Both<Introducing<K>, Early<Reviewing<K>>>, K> as Watch>⟧.agrees s tested taken past };
 
     ghost wanted = { K.wanted };
 
     fn reason(&self, role: Role, key: FaultKey, fault: Fault) -> Evidence {
-        evidence_of(self, role, key, fault)
+        evidence_of(&self.watcher, role, key, fault)
     }
 }
 

@@ -1,22 +1,22 @@
 //! A sink that drives a watcher over the events of a log.
-ghost use Rattle.std.specs.Prelude.{◌≡◌, ◌∷◌, List, OnOk, map, unwrap_or};
-ghost use Rattle.mq_packet.specs.Sizes.{size_with, remaining_length};
-ghost use Rattle.mq_log.specs.Events.{Placed};
-ghost use Rattle.mq_log.specs.Reception.{AreEvents, placed_at, packet_event_at};
-ghost use Rattle.mq_rules.specs.declared.role.Tested.{Tested as TheTested};
-ghost use Rattle.mq_rules.specs.Notes.{seen as seen_of, note_of};
-ghost use Rattle.mq_trail.specs.Following.{HasFollowed};
+ghost use Rattle.std.specs.Prelude.{◌≡◌, OnOk};
+ghost use Rattle.mq_packet.specs.Reading.{view};
+ghost use Rattle.mq_packet.specs.declared.packet.Packet.TheVariants as packets;
+ghost use Rattle.mq_log.specs.Events.{packet as packet_item};
+ghost use Rattle.mq_log.specs.Flows.{item_event};
+ghost use Rattle.mq_log.specs.Reception.{event_of};
+ghost use Rattle.mq_rules.specs.Notes.{note_of, note_of_bare};
+ghost use Rattle.mq_trail.specs.Following.{TakesIn};
 
-use mq_books::{Early, Fated};
 use mq_log::{Direction, Event, Place3, Refusal};
-use mq_packet::Packet;
-use mq_rules::{Both, Faults, Memory, Note, Watch};
+use mq_packet::{Packet, Publish};
+use mq_rules::{Bare, BareFields, Both, Brisk, Faults, Memory, Note, is_bare};
 use mq_trace::Sink;
 use std::alloc::Global;
 use std::marker::{Brand, PhantomData};
 
 /// A watcher that takes in any event that may follow the events before it.
-pub trait Follower: Watch {
+pub trait Follower: Brisk {
     ghost use Rattle.std.specs.Prelude.{List, Option};
     ghost use Rattle.mq_rules.specs.declared.role.Tested.{Tested};
     ghost use Rattle.mq_rules.specs.declared.fate.Fate.{Fate};
@@ -29,10 +29,6 @@ pub trait Follower: Watch {
 
 impl<A: Follower, B: Follower> Follower for Both<A, B> {
     ghost takes_any = { λ tested taken e past on. (A.takes_any tested taken e past on, B.takes_any tested taken e past on) };
-}
-
-impl<W: Fated> Follower for Early<W> {
-    ghost takes_any = { λ tested taken e past on. tt };
 }
 
 /// Which end is tested. Each call of `follow_as` picks it.
@@ -87,9 +83,33 @@ impl<W, K> Following<W, K> {
 }
 
 impl<W: Follower, K> Following<W, K> {
+    // Takes in the note of an event.
+    #[inline(always)]
+    fn take_note(&mut self, place: Place3, note: &Note) -> Result<(), Memory>
+        ensures { OnOk result (TakesIn W.agrees self.old.watcher self.new.watcher place note.now) }
+    {
+        let mut faults = Faults::new(self.alloc);
+        self.watcher.step(place, note, &mut faults)?;
+        Ok(())
+    }
+
+    // Takes in a packet without properties, by its numbers.
+    #[inline(always)]
+    fn take_bare(&mut self, place: Place3, bare: Bare<'_>) -> Result<(), Memory>
+        ensures { OnOk result (TakesIn W.agrees self.old.watcher self.new.watcher place (note_of_bare bare.entry)) }
+    {
+        let mut faults = Faults::new(self.alloc);
+        self.watcher.step_bare(place, bare, &mut faults)?;
+        Ok(())
+    }
+
+    // What makes a note is a call of its own: a note that a function makes lies in memory on all ways
+    // through it.
+
     // Makes a note of an event, and takes it in.
-    fn take(&mut self, place: Place3, event: &Event<'_>) -> Result<(), Memory>
-        ensures { OnOk result ((tested : TheTested) (earlier : List Placed) → AreEvents (placed_at place event.now ∷ earlier) → HasFollowed W.agrees tested self.old.watcher (map seen_of earlier) → HasFollowed W.agrees tested self.new.watcher (map seen_of (placed_at place event.now ∷ earlier))) }
+    #[inline(never)]
+    fn take_event(&mut self, place: Place3, event: &Event<'_>) -> Result<(), Memory>
+        ensures { OnOk result (TakesIn W.agrees self.old.watcher self.new.watcher place (note_of (event_of event.now))) }
     {
         let note = Note::of(self.alloc, event)?;
         self.take_note(place, &note)?;
@@ -105,22 +125,74 @@ impl<W: Follower, K> Following<W, K> {
         size: u32,
         packet: Packet<'_>,
     ) -> Result<(), Memory>
-        ensures { OnOk result ((tested : TheTested) (earlier : List Placed) → size ≡ unwrap_or (size_with (remaining_length packet.entry)) 0 → AreEvents (packet_event_at place direction packet.entry ∷ earlier) → HasFollowed W.agrees tested self.old.watcher (map seen_of earlier)
-            → HasFollowed W.agrees tested self.new.watcher (map seen_of (packet_event_at place direction packet.entry ∷ earlier))) }
+        ensures { OnOk result (TakesIn W.agrees self.old.watcher self.new.watcher place (note_of (item_event direction (packet_item size (view packet.entry))))) }
     {
         let note = Note::of_packet(self.alloc, direction, size, &packet)?;
         self.take_note(place, &note)?;
         Ok(())
     }
 
-    // Takes in the note of an event.
-    #[inline(always)]
-    fn take_note(&mut self, place: Place3, note: &Note) -> Result<(), Memory>
-        ensures { OnOk result ((tested : TheTested) (earlier : List Placed) (p : Placed) → p.place ≡ place → note.now ≡ note_of p.event → AreEvents (p ∷ earlier) → HasFollowed W.agrees tested self.old.watcher (map seen_of earlier) → HasFollowed W.agrees tested self.new.watcher (map seen_of (p ∷ earlier))) }
+    // The same of a PUBLISH.
+    #[inline(never)]
+    fn take_publish(
+        &mut self,
+        place: Place3,
+        direction: Direction,
+        size: u32,
+        publish: Publish<'_>,
+    ) -> Result<(), Memory>
+        ensures { OnOk result (TakesIn W.agrees self.old.watcher self.new.watcher place (note_of (item_event direction (packet_item size (view (packets.Publish publish.entry)))))) }
     {
-        let mut faults = Faults::new(self.alloc);
-        self.watcher.step(place, note, &mut faults)?;
-        Ok(())
+        self.take_packet(place, direction, size, Packet::Publish(publish))
+    }
+
+    // Takes in the next event, a packet.
+    #[inline(always)]
+    fn receive_packet(
+        &mut self,
+        place: Place3,
+        direction: Direction,
+        size: u32,
+        packet: Packet<'_>,
+    ) -> Result<(), Memory>
+        ensures { OnOk result (TakesIn W.agrees self.old.watcher self.new.watcher place (note_of (item_event direction (packet_item size (view packet.entry))))) }
+    {
+        match BareFields::of_packet(&packet) {
+            Some(fields) => self.take_bare(
+                place,
+                Bare {
+                    direction,
+                    size,
+                    fields,
+                },
+            ),
+            None => self.take_packet(place, direction, size, packet),
+        }
+    }
+
+    // Takes in the next event, a PUBLISH.
+    #[inline(always)]
+    fn receive_publish(
+        &mut self,
+        place: Place3,
+        direction: Direction,
+        size: u32,
+        publish: Publish<'_>,
+    ) -> Result<(), Memory>
+        ensures { OnOk result (TakesIn W.agrees self.old.watcher self.new.watcher place (note_of (item_event direction (packet_item size (view (packets.Publish publish.entry)))))) }
+    {
+        if !is_bare(&publish) {
+            return self.take_publish(place, direction, size, publish);
+        }
+        let bare = Bare::of_publish(
+            direction,
+            size,
+            publish.identifier,
+            publish.qos,
+            publish.duplicate,
+            publish.topic,
+        );
+        self.take_bare(place, bare)
     }
 }
 
@@ -135,13 +207,12 @@ impl<W: Follower, K: Watched> Sink for Following<W, K> {
     ghost refuses = { λ sink received refusal. refusal ≡ refusals.Memory 0 };
 
     fn event(&mut self, place: Place3, event: Event<'_>) -> Result<(), Refusal> {
-        match self.take(place, &event) {
+        match self.take_event(place, &event) {
             Ok(()) => Ok(()),
             Err(Memory) => Err(Refusal::Memory(0)),
         }
     }
 
-    // An event that is made of a packet would only be taken apart again.
     #[inline(always)]
     fn packet(
         &mut self,
@@ -150,7 +221,21 @@ impl<W: Follower, K: Watched> Sink for Following<W, K> {
         size: u32,
         packet: Packet<'_>,
     ) -> Result<(), Refusal> {
-        let Ok(()) = self.take_packet(place, direction, size, packet) else {
+        let Ok(()) = self.receive_packet(place, direction, size, packet) else {
+            return Err(Refusal::Memory(0));
+        };
+        Ok(())
+    }
+
+    #[inline(always)]
+    fn publish(
+        &mut self,
+        place: Place3,
+        direction: Direction,
+        size: u32,
+        publish: Publish<'_>,
+    ) -> Result<(), Refusal> {
+        let Ok(()) = self.receive_publish(place, direction, size, publish) else {
             return Err(Refusal::Memory(0));
         };
         Ok(())

@@ -6,8 +6,8 @@ ghost use Rattle.mq_rules.specs.declared.fate.Fate.TheVariants.{Void};
 ghost use Rattle.mq_evidence.specs.ConnectionTrails.{IsConnectionExplaining};
 ghost use Rattle.mq_trail.specs.Resting.{IsResting};
 
-use crate::following::Follower;
 use crate::reviewing::Wanted;
+use crate::until::Explainer;
 use mq_evidence::{ConnectionExplaining, Rests};
 use mq_log::Place3;
 use mq_rules::{Faults, Memory, Note, Watch};
@@ -73,6 +73,8 @@ impl<K: Wanted> Watch for Introducing<K> {
     }
 }
 
-impl<K: Wanted> Follower for Introducing<K> {
+impl<K: Wanted> Explainer for Introducing<K> {
     ghost takes_any = { λ tested taken e past on. tt };
+
+    ghost adds_none = { λ tested e past k r. refl };
 }

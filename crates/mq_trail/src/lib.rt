@@ -9,6 +9,7 @@ mod introducing;
 mod rejudging;
 mod reviewing;
 mod second_reading;
+mod until;
 
 pub use comparing::{copy_of, same_end, same_faults};
 pub use explaining::{Answers, Reasons, Unexplained, explain_reader};
@@ -18,3 +19,4 @@ pub use introducing::Introducing;
 pub use rejudging::Rejudging;
 pub use reviewing::{Reviewing, Wanted};
 pub use second_reading::follow_reader;
+pub use until::{Explainer, Until};

@@ -10,7 +10,7 @@ use crate::following::Follower;
 use mq_books::Watchers;
 use mq_log::Place3;
 use mq_report::Verdict;
-use mq_rules::{Faults, Memory, Note, Tested, Watch};
+use mq_rules::{Bare, Brisk, Faults, Memory, Note, Tested, Watch};
 use std::alloc::Global;
 
 /// Judges a log again, and finds its faults itself: it adds none to those that a step is given.
@@ -77,6 +77,15 @@ impl Watch for Rejudging {
     // It isn't weighed: a log is read a second time only if it has faults.
     fn weight(&self) -> usize {
         0
+    }
+}
+
+impl Brisk for Rejudging {
+    #[inline(always)]
+    fn step_bare(&mut self, place: Place3, bare: Bare<'_>, _: &mut Faults) -> Result<(), Memory> {
+        self.watchers.step_bare(place, bare, &mut self.faults)?;
+        self.events = place.position;
+        Ok(())
     }
 }
 

@@ -1,4 +1,4 @@
-use Rattle.mq_trail.proofs.explaining.BothRejudgingBothIntroducingEarlyReviewingAnswers.answer.Goals as goal
+use Rattle.mq_trail.proofs.explaining.BothRejudgingUntilBothIntroducingEarlyReviewingAnswers.answer.Goals as goal
 
 pub reasons_in-requires : goal.reasons_in-requires
 reasons_in-requires g c = c.requires

@@ -1,0 +1,42 @@
+use Rattle.std.proofs.Common.{false, refl, ◌∷◌, ◌+◌, length}
+use Rattle.mq_rules.specs.Connections.{latest_fate}
+use Rattle.mq_rules.specs.Under.{seen}
+use Rattle.mq_rules.proofs.Exports.{gains_nothing, gains_same, on_err, within_same}
+use Rattle.mq_trail.proofs.UntilLaws.{seen-all, seen-next, seen-still}
+use Rattle.mq_trail.proofs.until.UntilWatch.step.Goals as goal
+
+pub returns-then-at-self-clause-agrees : goal.returns-then-at-self-clause-agrees
+returns-then-at-self-clause-agrees g c = λ tested taken past follows on was.
+    seen-still g.W.Watch.agrees g.K.Wanted.wanted tested c.args.self.now.last c.args.at.position c.args.self.now.watcher (seen c.args.at c.args.note.now) past follows.placed.0 c.if-at-self.true was
+
+pub returns-then-at-self-clause-grows : goal.returns-then-at-self-clause-grows
+returns-then-at-self-clause-grows g c = λ tested taken past follows on was.
+    gains_nothing (λ k r. false) tested (seen c.args.at c.args.note.now ∷ past) (length past + 1) c.args.faults.now (λ k r. refl)
+
+pub returns-clause-agrees : goal.returns-clause-agrees
+returns-clause-agrees g c = λ tested taken past follows on was.
+    let s = c.args.self.now in
+    let e = seen c.args.at c.args.note.now in
+    let fate = latest_fate tested.role past in
+    seen-next g.W.Watch.agrees g.K.Wanted.wanted tested s.last c.args.at.position s.watcher c.step.new.self e past follows.placed.0 c.if-at-self.false was
+    (c.in_ok-step.ensures.agrees tested fate past follows (g.met.W.Explainer.takes_any tested fate e past on)
+    (seen-all g.W.Watch.agrees g.K.Wanted.wanted tested s.last c.args.at.position s.watcher past follows.placed.0 c.if-at-self.false was))
+
+pub returns-clause-grows : goal.returns-clause-grows
+returns-clause-grows g c = λ tested taken past follows on was.
+    let s = c.args.self.now in
+    let e = seen c.args.at c.args.note.now in
+    let fate = latest_fate tested.role past in
+    gains_same (g.W.Watch.adds tested e past) (λ k r. false) tested (e ∷ past) (length past + 1) c.args.faults.now c.step.new.faults (g.met.W.Explainer.adds_none tested e past)
+    (c.in_ok-step.ensures.grows tested fate past follows (g.met.W.Explainer.takes_any tested fate e past on)
+    (seen-all g.W.Watch.agrees g.K.Wanted.wanted tested s.last c.args.at.position s.watcher past follows.placed.0 c.if-at-self.false was))
+
+pub returns-in_err-step-clause-memory : goal.returns-in_err-step-clause-memory
+returns-in_err-step-clause-memory g c =
+    on_err c.from_residual.result _ (λ tested taken past follows on was.
+    let s = c.args.self.now in
+    let e = seen c.args.at c.args.note.now in
+    let fate = latest_fate tested.role past in
+    within_same (g.W.Watch.adds tested e past) (λ k r. false) tested (e ∷ past) (length past + 1) c.args.faults.now c.step.new.faults (g.met.W.Explainer.adds_none tested e past)
+    (c.in_err-step.ensures.memory tested fate past follows (g.met.W.Explainer.takes_any tested fate e past on)
+    (seen-all g.W.Watch.agrees g.K.Wanted.wanted tested s.last c.args.at.position s.watcher past follows.placed.0 c.if-at-self.false was)))
