@@ -41,13 +41,15 @@ def cost(kind: str, version: int, mqjudge: Path, task: str, amount: int, folder:
     return an_event(kind, counts, halves)
 
 
-def cost_with_faults(kind: str, mqjudge: Path, task: str, amount: int, folder: Path, bounds: Bounds) -> float | None:
-    """The same of a log of version 1 that has two faults, both of them before the events that are counted."""
+def cost_with_faults(
+    kind: str, mqjudge: Path, task: str, also_last: bool, amount: int, folder: Path, bounds: Bounds
+) -> float | None:
+    """The same of a log of version 1 that has two faults before the events that are counted, and maybe more after them."""
     counts, halves = [], (amount // 2, amount)
     for number in halves:
-        log = folder / f"{kind}-{number}-faulty.log"
+        log = folder / f"{kind}-{number}-{'last' if also_last else 'first'}-faulty.log"
         if not log.exists():
-            kinds.write_faulty(log, kind, number)
+            kinds.write_faulty(log, kind, number, also_last)
         counts.append(instructions(words_for(mqjudge, task, log), folder, bounds, 0 if task in ("show", "faults") else 1)[0])
     return an_event(kind, counts, halves)
 
@@ -128,16 +130,18 @@ def print_coverage(mqjudge: Path, chosen: list[str], messages: int, bounds: Boun
 
 def print_why(mqjudge: Path, chosen: list[str], messages: int, bounds: Bounds) -> bool:
     """Prints how many instructions an event of a log with faults takes `check` and `show`, without what the faults conflict with and with
-    it, and says whether they could be counted."""
+    it, after the last fault and before it, and says whether they could be counted."""
     if counter() is None:
         print("instructions can't be counted: perf can't, and there is no valgrind")
         return False
-    unknown, columns = 0, "{:<24} {:>12} {:>12} {:>12} {:>12}  {}"
-    print(columns.format("log", "check", "--why", "show", "--faults", f"instructions an event, by {counter()}"), flush=True)
+    unknown, columns = 0, "{:<24} {:>9} {:>9} {:>9} {:>9} {:>9} {:>9}  {}"
+    tasks = (("check", False), ("why", False), ("why", True), ("show", False), ("faults", False), ("faults", True))
+    names = ("log", "check", "--why", "before", "show", "--faults", "before")
+    print(columns.format(*names, f"instructions an event after the last fault, or before it, by {counter()}"), flush=True)
     with tempfile.TemporaryDirectory(prefix="mqjudge-bench-") as name:
         for kind in chosen:
             amount = min(messages, 8) if kind == "large" else messages
-            costs = [cost_with_faults(kind, mqjudge, task, amount, Path(name), bounds) for task in ("check", "why", "show", "faults")]
+            costs = [cost_with_faults(kind, mqjudge, task, also_last, amount, Path(name), bounds) for task, also_last in tasks]
             unknown += None in costs
             figures = ["-" if one is None else f"{one:,.0f}" for one in costs]
             print(columns.format(kind, *figures, "").rstrip(), flush=True)

@@ -19,14 +19,16 @@ def write(path: Path, kind: str, amount: int, version: int = 1) -> None:
         file.writelines(log(kind, amount, version))
 
 
-def write_faulty(path: Path, kind: str, amount: int) -> None:
-    """Writes the same with two faults: on a connection before all others the tested end sends a packet that it may not send."""
+def write_faulty(path: Path, kind: str, amount: int, also_last: bool) -> None:
+    """Writes the same with two faults: on a connection before all others the tested end sends a packet that it may not send; and if that
+    is wanted, it sends one more after all that is in the log."""
     write(path, kind, amount)
     text = path.read_bytes()
     header, rest = text[: len(make_log.HEADER)], text[len(make_log.HEADER) :]
-    astray = make_log.PINGREQ if header[ROLE_AT] == SERVER else make_log.PINGRESP
-    records = [make_log.record(make_log.OPEN), make_log.record(make_log.SENT, astray), make_log.record(make_log.CLOSE)]
-    path.write_bytes(b"".join([header, *records, rest]))
+    astray = make_log.record(make_log.SENT, make_log.PINGREQ if header[ROLE_AT] == SERVER else make_log.PINGRESP)
+    before = [make_log.record(make_log.OPEN), astray, make_log.record(make_log.CLOSE)]
+    after = before if kind in make_log.KINDS else [astray]  # the last connection of any other log is open
+    path.write_bytes(b"".join([header, *before, rest, *(after if also_last else [])]))
 
 
 def events(kind: str, amount: int) -> int:

@@ -119,11 +119,16 @@ impl<W: Explainer, K: Wanted> Watch for Until<W, K> {
 
 impl<W: Explainer, K: Wanted> Brisk for Until<W, K> {
     #[inline(always)]
-    fn step_bare(&mut self, at: Place3, bare: Bare<'_>, faults: &mut Faults) -> Result<(), Memory> {
-        if at.position > self.last {
+    fn step_bare(
+        &mut self,
+        place: Place3,
+        bare: Bare<'_>,
+        faults: &mut Faults,
+    ) -> Result<(), Memory> {
+        if place.position > self.last {
             return Ok(());
         }
-        step_apart(&mut self.watcher, at, bare, faults)?;
+        step_apart(&mut self.watcher, place, bare, faults)?;
         Ok(())
     }
 }
