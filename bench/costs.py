@@ -13,6 +13,7 @@ MOST_OF_CONVERT = 2.0  # its time over that of `show`
 MOST_GROWTH = 1.1  # its memory on a log of four times the size over that on the shorter one
 FACTOR = 4
 SHOWN = "small"  # the kind of log that is converted: each packet in a record of its own
+WITH_FAULTS = "why", "faults"  # the tasks that are measured on logs with faults, before the last of them
 COLUMNS = "{:<24} {:<6} {:>12} {:>12} {:>6}  {}"
 
 
@@ -79,7 +80,10 @@ def print_bounded(mqjudge: Path, table: Path, messages: int, bounds: Bounds) -> 
     print(f"{'log':<24} {'task':<8} {'at most':>9} {'takes':>9}  instructions an event, by {counter()}", flush=True)
     with tempfile.TemporaryDirectory(prefix="mqjudge-bench-") as name:
         for kind, task, most in most_allowed(table):
-            takes = cost(kind, 1, mqjudge, task, messages, Path(name), bounds)
+            if task in WITH_FAULTS:
+                takes = cost_with_faults(kind, mqjudge, task, True, messages, Path(name), bounds)
+            else:
+                takes = cost(kind, 1, mqjudge, task, messages, Path(name), bounds)
             is_above = takes is None or takes > most
             above, count = above + is_above, count + 1
             figure = "-" if takes is None else f"{takes:,.0f}"
