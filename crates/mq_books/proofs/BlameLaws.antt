@@ -1,5 +1,6 @@
 -- Faults at earlier positions, decided with one event.
-use Rattle.std.proofs.Common.{◌≡◌, ℕ, ◌==◌, Bool, true, false, cond, ◌&&◌, ◌⊎◌, inl, inr, List, [], ◌∷◌, Option, Some, None, refl, ap, sym, ◌∙◌, subst}
+use Rattle.std.proofs.Common.{◌≡◌, ℕ, ◌+◌, ◌-◌, ◌<◌, ◌≤◌, ◌==◌, arith, Bool, true, false, cond, ◌&&◌, ◌⊎◌, inl, inr, List, [], ◌∷◌, length, is_some, Option, Some, None, refl, ap, sym, ◌∙◌, subst}
+use Rattle.std.proofs.lemmas.List.{nil_from_length}
 use Rattle.std.specs.Option.{option_or}
 use denote.Enum.Bare.{same_true}
 use Rattle.mq_log.specs.declared.place.Place3.{Place3}
@@ -14,7 +15,9 @@ use Rattle.mq_rules.specs.Moments.{moment}
 use Rattle.mq_rules.specs.Rules.{same_rule}
 use Rattle.mq_rules.specs.Faults.{reported}
 use Rattle.mq_rules.specs.FaultKeys.{FaultMap, fault_at, with_fault}
-use Rattle.mq_rules.proofs.Exports.{fault_at-with_fault, option_or-none}
+use Rattle.mq_rules.specs.IdentifierCounts.{ids_where}
+use Rattle.mq_rules.specs.KeptOrder.{IsFirst, found_from, values_of}
+use Rattle.mq_rules.proofs.Exports.{fault_at-with_fault, found_from-first, found_from-none, option_or-none, values-counted}
 use Rattle.mq_rules.specs.Under.{turns_with}
 use Rattle.mq_rules.specs.Growing.{added, Gains, GainsWithin}
 use Rattle.mq_books.specs.Owings.{blamed, Keeps}
@@ -108,3 +111,33 @@ gains_none tested rule f e past at old is = record { each = λ k r. sym (ap (opt
     go : (k : ℕ) (r : Rule) (s : Bool) → same_rule r rule ≡ s → cond (s && turns_with tested f e past k r) (Some (reported tested.role (moment (e ∷ past) k) r at)) None ≡ None
     go k r false h = refl
     go k r true h = ap (λ b. cond b (Some (reported tested.role (moment (e ∷ past) k) r at)) None) (ap (λ q. turns_with tested f e past k q) (same_true the_type tt r rule h) ∙ is k)
+
+-- ---- the faults of what is due, in the order of the identifiers
+
+pub blamed-first : (rule : Rule) (at : ℕ) (due : ℕ → Option Place3) (next i : ℕ) (place : Place3) (m : FaultMap) → next ≤ 65536 → i < 65536 → IsFirst due next (Some (i, place))
+    → blamed rule at (found_from due next (65536 - next)) m
+    ≡ blamed rule at (found_from due (i + 1) (65536 - (i + 1))) (with_fault (record { position = place.position; rule = rule }) (record { decided = at; record_no = place.record_no; offset = None }) m)
+blamed-first rule at due next i place m within small first =
+    let from = first.0 in
+    ap (λ places. blamed rule at places m) (found_from-first due next (65536 - next) i (65536 - (i + 1)) place first (omega (arith, within, small, from)))
+
+pub blamed-none : (rule : Rule) (at : ℕ) (due : ℕ → Option Place3) (next : ℕ) (m : FaultMap) → IsFirst due next None → blamed rule at (found_from due next (65536 - next)) m ≡ m
+blamed-none rule at due next m none = ap (λ places. blamed rule at places m) (found_from-none due next (65536 - next) none)
+
+pub blamed-all : (rule : Rule) (at : ℕ) (due : ℕ → Option Place3) (m : FaultMap) → blamed rule at (found_from due 0 65536) m ≡ blamed rule at (values_of due) m
+unfolding values_of
+blamed-all rule at due m = refl
+
+-- how many of them are left
+pub left-first : (due : ℕ → Option Place3) (next i : ℕ) (place : Place3) → next ≤ 65536 → i < 65536 → IsFirst due next (Some (i, place)) → length (found_from due next (65536 - next)) ≡ 1 + length (found_from due (i + 1) (65536 - (i + 1)))
+left-first due next i place within small first =
+    let from = first.0 in
+    let one : length (found_from due next (65536 - next)) ≡ length (place ∷ found_from due (i + 1) (65536 - (i + 1))) = ap (length {A = Place3}) (found_from-first due next (65536 - next) i (65536 - (i + 1)) place first (omega (arith, within, small, from))) in
+    omega (arith, one)
+
+pub left-all : (due : ℕ → Option Place3) → length (found_from due 0 65536) ≡ ids_where (λ i. is_some (due i))
+unfolding values_of
+left-all due = values-counted due
+
+pub blamed-end : (rule : Rule) (at : ℕ) (places : List Place3) (m : FaultMap) → length places ≡ 0 → blamed rule at places m ≡ m
+blamed-end rule at places m none = ap (λ places. blamed rule at places m) (nil_from_length places none)

@@ -15,7 +15,7 @@ use Rattle.mq_rules.specs.declared.packet_note.PublishNote.{PublishNote}
 use Rattle.mq_rules.specs.Words.{is_some_and, is_id, only}
 use Rattle.mq_rules.specs.Notes.{is_open, sent_publish}
 use Rattle.mq_rules.specs.Moments.{Moment, newest, note, some, count}
-use Rattle.mq_rules.specs.Connections.{is_connected, connection, on_open, latest_fate}
+use Rattle.mq_rules.specs.Connections.{is_connected, connection, latest_fate}
 use Rattle.mq_rules.specs.Pasts.{set_alias}
 use Rattle.mq_rules.specs.Subscriptions.{topic_set, last_set}
 use Rattle.mq_rules.specs.Rules.{line_of, found_line, lines, binds_end}
@@ -23,7 +23,8 @@ use Rattle.mq_rules.specs.Burden.{sets_another, aliases_sent}
 use Rattle.mq_rules.proofs.Exports.{connection-newest, or_false}
 use Rattle.mq_books.specs.Requesting.{binds_requests}
 use Rattle.mq_books.specs.Holding.{settled}
-use Rattle.mq_books.specs.Burden.{ids_where, aliased_ids, aliases_undecided}
+use Rattle.mq_rules.specs.IdentifierCounts.{ids_where}
+use Rattle.mq_books.specs.Burden.{aliased_ids, aliases_undecided}
 use Rattle.mq_books.proofs.SizeLaws.{ids-listed}
 
 -- ---- exchanges

@@ -1,14 +1,10 @@
 -- Events that don't concern a book.
-use Rattle.std.proofs.Common.{◌≡◌, ℕ, zero, suc, ◌+◌, ◌-◌, ◌<◌, ◌==◌, nat_eq, nat_lt, arith, Bool, true, false, cond, ◌&&◌, ◌||◌, not, List, [], ◌∷◌, ◌++◌, length, ◌⊎◌, inl, inr, Option, Some, None, option_map, refl, ap, sym, subst, ◌∙◌, append-nil}
+use Rattle.std.proofs.Common.{◌≡◌, ℕ, ◌+◌, ◌-◌, ◌<◌, ◌==◌, nat_lt, arith, Bool, true, false, cond, ◌&&◌, ◌||◌, not, List, [], ◌∷◌, ◌++◌, inl, Option, Some, None, option_map, refl, ap, sym, subst, ◌∙◌, append-nil}
 use Rattle.std.specs.Prelude.{is_some, nat_le, unwrap_or}
-use Rattle.std.specs.List.{IsDistinct, list_any, sum_by}
-use Rattle.std.specs.Map.{keys_of, values_of, lookup}
+use Rattle.std.specs.List.{list_any, sum_by}
 use Rattle.std.specs.Option.{option_or}
-use Rattle.indexmap.specs.IndexMap.{get}
-use Rattle.indexmap.specs.IndexSet.{contains}
 use Rattle.mq_log.specs.declared.place.Place3.{Place3}
 use Rattle.mq_rules.specs.declared.role.Role.{Role}
-use Rattle.mq_rules.specs.declared.role.Role.TheVariants.{Client, Server}
 use Rattle.mq_rules.specs.declared.role.Tested.{Tested}
 use Rattle.mq_rules.specs.declared.rule.Rule.{Rule}
 use Rattle.mq_rules.specs.declared.rule.Rule.TheVariants.{S07, E7R, L1, L2, L3, B01, B02}
@@ -17,7 +13,7 @@ use Rattle.mq_rules.specs.declared.packet_note.PublishNote.{PublishNote}
 use Rattle.mq_rules.specs.declared.note.Note.{Note}
 use Rattle.mq_rules.specs.declared.note.Seen.{Seen}
 use Rattle.mq_rules.specs.Words.{is_some_and, is_id, only}
-use Rattle.mq_rules.specs.Notes.{is_open, is_close, is_boundary, is_rest, is_release, released_id, received_exactly_once, sent_as, received_as, ended_in, unmatched_pubrec_in, success_pubcomp_in, received_subscription, sent_grant, sent_publish, delivery_of, closer_of, is_received_pingreq, is_sent_pingresp}
+use Rattle.mq_rules.specs.Notes.{is_open, is_close, is_boundary, is_rest, is_release, released_id, received_exactly_once, sent_as, ended_in, unmatched_pubrec_in, success_pubcomp_in, received_subscription, sent_grant, sent_publish, delivery_of, closer_of, is_received_pingreq, is_sent_pingresp}
 use Rattle.mq_rules.specs.Moments.{Moment}
 use Rattle.mq_rules.specs.Connections.{latest_fate, accepts, begins, surprises}
 use Rattle.mq_rules.specs.Pasts.{set_alias}
@@ -37,11 +33,11 @@ use Rattle.mq_books.specs.declared.pings.Pings.{Pings}
 use Rattle.mq_books.specs.Concerns.{Passes, concerns_count, concerns_asked, concerns_owed, concerns_pings, concerns_quota, concerns_releases, concerns_deliveries}
 use Rattle.mq_books.specs.Answering.{IsApart}
 use Rattle.mq_books.specs.Askings.{IsAsked, answered_next, is_unasked}
-use Rattle.mq_books.specs.Owings.{due_next, binds_by, IsOwing}
+use Rattle.mq_books.specs.Owings.{due_next, IsOwing}
 use Rattle.mq_books.specs.Orderings.{looked_at, passes_over, queued_next, ordered_by}
 use Rattle.mq_books.specs.Countings.{Counting, IsCounting, IsCounted, counted_next, differs}
-use Rattle.mq_books.specs.Pingings.{ends_by, counted, unanswered, is_server, IsPings}
-use Rattle.mq_books.specs.Quotas.{announced, may_count, flown, exceeds, IsQuota}
+use Rattle.mq_books.specs.Pingings.{ends_by, counted, is_server, IsPings}
+use Rattle.mq_books.specs.Quotas.{announced, may_count, IsQuota}
 use Rattle.mq_books.specs.Releasing as releasing
 use Rattle.mq_books.specs.Releasing.{IsReleasing, is_inside, starts_over, kept_next, lasting}
 use Rattle.mq_books.specs.Standings.{Waits, IsStanding, weighed, asked, is_answered, goes_on, grants_some, judged_topic, delivers_so, is_unasked as unasked, is_above}
@@ -141,43 +137,42 @@ asked-passes tested rule x early apart says f fate opened answered at e past bou
 -- ---- what is owed
 
 pub owing-passes : (tested : Tested) (x : Exchange) → IsApart x → (settled : Rule) (ordered : Option Rule) → statement tested.role settled ≡ at_rest (shows_R x) → ((rule : Rule) → ordered ≡ Some rule → statement tested.role rule ≡ in_session (λ f. breaks_O x))
-    → (binding order_binding : Bool) (f fate : Fate) (ended : Bool) (es : List (ℕ × Place3)) (queue : List Debt) (at : ℕ) (e : Seen) (past : List Seen)
-    → concerns_owed x e.note ≡ false → IsUnder tested f at e past → IsDistinct nat_eq (keys_of es) → IsOwing x settled ordered binding order_binding fate ended (λ i. lookup (nat_eq i) es) queue tested (fate_before tested f e past) past
-    → IsOwing x settled ordered binding order_binding fate ended (λ i. lookup (nat_eq i) es) queue tested (Some f) (e ∷ past)
+    → (binding order_binding : Bool) (f fate : Fate) (ended : Bool) (due : ℕ → Option Place3) (queue : List Debt) (at : ℕ) (e : Seen) (past : List Seen)
+    → concerns_owed x e.note ≡ false → IsUnder tested f at e past → ((i : ℕ) → is_some (due i) ≡ true → i < 65536) → IsOwing x settled ordered binding order_binding fate ended due queue tested (fate_before tested f e past) past
+    → IsOwing x settled ordered binding order_binding fate ended due queue tested (Some f) (e ∷ past)
     × ((m : FaultMap) → Gains (λ k r. (same_rule r settled || is_some_and (same_rule r) ordered) && turns_with tested f e past k r) tested (e ∷ past) at m m)
-owing-passes tested x apart settled ordered says_settled says_ordered binding order_binding f fate ended es queue at e past h under distinct before =
+owing-passes tested x apart settled ordered says_settled says_ordered binding order_binding f fate ended due queue at e past h under within before =
     let n = e.note in
-    let due : ℕ → Option Place3 = λ i. lookup (nat_eq i) es in
     let h1 = neither (is_open n) (is_rest n || (ends_by n || (is_some (x.cause n) || is_some (x.answer n)))) h in
     let h2 = neither (is_rest n) (ends_by n || (is_some (x.cause n) || is_some (x.answer n))) h1.1 in
     let h3 = neither (ends_by n) (is_some (x.cause n) || is_some (x.answer n)) h2.1 in
     let h4 = neither (is_some (x.cause n)) (is_some (x.answer n)) h3.1 in
     let asks : x.cause n ≡ None = nothing (x.cause n) h4.0 in
     let gives : x.answer n ≡ None = nothing (x.answer n) h4.1 in
-    let o : IsOwing x settled ordered binding order_binding fate ended (λ i. lookup (nat_eq i) es) queue tested (Some f) past =
-    subst (λ (t : Option Fate). IsOwing x settled ordered binding order_binding fate ended (λ i. lookup (nat_eq i) es) queue tested t past) (sym (closed-before tested f e past h1.0)) before in
-    let next : IsOwing x settled ordered binding order_binding f ended (λ i. lookup (nat_eq i) es) queue tested (Some f) (e ∷ past) =
-    owing-next tested x apart settled ordered binding order_binding f fate at ended ended (λ i. lookup (nat_eq i) es) (λ i. lookup (nat_eq i) es) queue queue queue queue e past under before
+    let o : IsOwing x settled ordered binding order_binding fate ended due queue tested (Some f) past =
+    subst (λ (t : Option Fate). IsOwing x settled ordered binding order_binding fate ended due queue tested t past) (sym (closed-before tested f e past h1.0)) before in
+    let next : IsOwing x settled ordered binding order_binding f ended due queue tested (Some f) (e ∷ past) =
+    owing-next tested x apart settled ordered binding order_binding f fate at ended ended due due queue queue queue queue e past under before
     (sym (ap (λ b. b || (not (is_open n) && ended)) h3.0 ∙ ap (λ b. not b && ended) h1.0))
     (λ accepted i. sym (
-    ap (λ q. due_next n q (x.answer n) e.place i (lookup (nat_eq i) es)) asks
-    ∙ ap (λ q. due_next n None q e.place i (lookup (nat_eq i) es)) gives
-    ∙ ap (λ b. option_or (cond b None (lookup (nat_eq i) es)) None) h1.0
-    ∙ option_or-none (lookup (nat_eq i) es)))
+    ap (λ q. due_next n q (x.answer n) e.place i (due i)) asks
+    ∙ ap (λ q. due_next n None q e.place i (due i)) gives
+    ∙ ap (λ b. option_or (cond b None (due i)) None) h1.0
+    ∙ option_or-none (due i)))
     (λ rejected i. refl)
-    (sym (ap (λ q. cond (order_binding && accepts f) (looked_at (λ i. lookup (nat_eq i) es) q queue) queue) gives ∙ same_cond (order_binding && accepts f) queue))
-    (sym (ap (λ q. cond (is_some ordered && accepts f) (queued_next n q e.place.position (λ i. lookup (nat_eq i) es) queue) queue) asks
+    (sym (ap (λ q. cond (order_binding && accepts f) (looked_at due q queue) queue) gives ∙ same_cond (order_binding && accepts f) queue))
+    (sym (ap (λ q. cond (is_some ordered && accepts f) (queued_next n q e.place.position due queue) queue) asks
     ∙ ap (λ b. cond (is_some ordered && accepts f) (cond b [] (queue ++ [])) queue) h1.0
     ∙ ap (λ q. cond (is_some ordered && accepts f) q queue) (append-nil queue)
     ∙ same_cond (is_some ordered && accepts f) queue))
     (inl refl)
     (λ m test has queued passes. absurd (let bad : false ≡ true = sym h4.0 ∙ has in cc)) in (
-      subst (λ (g : Fate). IsOwing x settled ordered binding order_binding g ended (λ i. lookup (nat_eq i) es) queue tested (Some f) (e ∷ past)) (some-same f fate o.owed.same_fate) next,
+      subst (λ (g : Fate). IsOwing x settled ordered binding order_binding g ended due queue tested (Some f) (e ∷ past)) (some-same f fate o.owed.same_fate) next,
       λ m. gains_either (λ r. same_rule r settled) (λ r. is_some_and (same_rule r) ordered) (turns_with tested f e past) tested (e ∷ past) at m m m
-          (rest-gains tested x apart settled ordered says_settled binding order_binding f fate ended es queue at e past m false under distinct before
+          (rest-gains tested x apart settled ordered says_settled binding order_binding f fate ended due queue at e past m false under within before
           (sym (ap (λ b. binding && (b && ((at == e.place.position) && (accepts f && not ended)))) h2.0 ∙ and_false binding)))
-          (silent-order ordered m (answer-gains tested x apart settled ordered says_ordered binding order_binding f fate ended (λ i. lookup (nat_eq i) es) queue at e past m false under before
-          (sym (ap (λ q. order_binding && (accepts f && passes_over (λ i. lookup (nat_eq i) es) q (looked_at (λ i. lookup (nat_eq i) es) q queue))) gives ∙ and2_false order_binding (accepts f) false refl)))),
+          (silent-order ordered m (answer-gains tested x apart settled ordered says_ordered binding order_binding f fate ended due queue at e past m false under before
+          (sym (ap (λ q. order_binding && (accepts f && passes_over due q (looked_at due q queue))) gives ∙ and2_false order_binding (accepts f) false refl)))),
     )
   where
     silent-order : (o : Option Rule) (m : FaultMap) → Gains (λ k r. is_some_and (same_rule r) o && turns_with tested f e past k r) tested (e ∷ past) at m (ordered_by o false e.place at m)

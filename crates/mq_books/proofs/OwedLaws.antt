@@ -1,10 +1,9 @@
 -- What is owed on a connection.
-use Rattle.std.proofs.Common.{◌≡◌, ℕ, ◌+◌, ◌≤◌, ◌==◌, nat_eq, Bool, true, false, cond, ◌&&◌, ◌||◌, not, List, [], ◌∷◌, length, Option, Some, None, refl, ap, sym, ◌∙◌, subst, arith}
+use Rattle.std.proofs.Common.{◌≡◌, ℕ, zero, suc, ◌+◌, ◌<◌, ◌≤◌, ◌==◌, nat_eq, Bool, true, false, cond, ◌&&◌, ◌||◌, not, List, [], ◌∷◌, ◌++◌, length, Option, Some, None, refl, ap, sym, ◌∙◌, subst, arith}
 use Rattle.std.specs.Prelude.{is_some}
-use Rattle.std.specs.Option.{option_or}
-use Rattle.std.specs.List.{IsDistinct, AllByRecursion}
-use Rattle.std.specs.Map.{keys_of, values_of, lookup}
+use Rattle.std.specs.Option.{option_or, option_to_list}
 use Rattle.std.proofs.lemmas.Bool.{eqb-true, eq-eqb}
+use Rattle.std.proofs.lemmas.Bool.Decides.{nat_tests}
 use Rattle.mq_log.specs.declared.place.Place3.{Place3}
 use Rattle.mq_rules.specs.declared.role.Tested.{Tested}
 use Rattle.mq_rules.specs.declared.rule.Rule.{Rule}
@@ -19,6 +18,7 @@ use Rattle.mq_rules.specs.Rules.{binds, same_rule}
 use Rattle.mq_rules.specs.Statements.{statement, at_rest}
 use Rattle.mq_rules.specs.Faults.{reported, offset_of}
 use Rattle.mq_rules.specs.FaultKeys.{FaultMap}
+use Rattle.mq_rules.specs.KeptOrder.{found_from, values_of}
 use Rattle.mq_rules.proofs.Exports.{both_true, connection-newest as connection-next, differ, moment-newest-of-step as moment-newest, moment-placed, moment-stays, moment-within, not_true, rest-opens-nothing, some-next}
 use Rattle.mq_rules.specs.Under.{IsUnder, fate_before, shows_with, turns_with}
 use Rattle.mq_rules.specs.Growing.{Gains}
@@ -201,37 +201,53 @@ due-shown : (x : Exchange) → IsApart x → (e : Seen) (past : List Seen) (i : 
 due-shown x apart e past i d h = to_shown x e past (moment past (position d)) i
     (due-is x apart i (position d) past ∙ ap (is_some_and (λ (n : Moment). position d == position n)) h ∙ eq-eqb (position d) (position d) refl)
 
--- ---- the values of a map
+-- ---- what is due, in the order of the identifiers
 
-absent : (i : ℕ) (es : List (ℕ × Place3)) → AllByRecursion (λ y. nat_eq i y ≡ false) (keys_of es) → (p : Place3) → lookup (nat_eq i) es ≡ Some p → ⊥
-absent i [] h p q = absurd (cc)
-absent i (e ∷ es) h p q = absent i es h.1 p (sym (ap (λ b. cond b (Some e.1) (lookup (nat_eq i) es)) h.0) ∙ q)
-
-value-key : (k : ℕ) (es : List (ℕ × Place3)) (p : Place3) → IsDistinct nat_eq (keys_of es) → place_at k (values_of es) ≡ Some p → (i : ℕ) × (lookup (nat_eq i) es ≡ Some p) × (k ≡ p.position)
-unfolding IsDistinct
-value-key k [] p d h = absurd (cc)
-value-key k (e ∷ es) p d h = go (k == e.1.position) refl h (value-key k es p d.1)
+found-value : (k : ℕ) (due : ℕ → Option Place3) (start n : ℕ) (p : Place3) → place_at k (found_from due start n) ≡ Some p → (i : ℕ) × (due i ≡ Some p) × (k ≡ p.position)
+unfolding found_from
+found-value k due start zero p h = absurd (cc)
+found-value k due start (suc n) p h = go (due start) refl h (found-value k due (start + 1) n p)
   where
-    go : (b : Bool) → (k == e.1.position) ≡ b → cond b (Some e.1) (place_at k (values_of es)) ≡ Some p → (place_at k (values_of es) ≡ Some p → (i : ℕ) × (lookup (nat_eq i) es ≡ Some p) × (k ≡ p.position))
-        → (i : ℕ) × (lookup (nat_eq i) (e ∷ es) ≡ Some p) × (k ≡ p.position)
-    go true t q rest =
-        let same : e.1 ≡ p = cc in
-        (e.0, ap (λ b. cond b (Some e.1) (lookup (nat_eq e.0) es)) (eq-eqb e.0 e.0 refl) ∙ q, eqb-true k e.1.position t ∙ ap (λ (x : Place3). x.position) same)
-    go false t q rest =
-        let r = rest q in
-        (r.0, ap (λ b. cond b (Some e.1) (lookup (nat_eq r.0) es)) (not_true (nat_eq r.0 e.0) (λ u. let at : r.0 ≡ e.0 = eqb-true r.0 e.0 u in absent e.0 es d.0 p (subst (λ (n : ℕ). lookup (nat_eq n) es ≡ Some p) at r.1))) ∙ r.1, r.2)
+    rest : List Place3
+    rest = found_from due (start + 1) n
 
-key-value : (k i : ℕ) (es : List (ℕ × Place3)) (p : Place3) → lookup (nat_eq i) es ≡ Some p → k ≡ p.position → is_some (place_at k (values_of es)) ≡ true
-key-value k i [] p h at = absurd (cc)
-key-value k i (e ∷ es) p h at = go (nat_eq i e.0) h (key-value k i es p)
+    here : (q : Place3) (b : Bool) → due start ≡ Some q → (k == q.position) ≡ b → cond b (Some q) (place_at k rest) ≡ Some p → (place_at k rest ≡ Some p → (i : ℕ) × (due i ≡ Some p) × (k ≡ p.position)) → (i : ℕ) × (due i ≡ Some p) × (k ≡ p.position)
+    here q true is at h further = let same : q ≡ p = cc in (start, is ∙ h, eqb-true k q.position at ∙ ap (λ (x : Place3). x.position) same)
+    here q false is at h further = further h
+
+    go : (o : Option Place3) → due start ≡ o → place_at k (option_to_list o ++ rest) ≡ Some p → (place_at k rest ≡ Some p → (i : ℕ) × (due i ≡ Some p) × (k ≡ p.position)) → (i : ℕ) × (due i ≡ Some p) × (k ≡ p.position)
+    go None is h further = further h
+    go (Some q) is h further = here q (k == q.position) is refl h further
+
+value-found : (k i : ℕ) (due : ℕ → Option Place3) (start n : ℕ) (p : Place3) → due i ≡ Some p → k ≡ p.position → start ≤ i → i < start + n → is_some (place_at k (found_from due start n)) ≡ true
+unfolding found_from
+value-found k i due start zero p h at low high = absurd (omega (arith, low, high))
+value-found k i due start (suc n) p h at low high = go (nat_eq start i) refl (λ more. value-found k i due (start + 1) n p h at more (omega (arith, high)))
   where
-    more : (b : Bool) (o : Option Place3) → is_some o ≡ true → is_some (cond b (Some e.1) o) ≡ true
-    more true o h = refl
-    more false o h = h
+    rest : List Place3
+    rest = found_from due (start + 1) n
 
-    go : (b : Bool) → cond b (Some e.1) (lookup (nat_eq i) es) ≡ Some p → (lookup (nat_eq i) es ≡ Some p → k ≡ p.position → is_some (place_at k (values_of es)) ≡ true) → is_some (cond (k == e.1.position) (Some e.1) (place_at k (values_of es))) ≡ true
-    go true q rest = let same : e.1 ≡ p = cc in ap (λ b. is_some (cond b (Some e.1) (place_at k (values_of es)))) (eq-eqb k e.1.position (at ∙ sym (ap (λ (x : Place3). x.position) same)))
-    go false q rest = more (k == e.1.position) (place_at k (values_of es)) (rest q at)
+    over : (o : Option Place3) → is_some (place_at k rest) ≡ true → is_some (place_at k (option_to_list o ++ rest)) ≡ true
+    over None there = there
+    over (Some q) there = pick (k == q.position)
+      where
+        pick : (b : Bool) → is_some (cond b (Some q) (place_at k rest)) ≡ true
+        pick true = refl
+        pick false = there
+
+    go : (b : Bool) → nat_eq start i ≡ b → (start + 1 ≤ i → is_some (place_at k rest) ≡ true) → is_some (place_at k (option_to_list (due start) ++ rest)) ≡ true
+    go true same further =
+        ap (λ o. is_some (place_at k (option_to_list o ++ rest))) (ap due (eqb-true start i same) ∙ h)
+        ∙ ap (λ b. is_some (cond b (Some p) (place_at k rest))) (eq-eqb k p.position at)
+    go false other further = over (due start) (further (grind (arith, nat_tests)))
+
+value-key : (k : ℕ) (due : ℕ → Option Place3) (p : Place3) → place_at k (values_of due) ≡ Some p → (i : ℕ) × (due i ≡ Some p) × (k ≡ p.position)
+unfolding values_of
+value-key k due p h = found-value k due 0 65536 p h
+
+key-value : (k i : ℕ) (due : ℕ → Option Place3) (p : Place3) → due i ≡ Some p → k ≡ p.position → i < 65536 → is_some (place_at k (values_of due)) ≡ true
+unfolding values_of
+key-value k i due p h at lt = value-found k i due 0 65536 p h at (omega arith) (omega (arith, lt))
 
 -- ---- the faults
 
@@ -249,11 +265,11 @@ blamed-there tested rule at p d o shown none same found is =
     ∙ ap (λ q. Some (reported tested.role q rule at)) (sym found)
     ∙ ap (λ b. cond b (Some (reported tested.role o rule at)) None) (sym is)
 
-due-blamed : (tested : Tested) (rule : Rule) (x : Exchange) → IsApart x → statement tested.role rule ≡ at_rest (shows_R x) → (f : Fate) (at : ℕ) (e : Seen) (past : List Seen) (es : List (ℕ × Place3))
-    → IsPlaced past → IsDistinct nat_eq (keys_of es) → ((i : ℕ) → lookup (nat_eq i) es ≡ place_of (due_of x i past)) → binds rule tested ≡ true → is_binding tested.role (newest e past) ≡ true
-    → (k : ℕ) → blame_of at (place_at k (values_of es)) ≡ cond (turns_with tested f e past k rule) (Some (reported tested.role (moment (e ∷ past) k) rule at)) None
-due-blamed tested rule x apart says f at e past es placed distinct due bound binding k =
-    go (place_at k (values_of es)) refl ∙ ap (λ b. cond b (Some (reported tested.role (moment (e ∷ past) k) rule at)) None) (sym simple)
+due-blamed : (tested : Tested) (rule : Rule) (x : Exchange) → IsApart x → statement tested.role rule ≡ at_rest (shows_R x) → (f : Fate) (at : ℕ) (e : Seen) (past : List Seen) (due : ℕ → Option Place3)
+    → IsPlaced past → ((i : ℕ) → is_some (due i) ≡ true → i < 65536) → ((i : ℕ) → due i ≡ place_of (due_of x i past)) → binds rule tested ≡ true → is_binding tested.role (newest e past) ≡ true
+    → (k : ℕ) → blame_of at (place_at k (values_of due)) ≡ cond (turns_with tested f e past k rule) (Some (reported tested.role (moment (e ∷ past) k) rule at)) None
+due-blamed tested rule x apart says f at e past due placed within are bound binding k =
+    go (place_at k (values_of due)) refl ∙ ap (λ b. cond b (Some (reported tested.role (moment (e ∷ past) k) rule at)) None) (sym simple)
   where
     shown : Bool
     shown = is_some_and (shows_R x (newest e past)) (moment past k)
@@ -273,20 +289,20 @@ due-blamed tested rule x apart says f at e past es placed distinct due bound bin
         blamed-there tested rule at p d (moment (e ∷ past) k) shown (offset_none (Some d)) same (moment-stays e past k d (ap (moment past) there ∙ here))
         (ap (λ n. is_some_and (shows_R x (newest e past)) (moment past n)) there ∙ due-shown x apart e past i d q)
 
-    go : (o : Option Place3) → place_at k (values_of es) ≡ o → blame_of at o ≡ cond shown (Some (reported tested.role (moment (e ∷ past) k) rule at)) None
+    go : (o : Option Place3) → place_at k (values_of due) ≡ o → blame_of at o ≡ cond shown (Some (reported tested.role (moment (e ∷ past) k) rule at)) None
     go None h = ap (λ b. cond b (Some (reported tested.role (moment (e ∷ past) k) rule at)) None) (sym (not_true shown (λ t.
         let s = shown-due x apart e past k t in
         let here : moment past (position s.1) ≡ Some s.1 = due-moment x s.0 past s.1 s.2 in
-        let found : lookup (nat_eq s.0) es ≡ Some s.1.event.place = due s.0 ∙ ap place_of s.2 in
-        let has = key-value k s.0 es s.1.event.place found (s.3 ∙ sym (moment-placed past (position s.1) s.1 placed here)) in
+        let found : due s.0 ≡ Some s.1.event.place = are s.0 ∙ ap place_of s.2 in
+        let has = key-value k s.0 due s.1.event.place found (s.3 ∙ sym (moment-placed past (position s.1) s.1 placed here)) (within s.0 (ap is_some found)) in
         absurd (cc))))
-    go (Some p) h = let v = value-key k es p distinct h in of_place p v.0 (due_of x v.0 past) refl (sym v.1 ∙ due v.0) v.2
+    go (Some p) h = let v = value-key k due p h in of_place p v.0 (due_of x v.0 past) refl (sym v.1 ∙ are v.0) v.2
 
-pub owed-gains : (tested : Tested) (rule : Rule) (x : Exchange) → IsApart x → statement tested.role rule ≡ at_rest (shows_R x) → (f fate : Fate) (ended : Bool) (es : List (ℕ × Place3)) (at : ℕ) (e : Seen) (past : List Seen) (m : FaultMap) (bound rests : Bool)
-    → IsUnder tested f at e past → IsDistinct nat_eq (keys_of es) → IsOwed x fate ended (λ i. lookup (nat_eq i) es) tested (fate_before tested f e past) past → bound ≡ binds rule tested
+pub owed-gains : (tested : Tested) (rule : Rule) (x : Exchange) → IsApart x → statement tested.role rule ≡ at_rest (shows_R x) → (f fate : Fate) (ended : Bool) (due : ℕ → Option Place3) (at : ℕ) (e : Seen) (past : List Seen) (m : FaultMap) (bound rests : Bool)
+    → IsUnder tested f at e past → ((i : ℕ) → is_some (due i) ≡ true → i < 65536) → IsOwed x fate ended due tested (fate_before tested f e past) past → bound ≡ binds rule tested
     → rests ≡ (bound && binds_by f (at == e.place.position) ended e.note)
-    → Gains (λ k r. same_rule r rule && turns_with tested f e past k r) tested (e ∷ past) at m (cond rests (blamed rule at (values_of es) m) m)
-owed-gains tested rule x apart says f fate ended es at e past m bound rests under distinct o b r = go rests refl
+    → Gains (λ k r. same_rule r rule && turns_with tested f e past k r) tested (e ∷ past) at m (cond rests (blamed rule at (values_of due) m) m)
+owed-gains tested rule x apart says f fate ended due at e past m bound rests under within o b r = go rests refl
   where
     binding : is_binding tested.role (newest e past) ≡ binds_by f (at == e.place.position) ended e.note
     binding = binding-under tested f at e past under ∙ ap (λ t. binds_by f (at == e.place.position) t e.note) (sym o.is_ended)
@@ -307,13 +323,13 @@ owed-gains tested rule x apart says f fate ended es at e past m bound rests unde
         pick true h q = absurd (cc)
         pick false h q = cc
 
-    go : (t : Bool) → rests ≡ t → Gains (λ k r. same_rule r rule && turns_with tested f e past k r) tested (e ∷ past) at m (cond t (blamed rule at (values_of es) m) m)
+    go : (t : Bool) → rests ≡ t → Gains (λ k r. same_rule r rule && turns_with tested f e past k r) tested (e ∷ past) at m (cond t (blamed rule at (values_of due) m) m)
     go false h = gains_none tested rule f e past at m (λ k. R-turns tested rule x says f e past k ∙ none (binds rule tested) (is_binding tested.role (newest e past)) (is_some_and (shows_R x (newest e past)) (moment past k)) (sym is ∙ h))
     go true h =
         let parts = both_true (binds rule tested) (is_binding tested.role (newest e past)) (sym is ∙ h) in
         let by = both_true (is_rest e.note) ((at == e.place.position) && (accepts f && not ended)) (sym binding ∙ parts.1) in
         let accepted : accepts f ≡ true = (both_true (accepts f) (not ended) (both_true (at == e.place.position) (accepts f && not ended) by.1).1).0 in
-        gains_blamed tested rule f e past at (values_of es) m (due-blamed tested rule x apart says f at e past es under.follows.placed.1 distinct (o.due_are (ap accepts (same by.0) ∙ accepted)) parts.0 parts.1)
+        gains_blamed tested rule f e past at (values_of due) m (due-blamed tested rule x apart says f at e past due under.follows.placed.1 within (o.due_are (ap accepts (same by.0) ∙ accepted)) parts.0 parts.1)
 
 -- ---- the state
 

@@ -1,9 +1,8 @@
 -- What is kept of what is due and of its order, and the faults of both statements.
-use Rattle.std.proofs.Common.{◌≡◌, ℕ, ◌+◌, ◌*◌, ◌≤◌, ◌==◌, arith, Bool, true, false, cond, ◌&&◌, ◌||◌, not, List, [], ◌∷◌, ◌++◌, length, nat_eq, Option, Some, None, refl, ap, sym, ◌∙◌, subst}
+use Rattle.std.proofs.Common.{◌≡◌, ℕ, ◌+◌, ◌*◌, ◌<◌, ◌≤◌, ◌==◌, arith, Bool, true, false, cond, ◌&&◌, ◌||◌, not, List, [], ◌∷◌, ◌++◌, length, Option, Some, None, refl, ap, sym, ◌∙◌, subst}
 use Rattle.std.specs.Prelude.{is_some}
 use Rattle.std.specs.Option.{option_or}
-use Rattle.std.specs.List.{IsDistinct}
-use Rattle.std.specs.Map.{keys_of, values_of, lookup}
+use Rattle.mq_rules.specs.KeptOrder.{values_of}
 use Rattle.mq_log.specs.declared.place.Place3.{Place3}
 use Rattle.mq_rules.specs.declared.role.Tested.{Tested}
 use Rattle.mq_rules.specs.declared.rule.Rule.{Rule}
@@ -25,7 +24,8 @@ use Rattle.mq_books.specs.Pingings.{ends_by}
 use Rattle.mq_books.specs.Answering.{IsApart}
 use Rattle.mq_books.specs.Owings.{due_next, blamed, binds_by, IsOwing}
 use Rattle.mq_books.specs.Orderings.{looked_at, passes_over, fallen, queued_next, ordered_by, IsQueue, IsTidied}
-use Rattle.mq_books.specs.Burden.{ids_where, caused_ids}
+use Rattle.mq_rules.specs.IdentifierCounts.{ids_where}
+use Rattle.mq_books.specs.Burden.{caused_ids}
 use Rattle.mq_books.proofs.OwedLaws.{owed-next, owed-gains}
 use Rattle.mq_books.proofs.QueueLaws.{looked-queue, queue-next, tidied-queue}
 use Rattle.mq_books.proofs.OrderLaws.{order-gains}
@@ -160,12 +160,12 @@ owing-next tested x packets settled ordered binding order_binding f fate at ende
         by-order true has = by-open (is_open e.note) refl has
 
 -- the faults of a REST
-pub rest-gains : (tested : Tested) (x : Exchange) → IsApart x → (settled : Rule) (ordered : Option Rule) → statement tested.role settled ≡ at_rest (shows_R x) → (binding order_binding : Bool) (f fate : Fate) (ended : Bool) (es : List (ℕ × Place3)) (queue : List Debt) (at : ℕ) (e : Seen) (past : List Seen) (m : FaultMap) (rests : Bool)
-    → IsUnder tested f at e past → IsDistinct nat_eq (keys_of es) → IsOwing x settled ordered binding order_binding fate ended (λ i. lookup (nat_eq i) es) queue tested (fate_before tested f e past) past
+pub rest-gains : (tested : Tested) (x : Exchange) → IsApart x → (settled : Rule) (ordered : Option Rule) → statement tested.role settled ≡ at_rest (shows_R x) → (binding order_binding : Bool) (f fate : Fate) (ended : Bool) (due : ℕ → Option Place3) (queue : List Debt) (at : ℕ) (e : Seen) (past : List Seen) (m : FaultMap) (rests : Bool)
+    → IsUnder tested f at e past → ((i : ℕ) → is_some (due i) ≡ true → i < 65536) → IsOwing x settled ordered binding order_binding fate ended due queue tested (fate_before tested f e past) past
     → rests ≡ (binding && binds_by f (at == e.place.position) ended e.note)
-    → Gains (λ k r. same_rule r settled && turns_with tested f e past k r) tested (e ∷ past) at m (cond rests (blamed settled at (values_of es) m) m)
-rest-gains tested x packets settled ordered says binding order_binding f fate ended es queue at e past m rests under distinct o r =
-    owed-gains tested settled x packets says f fate ended es at e past m binding rests under distinct o.owed o.binds_are r
+    → Gains (λ k r. same_rule r settled && turns_with tested f e past k r) tested (e ∷ past) at m (cond rests (blamed settled at (values_of due) m) m)
+rest-gains tested x packets settled ordered says binding order_binding f fate ended due queue at e past m rests under within o r =
+    owed-gains tested settled x packets says f fate ended due at e past m binding rests under within o.owed o.binds_are r
 
 -- the fault of an answer
 pub answer-gains : (tested : Tested) (x : Exchange) → IsApart x → (settled : Rule) (ordered : Option Rule) → ((rule : Rule) → ordered ≡ Some rule → statement tested.role rule ≡ in_session (λ f. breaks_O x)) → (binding order_binding : Bool) (f fate : Fate) (ended : Bool) (due : ℕ → Option Place3) (queue : List Debt) (at : ℕ) (e : Seen) (past : List Seen) (m : FaultMap) (b : Bool)

@@ -2,16 +2,14 @@
 use Rattle.std.proofs.Common.{◌≡◌, ℕ, ◌+◌, ◌<◌, ◌≤◌, ◌==◌, arith, nat_eq, Bool, true, false, cond, ◌||◌, inl, inr, List, [], ◌∷◌, ◌++◌, filter, length, Option, Some, None, refl, ap, sym, ◌∙◌}
 use Rattle.std.specs.Prelude.{is_some}
 use Rattle.std.specs.List.{IsDistinct, AllByRecursion, list_any}
-use Rattle.std.specs.Map.{keys_of, lookup}
 use Rattle.std.proofs.lemmas.Bool.{eqb-true}
-use Rattle.std.proofs.lemmas.Cmp.{nat_eq_equiv}
-use Rattle.std.proofs.lemmas.List.{length-map}
 use Rattle.std.proofs.lemmas.Map.Keys.{IsDistinct-cons}
-use Rattle.std.proofs.lemmas.Map.Made.{is_some-lookup, length-le_from_is_member}
 use Rattle.mq_log.specs.declared.place.Place3.{Place3}
+use Rattle.mq_rules.specs.IdentifierCounts.{ids_where}
 use Rattle.mq_books.specs.declared.ordering.Debt.{Debt}
 use Rattle.mq_books.specs.Orderings.{is_still_due, from_due, looked_at, Queued, IsAscending, IsQueue, IsTidied}
 use Rattle.mq_books.proofs.QueueLaws.{still-due}
+use Rattle.mq_books.proofs.SizeLaws.{distinct-passing}
 
 -- ---- what is dropped only shortens it
 
@@ -112,11 +110,9 @@ module _ (due : ℕ → Option Place3) where
           pick false e h = rest h
 
 -- what is still due is no more than there is under identifiers
-pub due-length : (es : List (ℕ × Place3)) (q : List Debt) (n : ℕ) → IsQueue (λ i. lookup (nat_eq i) es) q n → length (filter (is_still_due (λ i. lookup (nat_eq i) es)) q) ≤ length es
-due-length es q n h =
-    let kept : List Debt = filter (is_still_due (λ i. lookup (nat_eq i) es)) q in
-    let le : length (identifiers kept) ≤ length (keys_of es) = length-le_from_is_member nat_eq_equiv (identifiers kept) (keys_of es) (kept-distinct (λ i. lookup (nat_eq i) es) q h.ascending)
-    (λ i here. sym (is_some-lookup (nat_eq i) es) ∙ kept-there (λ i. lookup (nat_eq i) es) q i here) in
+pub due-length : (due : ℕ → Option Place3) (q : List Debt) (n : ℕ) → ((i : ℕ) → is_some (due i) ≡ true → i < 65536) → IsQueue due q n → length (filter (is_still_due due) q) ≤ ids_where (λ i. is_some (due i))
+due-length due q n within h =
+    let kept : List Debt = filter (is_still_due due) q in
+    let le : length (identifiers kept) ≤ ids_where (λ i. is_some (due i)) = distinct-passing (identifiers kept) (λ i. is_some (due i)) (kept-distinct due q h.ascending) (λ i here. within i (kept-there due q i here)) (kept-there due q) in
     let long : length (identifiers kept) ≡ length kept = identifiers-length kept in
-    let keys : length (keys_of es) ≡ length es = length-map es (λ (p : ℕ × Place3). p.0) in
-    omega (arith, le, long, keys)
+    omega (arith, le, long)

@@ -1,6 +1,5 @@
 -- Events whose packets have no properties, in the book of releases.
-use Rattle.std.proofs.Common.{◌≡◌, ℕ, ◌==◌, nat_eq, Bool, true, false, cond, ◌&&◌, ◌||◌, not, List, ◌∷◌, Option, Some, None, Bor, refl, ap, sym, subst, ◌∙◌}
-use Rattle.indexmap.specs.IndexSet.{contains}
+use Rattle.std.proofs.Common.{◌≡◌, ℕ, ◌==◌, Bool, true, false, cond, ◌&&◌, ◌||◌, not, List, ◌∷◌, Option, Some, None, Bor, refl, ap, sym, subst, ◌∙◌}
 use Rattle.mq_packet.specs.declared.packet.Qos.{Qos}
 use Rattle.mq_log.specs.declared.kind.Direction.{Direction}
 use Rattle.mq_log.specs.declared.kind.Direction.TheVariants.{Sent, Recv}
@@ -21,7 +20,7 @@ use Rattle.mq_rules.specs.Growing.{Gains}
 use Rattle.mq_rules.proofs.Exports.{and_false, or_false}
 use Rattle.mq_books.specs.declared.releases.Releases.{Releases}
 use Rattle.mq_books.specs.Quotas.{judged_by}
-use Rattle.mq_books.specs.Releasing.{expires, kept_next, lasting_of, due_by, completes_unreleased, IsReleasing}
+use Rattle.mq_books.specs.Releasing.{expires, kept_next, lasting_of, due_by, completes_unreleased, IsReleasing, has_id}
 use Rattle.mq_books.specs.Receiving.{Receives, IsReceived, is_release_rule, IsLedTo, IsStep}
 use Rattle.mq_books.specs.Knowing.{is_placed}
 use Rattle.mq_books.proofs.KnownLaws.{Knows, knows, known-gains}
@@ -45,41 +44,41 @@ received-next tested s t e past brings unmatched ender completed before m w =
     n : Note
     n = e.note
 
-    r : IsReleasing s.role s.releases s.fate s.has_accepted (contains nat_eq t.brought) (contains nat_eq t.released) (contains nat_eq t.due) tested (Some s.fate) (e ∷ past)
-    r = releasing-next tested s.role s.releases s.fate s.fate s.has_accepted (contains nat_eq s.brought) (contains nat_eq s.released) (contains nat_eq s.due) (accepts s.fate) false s.has_accepted (contains nat_eq t.brought) (contains nat_eq t.released) (contains nat_eq t.due) e past before
+    r : IsReleasing s.role s.releases s.fate s.has_accepted (has_id t.brought) (has_id t.released) (has_id t.due) tested (Some s.fate) (e ∷ past)
+    r = releasing-next tested s.role s.releases s.fate s.fate s.has_accepted (has_id s.brought) (has_id s.released) (has_id s.due) (accepts s.fate) false s.has_accepted (has_id t.brought) (has_id t.released) (has_id t.due) e past before
         (sym (ap (λ b. accepts s.fate || (b && (is_void s.fate && s.has_accepted))) m.unreleased ∙ or_false (accepts s.fate)))
         (sym (ap (λ b. b && begins (Some s.fate)) m.closed))
         (sym (ap (λ b. s.has_accepted || (b && accepts s.fate)) m.closed ∙ or_false s.has_accepted))
         (λ i. w.due_are i ∙ sym (
-        ap (λ o. due_by false (accepts s.fate) o (lasting_of (received_exactly_once n) (expires n) (contains nat_eq s.brought)) (sent_as ended_in n) i (contains nat_eq s.due i)) m.lapses
-        ∙ ap (λ o. due_by false (accepts s.fate) unmatched (lasting_of o (expires n) (contains nat_eq s.brought)) (sent_as ended_in n) i (contains nat_eq s.due i)) m.brought
-        ∙ ap (λ b. due_by false (accepts s.fate) unmatched (lasting_of brings b (contains nat_eq s.brought)) (sent_as ended_in n) i (contains nat_eq s.due i)) m.lasts
-        ∙ ap (λ o. due_by false (accepts s.fate) unmatched (lasting_of brings false (contains nat_eq s.brought)) o i (contains nat_eq s.due i)) m.ends))
+        ap (λ o. due_by false (accepts s.fate) o (lasting_of (received_exactly_once n) (expires n) (has_id s.brought)) (sent_as ended_in n) i (has_id s.due i)) m.lapses
+        ∙ ap (λ o. due_by false (accepts s.fate) unmatched (lasting_of o (expires n) (has_id s.brought)) (sent_as ended_in n) i (has_id s.due i)) m.brought
+        ∙ ap (λ b. due_by false (accepts s.fate) unmatched (lasting_of brings b (has_id s.brought)) (sent_as ended_in n) i (has_id s.due i)) m.lasts
+        ∙ ap (λ o. due_by false (accepts s.fate) unmatched (lasting_of brings false (has_id s.brought)) o i (has_id s.due i)) m.ends))
         (λ i. w.brought_are i ∙ sym (
-        ap (λ o. kept_next false (accepts s.fate) o (sent_as ended_in n) i (contains nat_eq s.brought i)) m.brought
-        ∙ ap (λ o. kept_next false (accepts s.fate) brings o i (contains nat_eq s.brought i)) m.ends))
+        ap (λ o. kept_next false (accepts s.fate) o (sent_as ended_in n) i (has_id s.brought i)) m.brought
+        ∙ ap (λ o. kept_next false (accepts s.fate) brings o i (has_id s.brought i)) m.ends))
         (λ i. w.released_are i ∙ sym (
-        ap (λ o. kept_next false (accepts s.fate) o (sent_as ended_in n) i (contains nat_eq s.released i)) m.frees
-        ∙ ap (λ o. kept_next false (accepts s.fate) None o i (contains nat_eq s.released i)) m.ends))
+        ap (λ o. kept_next false (accepts s.fate) o (sent_as ended_in n) i (has_id s.released i)) m.frees
+        ∙ ap (λ o. kept_next false (accepts s.fate) None o i (has_id s.released i)) m.ends))
 
 -- ---- what it shows
 
 abbrev lacking : Releases → Option ℕ → Bool
-lacking s completed = s.releases && completes_unreleased s.fate completed (contains nat_eq s.released) (contains nat_eq s.due)
+lacking s completed = s.releases && completes_unreleased s.fate completed (has_id s.released) (has_id s.due)
 
 received-gains : (tested : Tested) (s : Releases) (taken : Option Fate) (e : Seen) (past : List Seen) (m new : FaultMap) (brings unmatched ender completed : Option ℕ) → Knows tested s.fate taken e past
     → IsLedTo s tested (fate_before tested s.fate e past) past → Receives e.note brings unmatched ender completed → new ≡ judged_by (lacking s completed) L3 e.place e.place.position m
     → Gains (λ k r. is_release_rule r && turns_with tested s.fate e past k r) tested (e ∷ past) e.place.position m new
 received-gains tested s taken e past m new brings unmatched ender completed k before w now =
-    releases-gains tested s.role s.releases s.fate s.fate s.has_accepted (contains nat_eq s.brought) (contains nat_eq s.released) (contains nat_eq s.due) e.place.position e past m m m new false false (lacking s completed) k.under before
-    (ap (λ b. b && is_placed s.fate (e.place.position == e.place.position)) (sym (ap (λ o. s.releases && is_some_and (λ i. not (contains nat_eq s.brought i)) o) w.frees ∙ and_false s.releases))) refl
-    (ap (λ b. b && is_placed s.fate (e.place.position == e.place.position)) (sym (ap (λ o. s.releases && is_some_and (contains nat_eq s.released) o) w.frees ∙ and_false s.releases))) refl
+    releases-gains tested s.role s.releases s.fate s.fate s.has_accepted (has_id s.brought) (has_id s.released) (has_id s.due) e.place.position e past m m m new false false (lacking s completed) k.under before
+    (ap (λ b. b && is_placed s.fate (e.place.position == e.place.position)) (sym (ap (λ o. s.releases && is_some_and (λ i. not (has_id s.brought i)) o) w.frees ∙ and_false s.releases))) refl
+    (ap (λ b. b && is_placed s.fate (e.place.position == e.place.position)) (sym (ap (λ o. s.releases && is_some_and (has_id s.released) o) w.frees ∙ and_false s.releases))) refl
     (sym (ap (lacking s) w.completes)) now
 
 -- ---- a step
 
 pub received-step : (tested : Tested) (s t : Releases) (taken : Option Fate) (e : Seen) (past : List Seen) (m new : FaultMap) (brings unmatched ender completed : Option ℕ) → Receives e.note brings unmatched ender completed → Follows tested e past → IsKnown tested taken e past
-    → IsLedTo s tested taken past → IsReceived brings unmatched ender s t → new ≡ judged_by (s.releases && completes_unreleased s.fate completed (contains nat_eq s.released) (contains nat_eq s.due)) L3 e.place e.place.position m → IsStep e t tested past m new
+    → IsLedTo s tested taken past → IsReceived brings unmatched ender s t → new ≡ judged_by (s.releases && completes_unreleased s.fate completed (has_id s.released) (has_id s.due)) L3 e.place e.place.position m → IsStep e t tested past m new
 received-step tested s t taken e past m new brings unmatched ender completed w follows known u is now =
     let k = knows tested s.fate taken e past follows known u.same_fate in
     let v = subst (λ o. IsLedTo s tested o past) k.before u in
@@ -108,9 +107,9 @@ received-nothing tested s taken e past m w follows known u =
       same_releases = refl;
       same_fate = refl;
       same_accepted = refl;
-      brought_are = λ i. sym (same (accepts s.fate) (contains nat_eq s.brought i));
-      released_are = λ i. sym (same (accepts s.fate) (contains nat_eq s.released i));
-      due_are = λ i. sym (ap (λ b. cond (accepts s.fate) b b) (same (accepts s.fate) (contains nat_eq s.due i)) ∙ same (accepts s.fate) (contains nat_eq s.due i));
+      brought_are = λ i. sym (same (accepts s.fate) (has_id s.brought i));
+      released_are = λ i. sym (same (accepts s.fate) (has_id s.released i));
+      due_are = λ i. sym (ap (λ b. cond (accepts s.fate) b b) (same (accepts s.fate) (has_id s.due i)) ∙ same (accepts s.fate) (has_id s.due i));
     })
 
 -- ---- what each packet without properties does

@@ -19,7 +19,7 @@ use Rattle.mq_rules.proofs.Exports.{earliest_since-there}
 use Rattle.mq_books.specs.Askings.{caused}
 use Rattle.mq_books.specs.Countings.{Counting, count_in, first_count}
 use Rattle.mq_books.specs.Releasing.{expires, is_unmatched, needs_release}
-use Rattle.mq_books.specs.Burden.{count_below, ids_where}
+use Rattle.mq_rules.specs.IdentifierCounts.{count_below, ids_where}
 
 -- the numbers below n that pass a test
 abbrev those_below : (ℕ → Bool) → ℕ → List ℕ
@@ -55,12 +55,15 @@ small (x ∷ xs) fits i here = go (i == x) refl here (λ rest. small xs (λ k. f
     go false e h rest = rest h
 
 -- identifiers that all differ are no more than those that pass a test which each of them passes
-pub distinct-within : (xs : List ℕ) (test : ℕ → Bool) → IsDistinct nat_eq xs → ((k : ℕ) → get_or xs k 0 < 65536) → ((i : ℕ) → list_any (nat_eq i) xs ≡ true → test i ≡ true) → length xs ≤ ids_where test
+pub distinct-passing : (xs : List ℕ) (test : ℕ → Bool) → IsDistinct nat_eq xs → ((i : ℕ) → list_any (nat_eq i) xs ≡ true → i < 65536) → ((i : ℕ) → list_any (nat_eq i) xs ≡ true → test i ≡ true) → length xs ≤ ids_where test
 unfolding ids_where
-distinct-within xs test distinct fits passes =
-    let le : length xs ≤ length (those_below test 65536) = length-le_from_is_member nat_eq_equiv xs (those_below test 65536) distinct (λ i here. those-have test 65536 i (small xs fits i here) (passes i here)) in
+distinct-passing xs test distinct fits passes =
+    let le : length xs ≤ length (those_below test 65536) = length-le_from_is_member nat_eq_equiv xs (those_below test 65536) distinct (λ i here. those-have test 65536 i (fits i here) (passes i here)) in
     let same : length (those_below test 65536) ≡ count_below test 65536 = those-length test 65536 in
     omega (arith, le, same)
+
+pub distinct-within : (xs : List ℕ) (test : ℕ → Bool) → IsDistinct nat_eq xs → ((k : ℕ) → get_or xs k 0 < 65536) → ((i : ℕ) → list_any (nat_eq i) xs ≡ true → test i ≡ true) → length xs ≤ ids_where test
+distinct-within xs test distinct fits passes = distinct-passing xs test distinct (λ i here. small xs fits i here) passes
 
 -- a test that each passes which passes another
 count-more : (p q : ℕ → Bool) (n : ℕ) → ((i : ℕ) → p i ≡ true → q i ≡ true) → count_below p n ≤ count_below q n

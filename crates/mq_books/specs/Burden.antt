@@ -1,5 +1,5 @@
 -- How much a log gives its watchers to keep: the sum of these items. Where an item is about a session, the latest connection of the log is taken to have a fate.
-use Rattle.std.specs.Prelude.{ℕ, zero, suc, ◌+◌, Bool, ◌&&◌, cond, List, [], ◌∷◌, ◌++◌, length, Option, is_some}
+use Rattle.std.specs.Prelude.{ℕ, zero, suc, ◌+◌, ◌&&◌, cond, List, [], ◌∷◌, ◌++◌, length, Option, is_some}
 use Rattle.std.specs.Set.{distinct_count}
 use Rattle.std.specs.Str.{bytes_eq}
 use Rattle.mq_rules.specs.declared.role.Role.{Role}
@@ -12,6 +12,7 @@ use Rattle.mq_rules.specs.Words.{is_id}
 use Rattle.mq_rules.specs.Notes.{received_subscription, sent_as, received_as, subscribe_in, suback_in, unsubscribe_in, unsuback_in}
 use Rattle.mq_rules.specs.Moments.{Moment, note, moments, some, since}
 use Rattle.mq_rules.specs.Burden.{aliases_sent}
+use Rattle.mq_rules.specs.IdentifierCounts.{ids_where}
 use Rattle.mq_rules.specs.Connections.{number, connection, on_open, latest_fate, voided, fate_under, session}
 use Rattle.mq_rules.specs.Identifiers.{opens_id, closes_id, delivers, sent_under}
 use Rattle.mq_rules.specs.Rules.{binds_end}
@@ -21,17 +22,6 @@ use Rattle.mq_rules.specs.Subscriptions.{Standing, last_set}
 use Rattle.mq_books.specs.Earlier.{sent_first}
 use Rattle.mq_books.specs.Holding.{settled, waiting}
 use Rattle.mq_books.specs.Standings.{codes_in, standing_by, waiting_from, weighed, total}
-
--- ---- how many Packet Identifiers
-
--- how many of the numbers below n pass the test
-unfoldable pub count_below : (ℕ → Bool) → ℕ → ℕ
-count_below test zero = 0
-count_below test (suc n) = cond (test n) 1 0 + count_below test n
-
--- How many Packet Identifiers pass the test. Each is a number of two bytes (MQTT 5.0, section 2.2.1).
-unfoldable pub ids_where : (ℕ → Bool) → ℕ
-ids_where test = count_below test 65536
 
 -- ---- what is sent (MQTT 5.0, sections 2.2.1 and 4.3)
 

@@ -1,12 +1,12 @@
 -- A queue of what fell due on the latest connection, the earliest first.
-use Rattle.std.specs.Prelude.{ℕ, ◌≡◌, ◌<◌, ◌≤◌, ◌==◌, ◌⊎◌, Bool, ◌&&◌, not, cond, List, [], ◌∷◌, ◌++◌, filter, Option, Some, None, is_some}
-use Rattle.std.specs.List.{list_any}
+use Rattle.std.specs.Prelude.{ℕ, ◌≡◌, ◌<◌, ◌≤◌, ◌==◌, nat_eq, nat_lt, ◌⊎◌, Bool, ◌&&◌, not, cond, List, [], ◌∷◌, ◌++◌, filter, Option, Some, None, is_some}
 use Rattle.mq_log.specs.declared.place.Place3.{Place3}
 use Rattle.mq_rules.specs.declared.rule.Rule.{Rule}
 use Rattle.mq_rules.specs.declared.note.Note.{Note}
 use Rattle.mq_rules.specs.Words.{is_some_and}
 use Rattle.mq_rules.specs.Notes.{is_open}
 use Rattle.mq_rules.specs.FaultKeys.{FaultMap}
+use Rattle.mq_rules.specs.IdentifierCounts.{ids_where}
 use Rattle.mq_books.specs.declared.ordering.Debt.{Debt}
 use Rattle.mq_books.specs.Quotas.{judged_by}
 
@@ -34,9 +34,13 @@ is_passed i queue = is_some_and (λ d. not (d.identifier == i)) (first_debt queu
 abbrev pub passes_over : (ℕ → Option Place3) → Option ℕ → List Debt → Bool
 passes_over due answer queue = is_some_and (λ i. is_some (due i) && is_passed i queue) answer
 
--- an answer to what is due, while something is due under another identifier; these are the identifiers under which something is
-abbrev pub chooses : (ℕ → Option Place3) → List ℕ → Option ℕ → Bool
-chooses due identifiers answer = is_some_and (λ i. is_some (due i) && list_any (λ other. not (other == i)) identifiers) answer
+-- something is due under another identifier
+abbrev pub is_other_due : (ℕ → Option Place3) → ℕ → Bool
+is_other_due due i = nat_lt 0 (ids_where (λ other. not (nat_eq i other) && is_some (due other)))
+
+-- an answer to what is due, while something is due under another identifier
+abbrev pub chooses : (ℕ → Option Place3) → Option ℕ → Bool
+chooses due answer = is_some_and (λ i. is_some (due i) && is_other_due due i) answer
 
 -- the debt of a cause under which nothing is due
 abbrev pub fallen : (ℕ → Option Place3) → ℕ → Option ℕ → List Debt

@@ -1,6 +1,5 @@
 -- Events whose packets have no properties, by what they do to QoS 2 messages that are received (MQTT 5.0, section 4.3.3).
-use Rattle.std.specs.Prelude.{ℕ, ◌≡◌, ◌+◌, nat_eq, length, Bool, false, ◌&&◌, ◌||◌, List, ◌∷◌, Option, None}
-use Rattle.indexmap.specs.IndexSet.{contains}
+use Rattle.std.specs.Prelude.{ℕ, ◌≡◌, ◌+◌, length, Bool, false, ◌&&◌, ◌||◌, List, ◌∷◌, Option, None}
 use Rattle.mq_rules.specs.declared.role.Tested.{Tested}
 use Rattle.mq_rules.specs.declared.fate.Fate.{Fate}
 use Rattle.mq_rules.specs.declared.rule.Rule.{Rule}
@@ -14,7 +13,7 @@ use Rattle.mq_rules.specs.FaultKeys.{FaultMap}
 use Rattle.mq_rules.specs.Under.{turns_known}
 use Rattle.mq_rules.specs.Growing.{Gains, GainsWithin}
 use Rattle.mq_books.specs.declared.releases.Releases.{Releases}
-use Rattle.mq_books.specs.Releasing.{expires, kept_next, lasting_of, due_by, IsReleasing}
+use Rattle.mq_books.specs.Releasing.{expires, has_id, kept_next, lasting_of, due_by, IsReleasing}
 
 -- All that an event does to such messages: it brings one under the first identifier, which can't expire; sends a PUBREC of 0x10 under the second; ends the exchange of the
 -- third, by a PUBCOMP or by a PUBREC of 0x80 or more; and sends a PUBCOMP of 0x00 under the last.
@@ -34,10 +33,10 @@ pub record IsReceived (brings unmatched ender : Option ℕ) (old new : Releases)
   pub same_releases : new.releases ≡ old.releases
   pub same_fate : new.fate ≡ old.fate
   pub same_accepted : new.has_accepted ≡ old.has_accepted
-  pub brought_are : (i : ℕ) → contains nat_eq new.brought i ≡ kept_next false (accepts old.fate) brings ender i (contains nat_eq old.brought i)
-  pub released_are : (i : ℕ) → contains nat_eq new.released i ≡ kept_next false (accepts old.fate) None ender i (contains nat_eq old.released i)
-  pub due_are : (i : ℕ) → contains nat_eq new.due i
-      ≡ due_by false (accepts old.fate) unmatched (lasting_of brings false (contains nat_eq old.brought)) ender i (contains nat_eq old.due i)
+  pub brought_are : (i : ℕ) → has_id new.brought i ≡ kept_next false (accepts old.fate) brings ender i (has_id old.brought i)
+  pub released_are : (i : ℕ) → has_id new.released i ≡ kept_next false (accepts old.fate) None ender i (has_id old.released i)
+  pub due_are : (i : ℕ) → has_id new.due i
+      ≡ due_by false (accepts old.fate) unmatched (lasting_of brings false (has_id old.brought)) ender i (has_id old.due i)
 
 -- the statements on releases
 abbrev pub is_release_rule : Rule → Bool
@@ -46,7 +45,7 @@ is_release_rule r = (same_rule r L1 || same_rule r L2) || same_rule r L3
 -- These events lead to the book.
 abbrev pub IsLedTo : Releases → Tested → Option Fate → List Seen → Type 0
 IsLedTo s tested taken past =
-    IsReleasing s.role s.releases s.fate s.has_accepted (contains nat_eq s.brought) (contains nat_eq s.released) (contains nat_eq s.due) tested taken past
+    IsReleasing s.role s.releases s.fate s.has_accepted (has_id s.brought) (has_id s.released) (has_id s.due) tested taken past
 
 -- The law of a step with this event, after which the book is so and the faults are these.
 pub record IsStep (e : Seen) (new : Releases) (tested : Tested) (past : List Seen) (before after : FaultMap) : Type 0 where

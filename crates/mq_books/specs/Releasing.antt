@@ -1,8 +1,9 @@
 -- What the book of releases keeps.
-use Rattle.std.specs.Prelude.{ℕ, ◌≡◌, Bool, false, ◌&&◌, ◌||◌, not, List, Option, Some, None}
+use Rattle.std.specs.Prelude.{ℕ, ◌≡◌, Bool, false, ◌&&◌, ◌||◌, not, List, Option, Some, None, is_some}
 use Rattle.mq_rules.specs.declared.role.Tested.{Tested}
 use Rattle.mq_rules.specs.declared.role.Role.{Role}
 use Rattle.mq_rules.specs.declared.fate.Fate.{Fate}
+use Rattle.mq_rules.specs.declared.by_identifier.ByIdentifier.{ByIdentifier}
 use Rattle.mq_rules.specs.declared.note.Note.{Note}
 use Rattle.mq_rules.specs.declared.note.Seen.{Seen}
 use Rattle.mq_rules.specs.Words.{is_some_and, is_id, only}
@@ -10,7 +11,12 @@ use Rattle.mq_rules.specs.Notes.{is_open, is_release, released_id, received_publ
 use Rattle.mq_rules.specs.Moments.{Moment, note, is_same, since, earliest_since}
 use Rattle.mq_rules.specs.Connections.{accepts, is_void, begins, any_accepted, session}
 use Rattle.mq_rules.specs.Folds.{gained}
+use Rattle.mq_rules.specs.KeptOrder.{value_under}
 use Rattle.mq_rules.specs.Releases.{brings, releases_message, ends}
+
+-- the set has an identifier
+abbrev pub has_id : {T : Type 0} → ByIdentifier T → ℕ → Bool
+has_id set i = is_some (value_under set i)
 
 -- a PUBLISH that may expire is received
 abbrev pub expires : Note → Bool

@@ -1,9 +1,10 @@
--- How much each watcher of sessions really keeps: the sum of the lengths of its collections. A text in them is one item, and its bytes aren't counted.
+-- How much each watcher of sessions really keeps: the sum of the lengths of its collections, and of the numbers of values in its tables by Packet Identifiers. A text in them is one item, and its bytes aren't counted.
 use Rattle.std.specs.Prelude.{ℕ, ◌+◌, List, length}
 use Rattle.std.specs.List.{sum_by}
 use Rattle.indexmap.specs.IndexMap.{index_map_len}
 use Rattle.indexmap.specs.IndexSet.{index_set_len}
 use Rattle.mq_rules.specs.declared.note.Seen.{Seen}
+use Rattle.mq_rules.specs.KeptOrder.{ids_kept}
 use Rattle.mq_books.specs.declared.asked.Asked.{Asked}
 use Rattle.mq_books.specs.declared.counts.Counts.{Counts}
 use Rattle.mq_books.specs.declared.inflight.Inflight.{Inflight}
@@ -22,19 +23,19 @@ inflight_weighs s =
 
 -- an exchange: the identifiers with a cause in the session
 abbrev pub asked_weighs : {X : Type 0} → Asked X → ℕ
-asked_weighs s = index_map_len s.answered
+asked_weighs s = ids_kept s.answered
 
 -- an exchange: what is due, and the queue of its order
 abbrev pub owed_weighs : {X : Type 0} → Owed X → ℕ
-owed_weighs s = index_map_len s.due + length s.queue.items
+owed_weighs s = ids_kept s.due + length s.queue.items
 
 -- messages of QoS 2: the identifiers that were received, those that were released, and those whose message needs a RELEASE
 abbrev pub releases_weighs : Releases → ℕ
-releases_weighs s = index_set_len s.brought + index_set_len s.released + index_set_len s.due
+releases_weighs s = ids_kept s.brought + ids_kept s.released + ids_kept s.due
 
 -- the identifiers of packets without their answer
 abbrev pub counts_weighs : {R : Type 0} → Counts R → ℕ
-counts_weighs s = index_map_len s.counts
+counts_weighs s = ids_kept s.counts
 
 -- filters: those that stand, the topics for which some were looked up, and the SUBSCRIBEs that wait, each with its filters
 abbrev pub filters_weigh : SessionFilters → ℕ

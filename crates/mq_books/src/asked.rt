@@ -1,6 +1,5 @@
 //! Each answer was asked for (MQTT 5.0, sections 3.8.4, 3.10.4 and 4.3).
-ghost use Rattle.std.specs.Prelude.{◌≡◌, ◌&&◌, ℕ, OnOk, cond, nat_eq, [], Some, is_some, refl};
-ghost use Rattle.indexmap.specs.IndexMap.{get};
+ghost use Rattle.std.specs.Prelude.{◌≡◌, ◌&&◌, ℕ, OnOk, cond, [], Some, is_some, refl};
 ghost use Rattle.mq_rules.specs.declared.fate.Fate.TheVariants.{Void};
 ghost use Rattle.mq_rules.specs.Notes.{is_open};
 ghost use Rattle.mq_rules.specs.Connections.{accepts, surprises as surprising};
@@ -9,6 +8,7 @@ ghost use Rattle.mq_rules.specs.Under.{IsKnown, turns_known};
 ghost use Rattle.mq_rules.specs.Occasions.{places_under};
 ghost use Rattle.mq_rules.specs.Statements.{if_early};
 ghost use Rattle.mq_rules.specs.Exchanges.{applies_A};
+ghost use Rattle.mq_rules.specs.KeptOrder.{value_under};
 ghost use Rattle.mq_books.specs.Placings.{on_session};
 ghost use Rattle.mq_books.specs.Burden.{caused_ids};
 ghost use Rattle.mq_books.specs.Weights.{asked_weighs};
@@ -21,10 +21,10 @@ use crate::exchange::Exchange;
 use crate::fated::Fated;
 use crate::known::{excuse, judge_by};
 use crate::selective::Selective;
-use crate::sizes::map_size;
-use indexmap::IndexMap;
 use mq_log::Place3;
-use mq_rules::{Bare, Brisk, Fate, Faults, Memory, Note, NoteRef, Rule, Tested, Watch};
+use mq_rules::{
+    Bare, Brisk, CountedByIdentifier, Fate, Faults, Memory, Note, NoteRef, Rule, Tested, Watch,
+};
 use std::alloc::Global;
 use std::marker::PhantomData;
 
@@ -32,33 +32,30 @@ use std::marker::PhantomData;
 /// connection.
 #[derive(Drop)]
 pub struct Asked<X: Exchange> {
-    alloc: Global,
     binds: bool,
     fate: Fate,
     // The position of the latest OPEN; 1 before the first one.
     opened: u32,
     // Under each identifier with a cause in the session: the position of the latest answer since
     // the latest cause, or 0.
-    answered: IndexMap<u16, u32>,
+    answered: CountedByIdentifier<u32>,
     exchange: PhantomData<X>,
 }
 
 // Takes in an event of a connection that has this fate. What isn't accepted changes nothing.
 fn take_answered(
-    answered: &mut IndexMap<u16, u32>,
-    alloc: Global,
+    answered: &mut CountedByIdentifier<u32>,
     position: u32,
     fate: Fate,
     opens: bool,
     cause: Option<u16>,
     answer: Option<u16>,
 ) -> Result<(), Memory>
-    ensures { OnOk result ((i : ℕ) → get nat_eq answered.new i ≡ answered_by fate opens cause answer position i (get nat_eq answered.old i)) }
+    ensures { OnOk result ((i : ℕ) → value_under answered.new i ≡ answered_by fate opens cause answer position i (value_under answered.old i)) }
 {
     if opens {
         if fate.begins() {
-            // A large map that is cleared costs its size each time.
-            *answered = IndexMap::new(alloc);
+            answered.clear();
         }
         return Ok(());
     }
@@ -66,9 +63,7 @@ fn take_answered(
         return Ok(());
     }
     if let Some(i) = answer {
-        if let Some(latest) = answered.get_mut(&i) {
-            *latest = position;
-        }
+        answered.replace(i, position);
     }
     if let Some(i) = cause {
         answered.insert(i, 0)?;
@@ -89,15 +84,15 @@ fn is_unasked(
     fate: Fate,
     opened: u32,
     answer: Option<u16>,
-    answered: &IndexMap<u16, u32>,
+    answered: &CountedByIdentifier<u32>,
 ) -> bool
-    ensures { result ≡ (binds && keeping.is_unasked fate opened answer (get nat_eq answered.now)) }
+    ensures { result ≡ (binds && keeping.is_unasked fate opened answer (value_under answered.now)) }
 {
     binds
         && fate.accepts()
         && match answer {
-            Some(i) => match answered.get(&i) {
-                Some(&latest) => !(latest < opened),
+            Some(i) => match answered.get(i) {
+                Some(latest) => !(latest < opened),
                 None => true,
             },
             None => false,
@@ -117,18 +112,17 @@ impl<X: Exchange> Asked<X> {
         ensures { ⟦<Asked<X> as Watch>⟧.agrees result tested (Some Void) [] }
     {
         Asked {
-            alloc,
             binds: X::asked_rule().is_judged(tested),
             fate: Fate::Void,
             opened: 1,
-            answered: IndexMap::new(alloc),
+            answered: CountedByIdentifier::new(alloc),
             exchange: PhantomData,
         }
     }
 }
 
 impl<X: Exchange> Watch for Asked<X> {
-    ghost agrees = { λ s tested taken past. (s.binds ≡ is_bound X.asked tested) × IsAsked X.exchange s.fate s.opened (get nat_eq s.answered) tested taken past };
+    ghost agrees = { λ s tested taken past. (s.binds ≡ is_bound X.asked tested) × IsAsked X.exchange s.fate s.opened (value_under s.answered) tested taken past };
 
     ghost takes = { IsKnown };
 
@@ -144,9 +138,9 @@ impl<X: Exchange> Watch for Asked<X> {
         Ok(())
     }
 
-    // The one map of the struct.
+    // The one table of the struct.
     fn weight(&self) -> usize {
-        map_size(&self.answered)
+        self.answered.len()
     }
 }
 
@@ -166,10 +160,8 @@ impl<X: Exchange> Fated for Asked<X> {
         let answer = X::answer(&event);
         let unasked = is_unasked(self.binds, fate, self.opened, answer, &self.answered);
         let broken = excuse(surprises::<X>(fate), decided == at.position, unasked);
-        let alloc = self.alloc;
         take_answered(
             &mut self.answered,
-            alloc,
             at.position,
             fate,
             note.is_open(),
@@ -194,16 +186,7 @@ impl<X: Exchange> Brisk for Asked<X> {
         let answer = X::answer(&event);
         let fate = self.fate;
         let broken = is_unasked(self.binds, fate, self.opened, answer, &self.answered);
-        let alloc = self.alloc;
-        take_answered(
-            &mut self.answered,
-            alloc,
-            at.position,
-            fate,
-            false,
-            cause,
-            answer,
-        )?;
+        take_answered(&mut self.answered, at.position, fate, false, cause, answer)?;
         judge_by(X::asked_rule(), broken, at, at.position, faults)?;
         Ok(())
     }

@@ -1,7 +1,6 @@
 //! How many Reason Codes a SUBACK or UNSUBACK has (MQTT 5.0, sections 3.9.3 and 3.11.3).
 ghost use Rattle.std.specs.Prelude.{refl};
-ghost use Rattle.std.specs.Prelude.{◌≡◌, ◌&&◌, ◌==◌, ℕ, Bool, not, OnOk, nat_eq, [], Some};
-ghost use Rattle.indexmap.specs.IndexMap.{get};
+ghost use Rattle.std.specs.Prelude.{◌≡◌, ◌&&◌, ◌==◌, ℕ, Bool, not, OnOk, [], Some};
 ghost use Rattle.mq_rules.specs.declared.role.Role.{Role as TheRole};
 ghost use Rattle.mq_rules.specs.declared.rule.Rule.{Rule as TheRule};
 ghost use Rattle.mq_rules.specs.declared.rule.Rule.TheVariants.{B03, B04};
@@ -13,6 +12,7 @@ ghost use Rattle.mq_rules.specs.Subscriptions.{applies_B03, applies_B04, breaks_
 ghost use Rattle.mq_rules.specs.Occasions.{occasion, places_under};
 ghost use Rattle.mq_rules.specs.Rules.{same_rule, binds as is_bound};
 ghost use Rattle.mq_rules.specs.Faults.{offset_of};
+ghost use Rattle.mq_rules.specs.KeptOrder.{value_under};
 ghost use Rattle.std.specs.Prelude.{Option, None};
 ghost use Rattle.mq_rules.specs.Under.{IsKnown, turns_known};
 ghost use Rattle.mq_books.specs.Concerns.{concerns_count};
@@ -25,10 +25,10 @@ use crate::counting::{Asks, places_after};
 use crate::fated::Fated;
 use crate::known::judge_by;
 use crate::selective::Selective;
-use crate::sizes::map_size;
-use indexmap::IndexMap;
 use mq_log::Place3;
-use mq_rules::{Fate, Faults, Memory, Note, PacketFields, Rule, Tested, Watch};
+use mq_rules::{
+    CountedByIdentifier, Fate, Faults, Memory, Note, PacketFields, Rule, Tested, Watch,
+};
 use std::alloc::Global;
 use std::marker::PhantomData;
 
@@ -79,23 +79,21 @@ pub trait Replies {
 // Keeps the count of the first packet of an identifier that isn't answered. All are forgotten where
 // a connection begins and where it ends, since a packet is answered on its own connection.
 fn keep_count(
-    counts: &mut IndexMap<u16, usize>,
-    alloc: Global,
+    counts: &mut CountedByIdentifier<usize>,
     boundary: bool,
     request: Option<Counted>,
     reply: Option<Counted>,
 ) -> Result<(), Memory>
-    ensures { OnOk result ((i : ℕ) → get nat_eq counts.new i ≡ counted_next boundary request reply i (get nat_eq counts.old i)) }
+    ensures { OnOk result ((i : ℕ) → value_under counts.new i ≡ counted_next boundary request reply i (value_under counts.old i)) }
 {
     if boundary {
-        // A large map that is cleared costs its size each time.
-        *counts = IndexMap::new(alloc);
+        counts.clear();
     }
     if let Some(answered) = reply {
-        counts.swap_remove(&answered.identifier);
+        counts.remove(answered.identifier);
     }
     if let Some(asked) = request {
-        if !counts.contains_key(&asked.identifier) {
+        if !counts.contains(asked.identifier) {
             counts.insert(asked.identifier, asked.count)?;
         }
     }
@@ -103,22 +101,27 @@ fn keep_count(
 }
 
 // Whether a packet answers one whose count is another.
-fn is_other(counts: &IndexMap<u16, usize>, reply: Option<Counted>) -> bool
-    ensures { result ≡ differs (get nat_eq counts.now) reply }
+fn is_other(counts: &CountedByIdentifier<usize>, reply: Option<Counted>) -> bool
+    ensures { result ≡ differs (value_under counts.now) reply }
 {
     let Some(given) = reply else {
         return false;
     };
-    match counts.get(&given.identifier) {
-        Some(asked) => *asked != given.count,
+    match counts.get(given.identifier) {
+        Some(asked) => asked != given.count,
         None => false,
     }
 }
 
 // Whether an answer has another number of codes than were asked for, on a connection that is
 // accepted, if the statement is judged.
-fn is_broken(bound: bool, fate: Fate, counts: &IndexMap<u16, usize>, reply: Option<Counted>) -> bool
-    ensures { result ≡ (bound && (accepts fate && differs (get nat_eq counts.now) reply)) }
+fn is_broken(
+    bound: bool,
+    fate: Fate,
+    counts: &CountedByIdentifier<usize>,
+    reply: Option<Counted>,
+) -> bool
+    ensures { result ≡ (bound && (accepts fate && differs (value_under counts.now) reply)) }
 {
     bound && (fate.accepts() && is_other(counts, reply))
 }
@@ -126,10 +129,9 @@ fn is_broken(bound: bool, fate: Fate, counts: &IndexMap<u16, usize>, reply: Opti
 /// Watches that there are as many Reason Codes as filters.
 #[derive(Drop)]
 pub struct Counts<R: Replies> {
-    alloc: Global,
     bound: bool,
     fate: Fate,
-    counts: IndexMap<u16, usize>,
+    counts: CountedByIdentifier<usize>,
     replies: PhantomData<R>,
 }
 
@@ -139,17 +141,16 @@ impl<R: Replies> Counts<R> {
         ensures { ⟦<Counts<R> as Watch>⟧.agrees result tested (Some Void) [] }
     {
         Counts {
-            alloc,
             bound: R::judged().is_judged(tested),
             fate: Fate::Void,
-            counts: IndexMap::new(alloc),
+            counts: CountedByIdentifier::new(alloc),
             replies: PhantomData,
         }
     }
 }
 
 impl<R: Replies> Watch for Counts<R> {
-    ghost agrees = { λ s tested taken past. (s.bound ≡ is_bound R.judged tested) × IsCounted R.counting s.fate (get nat_eq s.counts) taken past };
+    ghost agrees = { λ s tested taken past. (s.bound ≡ is_bound R.judged tested) × IsCounted R.counting s.fate (value_under s.counts) taken past };
 
     ghost takes = { IsKnown };
 
@@ -165,9 +166,9 @@ impl<R: Replies> Watch for Counts<R> {
         Ok(())
     }
 
-    // The one map of the struct.
+    // The one table of the struct.
     fn weight(&self) -> usize {
-        map_size(&self.counts)
+        self.counts.len()
     }
 }
 
@@ -184,10 +185,8 @@ impl<R: Replies> Fated for Counts<R> {
     ) -> Result<(), Memory> {
         let reply = R::reply(note);
         let broken = is_broken(self.bound, fate, &self.counts, reply);
-        let alloc = self.alloc;
         keep_count(
             &mut self.counts,
-            alloc,
             note.is_boundary(),
             R::request(note),
             reply,
@@ -209,11 +208,11 @@ impl<R: Replies> Selective for Counts<R> {
 }
 
 // Whether a packet answers one whose count is kept.
-fn is_asked_for(counts: &IndexMap<u16, usize>, reply: Option<Counted>) -> bool
-    ensures { result ≡ answers_kept (get nat_eq counts.now) reply }
+fn is_asked_for(counts: &CountedByIdentifier<usize>, reply: Option<Counted>) -> bool
+    ensures { result ≡ answers_kept (value_under counts.now) reply }
 {
     match reply {
-        Some(given) => counts.contains_key(&given.identifier),
+        Some(given) => counts.contains(given.identifier),
         None => false,
     }
 }
@@ -222,10 +221,10 @@ fn is_asked_for(counts: &IndexMap<u16, usize>, reply: Option<Counted>) -> bool
 fn is_put_to_test(
     bound: bool,
     fate: Fate,
-    counts: &IndexMap<u16, usize>,
+    counts: &CountedByIdentifier<usize>,
     reply: Option<Counted>,
 ) -> bool
-    ensures { result ≡ (bound && (accepts fate && answers_kept (get nat_eq counts.now) reply)) }
+    ensures { result ≡ (bound && (accepts fate && answers_kept (value_under counts.now) reply)) }
 {
     bound && (fate.accepts() && is_asked_for(counts, reply))
 }

@@ -1,16 +1,14 @@
 //! The order of what is due: a queue, from which what is answered is dropped late.
-ghost use Rattle.std.specs.Prelude.{◌≡◌, ◌≤◌, ◌*◌, ◌&&◌, ℕ, Bool, true, OnOk, OnErr, cond, filter, is_some, length, nat_eq};
-ghost use Rattle.indexmap.specs.IndexMap.{get};
+ghost use Rattle.std.specs.Prelude.{◌≡◌, ◌≤◌, ◌*◌, ◌&&◌, ℕ, Bool, true, OnOk, OnErr, cond, filter, is_some, length};
+ghost use Rattle.mq_rules.specs.KeptOrder.{value_under};
 ghost use Rattle.mq_rules.specs.Connections.{accepts};
-ghost use Rattle.mq_books.specs.Burden.{ids_where};
+ghost use Rattle.mq_rules.specs.IdentifierCounts.{ids_where};
 ghost use Rattle.mq_books.specs.Orderings as keeping;
 ghost use Rattle.mq_books.specs.Orderings.{first_debt, from_due, queued_by, ordered_by, IsQueue, IsTidied};
 
 use crate::known::judge_by;
-use crate::sizes::map_size;
-use indexmap::IndexMap;
 use mq_log::Place3;
-use mq_rules::{Fate, Faults, Memory, Rule};
+use mq_rules::{CountedByIdentifier, Fate, Faults, Memory, Rule};
 use std::collections::VecDeque;
 
 /// A cause that fell due at a position, where none was due under its identifier.
@@ -21,10 +19,10 @@ pub struct Debt {
 }
 
 // Whether this debt is what is due under its identifier.
-fn is_still_due(due: &IndexMap<u16, Place3>, debt: Debt) -> bool
-    ensures { result ≡ keeping.is_still_due (get nat_eq due.now) debt }
+fn is_still_due(due: &CountedByIdentifier<Place3>, debt: Debt) -> bool
+    ensures { result ≡ keeping.is_still_due (value_under due.now) debt }
 {
-    match due.get(&debt.identifier) {
+    match due.get(debt.identifier) {
         Some(place) => place.position == debt.position,
         None => false,
     }
@@ -41,8 +39,8 @@ fn first_of(queue: &VecDeque<Debt>) -> Option<Debt>
 }
 
 // Drops what is before the first debt that is still due. Each debt is dropped once.
-fn drop_settled(queue: &mut VecDeque<Debt>, due: &IndexMap<u16, Place3>)
-    ensures { queue.new.items ≡ from_due (get nat_eq due.now) queue.old.items }
+fn drop_settled(queue: &mut VecDeque<Debt>, due: &CountedByIdentifier<Place3>)
+    ensures { queue.new.items ≡ from_due (value_under due.now) queue.old.items }
 {
     while let Some(debt) = first_of(queue) {
         if is_still_due(due, debt) {
@@ -56,17 +54,17 @@ fn drop_settled(queue: &mut VecDeque<Debt>, due: &IndexMap<u16, Place3>)
 /// due under it.
 pub fn passes_over(
     queue: &mut VecDeque<Debt>,
-    due: &IndexMap<u16, Place3>,
+    due: &CountedByIdentifier<Place3>,
     answer: Option<u16>,
 ) -> bool
-    ensures queue { queue.new.items ≡ keeping.looked_at (get nat_eq due.now) answer queue.old.items }
-    ensures passes { result ≡ keeping.passes_over (get nat_eq due.now) answer queue.new.items }
+    ensures queue { queue.new.items ≡ keeping.looked_at (value_under due.now) answer queue.old.items }
+    ensures passes { result ≡ keeping.passes_over (value_under due.now) answer queue.new.items }
 {
     let Some(identifier) = answer else {
         return false;
     };
     drop_settled(queue, due);
-    due.contains_key(&identifier)
+    due.contains(identifier)
         && match first_of(queue) {
             Some(debt) => debt.identifier != identifier,
             None => false,
@@ -76,19 +74,19 @@ pub fn passes_over(
 /// Takes in a cause: it falls due, if nothing is due under its identifier.
 pub fn enqueue(
     queue: &mut VecDeque<Debt>,
-    due: &IndexMap<u16, Place3>,
+    due: &CountedByIdentifier<Place3>,
     at: Place3,
     opens: bool,
     cause: Option<u16>,
 ) -> Result<(), Memory>
-    ensures { OnOk result (queue.new.items ≡ queued_by opens cause at.position (get nat_eq due.now) queue.old.items) }
+    ensures { OnOk result (queue.new.items ≡ queued_by opens cause at.position (value_under due.now) queue.old.items) }
 {
     if opens {
         queue.clear();
         return Ok(());
     }
     if let Some(identifier) = cause {
-        if !due.contains_key(&identifier) {
+        if !due.contains(identifier) {
             queue.push_back(Debt {
                 identifier,
                 position: at.position,
@@ -101,14 +99,14 @@ pub fn enqueue(
 /// Takes in a cause of a connection that has this fate, if there is a statement on the order.
 pub fn take_queue(
     queue: &mut VecDeque<Debt>,
-    due: &IndexMap<u16, Place3>,
+    due: &CountedByIdentifier<Place3>,
     rule: Option<Rule>,
     at: Place3,
     fate: Fate,
     opens: bool,
     cause: Option<u16>,
 ) -> Result<(), Memory>
-    ensures { OnOk result (queue.new.items ≡ cond (is_some rule && accepts fate) (queued_by opens cause at.position (get nat_eq due.now) queue.old.items) queue.old.items) }
+    ensures { OnOk result (queue.new.items ≡ cond (is_some rule && accepts fate) (queued_by opens cause at.position (value_under due.now) queue.old.items) queue.old.items) }
 {
     if !(rule.is_some() && fate.accepts()) {
         return Ok(());
@@ -118,8 +116,8 @@ pub fn take_queue(
 }
 
 // Drops all that is no longer due.
-fn drop_all_settled(queue: &mut VecDeque<Debt>, due: &IndexMap<u16, Place3>)
-    ensures { queue.new.items ≡ filter (keeping.is_still_due (get nat_eq due.now)) queue.old.items }
+fn drop_all_settled(queue: &mut VecDeque<Debt>, due: &CountedByIdentifier<Place3>)
+    ensures { queue.new.items ≡ filter (keeping.is_still_due (value_under due.now)) queue.old.items }
 {
     queue.retain(|debt| is_still_due(due, *debt));
 }
@@ -127,14 +125,14 @@ fn drop_all_settled(queue: &mut VecDeque<Debt>, due: &IndexMap<u16, Place3>)
 /// Drops all that is no longer due, once it is more than half of the queue, so that after a cause
 /// the queue is at most twice as long as what is due. Each debt that is dropped pays for one that
 /// is kept.
-pub fn tidy(queue: &mut VecDeque<Debt>, due: &IndexMap<u16, Place3>, cause: Option<u16>)
-    ensures tidied { IsTidied (get nat_eq due.now) queue.old.items queue.new.items }
-    ensures bounded { (n : ℕ) (test : ℕ → Bool) → is_some cause ≡ true → IsQueue (get nat_eq due.now) queue.old.items n → ((i : ℕ) → is_some (get nat_eq due.now i) ≡ true → test i ≡ true) → length queue.new.items ≤ 2 * ids_where test }
+pub fn tidy(queue: &mut VecDeque<Debt>, due: &CountedByIdentifier<Place3>, cause: Option<u16>)
+    ensures tidied { IsTidied (value_under due.now) queue.old.items queue.new.items }
+    ensures bounded { (n : ℕ) (test : ℕ → Bool) → is_some cause ≡ true → IsQueue (value_under due.now) queue.old.items n → ((i : ℕ) → is_some (value_under due.now i) ≡ true → test i ≡ true) → length queue.new.items ≤ 2 * ids_where test }
 {
     if cause.is_none() {
         return;
     }
-    let most = map_size(due);
+    let most = due.len();
     if queue.len().saturating_sub(most) > most {
         drop_all_settled(queue, due);
     }

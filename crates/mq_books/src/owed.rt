@@ -1,8 +1,6 @@
 //! Each cause is answered before a REST, and answers are sent in the order of their causes (MQTT
 //! 5.0, sections 3.8.4, 3.10.4, 4.3 and 4.6).
-ghost use Rattle.std.specs.Prelude.{◌≡◌, ◌*◌, ◌+◌, ◌<◌, ◌==◌, ℕ, ◌||◌, ◌&&◌, not, is_some, true, false, OnOk, OnErr, nat_eq, [], Some, cond, refl};
-ghost use Rattle.std.specs.List.{list_any};
-ghost use Rattle.indexmap.specs.IndexMap.{get, keys, values, IsUnique};
+ghost use Rattle.std.specs.Prelude.{◌≡◌, ◌*◌, ◌+◌, ◌<◌, ◌==◌, ℕ, ◌||◌, ◌&&◌, not, is_some, true, false, OnOk, OnErr, [], Some, cond, refl};
 ghost use Rattle.mq_rules.specs.declared.rule.Rule.{Rule as TheRule};
 ghost use Rattle.mq_rules.specs.Exchanges.{applies_O, applies_R};
 ghost use Rattle.mq_rules.specs.Occasions.{places_under};
@@ -11,6 +9,7 @@ ghost use Rattle.mq_rules.specs.Occasions.{occasion};
 ghost use Rattle.mq_rules.specs.declared.fate.Fate.TheVariants.{Void};
 ghost use Rattle.mq_rules.specs.Words.{is_some_and};
 ghost use Rattle.mq_rules.specs.Connections.{accepts};
+ghost use Rattle.mq_rules.specs.KeptOrder.{value_under, values_of};
 ghost use Rattle.mq_rules.specs.Rules.{same_rule, binds as is_bound};
 ghost use Rattle.mq_rules.specs.Under.{IsKnown, turns_known};
 ghost use Rattle.mq_books.specs.Burden.{caused_ids};
@@ -26,11 +25,10 @@ use crate::fated::Fated;
 use crate::ordering::{Debt, judge_order, passes_over, take_queue, tidy};
 use crate::pings::ended_after;
 use crate::selective::Selective;
-use crate::sizes::map_size;
-use indexmap::IndexMap;
 use mq_log::Place3;
 use mq_rules::{
-    Bare, Brisk, Fate, Fault, FaultKey, Faults, Memory, Note, NoteRef, Rule, Tested, Watch,
+    Bare, Brisk, CountedByIdentifier, Fate, Fault, FaultKey, Faults, Memory, Note, NoteRef, Rule,
+    Tested, Watch,
 };
 use std::alloc::Global;
 use std::collections::VecDeque;
@@ -39,25 +37,22 @@ use std::marker::PhantomData;
 // Takes in an event: an answer settles what is due under its identifier, and a cause falls due
 // where nothing is.
 fn fall_due(
-    due: &mut IndexMap<u16, Place3>,
-    alloc: Global,
+    due: &mut CountedByIdentifier<Place3>,
     at: Place3,
     opens: bool,
     cause: Option<u16>,
     answer: Option<u16>,
 ) -> Result<(), Memory>
-    ensures due { OnOk result ((i : ℕ) → get nat_eq due.new i ≡ due_by opens cause answer at i (get nat_eq due.old i)) }
-    ensures unique { IsUnique nat_eq due.old → OnOk result (IsUnique nat_eq due.new) }
+    ensures due { OnOk result ((i : ℕ) → value_under due.new i ≡ due_by opens cause answer at i (value_under due.old i)) }
 {
     if opens {
-        // A large map that is cleared costs its size each time.
-        *due = IndexMap::new(alloc);
+        due.clear();
     }
     if let Some(i) = answer {
-        due.swap_remove(&i);
+        due.remove(i);
     }
     if let Some(i) = cause {
-        if !due.contains_key(&i) {
+        if !due.contains(i) {
             due.insert(i, at)?;
         }
     }
@@ -66,38 +61,41 @@ fn fall_due(
 
 // Takes in an event of a connection that has this fate. What isn't accepted changes nothing.
 fn take_due(
-    due: &mut IndexMap<u16, Place3>,
-    alloc: Global,
+    due: &mut CountedByIdentifier<Place3>,
     at: Place3,
     fate: Fate,
     opens: bool,
     cause: Option<u16>,
     answer: Option<u16>,
 ) -> Result<(), Memory>
-    ensures due { accepts fate ≡ true → OnOk result ((i : ℕ) → get nat_eq due.new i ≡ due_by opens cause answer at i (get nat_eq due.old i)) }
-    ensures same { accepts fate ≡ false → OnOk result ((i : ℕ) → get nat_eq due.new i ≡ get nat_eq due.old i) }
-    ensures unique { IsUnique nat_eq due.old → OnOk result (IsUnique nat_eq due.new) }
+    ensures due { accepts fate ≡ true → OnOk result ((i : ℕ) → value_under due.new i ≡ due_by opens cause answer at i (value_under due.old i)) }
+    ensures same { accepts fate ≡ false → OnOk result ((i : ℕ) → value_under due.new i ≡ value_under due.old i) }
 {
     if !fate.accepts() {
         return Ok(());
     }
-    fall_due(due, alloc, at, opens, cause, answer)?;
+    fall_due(due, at, opens, cause, answer)?;
     Ok(())
 }
 
 // Adds the faults of what is due.
 #[tactic(auto, using(crate::proofs::BlameLaws::keeps_with_fault, crate::proofs::BlameLaws::keeps_blamed))]
 fn blame(
-    due: &IndexMap<u16, Place3>,
+    due: &CountedByIdentifier<Place3>,
     rule: Rule,
     decided: u32,
     faults: &mut Faults,
 ) -> Result<(), Memory>
-    ensures ok { OnOk result (faults.new ≡ blamed rule decided (values due.now) faults.old) }
+    ensures ok { OnOk result (faults.new ≡ blamed rule decided (values_of (value_under due.now)) faults.old) }
     ensures memory { OnErr result (Keeps faults.old faults.new) }
-    ensures partial { OnErr result (Keeps faults.new (blamed rule decided (values due.now) faults.old)) }
+    ensures partial { OnErr result (Keeps faults.new (blamed rule decided (values_of (value_under due.now)) faults.old)) }
 {
-    for place in due.values() {
+    let mut next = 0;
+    // It stops at the last value, and doesn't go over the identifiers after it.
+    for _ in 0..due.len() {
+        let Some((identifier, place)) = due.first_from(next) else {
+            return Ok(());
+        };
         let key = FaultKey {
             position: place.position,
             rule,
@@ -108,6 +106,7 @@ fn blame(
             offset: None,
         };
         faults.add(key, fault)?;
+        next = usize::from(identifier) + 1;
     }
     Ok(())
 }
@@ -116,14 +115,14 @@ fn blame(
 #[tactic(auto, using(crate::proofs::BlameLaws::keeps_same))]
 fn settle(
     rests: bool,
-    due: &IndexMap<u16, Place3>,
+    due: &CountedByIdentifier<Place3>,
     rule: Rule,
     decided: u32,
     faults: &mut Faults,
 ) -> Result<(), Memory>
-    ensures ok { OnOk result (faults.new ≡ cond rests (blamed rule decided (values due.now) faults.old) faults.old) }
+    ensures ok { OnOk result (faults.new ≡ cond rests (blamed rule decided (values_of (value_under due.now)) faults.old) faults.old) }
     ensures memory { OnErr result (Keeps faults.old faults.new) }
-    ensures partial { OnErr result (Keeps faults.new (cond rests (blamed rule decided (values due.now) faults.old) faults.old)) }
+    ensures partial { OnErr result (Keeps faults.new (cond rests (blamed rule decided (values_of (value_under due.now)) faults.old) faults.old)) }
 {
     if !rests {
         return Ok(());
@@ -144,14 +143,13 @@ fn rests_now(is_judged: bool, fate: Fate, is_decided: bool, ended: bool, note: &
 /// one.
 #[derive(Drop)]
 pub struct Owed<X: Exchange> {
-    alloc: Global,
     binds: bool,
     order_binds: bool,
     fate: Fate,
     // After this event no REST binds on the connection.
     ended: bool,
     // Under each identifier: the first cause on the connection without an answer since.
-    due: IndexMap<u16, Place3>,
+    due: CountedByIdentifier<Place3>,
     // All that is due, in order, and some of what was due.
     queue: VecDeque<Debt>,
     exchange: PhantomData<X>,
@@ -172,11 +170,11 @@ fn is_out_of_order(
     binds: bool,
     fate: Fate,
     queue: &mut VecDeque<Debt>,
-    due: &IndexMap<u16, Place3>,
+    due: &CountedByIdentifier<Place3>,
     answer: Option<u16>,
 ) -> bool
-    ensures queue { queue.new.items ≡ cond (binds && accepts fate) (looked_at (get nat_eq due.now) answer queue.old.items) queue.old.items }
-    ensures broken { result ≡ (binds && (accepts fate && passing.passes_over (get nat_eq due.now) answer (looked_at (get nat_eq due.now) answer queue.old.items))) }
+    ensures queue { queue.new.items ≡ cond (binds && accepts fate) (looked_at (value_under due.now) answer queue.old.items) queue.old.items }
+    ensures broken { result ≡ (binds && (accepts fate && passing.passes_over (value_under due.now) answer (looked_at (value_under due.now) answer queue.old.items))) }
 {
     binds && (fate.accepts() && passes_over(queue, due, answer))
 }
@@ -187,12 +185,11 @@ impl<X: Exchange> Owed<X> {
         ensures { ⟦<Owed<X> as Watch>⟧.agrees result tested (Some Void) [] }
     {
         Owed {
-            alloc,
             binds: X::settled_rule().is_judged(tested),
             order_binds: is_any_judged(X::ordered_rule(), tested),
             fate: Fate::Void,
             ended: false,
-            due: IndexMap::new(alloc),
+            due: CountedByIdentifier::new(alloc),
             queue: VecDeque::new(alloc),
             exchange: PhantomData,
         }
@@ -200,7 +197,7 @@ impl<X: Exchange> Owed<X> {
 }
 
 impl<X: Exchange> Watch for Owed<X> {
-    ghost agrees = { λ s tested taken past. IsUnique nat_eq s.due × IsOwing X.exchange X.settled X.ordered s.binds s.order_binds s.fate s.ended (get nat_eq s.due) s.queue.items tested taken past };
+    ghost agrees = { λ s tested taken past. IsOwing X.exchange X.settled X.ordered s.binds s.order_binds s.fate s.ended (value_under s.due) s.queue.items tested taken past };
 
     ghost takes = { IsKnown };
 
@@ -216,9 +213,9 @@ impl<X: Exchange> Watch for Owed<X> {
         Ok(())
     }
 
-    // The map and the queue of the struct.
+    // The table and the queue of the struct.
     fn weight(&self) -> usize {
-        map_size(&self.due).saturating_add(self.queue.len())
+        self.due.len().saturating_add(self.queue.len())
     }
 }
 
@@ -242,8 +239,7 @@ impl<X: Exchange> Fated for Owed<X> {
         settle(rests, &self.due, X::settled_rule(), decided, faults)?;
         let opens = note.is_open();
         take_queue(&mut self.queue, &self.due, ordered, at, fate, opens, cause)?;
-        let alloc = self.alloc;
-        take_due(&mut self.due, alloc, at, fate, opens, cause, answer)?;
+        take_due(&mut self.due, at, fate, opens, cause, answer)?;
         tidy(&mut self.queue, &self.due, cause);
         self.ended = ended_after(self.ended, note);
         self.fate = fate;
@@ -265,8 +261,7 @@ impl<X: Exchange> Brisk for Owed<X> {
         let fate = self.fate;
         let broken = is_out_of_order(self.order_binds, fate, &mut self.queue, &self.due, answer);
         take_queue(&mut self.queue, &self.due, ordered, at, fate, false, cause)?;
-        let alloc = self.alloc;
-        take_due(&mut self.due, alloc, at, fate, false, cause, answer)?;
+        take_due(&mut self.due, at, fate, false, cause, answer)?;
         tidy(&mut self.queue, &self.due, cause);
         judge_order(ordered, broken, at, at.position, faults)?;
         Ok(())
@@ -279,26 +274,12 @@ impl<X: Exchange> Selective for Owed<X> {
     fn passes(&self) {}
 }
 
-// Whether one of these is another identifier.
-fn any_other(identifiers: &[u16], identifier: u16) -> bool
-    ensures { result ≡ list_any (λ other. not (other == identifier)) identifiers.now }
-{
-    identifiers.iter().any(|other| *other != identifier)
-}
-
-// Whether something is due under another identifier.
-fn is_other_due(due: &IndexMap<u16, Place3>, identifier: u16) -> bool
-    ensures { result ≡ list_any (λ other. not (other == identifier)) (keys due.now) }
-{
-    any_other(due.keys().as_slice(), identifier)
-}
-
 // Whether an answer is to what is due, while something is due under another identifier.
-fn has_choice(due: &IndexMap<u16, Place3>, answer: Option<u16>) -> bool
-    ensures { result ≡ chooses (get nat_eq due.now) (keys due.now) answer }
+fn has_choice(due: &CountedByIdentifier<Place3>, answer: Option<u16>) -> bool
+    ensures { result ≡ chooses (value_under due.now) answer }
 {
     match answer {
-        Some(identifier) => { due.contains_key(&identifier) && is_other_due(due, identifier) }
+        Some(identifier) => due.contains(identifier) && due.any_but(identifier),
         None => false,
     }
 }
@@ -349,17 +330,17 @@ impl<X: Exchange> Owed<X> {
 
     // Whether the event is a cause, and nothing is due under its identifier.
     fn begins(&self, note: &Note) -> bool
-        ensures { result ≡ is_some_and (λ i. not (is_some (get nat_eq self.now.due i))) (X.exchange.cause note.now) }
+        ensures { result ≡ is_some_and (λ i. not (is_some (value_under self.now.due i))) (X.exchange.cause note.now) }
     {
         match X::cause(&NoteRef::Kept(note)) {
-            Some(i) => !self.due.contains_key(&i),
+            Some(i) => !self.due.contains(i),
             None => false,
         }
     }
 
     // Whether the statement on the order is judged, and put to the test.
     fn orders(&self, fate: Fate, note: &Note) -> bool
-        ensures { result ≡ (self.now.order_binds && (accepts fate && chooses (get nat_eq self.now.due) (keys self.now.due) (X.exchange.answer note.now))) }
+        ensures { result ≡ (self.now.order_binds && (accepts fate && chooses (value_under self.now.due) (X.exchange.answer note.now))) }
     {
         self.order_binds
             && (fate.accepts() && has_choice(&self.due, X::answer(&NoteRef::Kept(note))))

@@ -1,7 +1,6 @@
 //! Releases of QoS 2 messages for onward delivery (MQTT 5.0, section 4.3.3).
 ghost use Rattle.std.specs.Prelude.{refl};
-ghost use Rattle.std.specs.Prelude.{◌≡◌, ◌+◌, ◌*◌, ℕ, Bool, ◌||◌, ◌&&◌, not, OnOk, nat_eq, [], Some};
-ghost use Rattle.indexmap.specs.IndexSet.{contains};
+ghost use Rattle.std.specs.Prelude.{◌≡◌, ◌+◌, ◌*◌, ℕ, Bool, ◌||◌, ◌&&◌, not, OnOk, [], Some};
 ghost use Rattle.mq_rules.specs.declared.fate.Fate.TheVariants.{Void};
 ghost use Rattle.mq_rules.specs.declared.rule.Rule.TheVariants.{L1, L2, L3};
 ghost use Rattle.mq_rules.specs.Connections.{accepts};
@@ -11,7 +10,7 @@ ghost use Rattle.mq_rules.specs.Under.{IsKnown, turns_known};
 ghost use Rattle.mq_books.specs.Burden.{brought_ids, released_ids};
 ghost use Rattle.mq_books.specs.Weights.{releases_weighs};
 ghost use Rattle.mq_books.specs.Releasing as keeping;
-ghost use Rattle.mq_books.specs.Releasing.{IsReleasing};
+ghost use Rattle.mq_books.specs.Releasing.{IsReleasing, has_id};
 ghost use Rattle.mq_books.specs.Concerns.{concerns_releases};
 ghost use Rattle.mq_rules.specs.Notes.{note_of_bare};
 ghost use Rattle.mq_books.specs.Selecting as selecting;
@@ -23,12 +22,11 @@ use crate::fated::Fated;
 use crate::known::{is_placed, judge_by, place};
 use crate::messages::is_acknowledged;
 use crate::selective::Selective;
-use crate::sizes::set_size;
 pub use asking::ReleasePlaces;
-use indexmap::IndexSet;
 use mq_log::{Direction, Place3};
 use mq_rules::{
-    Bare, BareFields, Fate, Faults, ItemNote, Memory, Note, PacketFields, Role, Rule, Tested, Watch,
+    Bare, BareFields, CountedByIdentifier, Fate, Faults, ItemNote, Memory, Note, PacketFields,
+    Role, Rule, Tested, Watch,
 };
 use std::alloc::Global;
 
@@ -38,17 +36,16 @@ use std::alloc::Global;
 /// connection.
 #[derive(Drop)]
 pub struct Releases {
-    alloc: Global,
     role: Role,
     releases: bool,
     fate: Fate,
     has_accepted: bool,
     /// The identifiers of QoS 2 PUBLISHes that were received and whose exchange hasn't ended.
-    brought: IndexSet<u16>,
+    brought: CountedByIdentifier<()>,
     /// The identifiers that were released, and whose exchange hasn't ended.
-    released: IndexSet<u16>,
+    released: CountedByIdentifier<()>,
     /// Those among `brought` whose message needs a RELEASE.
-    due: IndexSet<u16>,
+    due: CountedByIdentifier<()>,
 }
 
 // Whether an event is in a session.
@@ -75,27 +72,25 @@ fn starts_over(fate: Fate, note: &Note) -> bool
 // Takes out what is lost by an event of the session, and puts in what is gained.
 #[inline(always)]
 fn revise(
-    set: &mut IndexSet<u16>,
-    alloc: Global,
+    set: &mut CountedByIdentifier<()>,
     over: bool,
     inside: bool,
     gained: Option<u16>,
     lost: Option<u16>,
 ) -> Result<(), Memory>
-    ensures { OnOk result ((i : ℕ) → contains nat_eq set.new i ≡ keeping.kept_next over inside gained lost i (contains nat_eq set.old i)) }
+    ensures { OnOk result ((i : ℕ) → has_id set.new i ≡ keeping.kept_next over inside gained lost i (has_id set.old i)) }
 {
     if over {
-        // A large set that is cleared costs its size each time.
-        *set = IndexSet::new(alloc);
+        set.clear();
     }
     if !inside {
         return Ok(());
     }
     if let Some(i) = lost {
-        set.swap_remove(&i);
+        set.remove(i);
     }
     if let Some(i) = gained {
-        set.insert(i)?;
+        set.insert(i, ())?;
     }
     Ok(())
 }
@@ -112,11 +107,11 @@ fn expires(note: &Note) -> bool
 
 // The identifier of a QoS 2 PUBLISH that is the first under it, and can't expire.
 #[inline(always)]
-fn lasting(brings: Option<u16>, expires: bool, brought: &IndexSet<u16>) -> Option<u16>
-    ensures { result ≡ keeping.lasting_of brings expires (contains nat_eq brought.now) }
+fn lasting(brings: Option<u16>, expires: bool, brought: &CountedByIdentifier<()>) -> Option<u16>
+    ensures { result ≡ keeping.lasting_of brings expires (has_id brought.now) }
 {
     match brings {
-        Some(i) if !brought.contains(&i) && !expires => Some(i),
+        Some(i) if !brought.contains(i) && !expires => Some(i),
         _ => None,
     }
 }
@@ -125,39 +120,38 @@ fn lasting(brings: Option<u16>, expires: bool, brought: &IndexSet<u16>) -> Optio
 // and what lasts needs one.
 #[inline(always)]
 fn revise_due(
-    due: &mut IndexSet<u16>,
-    alloc: Global,
+    due: &mut CountedByIdentifier<()>,
     over: bool,
     inside: bool,
     unmatched: Option<u16>,
     lasts: Option<u16>,
     ender: Option<u16>,
 ) -> Result<(), Memory>
-    ensures { OnOk result ((i : ℕ) → contains nat_eq due.new i ≡ keeping.due_by over inside unmatched lasts ender i (contains nat_eq due.old i)) }
+    ensures { OnOk result ((i : ℕ) → has_id due.new i ≡ keeping.due_by over inside unmatched lasts ender i (has_id due.old i)) }
 {
-    revise(due, alloc, over, inside, None, unmatched)?;
-    revise(due, alloc, false, inside, lasts, ender)?;
+    revise(due, over, inside, None, unmatched)?;
+    revise(due, false, inside, lasts, ender)?;
     Ok(())
 }
 
 // Whether an event releases a message that wasn't received.
-fn is_unreceived(releases: bool, note: &Note, brought: &IndexSet<u16>) -> bool
-    ensures { result ≡ (releases && keeping.is_unreceived note.now (contains nat_eq brought.now)) }
+fn is_unreceived(releases: bool, note: &Note, brought: &CountedByIdentifier<()>) -> bool
+    ensures { result ≡ (releases && keeping.is_unreceived note.now (has_id brought.now)) }
 {
     releases
         && match note.released_identifier() {
-            Some(i) => !brought.contains(&i),
+            Some(i) => !brought.contains(i),
             None => false,
         }
 }
 
 // Whether an event releases a message again.
-fn is_repeated(releases: bool, note: &Note, released: &IndexSet<u16>) -> bool
-    ensures { result ≡ (releases && keeping.is_repeated note.now (contains nat_eq released.now)) }
+fn is_repeated(releases: bool, note: &Note, released: &CountedByIdentifier<()>) -> bool
+    ensures { result ≡ (releases && keeping.is_repeated note.now (has_id released.now)) }
 {
     releases
         && match note.released_identifier() {
-            Some(i) => released.contains(&i),
+            Some(i) => released.contains(i),
             None => false,
         }
 }
@@ -168,15 +162,15 @@ fn is_unreleased(
     releases: bool,
     fate: Fate,
     completed: Option<u16>,
-    released: &IndexSet<u16>,
-    due: &IndexSet<u16>,
+    released: &CountedByIdentifier<()>,
+    due: &CountedByIdentifier<()>,
 ) -> bool
-    ensures { result ≡ (releases && keeping.completes_unreleased fate completed (contains nat_eq released.now) (contains nat_eq due.now)) }
+    ensures { result ≡ (releases && keeping.completes_unreleased fate completed (has_id released.now) (has_id due.now)) }
 {
     releases
         && fate.accepts()
         && match completed {
-            Some(i) => !released.contains(&i) && due.contains(&i),
+            Some(i) => !released.contains(i) && due.contains(i),
             None => false,
         }
 }
@@ -187,20 +181,19 @@ impl Releases {
         ensures { ⟦<Releases as Watch>⟧.agrees result tested (Some Void) [] }
     {
         Releases {
-            alloc,
             role: tested.role,
             releases: tested.releases,
             fate: Fate::Void,
             has_accepted: false,
-            brought: IndexSet::new(alloc),
-            released: IndexSet::new(alloc),
-            due: IndexSet::new(alloc),
+            brought: CountedByIdentifier::new(alloc),
+            released: CountedByIdentifier::new(alloc),
+            due: CountedByIdentifier::new(alloc),
         }
     }
 }
 
 impl Watch for Releases {
-    ghost agrees = { λ s tested taken past. IsReleasing s.role s.releases s.fate s.has_accepted (contains nat_eq s.brought) (contains nat_eq s.released) (contains nat_eq s.due) tested taken past };
+    ghost agrees = { λ s tested taken past. IsReleasing s.role s.releases s.fate s.has_accepted (has_id s.brought) (has_id s.released) (has_id s.due) tested taken past };
 
     ghost takes = { IsKnown };
 
@@ -218,9 +211,10 @@ impl Watch for Releases {
 
     // All three sets of the struct.
     fn weight(&self) -> usize {
-        set_size(&self.brought)
-            .saturating_add(set_size(&self.released))
-            .saturating_add(set_size(&self.due))
+        self.brought
+            .len()
+            .saturating_add(self.released.len())
+            .saturating_add(self.due.len())
     }
 }
 
@@ -242,15 +236,14 @@ impl Fated for Releases {
         let unreleased = is_unreleased(self.releases, fate, completed, &self.released, &self.due);
         let inside = is_inside(fate, note, self.has_accepted);
         let over = starts_over(fate, note);
-        let alloc = self.alloc;
         let brings = note.received_exactly_once();
         let unmatched = note.sent_unmatched_pubrec();
         let ender = note.ender();
         let frees = note.released_identifier();
         let lasts = lasting(brings, expires(note), &self.brought);
-        revise_due(&mut self.due, alloc, over, inside, unmatched, lasts, ender)?;
-        revise(&mut self.brought, alloc, over, inside, brings, ender)?;
-        revise(&mut self.released, alloc, over, inside, frees, ender)?;
+        revise_due(&mut self.due, over, inside, unmatched, lasts, ender)?;
+        revise(&mut self.brought, over, inside, brings, ender)?;
+        revise(&mut self.released, over, inside, frees, ender)?;
         self.has_accepted = has_accepted(fate, note, self.has_accepted);
         self.fate = fate;
         judge_by(Rule::L1, unreceived, at, decided, faults)?;

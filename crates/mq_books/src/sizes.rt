@@ -6,7 +6,7 @@ ghost use Rattle.std.specs.Prelude.{◌≡◌, ◌≤◌, ℕ, Bool, true, is_so
 ghost use Rattle.std.specs.List.{IsDistinct, list_any};
 ghost use Rattle.indexmap.specs.IndexMap.{get, index_map_len};
 ghost use Rattle.indexmap.specs.IndexSet.{contains, index_set_len};
-ghost use Rattle.mq_books.specs.Burden.{ids_where};
+ghost use Rattle.mq_rules.specs.IdentifierCounts.{ids_where};
 
 use indexmap::{IndexMap, IndexSet};
 

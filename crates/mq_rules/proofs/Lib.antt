@@ -41,3 +41,5 @@ pub mod TrialLaws
 pub mod ByteTallyLaws
 pub mod HistoryLaws
 pub mod ByIdentifierLaws
+pub mod IdentifierCountLaws
+pub mod KeptOrderLaws

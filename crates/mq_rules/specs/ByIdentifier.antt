@@ -1,16 +1,12 @@
 -- What a table keeps under Packet Identifiers (MQTT 5.0, section 2.2.1).
-use Rattle.std.specs.Prelude.{ℕ, ◌/◌, ◌%◌, ◌<◌, Bool, List, [], map, length, get_or, Option, None, is_some}
+use Rattle.std.specs.Prelude.{ℕ, ◌/◌, ◌%◌, ◌<◌, Bool, List, [], length, get_or, Option, None, is_some}
 use Rattle.mq_rules.specs.declared.by_identifier.Page.{Page}
 use Rattle.mq_rules.specs.declared.by_identifier.ByIdentifier.{ByIdentifier}
 
 module _ {T : Type 0} where
-  -- the values of a page, by their places in it
-  abbrev pub slots_of : Page T → List (Option T)
-  slots_of page = page.slots.items
-
-  -- the values of the page with this number: none if there is no such page
+  -- the values of the page with this number, by their places in it: none if there is no such page
   abbrev pub page_at : List (Page T) → ℕ → List (Option T)
-  page_at pages page = get_or (map slots_of pages) page []
+  page_at pages page = get_or pages page []
 
   -- the value at a place of a page: nothing if there is no such place
   abbrev pub value_at : List (Page T) → ℕ → ℕ → Option T

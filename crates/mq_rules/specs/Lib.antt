@@ -33,3 +33,5 @@ pub mod FirstRests
 pub mod Naming
 pub mod Histories
 pub mod ByIdentifier
+pub mod IdentifierCounts
+pub mod KeptOrder

@@ -1,9 +1,14 @@
 //! What is kept under Packet Identifiers (MQTT 5.0, section 2.2.1).
-ghost use Rattle.std.specs.Prelude.{◌≡◌, ◌==◌, ◌&&◌, ◌/◌, ◌%◌, ◌<◌, ◌≤◌, ℕ, cond, get_or, length, nat_eq, nat_lt, is_some, Some, None, OnOk};
-ghost use Rattle.mq_rules.specs.ByIdentifier.{HasPlace, is_kept, kept, page_at, slots_of, value_at};
+ghost use Rattle.std.specs.Prelude.{◌≡◌, ◌==◌, ◌&&◌, ◌+◌, ◌/◌, ◌%◌, ◌^◌, ◌<◌, ◌≤◌, ◌⊎◌, ℕ, [], cond, count_by, get_or, length, nat_eq, nat_lt, is_some, set, Some, None, OnOk, OnErr};
+ghost use Rattle.mq_rules.specs.ByIdentifier.{HasPlace, is_kept, kept, page_at, value_at};
+
+mod counted;
 
 use crate::faults::Memory;
+pub use counted::CountedByIdentifier;
 use std::alloc::Global;
+use std::marker::Model;
+use std::mem::replace;
 
 // How many identifiers a page is for.
 const SLOTS: usize = 256;
@@ -11,17 +16,33 @@ const SLOTS: usize = 256;
 /// What is kept under Packet Identifiers (MQTT 5.0, section 2.2.1): at most one value for each.
 ///
 /// The values are in pages of 256 neighbouring identifiers. The list of pages ends with that of the
-/// greatest identifier that was kept, and a page has no slots until one of its identifiers is.
+/// greatest identifier that was kept, and a page has no slots until one of its identifiers is. Of
+/// the pages without a value only the one that was emptied last keeps its slots: the next page that
+/// needs some takes them.
 #[derive(Drop)]
 pub struct ByIdentifier<T> {
     alloc: Global,
     pages: Vec<Page<T>>,
+    // The number of the page that was emptied last, which may have a value again.
+    emptied: usize,
 }
 
 // The values of neighbouring identifiers: there is a slot for each of them, or for none.
 #[derive(Drop)]
 struct Page<T> {
     slots: Vec<Option<T>>,
+    // How many slots have a value.
+    used: usize,
+}
+
+impl<T> Model for Page<T> {
+    ghost use Rattle.std.specs.Prelude.{◌≡◌, List, Option, count_by, is_some};
+
+    ghost Value = { List (Option T) };
+
+    ghost view = { λ page. page.slots.items };
+
+    ghost invariant = { λ page. page.used ≡ count_by is_some page.slots.items };
 }
 
 // The page of an identifier.
@@ -40,11 +61,49 @@ fn slot_of(identifier: u16) -> usize
     usize::from(identifier) % SLOTS
 }
 
+// How many slots have a value once one of them was changed.
+#[inline(always)]
+fn used_after(used: usize, had: bool, has: bool) -> usize
+    requires had { cond had 1 0 ≤ used }
+    requires room { used < 2 ^ 63 }
+    ensures { cond had 1 0 + result ≡ used + cond has 1 0 }
+{
+    used - usize::from(had) + usize::from(has)
+}
+
+impl<T> Page<T> {
+    // A page without slots. It takes no memory.
+    fn new(alloc: Global) -> Self
+        ensures { result ≡ [] }
+    {
+        Page {
+            slots: Vec::new(alloc),
+            used: 0,
+        }
+    }
+
+    // How many slots there are.
+    #[inline(always)]
+    fn len(&self) -> usize
+        ensures { result ≡ length self.now }
+    {
+        self.slots.len()
+    }
+
+    // Whether no slot has a value.
+    #[inline(always)]
+    fn is_empty(&self) -> bool
+        ensures { result ≡ nat_eq (count_by is_some self.now) 0 }
+    {
+        self.used == 0
+    }
+}
+
 impl<T: Copy> Page<T> {
     // What is in a slot.
     #[inline(always)]
     fn get(&self, slot: usize) -> Option<T>
-        ensures { result ≡ get_or (slots_of self.now) slot None }
+        ensures { result ≡ get_or self.now slot None }
     {
         if slot < self.slots.len() {
             return self.slots[slot];
@@ -54,8 +113,8 @@ impl<T: Copy> Page<T> {
 
     // Makes empty slots until there are so many.
     fn reach(&mut self, count: usize) -> Result<(), Memory>
-        ensures there { OnOk result (count ≤ length (slots_of self.new)) }
-        ensures same { OnOk result ((s : ℕ) → get_or (slots_of self.new) s None ≡ get_or (slots_of self.old) s None) }
+        ensures there { OnOk result (count ≤ length self.new) }
+        ensures same { (s : ℕ) → get_or self.new s None ≡ get_or self.old s None }
     {
         if self.slots.len() < count {
             self.slots.resize(count, None)?;
@@ -63,14 +122,24 @@ impl<T: Copy> Page<T> {
         Ok(())
     }
 
+    // Puts a value, or nothing, into a slot.
+    #[inline(always)]
+    fn put(&mut self, slot: usize, value: Option<T>)
+        requires { slot < length self.old }
+        ensures { self.new ≡ set self.old slot value }
+    {
+        self.used = used_after(self.used, self.slots[slot].is_some(), value.is_some());
+        self.slots[slot] = value;
+    }
+
     // Keeps a value in each slot in which another page keeps one.
     fn keep_where<U: Copy>(&mut self, others: &Page<U>, value: T)
-        requires { length (slots_of others.now) ≤ length (slots_of self.old) }
-        ensures { (s : ℕ) → get_or (slots_of self.new) s None ≡ cond (is_some (get_or (slots_of others.now) s None)) (Some value) (get_or (slots_of self.old) s None) }
+        requires { length others.now ≤ length self.old }
+        ensures { (s : ℕ) → get_or self.new s None ≡ cond (is_some (get_or others.now s None)) (Some value) (get_or self.old s None) }
     {
         for (slot, other) in others.slots.iter().enumerate() {
             if other.is_some() {
-                self.slots[slot] = Some(value);
+                self.put(slot, Some(value));
             }
         }
     }
@@ -84,6 +153,7 @@ impl<T> ByIdentifier<T> {
         ByIdentifier {
             alloc,
             pages: Vec::new(alloc),
+            emptied: 0,
         }
     }
 }
@@ -115,28 +185,77 @@ impl<T: Copy> ByIdentifier<T> {
         ensures { result ≡ (nat_lt (identifier % 256) (length (page_at self.now.pages.items (identifier / 256)))) }
     {
         let page = page_of(identifier);
-        page < self.pages.len() && slot_of(identifier) < self.pages[page].slots.len()
+        page < self.pages.len() && slot_of(identifier) < self.pages[page].len()
     }
 
     // Makes pages without slots until there is this one.
     fn make_pages(&mut self, page: usize) -> Result<(), Memory>
         ensures there { OnOk result (page < length self.new.pages.items) }
-        ensures same { OnOk result ((p s : ℕ) → value_at self.new.pages.items p s ≡ value_at self.old.pages.items p s) }
+        ensures same { (p s : ℕ) → value_at self.new.pages.items p s ≡ value_at self.old.pages.items p s }
     {
         for _ in self.pages.len()..=page {
-            self.pages.push(Page {
-                slots: Vec::new(self.alloc),
-            })?;
+            self.pages.push(Page::new(self.alloc))?;
         }
         Ok(())
+    }
+
+    // Takes the slots of the page that was emptied last, if it has no value again.
+    fn take_spare(&mut self) -> Page<T>
+        ensures empty { (s : ℕ) → get_or result s None ≡ None }
+        ensures same { (p s : ℕ) → value_at self.new.pages.items p s ≡ value_at self.old.pages.items p s }
+        ensures len { length self.new.pages.items ≡ length self.old.pages.items }
+    {
+        let fresh = Page::new(self.alloc);
+        if self.emptied < self.pages.len() {
+            if self.pages[self.emptied].is_empty() {
+                return replace(&mut self.pages[self.emptied], fresh);
+            }
+        }
+        fresh
+    }
+
+    // Gives a page without slots the spare ones, if there are any.
+    fn reuse(&mut self, page: usize)
+        requires { page < length self.old.pages.items }
+        ensures same { (p s : ℕ) → value_at self.new.pages.items p s ≡ value_at self.old.pages.items p s }
+        ensures len { length self.new.pages.items ≡ length self.old.pages.items }
+    {
+        if self.pages[page].len() == 0 {
+            let spare = self.take_spare();
+            self.pages[page] = spare;
+        }
+    }
+
+    // Notes that a page has no value any more: its slots are the spare ones. Those of the page that
+    // was emptied before it are let go.
+    #[inline(never)]
+    fn retire(&mut self, page: usize)
+        ensures { (p s : ℕ) → value_at self.new.pages.items p s ≡ value_at self.old.pages.items p s }
+    {
+        let _spare = self.take_spare();
+        self.emptied = page;
+    }
+
+    // Does so if the page has no value, and unless it was noted already.
+    #[inline(always)]
+    fn settle(&mut self, page: usize)
+        requires { page < length self.old.pages.items }
+        ensures { (p s : ℕ) → value_at self.new.pages.items p s ≡ value_at self.old.pages.items p s }
+    {
+        if page != self.emptied {
+            if self.pages[page].is_empty() {
+                self.retire(page);
+            }
+        }
     }
 
     // Makes a page, and empty slots in it until there are so many.
     fn make_slots(&mut self, page: usize, count: usize) -> Result<(), Memory>
         ensures there { OnOk result (count ≤ length (page_at self.new.pages.items page)) }
-        ensures same { OnOk result ((p s : ℕ) → value_at self.new.pages.items p s ≡ value_at self.old.pages.items p s) }
+        ensures same { (p s : ℕ) → value_at self.new.pages.items p s ≡ value_at self.old.pages.items p s }
     {
         self.make_pages(page)?;
+        self.reuse(page);
         self.pages[page].reach(count)
     }
 
@@ -144,9 +263,10 @@ impl<T: Copy> ByIdentifier<T> {
     #[inline(always)]
     fn put(&mut self, identifier: u16, value: Option<T>)
         requires { HasPlace self.old.pages.items (identifier / 256) (identifier % 256) }
-        ensures { (i : ℕ) → kept self.new i ≡ cond (nat_eq identifier i) value (kept self.old i) }
+        ensures put { (i : ℕ) → kept self.new i ≡ cond (nat_eq identifier i) value (kept self.old i) }
+        ensures len { length self.new.pages.items ≡ length self.old.pages.items }
     {
-        self.pages[page_of(identifier)].slots[slot_of(identifier)] = value;
+        self.pages[page_of(identifier)].put(slot_of(identifier), value);
     }
 
     /// Keeps a value under an identifier, in place of the one that is there.
@@ -156,7 +276,8 @@ impl<T: Copy> ByIdentifier<T> {
     /// `Memory` if there is no memory for it.
     #[inline]
     pub fn insert(&mut self, identifier: u16, value: T) -> Result<(), Memory>
-        ensures { OnOk result ((i : ℕ) → kept self.new i ≡ cond (nat_eq identifier i) (Some value) (kept self.old i)) }
+        ensures ok { OnOk result ((i : ℕ) → kept self.new i ≡ cond (nat_eq identifier i) (Some value) (kept self.old i)) }
+        ensures unchanged { OnErr result ((i : ℕ) → kept self.new i ≡ kept self.old i) }
     {
         if !self.has_slot(identifier) {
             self.make_slot(identifier)?;
@@ -169,7 +290,7 @@ impl<T: Copy> ByIdentifier<T> {
     #[inline(never)]
     fn make_slot(&mut self, identifier: u16) -> Result<(), Memory>
         ensures there { OnOk result (HasPlace self.new.pages.items (identifier / 256) (identifier % 256)) }
-        ensures same { OnOk result ((i : ℕ) → kept self.new i ≡ kept self.old i) }
+        ensures same { (i : ℕ) → kept self.new i ≡ kept self.old i }
     {
         self.make_slots(page_of(identifier), SLOTS)
     }
@@ -183,18 +304,20 @@ impl<T: Copy> ByIdentifier<T> {
         let removed = self.get(identifier);
         if removed.is_some() {
             self.put(identifier, None);
+            self.settle(page_of(identifier));
         }
         removed
     }
 
     /// Keeps a value under each identifier under which another table keeps one, in place of what is
-    /// there. It looks only at pages that have slots.
+    /// there. It looks only at pages that have a value.
     ///
     /// # Errors
     ///
-    /// `Memory` if there is no memory for it.
+    /// `Memory` if there is no memory for it. Then it may have done so for some of them.
     pub fn insert_all<U: Copy>(&mut self, others: &ByIdentifier<U>, value: T) -> Result<(), Memory>
-        ensures { OnOk result ((i : ℕ) → kept self.new i ≡ cond (is_kept others.now i) (Some value) (kept self.old i)) }
+        ensures ok { OnOk result ((i : ℕ) → kept self.new i ≡ cond (is_kept others.now i) (Some value) (kept self.old i)) }
+        ensures partial { OnErr result ((i : ℕ) → (kept self.new i ≡ kept self.old i) ⊎ (kept self.new i ≡ cond (is_kept others.now i) (Some value) (kept self.old i))) }
     {
         for (page, other) in others.pages.iter().enumerate() {
             self.insert_page(page, other, value)?;
@@ -209,12 +332,13 @@ impl<T: Copy> ByIdentifier<T> {
         others: &Page<U>,
         value: T,
     ) -> Result<(), Memory>
-        ensures { OnOk result ((p s : ℕ) → value_at self.new.pages.items p s ≡ cond (nat_eq page p && is_some (get_or (slots_of others.now) s None)) (Some value) (value_at self.old.pages.items p s)) }
+        ensures unchanged { OnErr result ((p s : ℕ) → value_at self.new.pages.items p s ≡ value_at self.old.pages.items p s) }
+        ensures ok { OnOk result ((p s : ℕ) → value_at self.new.pages.items p s ≡ cond (nat_eq page p && is_some (get_or others.now s None)) (Some value) (value_at self.old.pages.items p s)) }
     {
-        if others.slots.is_empty() {
+        if others.is_empty() {
             return Ok(());
         }
-        self.make_slots(page, others.slots.len())?;
+        self.make_slots(page, others.len())?;
         self.pages[page].keep_where(others, value);
         Ok(())
     }

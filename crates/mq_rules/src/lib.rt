@@ -35,7 +35,7 @@ mod text;
 mod watch;
 
 pub use bare::{Bare, BareFields, is_bare};
-pub use by_identifier::ByIdentifier;
+pub use by_identifier::{ByIdentifier, CountedByIdentifier};
 pub use byte_tally::ByteTally;
 pub use conn::{Conn, ConnTally, CountingConn, One, Tally, Tried, conn_places, places_after};
 pub use fate::Fate;

@@ -1,9 +1,11 @@
 //! Tests alone, of `mq_rules`: short logs whose faults and places are computed from its definitions,
-//! and its table by Packet Identifiers. They stand in a crate of their own, so that the crates above
+//! and its tables by Packet Identifiers. They stand in a crate of their own, so that the crates above
 //! `mq_rules` don't wait for them.
 #![tactic(auto)]
 
 #[cfg(test)]
 mod by_identifier;
+#[cfg(test)]
+mod counted_by_identifier;
 mod worked;
 mod worked_places;

@@ -1,6 +1,5 @@
 //! How often L1, L2 and L3 are put to the test.
-ghost use Rattle.std.specs.Prelude.{◌≡◌, ◌&&◌, ◌||◌, nat_eq, is_some, refl, Some};
-ghost use Rattle.indexmap.specs.IndexSet.{contains};
+ghost use Rattle.std.specs.Prelude.{◌≡◌, ◌&&◌, ◌||◌, is_some, refl, Some};
 ghost use Rattle.mq_rules.specs.declared.rule.Rule.TheVariants.{L1, L2, L3};
 ghost use Rattle.mq_rules.specs.Words.{is_some_and};
 ghost use Rattle.mq_rules.specs.Notes.{released_id};
@@ -8,14 +7,14 @@ ghost use Rattle.mq_rules.specs.Connections.{accepts};
 ghost use Rattle.mq_rules.specs.Rules.{same_rule};
 ghost use Rattle.mq_rules.specs.Occasions.{occasion, places_under};
 ghost use Rattle.mq_books.specs.Placings.{is_on_sessions, on_either, on_one};
+ghost use Rattle.mq_books.specs.Releasing.{has_id};
 
 use super::Releases;
 use crate::counting::{Asks, pick, places_after};
 use crate::fated::Fated;
 use crate::known::{is_placed, place};
-use indexmap::IndexSet;
 use mq_log::Place3;
-use mq_rules::{Fate, Note, Rule};
+use mq_rules::{CountedByIdentifier, Fate, Note, Rule};
 
 /// How often the statements on releases were put to the test.
 #[derive(Drop)]
@@ -34,13 +33,18 @@ fn is_released(releases: bool, note: &Note) -> bool
 }
 
 // Whether releases are recorded, and an exchange is completed with success whose message needs one.
-fn is_completed(releases: bool, fate: Fate, completed: Option<u16>, due: &IndexSet<u16>) -> bool
-    ensures { result ≡ (releases && (accepts fate && is_some_and (contains nat_eq due.now) completed)) }
+fn is_completed(
+    releases: bool,
+    fate: Fate,
+    completed: Option<u16>,
+    due: &CountedByIdentifier<()>,
+) -> bool
+    ensures { result ≡ (releases && (accepts fate && is_some_and (has_id due.now) completed)) }
 {
     releases
         && fate.accepts()
         && match completed {
-            Some(i) => due.contains(&i),
+            Some(i) => due.contains(i),
             None => false,
         }
 }

@@ -63,12 +63,11 @@ impl Releases {
     ) -> Result<(), Memory>
         ensures { OnOk result (IsReceived brings unmatched ender self.old self.new) }
     {
-        let alloc = self.alloc;
         let inside = self.fate.accepts();
         let lasts = lasting(brings, false, &self.brought);
-        revise_due(&mut self.due, alloc, false, inside, unmatched, lasts, ender)?;
-        revise(&mut self.brought, alloc, false, inside, brings, ender)?;
-        revise(&mut self.released, alloc, false, inside, None, ender)?;
+        revise_due(&mut self.due, false, inside, unmatched, lasts, ender)?;
+        revise(&mut self.brought, false, inside, brings, ender)?;
+        revise(&mut self.released, false, inside, None, ender)?;
         Ok(())
     }
 

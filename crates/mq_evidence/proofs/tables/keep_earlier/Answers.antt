@@ -9,6 +9,6 @@ either false o = refl
 
 pub returns-in_ok-insert_all : goal.returns-in_ok-insert_all
 returns-in_ok-insert_all c = λ i.
-    ap is_some (c.in_ok-insert_all.ensures i)
+    ap is_some (c.in_ok-insert_all.ensures.ok i)
     ∙ either (is_some (kept c.args.before.now i)) (kept c.args.earlier.now i)
     ∙ ap (λ b. cond b (is_some (kept c.args.before.now i) || is_kept c.args.earlier.now i) (is_kept c.args.earlier.now i)) (sym c.if-begins.true)

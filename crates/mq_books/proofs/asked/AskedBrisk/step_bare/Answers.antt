@@ -1,5 +1,5 @@
-use Rattle.std.proofs.Common.{◌≡◌, ◌&&◌, ◌∷◌, false, cond, nat_eq, subst, sym, ap, ◌∙◌}
-use Rattle.indexmap.specs.IndexMap.{get}
+use Rattle.std.proofs.Common.{◌&&◌, ◌∷◌, false, cond, subst, sym, ap, ◌∙◌}
+use Rattle.mq_rules.specs.KeptOrder.{value_under}
 use Rattle.mq_rules.specs.Notes.{note_of_bare}
 use Rattle.mq_rules.specs.Rules.{same_rule}
 use Rattle.mq_rules.specs.FaultKeys.{FaultMap}
@@ -20,16 +20,16 @@ returns-clause-agrees g c = λ tested taken past follows known q.
     let b = c.args.bare in
     let e = seen c.args.at (note_of_bare b) in
     let x = g.X.Exchange.exchange in
-    let next = get nat_eq c.take_answered.new.answered in
+    let next = value_under c.take_answered.new.answered in
     let k = knows tested s.fate taken e past follows known q.1.same_fate in (
       q.0,
       subst (λ o. IsAsked x s.fate s.opened next tested o (e ∷ past)) k.after
-          (asked-next tested x s.fate s.fate s.opened s.opened (get nat_eq s.answered) next e past g.met.X.Exchange.apart follows.placed.0 (subst (λ o. IsAsked x s.fate s.opened (get nat_eq s.answered) tested o past) k.before q.1)
+          (asked-next tested x s.fate s.fate s.opened s.opened (value_under s.answered) next e past g.met.X.Exchange.apart follows.placed.0 (subst (λ o. IsAsked x s.fate s.opened (value_under s.answered) tested o past) k.before q.1)
           (sym (ap (λ t. cond t e.place.position s.opened) (bare-closed b)))
           (λ i. c.in_ok-take_answered.ensures i
-          ∙ ap (λ o. answered_by s.fate false o c.answer-answer.result e.place.position i (get nat_eq s.answered i)) c.cause-cause.ensures
-          ∙ ap (λ o. answered_by s.fate false (x.cause e.note) o e.place.position i (get nat_eq s.answered i)) c.answer-answer.ensures
-          ∙ sym (ap (λ t. answered_by s.fate t (x.cause e.note) (x.answer e.note) e.place.position i (get nat_eq s.answered i)) (bare-closed b)))),
+          ∙ ap (λ o. answered_by s.fate false o c.answer-answer.result e.place.position i (value_under s.answered i)) c.cause-cause.ensures
+          ∙ ap (λ o. answered_by s.fate false (x.cause e.note) o e.place.position i (value_under s.answered i)) c.answer-answer.ensures
+          ∙ sym (ap (λ t. answered_by s.fate t (x.cause e.note) (x.answer e.note) e.place.position i (value_under s.answered i)) (bare-closed b)))),
     )
 
 pub returns-clause-grows : goal.returns-clause-grows
@@ -42,7 +42,7 @@ returns-clause-grows g c = λ tested taken past follows known q.
     known-gains tested s.fate taken (λ r. same_rule r g.X.Exchange.asked) e past m c.judge_by.new.faults k
     (subst (λ (n : FaultMap). Gains (λ k r. same_rule r g.X.Exchange.asked && turns_with tested s.fate e past k r) tested (e ∷ past) e.place.position m n)
     (sym (c.in_ok-judge_by.ensures.ok ∙ ap (λ r. judged_by c.is_unasked-broken.result r e.place e.place.position m) c.asked_rule.ensures))
-    (asked-gains tested g.X.Exchange.asked x g.X.Exchange.early g.met.X.Exchange.apart (g.met.X.Exchange.says_asked tested.role) s.fate s.fate s.opened (get nat_eq s.answered) e.place.position e past m s.binds c.is_unasked-broken.result
-    k.under (subst (λ o. IsAsked x s.fate s.opened (get nat_eq s.answered) tested o past) k.before q.1) q.0
-    (c.is_unasked-broken.ensures ∙ ap (λ o. s.binds && is_unasked s.fate s.opened o (get nat_eq s.answered)) c.answer-answer.ensures
-    ∙ excused-late (g.X.Exchange.early && surprises s.fate) (s.binds && is_unasked s.fate s.opened (x.answer e.note) (get nat_eq s.answered)) e.place.position)))
+    (asked-gains tested g.X.Exchange.asked x g.X.Exchange.early g.met.X.Exchange.apart (g.met.X.Exchange.says_asked tested.role) s.fate s.fate s.opened (value_under s.answered) e.place.position e past m s.binds c.is_unasked-broken.result
+    k.under (subst (λ o. IsAsked x s.fate s.opened (value_under s.answered) tested o past) k.before q.1) q.0
+    (c.is_unasked-broken.ensures ∙ ap (λ o. s.binds && is_unasked s.fate s.opened o (value_under s.answered)) c.answer-answer.ensures
+    ∙ excused-late (g.X.Exchange.early && surprises s.fate) (s.binds && is_unasked s.fate s.opened (x.answer e.note) (value_under s.answered)) e.place.position)))

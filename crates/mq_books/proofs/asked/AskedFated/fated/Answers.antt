@@ -1,5 +1,5 @@
-use Rattle.std.proofs.Common.{◌&&◌, ◌∷◌, nat_eq, subst, sym, ap, ◌∙◌, ◌==◌}
-use Rattle.indexmap.specs.IndexMap.{get}
+use Rattle.std.proofs.Common.{◌&&◌, ◌∷◌, subst, sym, ap, ◌∙◌, ◌==◌}
+use Rattle.mq_rules.specs.KeptOrder.{value_under}
 use Rattle.mq_rules.specs.Rules.{same_rule}
 use Rattle.mq_rules.specs.FaultKeys.{FaultMap}
 use Rattle.mq_rules.specs.Under.{seen, turns_with}
@@ -16,11 +16,11 @@ returns-clause-agrees g c = λ tested past under q.
     let s = c.args.self.now in
     let e = seen c.args.at c.args.note.now in (
       q.0,
-      asked-next tested g.X.Exchange.exchange c.args.fate s.fate s.opened c.opened_after-self.result (get nat_eq s.answered) (get nat_eq c.take_answered.new.answered) e past g.met.X.Exchange.apart under.follows.placed.0 q.1 c.opened_after-self.ensures
+      asked-next tested g.X.Exchange.exchange c.args.fate s.fate s.opened c.opened_after-self.result (value_under s.answered) (value_under c.take_answered.new.answered) e past g.met.X.Exchange.apart under.follows.placed.0 q.1 c.opened_after-self.ensures
           (λ i. c.in_ok-take_answered.ensures i
-          ∙ ap (λ b. answered_by c.args.fate b c.cause-cause.result c.answer-answer.result e.place.position i (get nat_eq s.answered i)) c.is_open.ensures
-          ∙ ap (λ o. answered_next c.args.fate e.note o c.answer-answer.result e.place.position i (get nat_eq s.answered i)) c.cause-cause.ensures
-          ∙ ap (λ o. answered_next c.args.fate e.note (g.X.Exchange.exchange.cause e.note) o e.place.position i (get nat_eq s.answered i)) c.answer-answer.ensures),
+          ∙ ap (λ b. answered_by c.args.fate b c.cause-cause.result c.answer-answer.result e.place.position i (value_under s.answered i)) c.is_open.ensures
+          ∙ ap (λ o. answered_next c.args.fate e.note o c.answer-answer.result e.place.position i (value_under s.answered i)) c.cause-cause.ensures
+          ∙ ap (λ o. answered_next c.args.fate e.note (g.X.Exchange.exchange.cause e.note) o e.place.position i (value_under s.answered i)) c.answer-answer.ensures),
     )
 
 pub returns-clause-grows : goal.returns-clause-grows
@@ -30,7 +30,7 @@ returns-clause-grows g c = λ tested past under q.
     let m = c.args.faults.now in
     subst (λ (n : FaultMap). Gains (λ k r. same_rule r g.X.Exchange.asked && turns_with tested c.args.fate e past k r) tested (e ∷ past) c.args.decided m n)
     (sym (c.in_ok-judge_by.ensures.ok ∙ ap (λ r. judged_by c.excuse-broken.result r e.place c.args.decided m) c.asked_rule.ensures))
-    (asked-gains tested g.X.Exchange.asked g.X.Exchange.exchange g.X.Exchange.early g.met.X.Exchange.apart (g.met.X.Exchange.says_asked tested.role) c.args.fate s.fate s.opened (get nat_eq s.answered) c.args.decided e past m s.binds c.excuse-broken.result
+    (asked-gains tested g.X.Exchange.asked g.X.Exchange.exchange g.X.Exchange.early g.met.X.Exchange.apart (g.met.X.Exchange.says_asked tested.role) c.args.fate s.fate s.opened (value_under s.answered) c.args.decided e past m s.binds c.excuse-broken.result
     under q.1 q.0 (c.excuse-broken.ensures
     ∙ ap (λ b. excused b (c.args.decided == c.args.at.position) c.is_unasked-unasked.result) c.surprises.ensures
-    ∙ ap (excused (g.X.Exchange.early && surprises c.args.fate) (c.args.decided == c.args.at.position)) (c.is_unasked-unasked.ensures ∙ ap (λ o. s.binds && is_unasked c.args.fate s.opened o (get nat_eq s.answered)) c.answer-answer.ensures)))
+    ∙ ap (excused (g.X.Exchange.early && surprises c.args.fate) (c.args.decided == c.args.at.position)) (c.is_unasked-unasked.ensures ∙ ap (λ o. s.binds && is_unasked c.args.fate s.opened o (value_under s.answered)) c.answer-answer.ensures)))

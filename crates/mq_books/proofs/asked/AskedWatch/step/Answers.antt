@@ -1,5 +1,5 @@
-use Rattle.std.proofs.Common.{◌≡◌, subst, ◌∷◌, nat_eq}
-use Rattle.indexmap.specs.IndexMap.{get}
+use Rattle.std.proofs.Common.{◌≡◌, subst, ◌∷◌}
+use Rattle.mq_rules.specs.KeptOrder.{value_under}
 use Rattle.mq_rules.specs.Rules.{same_rule, binds}
 use Rattle.mq_rules.proofs.Exports.{on_err}
 use Rattle.mq_rules.specs.Under.{seen}
@@ -13,8 +13,8 @@ returns-clause-agrees g c = λ tested taken past follows known q.
     let s = c.args.self.now in
     let k = knows tested s.fate taken e past follows known q.1.same_fate in
     let new = c.fated.new.self in
-    subst (λ o. (new.binds ≡ binds g.X.Exchange.asked tested) × IsAsked g.X.Exchange.exchange new.fate new.opened (get nat_eq new.answered) tested o (e ∷ past)) k.after
-    (c.in_ok-fated.ensures.agrees tested past k.under (subst (λ o. (s.binds ≡ binds g.X.Exchange.asked tested) × IsAsked g.X.Exchange.exchange s.fate s.opened (get nat_eq s.answered) tested o past) k.before q))
+    subst (λ o. (new.binds ≡ binds g.X.Exchange.asked tested) × IsAsked g.X.Exchange.exchange new.fate new.opened (value_under new.answered) tested o (e ∷ past)) k.after
+    (c.in_ok-fated.ensures.agrees tested past k.under (subst (λ o. (s.binds ≡ binds g.X.Exchange.asked tested) × IsAsked g.X.Exchange.exchange s.fate s.opened (value_under s.answered) tested o past) k.before q))
 
 pub returns-clause-grows : goal.returns-clause-grows
 returns-clause-grows g c = λ tested taken past follows known q.
@@ -22,7 +22,7 @@ returns-clause-grows g c = λ tested taken past follows known q.
     let s = c.args.self.now in
     let k = knows tested s.fate taken e past follows known q.1.same_fate in
     known-gains tested s.fate taken (λ r. same_rule r g.X.Exchange.asked) e past c.args.faults.now c.fated.new.faults k
-    (c.in_ok-fated.ensures.grows tested past k.under (subst (λ o. (s.binds ≡ binds g.X.Exchange.asked tested) × IsAsked g.X.Exchange.exchange s.fate s.opened (get nat_eq s.answered) tested o past) k.before q))
+    (c.in_ok-fated.ensures.grows tested past k.under (subst (λ o. (s.binds ≡ binds g.X.Exchange.asked tested) × IsAsked g.X.Exchange.exchange s.fate s.opened (value_under s.answered) tested o past) k.before q))
 
 pub returns-in_err-fated-clause-memory : goal.returns-in_err-fated-clause-memory
 returns-in_err-fated-clause-memory g c =
@@ -31,4 +31,4 @@ returns-in_err-fated-clause-memory g c =
     let s = c.args.self.now in
     let k = knows tested s.fate taken e past follows known q.1.same_fate in
     known-within tested s.fate taken (λ r. same_rule r g.X.Exchange.asked) e past c.args.faults.now c.fated.new.faults k
-    (c.in_err-fated.ensures.memory tested past k.under (subst (λ o. (s.binds ≡ binds g.X.Exchange.asked tested) × IsAsked g.X.Exchange.exchange s.fate s.opened (get nat_eq s.answered) tested o past) k.before q)))
+    (c.in_err-fated.ensures.memory tested past k.under (subst (λ o. (s.binds ≡ binds g.X.Exchange.asked tested) × IsAsked g.X.Exchange.exchange s.fate s.opened (value_under s.answered) tested o past) k.before q)))

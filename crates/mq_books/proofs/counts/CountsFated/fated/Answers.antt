@@ -1,5 +1,5 @@
-use Rattle.std.proofs.Common.{◌&&◌, ◌∷◌, nat_eq, subst, sym, ap, ◌∙◌}
-use Rattle.indexmap.specs.IndexMap.{get}
+use Rattle.std.proofs.Common.{◌&&◌, ◌∷◌, subst, sym, ap, ◌∙◌}
+use Rattle.mq_rules.specs.KeptOrder.{value_under}
 use Rattle.mq_rules.specs.Rules.{same_rule}
 use Rattle.mq_rules.specs.Notes.{is_boundary}
 use Rattle.mq_rules.specs.Connections.{accepts}
@@ -17,11 +17,11 @@ returns-clause-agrees g c = λ tested past under q.
     let n = c.args.note.now in
     let e = seen c.args.at n in (
       q.0,
-      counted-next g.R.Replies.counting g.R.Replies.breaks g.met.R.Replies.compares s.fate c.args.fate (get nat_eq s.counts) (get nat_eq c.keep_count.new.counts) (fate_before tested c.args.fate e past) e past under.follows.on_connections.0 q.1
+      counted-next g.R.Replies.counting g.R.Replies.breaks g.met.R.Replies.compares s.fate c.args.fate (value_under s.counts) (value_under c.keep_count.new.counts) (fate_before tested c.args.fate e past) e past under.follows.on_connections.0 q.1
           (λ i. c.in_ok-keep_count.ensures i
-          ∙ ap (λ b. counted_next b c.request.result c.reply-reply.result i (get nat_eq s.counts i)) c.is_boundary.ensures
-          ∙ ap (λ o. counted_next (is_boundary n) o c.reply-reply.result i (get nat_eq s.counts i)) c.request.ensures
-          ∙ ap (λ o. counted_next (is_boundary n) (g.R.Replies.counting.request n) o i (get nat_eq s.counts i)) c.reply-reply.ensures),
+          ∙ ap (λ b. counted_next b c.request.result c.reply-reply.result i (value_under s.counts i)) c.is_boundary.ensures
+          ∙ ap (λ o. counted_next (is_boundary n) o c.reply-reply.result i (value_under s.counts i)) c.request.ensures
+          ∙ ap (λ o. counted_next (is_boundary n) (g.R.Replies.counting.request n) o i (value_under s.counts i)) c.reply-reply.ensures),
     )
 
 pub returns-clause-grows : goal.returns-clause-grows
@@ -32,6 +32,6 @@ returns-clause-grows g c = λ tested past under q.
     let m = c.args.faults.now in
     subst (λ (n : FaultMap). Gains (λ k r. same_rule r g.R.Replies.judged && turns_with tested c.args.fate e past k r) tested (e ∷ past) c.args.decided m n)
     (sym (c.in_ok-judge_by.ensures.ok ∙ ap (λ r. judged_by c.is_broken-broken.result r c.args.at c.args.decided m) c.judged.ensures))
-    (counted-gains tested g.R.Replies.judged g.R.Replies.counting g.R.Replies.breaks g.met.R.Replies.compares g.met.R.Replies.says g.met.R.Replies.no_offset s.fate c.args.fate (get nat_eq s.counts) (fate_before tested c.args.fate e past) c.args.decided e past m
+    (counted-gains tested g.R.Replies.judged g.R.Replies.counting g.R.Replies.breaks g.met.R.Replies.compares g.met.R.Replies.says g.met.R.Replies.no_offset s.fate c.args.fate (value_under s.counts) (fate_before tested c.args.fate e past) c.args.decided e past m
     s.bound c.is_broken-broken.result under q.1 q.0
-    (c.is_broken-broken.ensures ∙ ap (λ o. s.bound && (accepts c.args.fate && differs (get nat_eq s.counts) o)) c.reply-reply.ensures))
+    (c.is_broken-broken.ensures ∙ ap (λ o. s.bound && (accepts c.args.fate && differs (value_under s.counts) o)) c.reply-reply.ensures))

@@ -1,6 +1,6 @@
-use Rattle.std.proofs.Common.{◌≡◌, ◌+◌, ◌<◌, ◌&&◌, ◌||◌, cond, nat_eq, ap, sym, ◌∙◌, arith}
-use Rattle.std.proofs.lemmas.Map.Made.{is_some-lookup}
-use Rattle.indexmap.specs.IndexMap.{get, keys}
+use Rattle.std.proofs.Common.{◌+◌, ◌&&◌, ◌||◌, cond, ap, sym, ◌∙◌, arith}
+use Rattle.mq_rules.specs.KeptOrder.{value_under}
+use Rattle.mq_rules.proofs.Exports.{under-within}
 use Rattle.mq_rules.specs.Words.{is_some_and}
 use Rattle.mq_rules.specs.Connections.{accepts}
 use Rattle.mq_rules.specs.Rules.{binds}
@@ -17,11 +17,11 @@ returns g c = λ tested past under kept was.
     let e = seen c.args.at c.args.note.now in
     let f = c.args.fate in
     let x = g.X.Exchange.exchange in (
-      settling-next tested x g.X.Exchange.settled f s.fate c.args.decided s.ended s.binds (get nat_eq s.due) e past p.pending p.settled c.rests-rests.result c.begins-begins.result c.pending_after-places.result c.settled_after-places.result
-          g.met.X.Exchange.apart (g.met.X.Exchange.tries_settled tested.role) under kept.1.owed kept.1.binds_are was.0 c.rests-rests.ensures c.begins-begins.ensures (omega arith) c.settled_after-places.ensures
+      settling-next tested x g.X.Exchange.settled f s.fate c.args.decided s.ended s.binds (value_under s.due) e past p.pending p.settled c.rests-rests.result c.begins-begins.result c.pending_after-places.result c.settled_after-places.result
+          g.met.X.Exchange.apart (g.met.X.Exchange.tries_settled tested.role) under kept.owed kept.binds_are was.0 c.rests-rests.ensures c.begins-begins.ensures (omega arith) c.settled_after-places.ensures
           (λ low. c.pending_after-places.ensures (λ h. low (ap (λ b. b || c.rests-rests.result) (sym c.is_open.ensures) ∙ h)) ∙ ap (λ b. cond c.begins-begins.result 1 0 + cond (b || c.rests-rests.result) 0 p.pending) c.is_open.ensures),
-      λ rule says. ordered-places tested rule x g.met.X.Exchange.apart (g.met.X.Exchange.tries_ordered tested.role rule says) f s.fate (get nat_eq s.due) (keys s.due) c.args.decided e past c.orders-orders.result p.ordered c.places_after-places.result
-          under kept.1.owed.same_fate kept.1.owed.due_are (λ j. is_some-lookup (nat_eq j) s.due.entries) (was.1 rule says)
-          (c.orders-orders.ensures ∙ ap (λ b. b && (accepts f && chooses (get nat_eq s.due) (keys s.due) (x.answer e.note))) (kept.1.order_binds_are ∙ ap (is_some_and (λ r. binds r tested)) says))
+      λ rule says. ordered-places tested rule x g.met.X.Exchange.apart (g.met.X.Exchange.tries_ordered tested.role rule says) f s.fate (value_under s.due) c.args.decided e past c.orders-orders.result p.ordered c.places_after-places.result
+          under kept.owed.same_fate kept.owed.due_are (under-within s.due) (was.1 rule says)
+          (c.orders-orders.ensures ∙ ap (λ b. b && (accepts f && chooses (value_under s.due) (x.answer e.note))) (kept.order_binds_are ∙ ap (is_some_and (λ r. binds r tested)) says))
           c.places_after-places.ensures,
     )

@@ -1,5 +1,5 @@
-use Rattle.std.proofs.Common.{subst, ◌∷◌, ◌||◌, nat_eq}
-use Rattle.indexmap.specs.IndexMap.{get, IsUnique}
+use Rattle.std.proofs.Common.{subst, ◌∷◌, ◌||◌}
+use Rattle.mq_rules.specs.KeptOrder.{value_under}
 use Rattle.mq_rules.specs.Words.{is_some_and}
 use Rattle.mq_rules.specs.Rules.{same_rule}
 use Rattle.mq_rules.proofs.Exports.{on_err}
@@ -13,19 +13,19 @@ returns-clause-agrees g c = λ tested taken past follows known q.
     let e = seen c.args.at c.args.note.now in
     let s = c.args.self.now in
     let x = g.X.Exchange in
-    let k = knows tested s.fate taken e past follows known q.1.owed.same_fate in
+    let k = knows tested s.fate taken e past follows known q.owed.same_fate in
     let new = c.fated.new.self in
-    subst (λ o. IsUnique nat_eq new.due × IsOwing x.exchange x.settled x.ordered new.binds new.order_binds new.fate new.ended (get nat_eq new.due) new.queue.items tested o (e ∷ past)) k.after
-    (c.in_ok-fated.ensures.agrees tested past k.under (subst (λ o. IsUnique nat_eq s.due × IsOwing x.exchange x.settled x.ordered s.binds s.order_binds s.fate s.ended (get nat_eq s.due) s.queue.items tested o past) k.before q))
+    subst (λ o. IsOwing x.exchange x.settled x.ordered new.binds new.order_binds new.fate new.ended (value_under new.due) new.queue.items tested o (e ∷ past)) k.after
+    (c.in_ok-fated.ensures.agrees tested past k.under (subst (λ o. IsOwing x.exchange x.settled x.ordered s.binds s.order_binds s.fate s.ended (value_under s.due) s.queue.items tested o past) k.before q))
 
 pub returns-clause-grows : goal.returns-clause-grows
 returns-clause-grows g c = λ tested taken past follows known q.
     let e = seen c.args.at c.args.note.now in
     let s = c.args.self.now in
     let x = g.X.Exchange in
-    let k = knows tested s.fate taken e past follows known q.1.owed.same_fate in
+    let k = knows tested s.fate taken e past follows known q.owed.same_fate in
     known-gains tested s.fate taken (λ r. same_rule r x.settled || is_some_and (same_rule r) x.ordered) e past c.args.faults.now c.fated.new.faults k
-    (c.in_ok-fated.ensures.grows tested past k.under (subst (λ o. IsUnique nat_eq s.due × IsOwing x.exchange x.settled x.ordered s.binds s.order_binds s.fate s.ended (get nat_eq s.due) s.queue.items tested o past) k.before q))
+    (c.in_ok-fated.ensures.grows tested past k.under (subst (λ o. IsOwing x.exchange x.settled x.ordered s.binds s.order_binds s.fate s.ended (value_under s.due) s.queue.items tested o past) k.before q))
 
 pub returns-in_err-fated-clause-memory : goal.returns-in_err-fated-clause-memory
 returns-in_err-fated-clause-memory g c =
@@ -33,6 +33,6 @@ returns-in_err-fated-clause-memory g c =
     let e = seen c.args.at c.args.note.now in
     let s = c.args.self.now in
     let x = g.X.Exchange in
-    let k = knows tested s.fate taken e past follows known q.1.owed.same_fate in
+    let k = knows tested s.fate taken e past follows known q.owed.same_fate in
     known-within tested s.fate taken (λ r. same_rule r x.settled || is_some_and (same_rule r) x.ordered) e past c.args.faults.now c.fated.new.faults k
-    (c.in_err-fated.ensures.memory tested past k.under (subst (λ o. IsUnique nat_eq s.due × IsOwing x.exchange x.settled x.ordered s.binds s.order_binds s.fate s.ended (get nat_eq s.due) s.queue.items tested o past) k.before q)))
+    (c.in_err-fated.ensures.memory tested past k.under (subst (λ o. IsOwing x.exchange x.settled x.ordered s.binds s.order_binds s.fate s.ended (value_under s.due) s.queue.items tested o past) k.before q)))
