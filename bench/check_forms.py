@@ -4,12 +4,12 @@
 usage: bench/check_forms.py PROGRAM [LOG ..]
 
 The text report of each log is made into the other forms here, in Python: each of the worked logs of check_rows.py, a log of
-3,000 faults, one of long packets that break a rule, one of texts that do, refused logs, some of all these in version 2, one with
+3,000 faults, one of long packets that break a rule, one of texts that do, one of packets that aren't whole at a CLOSE, refused logs, some of all these in version 2, one with
 moments of a century, and the logs that are named. What each tests (`--coverage`) is what occasions.py finds, and what its faults
 conflict with (`--why`, `show --faults`) what because.py finds, but for a log that is too long for that. JSON is also read back by
 Python's json module. What `show --faults` is to print is made from the text report, from what `show` prints, and from Python's
-dates. The bytes of packets that break a rule are those that reading.py finds in the log. Each line of `show` is that of showing.py,
-and each of `show --long` begins with it.
+dates. The bytes of packets that break a rule, or aren't whole at a CLOSE, are those that reading.py finds in the log. Each line of
+`show` is that of showing.py, and each of `show --long` begins with it.
 """
 import json
 import os
@@ -87,6 +87,20 @@ def wrong_texts() -> bytes:
     return check_rows.log_of("client " + " ".join(words), {})
 
 
+def unfinished() -> bytes:
+    """A client whose connections each end inside of a packet of either direction, or of both: of each type, and of up to 200 bytes."""
+    words = []
+    for type_ in range(16):
+        for count in (1, 2, 5):
+            begun = (bytes([type_ << 4, 200, 1]) + b"x" * 10)[:count].hex()
+            words += ["OPEN", ">" + begun, "CLOSE", "OPEN", "<" + begun, "CLOSE", "OPEN", ">" + begun, "<c0" + begun, "CLOSE"]
+    for count in (62, 63, 64, 65, 66, 200):
+        begun = (b"\x32\xf4\x03\x00\x02ab" + bytes(range(250)))[:count].hex()
+        words += ["OPEN", ">" + begun, "<" + begun[: count // 2 * 2], "CLOSE", "OPEN", "<" + begun, ">c00032", "CLOSE"]
+    words += ["OPEN", ">3080808080", "<3007", "CLOSE", "OPEN", "CLOSE"]
+    return check_rows.log_of("client " + " ".join(words), {})
+
+
 def spelled(text: bytes) -> bytes:
     """A text after its length."""
     return len(text).to_bytes(2, "big") + text
@@ -103,9 +117,11 @@ def logs(paths: list[str]) -> list[tuple[str, bytes]]:
     found.append(("3,000 faults", many_faults(3000)))
     found.append(("long packets that break a rule", long_broken()))
     found.append(("texts that break a rule", wrong_texts()))
+    found.append(("packets that aren't whole", unfinished()))
     found += [(f"{count} bytes", many_faults(1)[:count]) for count in range(0, 60)]
     draw = random.Random("moments")
     seconds = [*found[::SELDOM], ("20 faults", many_faults(20)), ("long packets that break a rule", long_broken())]
+    seconds.append(("packets that aren't whole", unfinished()))
     seconds += [(name, log) for name, log in found if name.startswith("examples/")]
     found += [(f"{name}, version 2", in_version_2(log, clock(draw))) for name, log in seconds]
     found.append(("3,000 faults of a century", in_version_2(many_faults(3000), dates(draw))))
@@ -165,7 +181,8 @@ def bytes_around(packet: bytes, at: int) -> str:
 
 
 def with_bytes(events: str, log: bytes) -> str:
-    """What `show` prints, with the type and the bytes of each packet that breaks a rule; of a refused log what it prints."""
+    """What `show` prints, with the type and the bytes of each packet that breaks a rule, or that a CLOSE leaves unfinished; of a refused
+    log what it prints."""
     lines = events.splitlines()
     if lines[-1:] and lines[-1].startswith("refused"):
         return events
@@ -176,6 +193,8 @@ def with_bytes(events: str, log: bytes) -> str:
             name = reading.NAMES[packet[0] >> 4] or "Reserved"
             place = f" at {mark}" if mark != event.item.at else ""
             lines[n] = f"{line.partition(' type ')[0]} type {name}{place} bytes {bytes_around(packet, mark)}"
+        elif event.kind == reading.CLOSE:
+            lines[n] = line.partition(" unfinished ")[0] + showing.unfinished_words(event)
     return "".join(f"{line}\n" for line in lines)
 
 

@@ -24,6 +24,7 @@ SECONDS = 60
 
 HEADER = b"MQTR\x01\x00\x01\x00"
 OPEN = b"\x01\x00\x00\x00\x00"
+CLOSE = b"\x04\x00\x00\x00\x00"
 CONNECT = b"\x02\x00\x00\x00\x0f\x10\x0d\x00\x04MQTT\x05\x02\x00\x3c\x00\x00\x00"
 CONNACK = b"\x03\x00\x00\x00\x05\x20\x03\x00\x00\x00"
 PUBLISH = b"\x02\x00\x00\x00\x09\x32\x07\x00\x01a\x00\x01\x00x"
@@ -80,6 +81,11 @@ def covering(report: str, publishes: int) -> str:
 
 
 FIRST_LINES = "1 record 1 OPEN\n2 record 2 SENT CONNECT size 15\n3 record 3 RECV CONNACK size 5\n"
+FIRST_LONG_LINES = (
+    "1 record 1 OPEN\n"
+    '2 record 2 SENT CONNECT size 15 client "" clean-start 1 keep-alive 60\n'
+    "3 record 3 RECV CONNACK size 5 code 0x00 session-present 0\n"
+)
 LINES = FIRST_LINES + "4 record 4 SENT PUBLISH size 9 qos 1 dup 0 id 1\n"
 MANY_LINES = FIRST_LINES + "".join(f"{at} record 4 SENT PINGREQ size 2\n" for at in range(4, PINGS + 4))
 NEAR_LINES = """\
@@ -96,6 +102,9 @@ TIMED_LINES = """\
 5 record 5 moment 10 SENT PUBLISH size 9 qos 1 dup 0 id 1
 """
 TIMED_NEAR = "..\n" + "".join(TIMED_LINES.splitlines(keepends=True)[3:]) + NEAR_LINES.splitlines(keepends=True)[3]
+# The beginning of a PUBLISH was sent, and that of a PUBACK received, when the connection closed.
+CUT = HEADER + OPEN + CONNECT + CONNACK + b"\x02\0\0\0\x05\x32\x0d\0\x01a" + b"\x03\0\0\0\x01\x40" + CLOSE
+UNFINISHED = "unfinished sent type PUBLISH size 5 bytes 32 0D 00 01 61 unfinished received type PUBACK size 1 bytes 40"
 WRITE_FAILED = "mqjudge: write failed\n"
 NO_FILE = "mqjudge: --faults reads the log more than once, so it needs a FILE, not standard input\n"
 SAME_FILE = "mqjudge: OUT has to be another file than IN\n"
@@ -308,7 +317,7 @@ GZIPPED = gzip.compress(GOOD)
 FILES = {"good.log": GOOD, "faulty.log": FAULTY, "nested.log": NESTED, "short.log": GOOD[:-1], "many.log": MANY, "-": FAULTY}
 FILES |= {"timed.log": TIMED, "long.log": LONG, "short-moment.log": TIMED[:20]}
 FILES |= {"a.pcap": PCAP, "fine.pcap": FINE_PCAP, "a.pcapng": PCAPNG, "good.log.gz": GZIPPED, "short.gz": GZIPPED[:2], "two.log": b"MQ"}
-FILES |= {"good-2.log": GOOD_2, "old.log": MANY, "dash.log": MANY, "kept.log": MANY, "copy.log": GOOD}
+FILES |= {"unfinished.log": CUT, "good-2.log": GOOD_2, "old.log": MANY, "dash.log": MANY, "kept.log": MANY, "copy.log": GOOD}
 
 RUNS = [
     # A file is read, and not standard input.
@@ -320,6 +329,10 @@ RUNS = [
     Run(["show", "good.log"], 0, LINES, stdin=NESTED),
     Run(["show", "nested.log"], 2, "1 record 1 OPEN\n" + REFUSED, stdin=GOOD),
     Run(["show", "many.log"], 0, MANY_LINES),
+    # At a CLOSE it says which packets weren't whole, if more is asked for than the events.
+    Run(["show"], 0, FIRST_LINES + "4 record 6 CLOSE\n", stdin=CUT),
+    Run(["show", "--long"], 0, FIRST_LONG_LINES + f"4 record 6 CLOSE {UNFINISHED}\n", stdin=CUT),
+    Run(["show", "--faults", "unfinished.log"], 0, FIRST_LINES + f"4 record 6 CLOSE {UNFINISHED}\n"),
     # Logs of version 2 have moments.
     Run(["check", "timed.log"], 1, FAIL),
     Run(["show", "timed.log"], 0, TIMED_LINES),

@@ -402,8 +402,14 @@ class Event:
     record: int
     item: Packet | Bad | Lost | None = None
     released: int = 0
-    begun: int | None = None  # at a CLOSE: the first byte of the packet that the tested end had begun and not ended
+    # at a CLOSE: the bytes so far of the packet that the tested end had begun to send and not ended, and to receive
+    unfinished: tuple[bytes, bytes] = (b"", b"")
     moment: int = 0
+
+    @property
+    def begun(self) -> int | None:
+        """At a CLOSE: the first byte of the packet that the tested end had begun to send and not ended."""
+        return self.unfinished[0][0] if self.unfinished[0] else None
 
     def subject(self) -> Subject:
         """What it is, so far as that decides which statements are about it."""
@@ -511,8 +517,8 @@ class Recording:
             self.is_open, self.has_connack, self.begun_after = True, False, len(self.events)
             self.streams = {SENT: bytearray(), RECV: bytearray()}
         released = int.from_bytes(self.log[begin:end], "big")
-        unfinished = self.streams[SENT] if kind == CLOSE else None
-        self.add(Event(kind, record, None, released, unfinished[0] if unfinished else None), end - 1)
+        unfinished = (bytes(self.streams[SENT] or b""), bytes(self.streams[RECV] or b"")) if kind == CLOSE else (b"", b"")
+        self.add(Event(kind, record, None, released, unfinished), end - 1)
         if kind == CLOSE:
             self.is_open = False
 

@@ -10,6 +10,7 @@ MARKS = {reading.OPEN: "OPEN", reading.CLOSE: "CLOSE", reading.REST: "REST", rea
 EPOCH = datetime(1970, 1, 1, tzinfo=UTC)
 MICROSECOND = timedelta(microseconds=1)
 LENGTH = 2  # bytes before a text that say how long it is
+MOST_BYTES = 64  # of a packet that is printed
 WRONG = {  # the first byte of a text that breaks these rules; in a Topic Filter + fills a level, and # the last one
     "W05": re.compile(rb"\0"),
     "W14": re.compile(rb"[+#]"),
@@ -33,6 +34,18 @@ def event_text(event: Event) -> str:
     if event.kind in WAYS:
         return f"{WAYS[event.kind]} {item_text(event.item)}"
     return f"RELEASE {event.released}" if event.kind == reading.RELEASE else MARKS[event.kind]
+
+
+def unfinished_words(event: Event) -> str:
+    """What `--long` and `--faults` add to a CLOSE: of each packet that it leaves unfinished the direction and the type, how many of its
+    bytes came, and the first 64 of them."""
+    words = []
+    for way, packet in zip(("sent", "received"), event.unfinished, strict=True):
+        if packet:
+            name = reading.NAMES[packet[0] >> 4] or "Reserved"
+            rest = " .." if len(packet) > MOST_BYTES else ""
+            words.append(f" unfinished {way} type {name} size {len(packet)} bytes {packet[:MOST_BYTES].hex(' ').upper()}{rest}")
+    return "".join(words)
 
 
 def text_at(packet: bytes, at: int) -> bytes:

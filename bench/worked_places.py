@@ -165,7 +165,7 @@ WORDS: dict[str, Callable] = {
     "Some": lambda value: value,
     "Open": lambda: Event(OPEN, 0),
     "Close": lambda: Event(CLOSE, 0),
-    "Cut": lambda: Event(CLOSE, 0, begun=0x32),
+    "Cut": lambda: Event(CLOSE, 0, unfinished=(b"\x32", b"")),
     "Rest": lambda: Event(REST, 0),
     "Release": lambda i: Event(RELEASE, 0, released=i),
     "sends": sends,

@@ -10,10 +10,10 @@ use Rattle.mq_log.specs.declared.refusal.Refusal.{Refusal}
 use Rattle.mq_log.specs.declared.header.Header.{Header}
 use Rattle.mq_log.specs.Pieces.{Pieces}
 use Rattle.mq_log.specs.Framing.{header_by, kind_of, direction_of, begun_records, carried, records, record_size, ahead_in, head_length, moment_in}
-use Rattle.mq_log.specs.Events.{Event, Placed, newest_record, part_at, packet_at, packet_by, begun_at, moment_at, event_in, event_at, with_event, events_back, events}
+use Rattle.mq_log.specs.Events.{Event, Placed, newest_record, part_at, packet_at, packet_by, unfinished_at, moment_at, event_in, event_at, with_event, events_back, events}
 use Rattle.mq_log.specs.Connections.{begins_connection, has_open_connection, is_connack_seen, events_on_connection, events_before_open}
 use Rattle.mq_log.specs.Refusals.{Situation, situation, header_refusal, record_refusal, refusal_at, refused_back, refused}
-use Rattle.mq_log.specs.Context.{StreamState, Context, fresh, ahead_of, begun_of, state_of, state_then, so_far_by, so_far_for, context, situated, refusal_for, event_for, placed_with, placed_for, put, with_completed, after_header, after_part, after}
+use Rattle.mq_log.specs.Context.{StreamState, Context, fresh, ahead_of, unfinished_of, state_of, state_then, so_far_by, so_far_for, context, situated, refusal_for, event_for, placed_with, placed_for, put, with_completed, after_header, after_part, after}
 use Rattle.mq_log.proofs.FramingLaws.{records-header, begun-header, begun-grow, length-begun-grow, whole-grow, rest-grow, head_least, header-unchanged}
 use Rattle.mq_log.proofs.StreamStateLaws.{state-nothing, state-then, so_far-kept}
 
@@ -70,30 +70,34 @@ pub header_context : (log : List ℕ) → (context log).header ≡ header_by log
 unfolding context
 header_context log = refl
 
--- the first byte of the packet that the tested end has begun and not ended
-begun-kept : (log : List ℕ) → begun_at log ≡ begun_of (context log)
-unfolding begun_at context state_of
-begun-kept log = refl
+-- what is unfinished on the connection, and whether that is open
+pub unfinished-kept : (log : List ℕ) → unfinished_at log ≡ unfinished_of (context log)
+unfolding unfinished_at context state_of
+unfinished-kept log = refl
+
+pub connected_context : (log : List ℕ) → (context log).connected ≡ has_open_connection (events log)
+unfolding context
+connected_context log = refl
 
 ahead_context : (log : List ℕ) → ahead_in log ≡ ahead_of (context log)
 ahead_context log = ap (λ (t : Header). head_length t.version) (sym (header_context log))
 
 event_by_length : (log : List ℕ) (byte : ℕ) (b : Bool) → nat_lt (length log) 8 ≡ b
-    → (if b then None else event_in (begun_at log) (ahead_in log) (part_at log byte) (packet_at log byte)) ≡ (if b then None else event_in (begun_of (context log)) (ahead_of (context log)) ((context log).part ++ byte ∷ []) (so_far_for (context log) byte))
+    → (if b then None else event_in (unfinished_at log) (ahead_in log) (part_at log byte) (packet_at log byte)) ≡ (if b then None else event_in (unfinished_of (context log)) (ahead_of (context log)) ((context log).part ++ byte ∷ []) (so_far_for (context log) byte))
 event_by_length log byte true is = refl
 event_by_length log byte false is =
     let long = ltb-false (length log) 8 is in
-    ap (λ part. event_in (begun_at log) (ahead_in log) part (packet_at log byte)) (part-kept log byte long ∙ ap (λ part. part ++ byte ∷ []) (sym (part_context log)))
-    ∙ ap (event_in (begun_at log) (ahead_in log) ((context log).part ++ byte ∷ [])) (packet-kept log byte long)
-    ∙ ap (λ n. event_in (begun_at log) n ((context log).part ++ byte ∷ []) (so_far_for (context log) byte)) (ahead_context log)
-    ∙ ap (λ o. event_in o (ahead_of (context log)) ((context log).part ++ byte ∷ []) (so_far_for (context log) byte)) (begun-kept log)
+    ap (λ part. event_in (unfinished_at log) (ahead_in log) part (packet_at log byte)) (part-kept log byte long ∙ ap (λ part. part ++ byte ∷ []) (sym (part_context log)))
+    ∙ ap (event_in (unfinished_at log) (ahead_in log) ((context log).part ++ byte ∷ [])) (packet-kept log byte long)
+    ∙ ap (λ n. event_in (unfinished_at log) n ((context log).part ++ byte ∷ []) (so_far_for (context log) byte)) (ahead_context log)
+    ∙ ap (λ o. event_in o (ahead_of (context log)) ((context log).part ++ byte ∷ []) (so_far_for (context log) byte)) (unfinished-kept log)
 
 -- the event of the next byte, from what is kept
 pub event-kept : (log : List ℕ) (byte : ℕ) → event_at log byte ≡ event_for (context log) byte
 unfolding event_at event_for
 event-kept log byte =
     event_by_length log byte (nat_lt (length log) 8) refl
-    ∙ ap (λ n. if nat_lt n 8 then None else event_in (begun_of (context log)) (ahead_of (context log)) ((context log).part ++ byte ∷ []) (so_far_for (context log) byte)) (sym (at_context log))
+    ∙ ap (λ n. if nat_lt n 8 then None else event_in (unfinished_of (context log)) (ahead_of (context log)) ((context log).part ++ byte ∷ []) (so_far_for (context log) byte)) (sym (at_context log))
 
 -- its moment, after the header
 moment-kept : (log : List ℕ) (byte : ℕ) → 8 ≤ length log → moment_at log byte ≡ moment_in (ahead_of (context log)) ((context log).part ++ byte ∷ [])
@@ -110,7 +114,7 @@ situated_with log part record_no so_far = record {
   part = part;
   record_no = record_no;
   so_far = so_far;
-  begun = begun_at log;
+  unfinished = unfinished_at log;
   events = length (events log);
   connected = has_open_connection (events log);
   connack_seen = is_connack_seen (header_by log).server (events log);
@@ -136,7 +140,7 @@ on_connection (e ∷ past) = by (begins_connection e.event) (before_within past)
     by false within rest = omega arith
 
 situated_context : (log : List ℕ) (byte : ℕ) → situated_with log ((context log).part ++ byte ∷ []) (length (records log).whole + 1) (so_far_for (context log) byte) ≡ situated (context log) byte
-unfolding situated context begun_at state_of
+unfolding situated context unfinished_at state_of
 situated_context log byte =
     ap (λ n. record (situated_with log ((context log).part ++ byte ∷ []) (length (records log).whole + 1) (so_far_for (context log) byte)) { on_connection = n }) (on_connection (events log))
 
@@ -228,7 +232,7 @@ context-after_header log byte h =
 
 no_event : (log : List ℕ) (byte : ℕ) → length log < 8 → event_at log byte ≡ None
 unfolding event_at
-no_event log byte h = ap (λ b. if b then None else event_in (begun_at log) (ahead_in log) (part_at log byte) (packet_at log byte)) (lt-ltb (length log) 8 h)
+no_event log byte h = ap (λ b. if b then None else event_in (unfinished_at log) (ahead_in log) (part_at log byte) (packet_at log byte)) (lt-ltb (length log) 8 h)
 
 -- a header has no events
 events_back-header : (back : List ℕ) → length back ≤ 8 → events_back back ≡ []
@@ -303,9 +307,9 @@ header-kept log byte h =
     ∙ ap (λ t. record fresh { at = length log + 1; header = t }) (header-grow log byte)
     ∙ sym (ap (λ c. after_header c byte) (context-header log (omega arith)))
 
-event_for-header : (log : List ℕ) (byte : ℕ) → event_for (context log) byte ≡ (if nat_lt (length log) 8 then None else event_in (begun_of (context log)) (ahead_of (context log)) ((context log).part ++ byte ∷ []) (so_far_for (context log) byte))
+event_for-header : (log : List ℕ) (byte : ℕ) → event_for (context log) byte ≡ (if nat_lt (length log) 8 then None else event_in (unfinished_of (context log)) (ahead_of (context log)) ((context log).part ++ byte ∷ []) (so_far_for (context log) byte))
 unfolding event_for
-event_for-header log byte = ap (λ n. if nat_lt n 8 then None else event_in (begun_of (context log)) (ahead_of (context log)) ((context log).part ++ byte ∷ []) (so_far_for (context log) byte)) (at_context log)
+event_for-header log byte = ap (λ n. if nat_lt n 8 then None else event_in (unfinished_of (context log)) (ahead_of (context log)) ((context log).part ++ byte ∷ []) (so_far_for (context log) byte)) (at_context log)
 
 kept_by : (log : List ℕ) (byte : ℕ) (b : Bool) → nat_lt (length log) 8 ≡ b
     → context (log ++ byte ∷ []) ≡ (if b then after_header (context log) byte else with_completed (after_part (context log) ((context log).part ++ byte ∷ []) byte) (event_for (context log) byte))
@@ -336,7 +340,7 @@ unfolding context
 records_context log = refl
 
 pub event-in-header : (log : List ℕ) (byte : ℕ) → nat_lt (length log) 8 ≡ true → event_for (context log) byte ≡ None
-event-in-header log byte is = event_for-header log byte ∙ ap (λ b. if b then None else event_in (begun_of (context log)) (ahead_of (context log)) ((context log).part ++ byte ∷ []) (so_far_for (context log) byte)) is
+event-in-header log byte is = event_for-header log byte ∙ ap (λ b. if b then None else event_in (unfinished_of (context log)) (ahead_of (context log)) ((context log).part ++ byte ∷ []) (so_far_for (context log) byte)) is
 
 placed_by_length : (log : List ℕ) (byte : ℕ) (b : Bool) → nat_lt (length log) 8 ≡ b
     → with_event (length (begun_records (log ++ byte ∷ []))) (moment_at log byte) (event_for (context log) byte) (events log)

@@ -12,7 +12,7 @@ begins_connection opened = true
 begins_connection _ = false
 
 abbrev pub ends_connection : Event → Bool
-ends_connection (closed begun) = true
+ends_connection (closed unfinished) = true
 ends_connection _ = false
 
 -- what a packet is by its type: a CONNACK (MQTT 5.0, section 3.2)

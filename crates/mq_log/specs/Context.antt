@@ -7,7 +7,7 @@ use Rattle.mq_log.specs.declared.header.Header.{Header}
 use Rattle.mq_log.specs.Connections.{begins_connection, ends_connection, is_answer, has_open_connection, is_connack_seen, events_before_open}
 use Rattle.mq_packet.specs.Stream.{frame_size, is_lost}
 use Rattle.mq_log.specs.Framing.{header_by, kind_of, direction_of, opens, record_size, records, ahead_in, head_length, moment_in, begun_records, carried, stream}
-use Rattle.mq_log.specs.Events.{Event, Placed, first_byte, event_in, events}
+use Rattle.mq_log.specs.Events.{UnfinishedPackets, Event, Placed, event_in, events}
 use Rattle.mq_log.specs.Refusals.{Situation, header_refusal, record_refusal}
 
 -- one direction: the bytes of its unfinished packet, none if it is lost
@@ -90,9 +90,9 @@ so_far_by (Some direction) c byte = so_far_in (state_for c direction) byte
 unfoldable pub so_far_for : Context → ℕ → List ℕ
 so_far_for c byte = cond (nat_lt (ahead_of c) (length (c.part ++ byte ∷ []))) (so_far_by (direction_of (kind_of (c.part ++ byte ∷ []))) c byte) []
 
--- the first byte of the packet that the tested end has begun to send and not ended, from what is kept
-abbrev pub begun_of : Context → Option ℕ
-begun_of c = first_byte c.sent.unfinished
+-- what is unfinished on the connection, from what is kept
+abbrev pub unfinished_of : Context → UnfinishedPackets
+unfinished_of c = record { sent = c.sent.unfinished; received = c.recv.unfinished }
 
 -- the situation of the next byte, from what is kept
 unfoldable pub situated : Context → ℕ → Situation
@@ -102,7 +102,7 @@ situated c byte = record {
   part = c.part ++ byte ∷ [];
   record_no = c.records + 1;
   so_far = so_far_for c byte;
-  begun = begun_of c;
+  unfinished = unfinished_of c;
   events = c.events;
   connected = c.connected;
   connack_seen = c.connack_seen;
@@ -115,7 +115,7 @@ refusal_for limit c byte = if nat_lt c.at 8 then header_refusal c.at byte else r
 
 -- the event that the next byte completes
 unfoldable pub event_for : Context → ℕ → Option Event
-event_for c byte = if nat_lt c.at 8 then None else event_in (begun_of c) (ahead_of c) (c.part ++ byte ∷ []) (so_far_for c byte)
+event_for c byte = if nat_lt c.at 8 then None else event_in (unfinished_of c) (ahead_of c) (c.part ++ byte ∷ []) (so_far_for c byte)
 
 -- that event, at its place, in a record of this moment
 abbrev pub placed_with : Context → ℕ → Option Event → Option Placed

@@ -1,5 +1,5 @@
 -- The events of a log: each is completed by one byte of the log, and belongs to the record of that byte.
--- The laws `events_are_what_streams_hold` and `closes_say_what_was_begun` (src/joined_laws.rt) say the same by the stream of each direction, cut into frames.
+-- The laws `events_are_what_streams_hold` and `closes_say_what_was_unfinished` (src/joined_laws.rt) say the same by the stream of each direction, cut into frames.
 use Rattle.std.specs.Prelude.{ℕ, ◌+◌, ◌==◌, nat_lt, cond, if◌then◌else◌, List, [], ◌∷◌, ◌++◌, length, drop, reverse, slice_index, Option, Some, None, option_map, is_some, Result, Ok, Err}
 use Rattle.std.specs.Int.{w16, from_be_bytes}
 use Rattle.mq_packet.specs.declared.rule.PacketRule.{PacketRule}
@@ -24,10 +24,16 @@ pub data Item : Type 0 where
   bad : List ℕ → PacketRule → ℕ → Item
   lost : Item
 
--- An event of a log. The end of a connection has the first byte of the packet that the tested end had begun to send on it, and hadn't sent whole, if there is one.
+-- The bytes so far of the packet that the tested end has begun to send on a connection, and hasn't sent whole, and of the one that it has begun to receive
+-- (MQTT 5.0, section 2.1). A direction that has whole packets only, or is lost, has none.
+pub record UnfinishedPackets : Type 0 where
+  pub sent : List ℕ
+  pub received : List ℕ
+
+-- An event of a log. The end of a connection has the bytes of the packets that it leaves unfinished.
 pub data Event : Type 0 where
   opened rested : Event
-  closed : Option ℕ → Event
+  closed : UnfinishedPackets → Event
   released : ℕ → Event
   sent received : Item → Event
 
@@ -87,43 +93,40 @@ moment_at before byte = moment_in (ahead_in before) (part_at before byte)
 abbrev pub unfinished_in : List ℕ → List ℕ
 unfinished_in bytes = cond (is_lost (stream bytes).rest) [] (stream bytes).rest
 
--- the first of these bytes, if there are any
-abbrev pub first_byte : List ℕ → Option ℕ
-first_byte [] = None
-first_byte (byte ∷ rest) = Some byte
+-- what a log leaves unfinished on its latest connection
+unfoldable pub unfinished_at : List ℕ → UnfinishedPackets
+unfinished_at before = record {
+  sent = unfinished_in (carried (ahead_in before) directions.Sent (begun_records before));
+  received = unfinished_in (carried (ahead_in before) directions.Recv (begun_records before));
+}
 
--- The first byte of the packet that the tested end has begun to send on the latest connection, and hasn't sent whole (MQTT 5.0,
--- section 2.1); none if there is no such packet, or its direction is lost.
-unfoldable pub begun_at : List ℕ → Option ℕ
-begun_at before = first_byte (unfinished_in (carried (ahead_in before) directions.Sent (begun_records before)))
+-- The event that the last byte of a part of a record completes, given what is unfinished on the connection, the length of a record's
+-- head, and the record's packet so far: OPEN, CLOSE and REST have no body, that of RELEASE is a Packet Identifier, and SENT and RECV
+-- give what their packets are.
+abbrev pub event_by : UnfinishedPackets → ℕ → Option RecordKind → List ℕ → List ℕ → Option Event
+event_by unfinished ahead (Some kinds.Open) part so_far = if length part == ahead then Some opened else None
+event_by unfinished ahead (Some kinds.Close) part so_far = if length part == ahead then Some (closed unfinished) else None
+event_by unfinished ahead (Some kinds.Rest) part so_far = if length part == ahead then Some rested else None
+event_by unfinished ahead (Some kinds.Release) part so_far = if length part == ahead + 2 then Some (released (from_be_bytes w16 (drop ahead part))) else None
+event_by unfinished ahead (Some kinds.Sent) part so_far = option_map sent (item_at so_far)
+event_by unfinished ahead (Some kinds.Recv) part so_far = option_map received (item_at so_far)
+event_by unfinished ahead None part so_far = None
 
--- The event that the last byte of a part of a record completes, given the first byte of the packet that the tested end has begun
--- and not ended, the length of a record's head, and the record's packet so far: OPEN, CLOSE and REST have no body, that of RELEASE
--- is a Packet Identifier, and SENT and RECV give what their packets are.
-abbrev pub event_by : Option ℕ → ℕ → Option RecordKind → List ℕ → List ℕ → Option Event
-event_by begun ahead (Some kinds.Open) part so_far = if length part == ahead then Some opened else None
-event_by begun ahead (Some kinds.Close) part so_far = if length part == ahead then Some (closed begun) else None
-event_by begun ahead (Some kinds.Rest) part so_far = if length part == ahead then Some rested else None
-event_by begun ahead (Some kinds.Release) part so_far = if length part == ahead + 2 then Some (released (from_be_bytes w16 (drop ahead part))) else None
-event_by begun ahead (Some kinds.Sent) part so_far = option_map sent (item_at so_far)
-event_by begun ahead (Some kinds.Recv) part so_far = option_map received (item_at so_far)
-event_by begun ahead None part so_far = None
+-- the event that the head of a record completes, given the same: that of a kind that has no body
+abbrev pub event_of_head : UnfinishedPackets → RecordKind → Option Event
+event_of_head unfinished kinds.Open = Some opened
+event_of_head unfinished kinds.Close = Some (closed unfinished)
+event_of_head unfinished kinds.Rest = Some rested
+event_of_head unfinished kinds.Release = None
+event_of_head unfinished kinds.Sent = None
+event_of_head unfinished kinds.Recv = None
 
--- the event that the head of a record completes, given the same byte: that of a kind that has no body
-abbrev pub event_of_head : Option ℕ → RecordKind → Option Event
-event_of_head begun kinds.Open = Some opened
-event_of_head begun kinds.Close = Some (closed begun)
-event_of_head begun kinds.Rest = Some rested
-event_of_head begun kinds.Release = None
-event_of_head begun kinds.Sent = None
-event_of_head begun kinds.Recv = None
-
-unfoldable pub event_in : Option ℕ → ℕ → List ℕ → List ℕ → Option Event
-event_in begun ahead part so_far = event_by begun ahead (kind_of part) part so_far
+unfoldable pub event_in : UnfinishedPackets → ℕ → List ℕ → List ℕ → Option Event
+event_in unfinished ahead part so_far = event_by unfinished ahead (kind_of part) part so_far
 
 -- the event that the next byte of a log completes
 unfoldable pub event_at : List ℕ → ℕ → Option Event
-event_at before byte = if nat_lt (length before) 8 then None else event_in (begun_at before) (ahead_in before) (part_at before byte) (packet_at before byte)
+event_at before byte = if nat_lt (length before) 8 then None else event_in (unfinished_at before) (ahead_in before) (part_at before byte) (packet_at before byte)
 
 -- an event at its place, in front of the earlier ones
 abbrev pub with_event : ℕ → ℕ → Option Event → List Placed → List Placed

@@ -7,11 +7,12 @@ use Rattle.mq_log.specs.declared.place.Place3.{Place3}
 use Rattle.mq_log.specs.declared.refusal.Refusal.{Refusal}
 use Rattle.mq_log.specs.declared.event.Item.{Item as EmittedItem}
 use Rattle.mq_log.specs.declared.event.Item.TheVariants as items
+use Rattle.mq_log.specs.declared.event.UnfinishedPackets.{UnfinishedPackets as EmittedPackets}
 use Rattle.mq_log.specs.declared.event.Event.{Event as EmittedEvent}
 use Rattle.mq_log.specs.declared.event.Event.TheVariants as emitted
 use Rattle.mq_log.specs.declared.kind.Direction.{Direction}
 use Rattle.mq_log.specs.Flows.{item_event}
-use Rattle.mq_log.specs.Events.{Item, Event, Placed, packet, bad, lost, opened, closed, rested, released, sent, received, events}
+use Rattle.mq_log.specs.Events.{Item, UnfinishedPackets, Event, Placed, packet, bad, lost, opened, closed, rested, released, sent, received, events}
 use Rattle.mq_log.specs.Refusals.{refused}
 
 -- an item and an event, apart from where their bytes are in memory
@@ -20,9 +21,13 @@ item_of (items.Packet p) = packet (unwrap_or (size_with (remaining_length p)) 0)
 item_of (items.Bad bytes rule at) = bad bytes.now rule at
 item_of items.Lost = lost
 
+-- the bytes of unfinished packets, likewise
+abbrev pub packets_of : EmittedPackets → UnfinishedPackets
+packets_of unfinished = record { sent = unfinished.sent.now; received = unfinished.received.now }
+
 abbrev pub event_of : EmittedEvent → Event
 event_of emitted.Open = opened
-event_of (emitted.Close begun) = closed begun
+event_of (emitted.Close unfinished) = closed (packets_of unfinished)
 event_of emitted.Rest = rested
 event_of (emitted.Release identifier) = released identifier
 event_of (emitted.Sent item) = sent (item_of item)

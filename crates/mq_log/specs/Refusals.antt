@@ -13,7 +13,7 @@ use Rattle.mq_log.specs.declared.header.Header.{Header}
 use Rattle.mq_log.specs.Connections.{has_open_connection, is_connack_seen, events_on_connection, is_too_early}
 use Rattle.mq_packet.specs.Stream.{fixed_header_of, frame_size}
 use Rattle.mq_log.specs.Framing.{header_by, kind_of, body_length, records, begun_records, magic, is_version, length_end, head_length, longest_body}
-use Rattle.mq_log.specs.Events.{Event, event_in, read_frame, part_at, packet_at, begun_at, events}
+use Rattle.mq_log.specs.Events.{UnfinishedPackets, Event, event_in, read_frame, part_at, packet_at, unfinished_at, events}
 
 -- the refusal of a byte of the header at this offset, if it is invalid: bytes 0 to 3 are `MQTR`, byte 4 is the version, 1 or 2, byte 5 the role, 0 or 1,
 -- byte 6 flags, of which only bit 0 is used, and byte 7 is 0
@@ -37,8 +37,8 @@ pub record Situation : Type 0 where
   pub record_no : ℕ
   -- the bytes so far of the byte's packet, the byte included; none if it belongs to no packet, or its direction is lost
   pub so_far : List ℕ
-  -- the first byte of the packet that the tested end has begun to send and not ended, if there is one
-  pub begun : Option ℕ
+  -- what is unfinished on the connection
+  pub unfinished : UnfinishedPackets
   -- the events before it: how many, whether a connection is open, whether the latest one's CONNACK came, and how many events that one has
   pub events : ℕ
   pub connected : Bool
@@ -53,7 +53,7 @@ situation before byte = record {
   part = part_at before byte;
   record_no = length (begun_records (before ++ byte ∷ []));
   so_far = packet_at before byte;
-  begun = begun_at before;
+  unfinished = unfinished_at before;
   events = length (events before);
   connected = has_open_connection (events before);
   connack_seen = is_connack_seen (header_by before).server (events before);
@@ -137,8 +137,8 @@ conditions limit s =
     ∷ (is_first s && (is_release_kind (kind_of s.part) && not s.header.releases), refusals.ReleaseUnrecorded s.at)
     ∷ (is_too_large limit s.so_far (fixed_header_of s.so_far), refusals.TooLarge s.at)
     ∷ (ends_packet s && is_other_version (read_frame s.so_far), refusals.OtherVersion s.at)
-    ∷ (comes_too_early s (event_in s.begun (head_length s.header.version) s.part s.so_far), refusals.TooManyEarly s.at)
-    ∷ ((is_first s && nat_lt 4294967295 s.record_no) || (is_some (event_in s.begun (head_length s.header.version) s.part s.so_far) && nat_le 4294967295 s.events), refusals.TooLong s.at)
+    ∷ (comes_too_early s (event_in s.unfinished (head_length s.header.version) s.part s.so_far), refusals.TooManyEarly s.at)
+    ∷ ((is_first s && nat_lt 4294967295 s.record_no) || (is_some (event_in s.unfinished (head_length s.header.version) s.part s.so_far) && nat_le 4294967295 s.events), refusals.TooLong s.at)
     ∷ []
 
 unfoldable pub record_refusal : ℕ → Situation → Option Refusal

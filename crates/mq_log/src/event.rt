@@ -27,6 +27,17 @@ pub enum Item<'a> {
     Lost,
 }
 
+/// The bytes so far of the packets that a connection has begun and not ended (MQTT 5.0, section
+/// 2.1): at most one in each direction. A direction that has whole packets only, or is lost, has
+/// none.
+#[derive(Clone, Copy)]
+pub struct UnfinishedPackets<'a> {
+    /// Of the packet that the tested end has begun to send.
+    pub sent: &'a [u8],
+    /// Of the packet that the tested end has begun to receive.
+    pub received: &'a [u8],
+}
+
 /// An event of a log.
 #[derive(Drop)]
 pub enum Event<'a> {
@@ -34,10 +45,8 @@ pub enum Event<'a> {
     Open,
     /// The network connection ends.
     Close {
-        /// The first byte of the packet that the tested end had begun to send, and of which not all
-        /// bytes were sent (MQTT 5.0, section 2.1): `None` if it had sent whole packets only, or
-        /// its direction is lost.
-        begun: Option<u8>,
+        /// What it leaves unfinished, and no later record completes.
+        unfinished: UnfinishedPackets<'a>,
     },
     /// The tested end is at rest: what it owes on this connection is done.
     Rest,

@@ -9,7 +9,7 @@ mod kind;
 mod place;
 mod refusal;
 
-pub use event::{Event, Item, item_event};
+pub use event::{Event, Item, UnfinishedPackets, item_event};
 pub use header::{
     HEADER_LENGTH, Header, LENGTH_END, MAGIC, MOMENT_END, VERSION_AT, has_moments, head_length,
     header_after, header_refusal, longest_body,

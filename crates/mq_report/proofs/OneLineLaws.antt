@@ -8,12 +8,12 @@ use Rattle.mq_props.specs.Values.{Value, Property, byte_value, two_bytes_value, 
 use Rattle.mq_props.specs.Listed.{Listed}
 use Rattle.mq_packet.specs.Entries.{Entry, ConnectFields, PublishFields, WillFields, AskedFilter, connect, connack, publish, acknowledgement, request, answer, pingreq, pingresp, disconnect, auth}
 use Rattle.mq_packet.specs.declared.rule.PacketRule.{PacketRule}
-use Rattle.mq_log.specs.Events.{Event, Item, packet as whole_item, bad as broken_item, lost as lost_item, opened, closed, rested, released, sent, received}
+use Rattle.mq_log.specs.Events.{Event, Item, UnfinishedPackets, packet as whole_item, bad as broken_item, lost as lost_item, opened, closed, rested, released, sent, received}
 use Rattle.mq_rules.specs.Notes.{qos_number}
 use Rattle.mq_report.specs.ItemText.{flag_number, with_spaces}
 use Rattle.mq_report.specs.Marking.{between, marked_at}
 use Rattle.mq_report.specs.OneLine.{is_on_one_line}
-use Rattle.mq_report.specs.Details.{hex_digits, is_quoting, is_control, escaped, quoted, reason_text, flag_text, size_text, property_names, name_beside, property_name, value_words, with_prefix, property_after, properties_after, property_words, will_words, user_words, password_words, connect_words, publish_words, option_words, filter_words, code_words, packet_words, type_names, type_words, hex_words, marked, gap_words, shown_from, words_from, mark_words, words_around, broken_words, broken_details, item_details, detail_text, broken_detail_text}
+use Rattle.mq_report.specs.Details.{hex_digits, is_quoting, is_control, escaped, quoted, reason_text, flag_text, size_text, property_names, name_beside, property_name, value_words, with_prefix, property_after, properties_after, property_words, will_words, user_words, password_words, connect_words, publish_words, option_words, filter_words, code_words, packet_words, type_names, type_words, hex_words, marked, gap_words, shown_from, words_from, mark_words, words_around, broken_words, broken_details, item_details, first_words, begun_words, unfinished_words, closing_words, detail_text, broken_detail_text}
 
 -- a test that holds of each part of a list holds of all of it
 all_both : {X : Type 0} (test : X → Bool) (xs ys : List X) → list_all test xs ≡ true → list_all test ys ≡ true → list_all test (xs ++ ys) ≡ true
@@ -241,10 +241,33 @@ item_fits (whole_item size entry) = packet_fits entry
 item_fits (broken_item bytes rule at) = broken_fits bytes rule at
 item_fits lost_item = refl
 
+-- packets that aren't whole
+first_fit : (bytes : List ℕ) → list_all is_on_one_line (first_words bytes) ≡ true
+first_fit bytes =
+    words_both (flat_map hex_words (between 0 64 bytes)) (gap_words (nat_lt 64 (length bytes))) (hex_all_fit (between 0 64 bytes)) (gap_fits (nat_lt 64 (length bytes)))
+
+begun_packet_fits : (direction bytes : List ℕ) → is_on_one_line direction ≡ true → list_all is_on_one_line (begun_words direction bytes) ≡ true
+begun_packet_fits direction bytes p =
+    let size = size_text bytes ∷ first_words bytes in
+    first direction (type_words bytes ++ (codes "size" ∷ size)) p
+    (words_both (type_words bytes) (codes "size" ∷ size) (type_fits bytes) (first (size_text bytes) (first_words bytes) (decimal_fits _) (first_fit bytes)))
+
+unfinished_fits : (direction bytes : List ℕ) → is_on_one_line direction ≡ true → list_all is_on_one_line (unfinished_words direction bytes) ≡ true
+unfinished_fits direction bytes p =
+    elim (length bytes == 0) as (λ t. list_all is_on_one_line (if t then [] else begun_words direction bytes) ≡ true) [
+      | true ↦ refl
+      | false ↦ begun_packet_fits direction bytes p
+    ]
+
+closing_fits : (unfinished : UnfinishedPackets) → list_all is_on_one_line (closing_words unfinished) ≡ true
+closing_fits unfinished =
+    words_both (unfinished_words (codes "sent") unfinished.sent) (unfinished_words (codes "received") unfinished.received)
+    (unfinished_fits (codes "sent") unfinished.sent refl) (unfinished_fits (codes "received") unfinished.received refl)
+
 -- whatever the event
 pub details_fit : (event : Event) → is_on_one_line (detail_text event) ≡ true
 details_fit opened = refl
-details_fit (closed begun) = refl
+details_fit (closed unfinished) = spaces_fit (closing_words unfinished) (closing_fits unfinished)
 details_fit rested = refl
 details_fit (released identifier) = refl
 details_fit (sent item) = spaces_fit (item_details item) (item_fits item)
@@ -252,7 +275,7 @@ details_fit (received item) = spaces_fit (item_details item) (item_fits item)
 
 pub broken_details_fit : (event : Event) → is_on_one_line (broken_detail_text event) ≡ true
 broken_details_fit opened = refl
-broken_details_fit (closed begun) = refl
+broken_details_fit (closed unfinished) = spaces_fit (closing_words unfinished) (closing_fits unfinished)
 broken_details_fit rested = refl
 broken_details_fit (released identifier) = refl
 broken_details_fit (sent item) = spaces_fit (broken_details item) (broken_item_fits item)

@@ -1,5 +1,6 @@
 -- What `show --long` prints of an event after its line's usual words: the fields and the properties of its packet, each by its name. Texts are in double
--- quotes; of binary data only the length in bytes is printed, since it may be secret. Of a packet that breaks a rule its type and its bytes are printed.
+-- quotes; of binary data only the length in bytes is printed, since it may be secret. Of a packet that breaks a rule its type and its bytes are printed, and of
+-- one that a CLOSE leaves unfinished those of its bytes that came.
 use Rattle.std.specs.Prelude.{ℕ, ◌+◌, ◌-◌, ◌/◌, ◌%◌, ◌==◌, ◌||◌, nat_lt, Bool, true, false, List, [], ◌∷◌, ◌++◌, length, codes, decimal, Option, Some, None, if◌then◌else◌}
 use Rattle.std.specs.Fmt.{digit_glyph}
 use Rattle.std.specs.List.{flat_map, starts_with}
@@ -8,7 +9,7 @@ use Rattle.mq_props.specs.Values.{Value, Property, byte_value, two_bytes_value, 
 use Rattle.mq_props.specs.Listed.{Listed}
 use Rattle.mq_packet.specs.Entries.{Entry, ConnectFields, PublishFields, WillFields, AskedFilter, connect, connack, publish, acknowledgement, request, answer, pingreq, pingresp, disconnect, auth}
 use Rattle.mq_packet.specs.declared.rule.PacketRule.{PacketRule}
-use Rattle.mq_log.specs.Events.{Event, Item, packet as whole_item, bad as broken_item, sent, received}
+use Rattle.mq_log.specs.Events.{Event, Item, UnfinishedPackets, packet as whole_item, bad as broken_item, closed, sent, received}
 use Rattle.mq_rules.specs.Notes.{qos_number}
 use Rattle.mq_report.specs.ItemText.{flag_number, with_spaces}
 use Rattle.mq_report.specs.Marking.{between, marked_at}
@@ -235,16 +236,33 @@ item_details (whole_item size entry) = packet_words entry
 item_details (broken_item bytes rule at) = broken_words bytes rule at
 item_details _ = []
 
--- what these words are for the item of an event, if it has one
+-- the first 64 of these bytes, and `..` if there are more
+abbrev pub first_words : List ℕ → List (List ℕ)
+first_words bytes = codes "bytes" ∷ (flat_map hex_words (between 0 64 bytes) ++ gap_words (nat_lt 64 (length bytes)))
+
+-- a packet that isn't whole, after the word on its direction: its type, how many bytes of it came, and the first of these
+abbrev pub begun_words : (direction : List ℕ) → List ℕ → List (List ℕ)
+begun_words direction bytes = codes "unfinished" ∷ direction ∷ (type_words bytes ++ (codes "size" ∷ size_text bytes ∷ first_words bytes))
+
+-- what a direction leaves unfinished, if it has begun a packet
+abbrev pub unfinished_words : (direction : List ℕ) → List ℕ → List (List ℕ)
+unfinished_words direction bytes = if length bytes == 0 then [] else begun_words direction bytes
+
+-- what a CLOSE leaves unfinished (MQTT 5.0, section 2.1)
+abbrev pub closing_words : UnfinishedPackets → List (List ℕ)
+closing_words unfinished = unfinished_words (codes "sent") unfinished.sent ++ unfinished_words (codes "received") unfinished.received
+
+-- what is said of an event: of its item, if it has one, by these words, and of a CLOSE what it leaves unfinished
 abbrev pub words_of : (Item → List (List ℕ)) → Event → List (List ℕ)
 words_of item_words (sent item) = item_words item
 words_of item_words (received item) = item_words item
+words_of item_words (closed unfinished) = closing_words unfinished
 words_of item_words _ = []
 
 -- an event's details as its line has them, each word with a space before it
 abbrev pub detail_text : Event → List ℕ
 detail_text event = with_spaces (words_of item_details event)
 
--- and only those of bytes that break a rule
+-- and only those of bytes that break a rule, or that a CLOSE leaves unfinished
 abbrev pub broken_detail_text : Event → List ℕ
 broken_detail_text event = with_spaces (words_of broken_details event)

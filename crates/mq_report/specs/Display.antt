@@ -37,7 +37,7 @@ is_timed log = (header_by log).version == 2
 -- the text of an event
 abbrev pub event_text : Event → List ℕ
 event_text opened = codes "OPEN"
-event_text (closed begun) = codes "CLOSE"
+event_text (closed unfinished) = codes "CLOSE"
 event_text rested = codes "REST"
 event_text (released identifier) = spaced (codes "RELEASE" ∷ decimal identifier ∷ [])
 event_text (sent item) = spaced (codes "SENT" ∷ item_text item ∷ [])
@@ -70,11 +70,11 @@ abbrev pub packet_line : (timed : Bool) → Place3 → Direction → PacketSumma
 packet_line timed place direction packet size =
     line (place_text timed place ++ 32 ∷ spaced (direction_word direction ∷ packet_text packet size ∷ []))
 
--- the line of an event with what else its packet says
+-- the line of an event with what else its packet says, or what a CLOSE leaves unfinished
 abbrev pub long_line : (timed : Bool) → Placed → List ℕ
 long_line timed placed = line (event_words timed placed ++ detail_text placed.event)
 
--- the line of an event with the type and the bytes of its packet, if that breaks a rule
+-- the line of an event with the type and the bytes of its packet, if that breaks a rule, or what a CLOSE leaves unfinished
 abbrev pub line_with_bytes : (timed : Bool) → Placed → List ℕ
 line_with_bytes timed placed = line (event_words timed placed ++ broken_detail_text placed.event)
 

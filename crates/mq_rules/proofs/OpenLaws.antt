@@ -9,9 +9,9 @@ use Rattle.mq_log.specs.declared.kind.RecordKind.TheVariants as kinds
 use Rattle.mq_log.specs.declared.header.Header.{Header}
 use Rattle.mq_log.specs.Framing.{kind_of, kind_named, head_length, record_size}
 use Rattle.mq_log.specs.Connections.{begins_connection, ends_connection}
-use Rattle.mq_log.specs.Events.{Item, Event, event_by, item_at, opened, closed, rested, released, sent, received}
+use Rattle.mq_log.specs.Events.{UnfinishedPackets, Item, Event, event_by, item_at, opened, closed, rested, released, sent, received}
 use Rattle.mq_log.specs.Refusals.{Situation, conditions, header_refusal, record_refusal, refusal_at, refused, is_first, needs_connection as needs_open}
-use Rattle.mq_log.specs.Context.{Context, ahead_of, begun_of, context, situated, so_far_for, refusal_for, event_for, after, after_header, after_part, with_completed, fresh}
+use Rattle.mq_log.specs.Context.{Context, ahead_of, unfinished_of, context, situated, so_far_for, refusal_for, event_for, after, after_header, after_part, with_completed, fresh}
 use Rattle.mq_log.proofs.Exports.{refusal-kept, at_context}
 use Rattle.mq_log.proofs.Exports.{context-grow, context-nothing}
 use Rattle.mq_rules.specs.declared.note.Seen.{Seen}
@@ -58,69 +58,69 @@ before limit c byte long unrefused held needs short = go c.part refl needs short
 -- ---- the event
 
 -- the record of an event that needs an open connection needs one
-needs-event : (begun : Option ℕ) (ahead : ℕ) (k : Option RecordKind) (part so_far : List ℕ) (event : Event) → event_by begun ahead k part so_far ≡ Some event → needs_connection (note_of event) ≡ true
+needs-event : (unfinished : UnfinishedPackets) (ahead : ℕ) (k : Option RecordKind) (part so_far : List ℕ) (event : Event) → event_by unfinished ahead k part so_far ≡ Some event → needs_connection (note_of event) ≡ true
     → (needs_open k ≡ true) × (is_close_kind k ≡ true → length part ≤ ahead)
-needs-event begun ahead (Some kinds.Sent) part so_far event is h = (refl, λ closes. absurd (cc))
-needs-event begun ahead (Some kinds.Recv) part so_far event is h = (refl, λ closes. absurd (cc))
-needs-event begun ahead (Some kinds.Rest) part so_far event is h = (refl, λ closes. absurd (cc))
-needs-event begun ahead (Some kinds.Close) part so_far event is h = (refl, λ closes. go (length part == ahead) refl is)
+needs-event unfinished ahead (Some kinds.Sent) part so_far event is h = (refl, λ closes. absurd (cc))
+needs-event unfinished ahead (Some kinds.Recv) part so_far event is h = (refl, λ closes. absurd (cc))
+needs-event unfinished ahead (Some kinds.Rest) part so_far event is h = (refl, λ closes. absurd (cc))
+needs-event unfinished ahead (Some kinds.Close) part so_far event is h = (refl, λ closes. go (length part == ahead) refl is)
   where
-    go : (b : Bool) → (length part == ahead) ≡ b → (if b then Some (closed begun) else None) ≡ Some event → length part ≤ ahead
+    go : (b : Bool) → (length part == ahead) ≡ b → (if b then Some (closed unfinished) else None) ≡ Some event → length part ≤ ahead
     go true t e = let five : length part ≡ ahead = eqb-true (length part) ahead t in omega arith
     go false t e = absurd (cc)
-needs-event begun ahead (Some kinds.Open) part so_far event is h = absurd (go (length part == ahead) is)
+needs-event unfinished ahead (Some kinds.Open) part so_far event is h = absurd (go (length part == ahead) is)
   where
     go : (b : Bool) → (if b then Some opened else None) ≡ Some event → ⊥
     go true e = let same : opened ≡ event = cc in let bad : needs_connection (note_of opened) ≡ true = ap (λ (x : Event). needs_connection (note_of x)) same ∙ h in cc
     go false e = cc
-needs-event begun ahead (Some kinds.Release) part so_far event is h = absurd (go (from_be_bytes w16 (drop ahead part)) (length part == ahead + 2) is)
+needs-event unfinished ahead (Some kinds.Release) part so_far event is h = absurd (go (from_be_bytes w16 (drop ahead part)) (length part == ahead + 2) is)
   where
     go : (n : ℕ) (b : Bool) → (if b then Some (released n) else None) ≡ Some event → ⊥
     go n true e = let same : released n ≡ event = cc in let bad : needs_connection (note_of (released n)) ≡ true = ap (λ (x : Event). needs_connection (note_of x)) same ∙ h in cc
     go n false e = cc
-needs-event begun ahead None part so_far event is h = absurd (cc)
+needs-event unfinished ahead None part so_far event is h = absurd (cc)
 
 -- it comes where a connection is open
 comes-open : (limit : ℕ) (c : Context) (byte : ℕ) (event : Event) → 8 ≤ c.at → refusal_for limit c byte ≡ None → IsHeld c → event_for c byte ≡ Some event → needs_connection (note_of event) ≡ true → c.connected ≡ true
 comes-open limit c byte event long unrefused held is h =
-    let p = needs-event (begun_of c) (ahead_of c) (kind_of (c.part ++ byte ∷ [])) (c.part ++ byte ∷ []) (so_far_for c byte) event (sym (event-is c byte long) ∙ is) h in
+    let p = needs-event (unfinished_of c) (ahead_of c) (kind_of (c.part ++ byte ∷ [])) (c.part ++ byte ∷ []) (so_far_for c byte) event (sym (event-is c byte long) ∙ is) h in
     before limit c byte long unrefused held p.0 p.1
 
 -- ---- the connection stays open within a record
 
 -- an event other than that of a CLOSE
-goes-on : (begun : Option ℕ) (ahead : ℕ) (k : Option RecordKind) (part so_far : List ℕ) (event : Event) → event_by begun ahead k part so_far ≡ Some event → (is_close_kind k ≡ true → length part < ahead) → ends_connection event ≡ false
-goes-on begun ahead (Some kinds.Open) part so_far event is short = go (length part == ahead) is
+goes-on : (unfinished : UnfinishedPackets) (ahead : ℕ) (k : Option RecordKind) (part so_far : List ℕ) (event : Event) → event_by unfinished ahead k part so_far ≡ Some event → (is_close_kind k ≡ true → length part < ahead) → ends_connection event ≡ false
+goes-on unfinished ahead (Some kinds.Open) part so_far event is short = go (length part == ahead) is
   where
     go : (b : Bool) → (if b then Some opened else None) ≡ Some event → ends_connection event ≡ false
     go true e = let same : opened ≡ event = cc in sym (ap ends_connection same)
     go false e = absurd (cc)
-goes-on begun ahead (Some kinds.Close) part so_far event is short = let less = short refl in go (length part == ahead) refl less is
+goes-on unfinished ahead (Some kinds.Close) part so_far event is short = let less = short refl in go (length part == ahead) refl less is
   where
-    go : (b : Bool) → (length part == ahead) ≡ b → length part < ahead → (if b then Some (closed begun) else None) ≡ Some event → ends_connection event ≡ false
+    go : (b : Bool) → (length part == ahead) ≡ b → length part < ahead → (if b then Some (closed unfinished) else None) ≡ Some event → ends_connection event ≡ false
     go true t less e = absurd (let five : length part ≡ ahead = eqb-true (length part) ahead t in omega arith)
     go false t less e = absurd (cc)
-goes-on begun ahead (Some kinds.Rest) part so_far event is short = go (length part == ahead) is
+goes-on unfinished ahead (Some kinds.Rest) part so_far event is short = go (length part == ahead) is
   where
     go : (b : Bool) → (if b then Some rested else None) ≡ Some event → ends_connection event ≡ false
     go true e = let same : rested ≡ event = cc in sym (ap ends_connection same)
     go false e = absurd (cc)
-goes-on begun ahead (Some kinds.Release) part so_far event is short = go (from_be_bytes w16 (drop ahead part)) (length part == ahead + 2) is
+goes-on unfinished ahead (Some kinds.Release) part so_far event is short = go (from_be_bytes w16 (drop ahead part)) (length part == ahead + 2) is
   where
     go : (n : ℕ) (b : Bool) → (if b then Some (released n) else None) ≡ Some event → ends_connection event ≡ false
     go n true e = let same : released n ≡ event = cc in sym (ap ends_connection same)
     go n false e = absurd (cc)
-goes-on begun ahead (Some kinds.Sent) part so_far event is short = go (item_at so_far) is
+goes-on unfinished ahead (Some kinds.Sent) part so_far event is short = go (item_at so_far) is
   where
     go : (o : Option Item) → option_map sent o ≡ Some event → ends_connection event ≡ false
     go None e = absurd (cc)
     go (Some i) e = let same : sent i ≡ event = cc in sym (ap ends_connection same)
-goes-on begun ahead (Some kinds.Recv) part so_far event is short = go (item_at so_far) is
+goes-on unfinished ahead (Some kinds.Recv) part so_far event is short = go (item_at so_far) is
   where
     go : (o : Option Item) → option_map received o ≡ Some event → ends_connection event ≡ false
     go None e = absurd (cc)
     go (Some i) e = let same : received i ≡ event = cc in sym (ap ends_connection same)
-goes-on begun ahead None part so_far event is short = absurd (cc)
+goes-on unfinished ahead None part so_far event is short = absurd (cc)
 
 still-open : (c : Context) (o : Option Event) → c.connected ≡ true → ((event : Event) → o ≡ Some event → ends_connection event ≡ false) → (with_completed c o).connected ≡ true
 still-open c None open_before stays = open_before
@@ -150,7 +150,7 @@ held-next limit c byte long unrefused held = subst IsHeld (sym whole) inner
     by_size false is needs short =
         still-open (after_part c (c.part ++ byte ∷ []) byte) (event_for c byte)
         (before limit c byte long unrefused held needs (λ closes. let less = short closes in omega arith))
-        (λ event here. goes-on (begun_of c) (ahead_of c) (kind_of (c.part ++ byte ∷ [])) (c.part ++ byte ∷ []) (so_far_for c byte) event (sym (event-is c byte long) ∙ here) short)
+        (λ event here. goes-on (unfinished_of c) (ahead_of c) (kind_of (c.part ++ byte ∷ [])) (c.part ++ byte ∷ []) (so_far_for c byte) event (sym (event-is c byte long) ∙ here) short)
 
     inner : IsHeld new
     inner needs short =

@@ -13,7 +13,7 @@ use Rattle.mq_log.specs.declared.kind.Direction.TheVariants as directions
 use Rattle.mq_log.specs.declared.refusal.Refusal.{Refusal}
 use Rattle.mq_log.specs.declared.header.Header.{Header}
 use Rattle.mq_log.specs.Framing.{header_by, ahead_in, head_length, moment_in}
-use Rattle.mq_log.specs.Events.{Event, Placed, part_at, packet_at, begun_at, event_in, event_at, events, packet, bad, lost, opened, closed, sent, received}
+use Rattle.mq_log.specs.Events.{Event, Placed, part_at, packet_at, unfinished_at, event_in, event_at, events, packet, bad, lost, opened, closed, sent, received}
 use Rattle.mq_log.specs.Connections.{begins_connection, ends_connection, is_connack_type, is_answer, has_open_connection, is_connack_seen as trace_connack_seen, events_on_connection, most_early_events}
 use Rattle.mq_log.specs.Refusals.{Situation, situation, first_that_applies, conditions, header_refusal, record_refusal, refusal_at, refused, comes_too_early}
 use Rattle.mq_log.specs.Context.{Context, ahead_of, context, event_for, placed_with, placed_for, put}
@@ -75,7 +75,7 @@ begins-noted opened = refl
 begins-noted _ = refl
 
 ends-noted : (e : Event) → ends_connection e ≡ is_close (note_of e)
-ends-noted (closed begun) = refl
+ends-noted (closed unfinished) = refl
 ends-noted _ = refl
 
 -- an open connection
@@ -160,7 +160,7 @@ none_applies (line ∷ lines) h = go (none_applies lines) line.0 line.1 refl h
     go others true r is e = absurd (cc)
     go others false r is e = (is, others e)
 
-not-early : (limit : ℕ) (s : Situation) → record_refusal limit s ≡ None → comes_too_early s (event_in s.begun (head_length s.header.version) s.part s.so_far) ≡ false
+not-early : (limit : ℕ) (s : Situation) → record_refusal limit s ≡ None → comes_too_early s (event_in s.unfinished (head_length s.header.version) s.part s.so_far) ≡ false
 unfolding record_refusal
 not-early limit s h = (none_applies (conditions limit s) h).1.1.1.1.1.1.1.0
 
@@ -191,8 +191,8 @@ unrefused-event limit log byte event long unrefused is =
     let after_header : nat_lt (length log) 8 ≡ false = le-ltb (length log) 8 long in
     let none : record_refusal limit (situation log byte) ≡ None =
     sym (ap (λ b. if b then header_refusal (length log) byte else record_refusal limit (situation log byte)) after_header) ∙ unrefused in
-    let here : event_in (begun_at log) (ahead_in log) (part_at log byte) (packet_at log byte) ≡ Some event =
-    sym (ap (λ b. if b then None else event_in (begun_at log) (ahead_in log) (part_at log byte) (packet_at log byte)) after_header) ∙ event-kept log byte ∙ is in
+    let here : event_in (unfinished_at log) (ahead_in log) (part_at log byte) (packet_at log byte) ≡ Some event =
+    sym (ap (λ b. if b then None else event_in (unfinished_at log) (ahead_in log) (part_at log byte) (packet_at log byte)) after_header) ∙ event-kept log byte ∙ is in
     ap (λ b. is_one_too_many b (is_connack_seen (role_of header) log_seen) (length (connection log_seen)) closes answers) (sym (connected-noted (events log)))
     ∙ ap (λ b. is_one_too_many connected b (length (connection log_seen)) closes answers) (sym (connack_seen-noted header (events log)))
     ∙ ap (λ n. is_one_too_many connected connack_seen n closes answers) (sym (on_connection-noted (events log)))

@@ -9,9 +9,9 @@ use Rattle.mq_log.specs.declared.kind.RecordKind.TheVariants as kinds
 use Rattle.mq_log.specs.declared.header.Header.{Header}
 use Rattle.mq_log.specs.Pieces.{Pieces}
 use Rattle.mq_log.specs.Framing.{kind_of, kind_named, head_length, record_size}
-use Rattle.mq_log.specs.Events.{Item, Event, event_by, event_in, item_at, opened, closed, rested, released, sent, received}
+use Rattle.mq_log.specs.Events.{UnfinishedPackets, Item, Event, event_by, event_in, item_at, opened, closed, rested, released, sent, received}
 use Rattle.mq_log.specs.Refusals.{Situation, conditions, header_refusal, record_refusal, refusal_at, refused, is_open_kind, is_first}
-use Rattle.mq_log.specs.Context.{Context, ahead_of, begun_of, context, situated, so_far_for, refusal_for, event_for, after, after_header, after_part, with_completed, fresh}
+use Rattle.mq_log.specs.Context.{Context, ahead_of, unfinished_of, context, situated, so_far_for, refusal_for, event_for, after, after_header, after_part, with_completed, fresh}
 use Rattle.mq_log.proofs.Exports.{refusal-kept, header-unchanged, at_context}
 use Rattle.mq_log.proofs.Exports.{context-grow, context-nothing, part_context}
 use Rattle.mq_log.proofs.Exports.{records-header}
@@ -54,61 +54,61 @@ before limit c byte long unrefused free opens short = go c.part refl opens short
 
 -- ---- an OPEN
 
-open-event : (begun : Option ℕ) (ahead : ℕ) (k : Option RecordKind) (part so_far : List ℕ) (event : Event) → event_by begun ahead k part so_far ≡ Some event → is_open (note_of event) ≡ true → (is_open_kind k ≡ true) × (length part ≡ ahead)
-open-event begun ahead (Some kinds.Open) part so_far event is h = (refl, go (length part == ahead) refl is)
+open-event : (unfinished : UnfinishedPackets) (ahead : ℕ) (k : Option RecordKind) (part so_far : List ℕ) (event : Event) → event_by unfinished ahead k part so_far ≡ Some event → is_open (note_of event) ≡ true → (is_open_kind k ≡ true) × (length part ≡ ahead)
+open-event unfinished ahead (Some kinds.Open) part so_far event is h = (refl, go (length part == ahead) refl is)
   where
     go : (b : Bool) → (length part == ahead) ≡ b → (if b then Some opened else None) ≡ Some event → length part ≡ ahead
     go true t e = eqb-true (length part) ahead t
     go false t e = absurd (cc)
-open-event begun ahead (Some kinds.Close) part so_far event is h = absurd (go (length part == ahead) is)
+open-event unfinished ahead (Some kinds.Close) part so_far event is h = absurd (go (length part == ahead) is)
   where
-    go : (b : Bool) → (if b then Some (closed begun) else None) ≡ Some event → ⊥
-    go true e = let same : closed begun ≡ event = cc in let bad : is_open (note_of (closed begun)) ≡ true = ap (λ (x : Event). is_open (note_of x)) same ∙ h in cc
+    go : (b : Bool) → (if b then Some (closed unfinished) else None) ≡ Some event → ⊥
+    go true e = let same : closed unfinished ≡ event = cc in let bad : is_open (note_of (closed unfinished)) ≡ true = ap (λ (x : Event). is_open (note_of x)) same ∙ h in cc
     go false e = cc
-open-event begun ahead (Some kinds.Rest) part so_far event is h = absurd (go (length part == ahead) is)
+open-event unfinished ahead (Some kinds.Rest) part so_far event is h = absurd (go (length part == ahead) is)
   where
     go : (b : Bool) → (if b then Some rested else None) ≡ Some event → ⊥
     go true e = let same : rested ≡ event = cc in let bad : is_open (note_of rested) ≡ true = ap (λ (x : Event). is_open (note_of x)) same ∙ h in cc
     go false e = cc
-open-event begun ahead (Some kinds.Release) part so_far event is h = absurd (go (from_be_bytes w16 (drop ahead part)) (length part == ahead + 2) is)
+open-event unfinished ahead (Some kinds.Release) part so_far event is h = absurd (go (from_be_bytes w16 (drop ahead part)) (length part == ahead + 2) is)
   where
     go : (n : ℕ) (b : Bool) → (if b then Some (released n) else None) ≡ Some event → ⊥
     go n true e = let same : released n ≡ event = cc in let bad : is_open (note_of (released n)) ≡ true = ap (λ (x : Event). is_open (note_of x)) same ∙ h in cc
     go n false e = cc
-open-event begun ahead (Some kinds.Sent) part so_far event is h = absurd (go (item_at so_far) is)
+open-event unfinished ahead (Some kinds.Sent) part so_far event is h = absurd (go (item_at so_far) is)
   where
     go : (o : Option Item) → option_map sent o ≡ Some event → ⊥
     go None e = cc
     go (Some i) e = let same : sent i ≡ event = cc in let bad : is_open (note_of (sent i)) ≡ true = ap (λ (x : Event). is_open (note_of x)) same ∙ h in cc
-open-event begun ahead (Some kinds.Recv) part so_far event is h = absurd (go (item_at so_far) is)
+open-event unfinished ahead (Some kinds.Recv) part so_far event is h = absurd (go (item_at so_far) is)
   where
     go : (o : Option Item) → option_map received o ≡ Some event → ⊥
     go None e = cc
     go (Some i) e = let same : received i ≡ event = cc in let bad : is_open (note_of (received i)) ≡ true = ap (λ (x : Event). is_open (note_of x)) same ∙ h in cc
-open-event begun ahead None part so_far event is h = absurd (cc)
+open-event unfinished ahead None part so_far event is h = absurd (cc)
 
 -- where the record of an OPEN isn't whole, nothing has come of it
-open-quiet : (begun : Option ℕ) (ahead : ℕ) (k : Option RecordKind) (part so_far : List ℕ) → is_open_kind k ≡ true → length part < ahead → event_by begun ahead k part so_far ≡ None
-open-quiet begun ahead (Some kinds.Open) part so_far h lt = go (length part == ahead) refl
+open-quiet : (unfinished : UnfinishedPackets) (ahead : ℕ) (k : Option RecordKind) (part so_far : List ℕ) → is_open_kind k ≡ true → length part < ahead → event_by unfinished ahead k part so_far ≡ None
+open-quiet unfinished ahead (Some kinds.Open) part so_far h lt = go (length part == ahead) refl
   where
     go : (b : Bool) → (length part == ahead) ≡ b → (if b then Some opened else None) ≡ None
     go true t = absurd (let n : length part ≡ ahead = eqb-true (length part) ahead t in omega arith)
     go false t = refl
-open-quiet begun ahead (Some kinds.Close) part so_far h lt = absurd (cc)
-open-quiet begun ahead (Some kinds.Rest) part so_far h lt = absurd (cc)
-open-quiet begun ahead (Some kinds.Release) part so_far h lt = absurd (cc)
-open-quiet begun ahead (Some kinds.Sent) part so_far h lt = absurd (cc)
-open-quiet begun ahead (Some kinds.Recv) part so_far h lt = absurd (cc)
-open-quiet begun ahead None part so_far h lt = absurd (cc)
+open-quiet unfinished ahead (Some kinds.Close) part so_far h lt = absurd (cc)
+open-quiet unfinished ahead (Some kinds.Rest) part so_far h lt = absurd (cc)
+open-quiet unfinished ahead (Some kinds.Release) part so_far h lt = absurd (cc)
+open-quiet unfinished ahead (Some kinds.Sent) part so_far h lt = absurd (cc)
+open-quiet unfinished ahead (Some kinds.Recv) part so_far h lt = absurd (cc)
+open-quiet unfinished ahead None part so_far h lt = absurd (cc)
 
-pub event-is : (c : Context) (byte : ℕ) → 8 ≤ c.at → event_for c byte ≡ event_by (begun_of c) (ahead_of c) (kind_of (c.part ++ byte ∷ [])) (c.part ++ byte ∷ []) (so_far_for c byte)
+pub event-is : (c : Context) (byte : ℕ) → 8 ≤ c.at → event_for c byte ≡ event_by (unfinished_of c) (ahead_of c) (kind_of (c.part ++ byte ∷ [])) (c.part ++ byte ∷ []) (so_far_for c byte)
 unfolding event_for event_in
-event-is c byte long = ap (λ b. if b then None else event_by (begun_of c) (ahead_of c) (kind_of (c.part ++ byte ∷ [])) (c.part ++ byte ∷ []) (so_far_for c byte)) (le-ltb c.at 8 long)
+event-is c byte long = ap (λ b. if b then None else event_by (unfinished_of c) (ahead_of c) (kind_of (c.part ++ byte ∷ [])) (c.part ++ byte ∷ []) (so_far_for c byte)) (le-ltb c.at 8 long)
 
 -- the OPEN comes where no connection is open
 opens-free : (limit : ℕ) (c : Context) (byte : ℕ) (event : Event) → 8 ≤ c.at → refusal_for limit c byte ≡ None → IsFree c → event_for c byte ≡ Some event → is_open (note_of event) ≡ true → c.connected ≡ false
 opens-free limit c byte event long unrefused free is h =
-    let p = open-event (begun_of c) (ahead_of c) (kind_of (c.part ++ byte ∷ [])) (c.part ++ byte ∷ []) (so_far_for c byte) event (sym (event-is c byte long) ∙ is) h in
+    let p = open-event (unfinished_of c) (ahead_of c) (kind_of (c.part ++ byte ∷ [])) (c.part ++ byte ∷ []) (so_far_for c byte) event (sym (event-is c byte long) ∙ is) h in
     let n = p.1 in
     before limit c byte long unrefused free p.0 (omega arith)
 
@@ -143,7 +143,7 @@ free-next limit c byte long unrefused free = subst IsFree (sym whole) inner
     by_size : (b : Bool) → is_some (record_size (ahead_of c) (c.part ++ byte ∷ [])) ≡ b → is_open_kind (kind_of (cond b [] (c.part ++ byte ∷ []))) ≡ true → length (cond b [] (c.part ++ byte ∷ [])) < ahead_of c → new.connected ≡ false
     by_size true is opens lt = absurd (let bad : is_open_kind (kind_of []) ≡ false = no-kind in cc)
     by_size false is opens lt =
-        connected-none (after_part c (c.part ++ byte ∷ []) byte) (event_for c byte) (event-is c byte long ∙ open-quiet (begun_of c) (ahead_of c) (kind_of (c.part ++ byte ∷ [])) (c.part ++ byte ∷ []) (so_far_for c byte) opens lt)
+        connected-none (after_part c (c.part ++ byte ∷ []) byte) (event_for c byte) (event-is c byte long ∙ open-quiet (unfinished_of c) (ahead_of c) (kind_of (c.part ++ byte ∷ [])) (c.part ++ byte ∷ []) (so_far_for c byte) opens lt)
         ∙ before limit c byte long unrefused free opens (omega arith)
 
     inner : IsFree new

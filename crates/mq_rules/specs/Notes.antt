@@ -181,10 +181,15 @@ item_note direction lost = items.Lost
 abbrev pub begins_acknowledged : ℕ → Bool
 begins_acknowledged first = (first / 16 == 3) && ((first / 2 % 4 == 1) || (first / 2 % 4 == 2))
 
+-- these are the bytes so far of a PUBLISH of QoS 1 or 2
+abbrev pub cuts_acknowledged : List ℕ → Bool
+cuts_acknowledged [] = false
+cuts_acknowledged (first ∷ rest) = begins_acknowledged first
+
 -- of an event
 abbrev pub note_of : Event → Note
 note_of opened = notes.Open
-note_of (closed begun) = notes.Close (is_some_and begins_acknowledged begun)
+note_of (closed unfinished) = notes.Close (cuts_acknowledged unfinished.sent)
 note_of rested = notes.Rest
 note_of (released identifier) = notes.Release identifier
 note_of (sent item) = notes.Sent (item_note directions.Sent item)

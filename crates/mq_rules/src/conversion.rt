@@ -13,9 +13,8 @@ ghost use Rattle.mq_packet.specs.Entries.{publish as publish_entry};
 ghost use Rattle.mq_log.specs.Events.{packet, packet as packet_item};
 ghost use Rattle.mq_log.specs.Flows.{item_event};
 ghost use Rattle.mq_log.specs.Reception.{item_of, event_of};
-ghost use Rattle.mq_rules.specs.Words.{is_some_and};
 ghost use Rattle.mq_rules.specs.declared.packet_note.PacketFields.TheVariants as fields;
-ghost use Rattle.mq_rules.specs.Notes.{only_list, is_sent_direction, is_acknowledged, begins_acknowledged, connect_note, connack_note, publish_note, disconnect_note, packet_fields, properties_of, packet_note, item_note, note_of, request_fields, answer_fields, keeps_text, item_keeps_text, note_keeps_text};
+ghost use Rattle.mq_rules.specs.Notes.{only_list, is_sent_direction, is_acknowledged, begins_acknowledged, cuts_acknowledged, connect_note, connack_note, publish_note, disconnect_note, packet_fields, properties_of, packet_note, item_note, note_of, request_fields, answer_fields, keeps_text, item_keeps_text, note_keeps_text};
 
 use crate::faults::Memory;
 use crate::note::{ItemNote, Note};
@@ -391,13 +390,13 @@ fn is_acknowledged_publish(first: u8) -> bool
     first / 16 == 3 && (first / 2 % 4 == 1 || first / 2 % 4 == 2)
 }
 
-// Whether there is such a first byte.
-fn is_publish_cut(begun: Option<u8>) -> bool
-    ensures { result ≡ is_some_and begins_acknowledged begun }
+// Whether these are the bytes so far of such a packet.
+fn is_publish_cut(sent: &[u8]) -> bool
+    ensures { result ≡ cuts_acknowledged sent.now }
 {
-    match begun {
-        Some(first) => is_acknowledged_publish(first),
-        None => false,
+    match *sent {
+        [] => false,
+        [first, ..] => is_acknowledged_publish(first),
     }
 }
 
@@ -484,8 +483,8 @@ impl Note {
                 Ok(Note::Recv(note))
             }
             Event::Open => Ok(Note::Open),
-            Event::Close { begun } => Ok(Note::Close {
-                cuts_publish: is_publish_cut(*begun),
+            Event::Close { unfinished } => Ok(Note::Close {
+                cuts_publish: is_publish_cut(unfinished.sent),
             }),
             Event::Rest => Ok(Note::Rest),
             Event::Release(identifier) => Ok(Note::Release(*identifier)),

@@ -25,7 +25,7 @@ broken-tried rule (sent (bad bytes broken at)) h = h
 broken-tried rule (sent lost) h = h
 broken-tried rule (received item) h = absurd (cc)
 broken-tried rule opened h = absurd (cc)
-broken-tried rule (closed begun) h = absurd (cc)
+broken-tried rule (closed unfinished) h = absurd (cc)
 broken-tried rule rested h = absurd (cc)
 broken-tried rule (released identifier) h = absurd (cc)
 

@@ -17,10 +17,10 @@ use Rattle.mq_log.specs.declared.refusal.Refusal.{Refusal}
 use Rattle.mq_log.specs.declared.refusal.Refusal.TheVariants as refusals
 use Rattle.mq_log.specs.Pieces.{Pieces}
 use Rattle.mq_log.specs.Framing.{header_by, kind_named, kind_of, body_length, head_length, longest_body, length_end, moment_in, record_size, records, ahead_in, opens, direction_of, begun_with, begun_records, if_direction, carried}
-use Rattle.mq_log.specs.Events.{Event, opened, closed, rested, released, event_by, event_in, events, read_frame}
+use Rattle.mq_log.specs.Events.{UnfinishedPackets, Event, opened, closed, rested, released, event_by, event_in, events, read_frame}
 use Rattle.mq_log.specs.Refusals.{situation, header_refusal, record_refusal, refusal_at, refused, first_that_applies, conditions, allows_length, is_open_kind, needs_connection, is_release_kind, is_too_large, is_other_version, is_cut_short}
 use Rattle.mq_log.specs.Connections.{is_too_early}
-use Rattle.mq_log.specs.Context.{StreamState, Context, state_of, fresh, ahead_of, begun_of, emptied, context, so_far_by, so_far_for, situated, refusal_for, event_for, placed_with, placed_for, put, state_by, state_then, with_completed, after_header, after_part, after}
+use Rattle.mq_log.specs.Context.{StreamState, Context, state_of, fresh, ahead_of, unfinished_of, emptied, context, so_far_by, so_far_for, situated, refusal_for, event_for, placed_with, placed_for, put, state_by, state_then, with_completed, after_header, after_part, after}
 use Rattle.mq_trace.specs.Runs.{after_bytes, refused_in, events_by}
 use Rattle.mq_trace.specs.Converting.{first_version_refusal, record_conditions, unconverted_at, unconverted_back, unconverted, copied_back, copied, no_moment, with_moment, second_header, timed, converted}
 use Rattle.mq_log.proofs.Exports.{grown}
@@ -96,9 +96,9 @@ below_eight n m = by (nat_le n m) refl
     by true is = let fits = leb-true n m is in le-leb (n + 8) (m + 8) (omega arith)
     by false is = let over = leb-false n m is in lt-leb (n + 8) (m + 8) (omega arith)
 
-with_event : (begun : Option ℕ) (q so_far : List ℕ) → length_end ≤ length q → event_in begun 13 (with_moment q) so_far ≡ event_in begun 5 q so_far
+with_event : (unfinished : UnfinishedPackets) (q so_far : List ℕ) → length_end ≤ length q → event_in unfinished 13 (with_moment q) so_far ≡ event_in unfinished 5 q so_far
 unfolding event_in
-with_event begun q so_far h = ap (λ k. event_by begun 13 k (with_moment q) so_far) (with_kind q h) ∙ by (kind_of q)
+with_event unfinished q so_far h = ap (λ k. event_by unfinished 13 k (with_moment q) so_far) (with_kind q h) ∙ by (kind_of q)
   where
     ends : (length (with_moment q) == 13) ≡ (length q == 5)
     ends = ap (λ n. n == 13) (with_long q h) ∙ same_eight (length q) 5
@@ -106,10 +106,10 @@ with_event begun q so_far h = ap (λ k. event_by begun 13 k (with_moment q) so_f
     ends_two : (length (with_moment q) == 15) ≡ (length q == 7)
     ends_two = ap (λ n. n == 15) (with_long q h) ∙ same_eight (length q) 7
 
-    by : (kind : Option RecordKind) → event_by begun 13 kind (with_moment q) so_far ≡ event_by begun 5 kind q so_far
+    by : (kind : Option RecordKind) → event_by unfinished 13 kind (with_moment q) so_far ≡ event_by unfinished 5 kind q so_far
     by None = refl
     by (Some kinds.Open) = ap (λ b. if b then Some opened else None) ends
-    by (Some kinds.Close) = ap (λ b. if b then Some (closed begun) else None) ends
+    by (Some kinds.Close) = ap (λ b. if b then Some (closed unfinished) else None) ends
     by (Some kinds.Rest) = ap (λ b. if b then Some rested else None) ends
     by (Some kinds.Release) =
         ap (λ b. if b then Some (released (from_be_bytes w16 (drop 13 (with_moment q)))) else None) ends_two
@@ -172,7 +172,7 @@ tests limit c part so_far first whole event =
     ∷ []
 
 tested : (limit : ℕ) (c : Context) (b : ℕ) → 8 ≤ c.at
-    → refusal_for limit c b ≡ first_that_applies (tests limit c (c.part ++ b ∷ []) (so_far_for c b) (length (c.part ++ b ∷ []) == 1) (length (c.part ++ b ∷ []) == 5) (event_in (begun_of c) (ahead_of c) (c.part ++ b ∷ []) (so_far_for c b)))
+    → refusal_for limit c b ≡ first_that_applies (tests limit c (c.part ++ b ∷ []) (so_far_for c b) (length (c.part ++ b ∷ []) == 1) (length (c.part ++ b ∷ []) == 5) (event_in (unfinished_of c) (ahead_of c) (c.part ++ b ∷ []) (so_far_for c b)))
 unfolding refusal_for record_refusal situated tests
 tested limit c b h = ap (λ t. if t then header_refusal c.at b else record_refusal limit (situated c b)) (le-ltb c.at 8 h)
 
@@ -238,9 +238,9 @@ built_lifted c n true q s r (Some event) = refl
 built_lifted c n false q s r None = refl
 built_lifted c n false q s r (Some event) = refl
 
-event_known : (c : Context) (b : ℕ) → 8 ≤ c.at → event_for c b ≡ event_in (begun_of c) (ahead_of c) (c.part ++ b ∷ []) (so_far_for c b)
+event_known : (c : Context) (b : ℕ) → 8 ≤ c.at → event_for c b ≡ event_in (unfinished_of c) (ahead_of c) (c.part ++ b ∷ []) (so_far_for c b)
 unfolding event_for
-event_known c b h = ap (λ t. if t then None else event_in (begun_of c) (ahead_of c) (c.part ++ b ∷ []) (so_far_for c b)) (le-ltb c.at 8 h)
+event_known c b h = ap (λ t. if t then None else event_in (unfinished_of c) (ahead_of c) (c.part ++ b ∷ []) (so_far_for c b)) (le-ltb c.at 8 h)
 
 placed_same : (c d : Context) (event : Option Event) → d.events ≡ c.events → d.records ≡ c.records → placed_with d 0 event ≡ placed_with c 0 event
 placed_same c d None events records = refl
@@ -273,15 +273,15 @@ module _ (limit : ℕ) (c : Context) (n b : ℕ) (past_header : 8 ≤ c.at) (lon
   moment_one = ap (λ m. placed_with c m (event_for c b)) (ap (λ k. moment_in k q) five ∙ moment_none q)
 
   abbrev event : Option Event
-  event = event_in (begun_of c) 5 q (so_far_for c b)
+  event = event_in (unfinished_of c) 5 q (so_far_for c b)
 
   event_one : event_for c b ≡ event
-  event_one = event_known c b past_header ∙ ap (λ k. event_in (begun_of c) k q (so_far_for c b)) five
+  event_one = event_known c b past_header ∙ ap (λ k. event_in (unfinished_of c) k q (so_far_for c b)) five
 
   none_one : NoneApplies (tests limit c q (so_far_for c b) (length q == 1) (length q == 5) event)
   none_one =
-      subst (λ o. NoneApplies (tests limit c q (so_far_for c b) (length q == 1) (length q == 5) o)) (ap (λ k. event_in (begun_of c) k q (so_far_for c b)) five)
-      (none_applies (tests limit c q (so_far_for c b) (length q == 1) (length q == 5) (event_in (begun_of c) (ahead_of c) q (so_far_for c b))) (sym (tested limit c b past_header) ∙ unrefused))
+      subst (λ o. NoneApplies (tests limit c q (so_far_for c b) (length q == 1) (length q == 5) o)) (ap (λ k. event_in (unfinished_of c) k q (so_far_for c b)) five)
+      (none_applies (tests limit c q (so_far_for c b) (length q == 1) (length q == 5) (event_in (unfinished_of c) (ahead_of c) q (so_far_for c b))) (sym (tested limit c b past_header) ∙ unrefused))
 
   after_one : after c b ≡ built c (is_some (record_size 5 q)) q (state_then 5 directions.Sent c.sent q b) (state_then 5 directions.Recv c.recv q b) event
   after_one =
@@ -299,11 +299,11 @@ module _ (limit : ℕ) (c : Context) (n b : ℕ) (past_header : 8 ≤ c.at) (lon
     event_two : event_for d byte ≡ event
     event_two =
         event_known d byte d_past
-        ∙ ap (λ k. event_in (begun_of d) k (d.part ++ byte ∷ []) (so_far_for d byte)) d_ahead
-        ∙ ap (λ (l : List ℕ). event_in (begun_of d) 13 l (so_far_for d byte)) d_part
-        ∙ ap (event_in (begun_of d) 13 (with_moment q)) so_far
-        ∙ ap (λ (x : Context). event_in (begun_of x) 13 (with_moment q) (so_far_for c b)) d_is
-        ∙ with_event (begun_of c) q (so_far_for c b) whole
+        ∙ ap (λ k. event_in (unfinished_of d) k (d.part ++ byte ∷ []) (so_far_for d byte)) d_ahead
+        ∙ ap (λ (l : List ℕ). event_in (unfinished_of d) 13 l (so_far_for d byte)) d_part
+        ∙ ap (event_in (unfinished_of d) 13 (with_moment q)) so_far
+        ∙ ap (λ (x : Context). event_in (unfinished_of x) 13 (with_moment q) (so_far_for c b)) d_is
+        ∙ with_event (unfinished_of c) q (so_far_for c b) whole
 
     after_two : after d byte ≡ lifted (after c b) (d.at + 1)
     after_two =
@@ -336,8 +336,8 @@ module _ (limit : ℕ) (c : Context) (n b : ℕ) (past_header : 8 ≤ c.at) (lon
         (carried_tests limit c d q (so_far_for c b) (length q == 1) (length q == 5) event (ap (λ (x : Context). x.connected) d_is) (ap (λ (x : Context). x.connack_seen) d_is) (ap (λ (x : Context). x.events) d_is)
         (ap (λ (x : Context). x.before_open) d_is) (ap (λ (x : Context). x.header.server) d_is) none_one) in
         tested limit d byte d_past
-        ∙ ap (λ t. first_that_applies (tests limit d (d.part ++ byte ∷ []) (so_far_for d byte) t (length (d.part ++ byte ∷ []) == 5) (event_in (begun_of d) (ahead_of d) (d.part ++ byte ∷ []) (so_far_for d byte)))) one
-        ∙ ap (λ t. first_that_applies (tests limit d (d.part ++ byte ∷ []) (so_far_for d byte) false t (event_in (begun_of d) (ahead_of d) (d.part ++ byte ∷ []) (so_far_for d byte)))) head
+        ∙ ap (λ t. first_that_applies (tests limit d (d.part ++ byte ∷ []) (so_far_for d byte) t (length (d.part ++ byte ∷ []) == 5) (event_in (unfinished_of d) (ahead_of d) (d.part ++ byte ∷ []) (so_far_for d byte)))) one
+        ∙ ap (λ t. first_that_applies (tests limit d (d.part ++ byte ∷ []) (so_far_for d byte) false t (event_in (unfinished_of d) (ahead_of d) (d.part ++ byte ∷ []) (so_far_for d byte)))) head
         ∙ ap (λ o. first_that_applies (tests limit d (d.part ++ byte ∷ []) (so_far_for d byte) false false o)) (sym (event_known d byte d_past) ∙ event_two)
         ∙ ap (λ (p : List ℕ). first_that_applies (tests limit d p (so_far_for d byte) false false event)) d_part
         ∙ ap (λ (p : List ℕ). first_that_applies (tests limit d (with_moment q) p false false event)) so_far

@@ -16,10 +16,10 @@ use Rattle.mq_trace.specs.declared.converting.Part.{Part}
 use Rattle.mq_trace.specs.declared.converting.Part.TheVariants as parts
 use Rattle.mq_log.specs.Pieces.{Pieces}
 use Rattle.mq_log.specs.Framing.{header_by, kind_named, kind_of, body_length, head_length, longest_body, length_end, record_size, records, ahead_in}
-use Rattle.mq_log.specs.Events.{Event, Item, sent, received, released, item_at, event_by, event_in, event_of_head, events}
+use Rattle.mq_log.specs.Events.{UnfinishedPackets, Event, Item, sent, received, released, item_at, event_by, event_in, event_of_head, events}
 use Rattle.mq_log.specs.Refusals.{situation, header_refusal, first_that_applies, allows_length, is_open_kind, needs_connection, is_release_kind, is_cut_short}
 use Rattle.mq_log.specs.Connections.{has_open_connection}
-use Rattle.mq_log.specs.Context.{Context, ahead_of, begun_of, context, so_far_for, situated, event_for, with_completed, after_part}
+use Rattle.mq_log.specs.Context.{Context, ahead_of, unfinished_of, context, so_far_for, situated, event_for, with_completed, after_part}
 use Rattle.mq_trace.specs.Writing.{bit_byte, header_bytes}
 use Rattle.mq_trace.specs.Converting.{first_version_refusal, record_conditions, unconverted_at, unconverted, no_moment, with_moment, second_header, timed}
 use Rattle.mq_trace.specs.Copying.{Adds, BeginsCopy, IsCopyOf, IsIn, IsSound, IsWithin, added_bytes, begun_in, connected_after, has_body, header_addition, in_length, is_between, past_body, past_header_byte, past_length, refused_begin}
@@ -285,11 +285,11 @@ module _ (c : Copying) (log : List ℕ) (b : ℕ) (kind : RecordKind) (count num
   connects last =
       let k = kept_long in
       let d_ahead : ahead_of (context log) ≡ 5 = ap (λ (t : Header). head_length t.version) (header_context log) ∙ ahead in
-      connected_grow log b (event_of_head (begun_of (context log)) kind) long (last_event (context log) b kind at (omega (arith, d_ahead)) (ap kind_of (part_context log) ∙ stands.3))
+      connected_grow log b (event_of_head (unfinished_of (context log)) kind) long (last_event (context log) b kind at (omega (arith, d_ahead)) (ap kind_of (part_context log) ∙ stands.3))
       ∙ by kind
       ∙ ap (λ (x : Context). connected_after kind x.connected) (kept_parts log)
     where
-      by : (k : RecordKind) → (with_completed (context log) (event_of_head (begun_of (context log)) k)).connected ≡ connected_after k (context log).connected
+      by : (k : RecordKind) → (with_completed (context log) (event_of_head (unfinished_of (context log)) k)).connected ≡ connected_after k (context log).connected
       by kinds.Open = refl
       by kinds.Close = refl
       by kinds.Rest = refl
@@ -357,30 +357,30 @@ extend_err c c' log b kind count number (Err refusal) was past within met =
 
 -- ---- bytes of a body
 
-body_event : (begun : Option ℕ) (ahead : ℕ) (kind : Option RecordKind) (part so_far : List ℕ) (d : Context) → has_body kind ≡ true → (with_completed d (event_by begun ahead kind part so_far)).connected ≡ d.connected
-body_event begun head None q so_far d some = refl
-body_event begun head (Some kinds.Open) q so_far d some = absurd (eqb-false 0 0 (sym some) refl)
-body_event begun head (Some kinds.Close) q so_far d some = absurd (eqb-false 0 0 (sym some) refl)
-body_event begun head (Some kinds.Rest) q so_far d some = absurd (eqb-false 0 0 (sym some) refl)
-body_event begun head (Some kinds.Release) q so_far d some = by (length q == head + 2)
+body_event : (unfinished : UnfinishedPackets) (ahead : ℕ) (kind : Option RecordKind) (part so_far : List ℕ) (d : Context) → has_body kind ≡ true → (with_completed d (event_by unfinished ahead kind part so_far)).connected ≡ d.connected
+body_event unfinished head None q so_far d some = refl
+body_event unfinished head (Some kinds.Open) q so_far d some = absurd (eqb-false 0 0 (sym some) refl)
+body_event unfinished head (Some kinds.Close) q so_far d some = absurd (eqb-false 0 0 (sym some) refl)
+body_event unfinished head (Some kinds.Rest) q so_far d some = absurd (eqb-false 0 0 (sym some) refl)
+body_event unfinished head (Some kinds.Release) q so_far d some = by (length q == head + 2)
   where
     by : (t : Bool) → (with_completed d (if t then Some (released (from_be_bytes w16 (drop head q))) else None)).connected ≡ d.connected
     by true = refl
     by false = refl
-body_event begun head (Some kinds.Sent) q so_far d some = by (item_at so_far)
+body_event unfinished head (Some kinds.Sent) q so_far d some = by (item_at so_far)
   where
     by : (item : Option Item) → (with_completed d (option_map sent item)).connected ≡ d.connected
     by None = refl
     by (Some item) = refl
-body_event begun head (Some kinds.Recv) q so_far d some = by (item_at so_far)
+body_event unfinished head (Some kinds.Recv) q so_far d some = by (item_at so_far)
   where
     by : (item : Option Item) → (with_completed d (option_map received item)).connected ≡ d.connected
     by None = refl
     by (Some item) = refl
 
-event_is : (d : Context) (b : ℕ) → 8 ≤ d.at → event_for d b ≡ event_by (begun_of d) (ahead_of d) (kind_of (d.part ++ b ∷ [])) (d.part ++ b ∷ []) (so_far_for d b)
+event_is : (d : Context) (b : ℕ) → 8 ≤ d.at → event_for d b ≡ event_by (unfinished_of d) (ahead_of d) (kind_of (d.part ++ b ∷ [])) (d.part ++ b ∷ []) (so_far_for d b)
 unfolding event_for event_in
-event_is d b h = ap (λ t. if t then None else event_in (begun_of d) (ahead_of d) (d.part ++ b ∷ []) (so_far_for d b)) (le-ltb d.at 8 h)
+event_is d b h = ap (λ t. if t then None else event_in (unfinished_of d) (ahead_of d) (d.part ++ b ∷ []) (so_far_for d b)) (le-ltb d.at 8 h)
 
 -- one byte of it
 pub body_copied : (c : Copying) (log : List ℕ) (left b : ℕ) → IsCopyOf c log → 8 ≤ c.at → c.part ≡ parts.Body left → IsCopyOf (past_body c left 1) (log ++ b ∷ []) × Adds log (b ∷ []) (b ∷ [])
@@ -405,7 +405,7 @@ body_copied c log left b was past within =
                 (ne_eqb (length part) 1 (λ e. omega arith)) (ne_eqb (length part) length_end (λ e. omega arith)) refl refl;
             ends = ends;
             opened = connected_grow log b _ long (event_is (context log) b at)
-                ∙ body_event (begun_of (context log)) (ahead_of (context log)) (kind_of ((context log).part ++ b ∷ [])) ((context log).part ++ b ∷ []) (so_far_for (context log) b) (context log)
+                ∙ body_event (unfinished_of (context log)) (ahead_of (context log)) (kind_of ((context log).part ++ b ∷ [])) ((context log).part ++ b ∷ []) (so_far_for (context log) b) (context log)
                 (ap (λ (q : List ℕ). has_body (kind_of (q ++ b ∷ []))) (part_context log) ∙ ap has_body kind_now ∙ h.3)
                 ∙ ap (λ (x : Context). x.connected) (kept_parts log);
           })

@@ -13,12 +13,12 @@ use Rattle.mq_log.specs.declared.refusal.Refusal.TheVariants as refusals
 use Rattle.mq_trace.specs.declared.connections.Connections.{Connections}
 use Rattle.mq_trace.specs.declared.reading.Reading.{Reading}
 use Rattle.mq_log.specs.Framing.{kind_of, direction_of, body_length, opens, head_length, longest_body, longest_record}
-use Rattle.mq_log.specs.Events.{Event, released, first_byte, event_of_head}
+use Rattle.mq_log.specs.Events.{UnfinishedPackets, Event, released, event_of_head}
 use Rattle.mq_log.specs.Connections.{is_too_early}
 use Rattle.mq_log.specs.Refusals.{first_that_applies, allows_length}
 use Rattle.mq_log.specs.Context.{Context, emptied, refusal_for, event_for, placed_for, put, after, with_completed}
 use Rattle.mq_trace.specs.Emission.{event_refusal, next_placed}
-use Rattle.mq_trace.specs.Keeping.{state_in, IsAt, StandsAt, context_of, begun_in, IsUnfinished, IsSound, Advances}
+use Rattle.mq_trace.specs.Keeping.{state_in, IsAt, StandsAt, context_of, begun_in, IsUnfinished, IsSound, Advances, unfinished_by}
 use Rattle.mq_trace.specs.Stepping.{EndsHead, in_record_of, marked, leaving}
 use Rattle.mq_trace.proofs.StepLaws.{placed_none, placed_some, last_event, last_refusal, last_after, release_high_refusal, release_high_event, release_high_after, release_low_refusal, release_low_event, release_low_after}
 use Rattle.mq_log.proofs.Exports.{head_least, body_length-append, kind_of-append}
@@ -51,13 +51,13 @@ marked_sound r event sound some few =
       recv = sound.recv;
     }
 
-no_body : (begun : Option ℕ) (version : ℕ) (kind : RecordKind) (event : Event) (number : ℕ) → event_of_head begun kind ≡ Some event → allows_length version (Some kind) number ≡ true → number ≡ 0
-no_body begun version kinds.Open event number e allowed = eqb-true number 0 allowed
-no_body begun version kinds.Close event number e allowed = eqb-true number 0 allowed
-no_body begun version kinds.Rest event number e allowed = eqb-true number 0 allowed
-no_body begun version kinds.Release event number e allowed = absurd (cc)
-no_body begun version kinds.Sent event number e allowed = absurd (cc)
-no_body begun version kinds.Recv event number e allowed = absurd (cc)
+no_body : (unfinished : UnfinishedPackets) (version : ℕ) (kind : RecordKind) (event : Event) (number : ℕ) → event_of_head unfinished kind ≡ Some event → allows_length version (Some kind) number ≡ true → number ≡ 0
+no_body unfinished version kinds.Open event number e allowed = eqb-true number 0 allowed
+no_body unfinished version kinds.Close event number e allowed = eqb-true number 0 allowed
+no_body unfinished version kinds.Rest event number e allowed = eqb-true number 0 allowed
+no_body unfinished version kinds.Release event number e allowed = absurd (cc)
+no_body unfinished version kinds.Sent event number e allowed = absurd (cc)
+no_body unfinished version kinds.Recv event number e allowed = absurd (cc)
 
 -- the refusal of the event that a head completes, if it completes one
 abbrev completed_refusal : Option Event → ℕ → Bool → Connections → Option Refusal
@@ -66,11 +66,11 @@ completed_refusal o at server c = first_that_applies (
     ∷ (is_some o && nat_le 4294967295 c.events, refusals.TooLong at)
     ∷ [])
 
-abbrev head_refusal : Option ℕ → RecordKind → ℕ → Bool → Connections → Option Refusal
-head_refusal begun kind at server c = completed_refusal (event_of_head begun kind) at server c
+abbrev head_refusal : UnfinishedPackets → RecordKind → ℕ → Bool → Connections → Option Refusal
+head_refusal unfinished kind at server c = completed_refusal (event_of_head unfinished kind) at server c
 
-head_meets : (begun : Option ℕ) (kind : RecordKind) (event : Event) (at : ℕ) (server : Bool) (c : Connections) → event_of_head begun kind ≡ Some event → head_refusal begun kind at server c ≡ event_refusal at server c event
-head_meets begun kind event at server c e = ap (λ o. completed_refusal o at server c) e
+head_meets : (unfinished : UnfinishedPackets) (kind : RecordKind) (event : Event) (at : ℕ) (server : Bool) (c : Connections) → event_of_head unfinished kind ≡ Some event → head_refusal unfinished kind at server c ≡ event_refusal at server c event
+head_meets unfinished kind event at server c e = ap (λ o. completed_refusal o at server c) e
 
 -- Where so many bytes of a body are still to come.
 pub left_sound : (r : Reading) (direction : Direction) (left : ℕ) → r.at ≤ 8 + longest_record * r.records + (longest_record - left) → left ≤ 16777216 → 8 ≤ r.at → r.records < 4294967295
@@ -123,10 +123,6 @@ short_of version kinds.Close number direction goes allowed = absurd (cc)
 short_of version kinds.Rest number direction goes allowed = absurd (cc)
 short_of version kinds.Release number direction goes allowed = absurd (cc)
 
--- the first byte of the packet that the tested end has begun to send and not ended
-abbrev pub begun_by : Reading → Option ℕ
-begun_by r = first_byte r.sent.unfinished.items
-
 -- the last byte of a record's head
 module _ (r : Reading) (kind : RecordKind) (number moment b : ℕ) (sound : IsSound r) (ends : EndsHead r kind number moment b) where
   past_header : 8 ≤ r.at
@@ -138,19 +134,19 @@ module _ (r : Reading) (kind : RecordKind) (number moment b : ℕ) (sound : IsSo
   opening_of : (part : List ℕ) → StandsAt r part → opens (kind_of part) ≡ true → (state_in r.sent ≡ emptied) × (state_in r.recv ≡ emptied)
   opening_of part at e = (ends.each part at).4 (ap opens (sym (ends.each part at).0) ∙ e)
 
-  ended_refusal : (part : List ℕ) → StandsAt r part → refusal_for r.limit (context_of r part) b ≡ head_refusal (begun_by r) kind r.at r.header.server r.connections
+  ended_refusal : (part : List ℕ) → StandsAt r part → refusal_for r.limit (context_of r part) b ≡ head_refusal (unfinished_by r) kind r.at r.header.server r.connections
   ended_refusal part at =
       let h = ends.each part at in
       last_refusal r.limit (context_of r part) b kind past_header h.1 h.0 (ap (allows_length r.header.version (Some kind)) h.2 ∙ ends.allowed)
 
-  ended_event : (part : List ℕ) → StandsAt r part → event_for (context_of r part) b ≡ event_of_head (begun_by r) kind
+  ended_event : (part : List ℕ) → StandsAt r part → event_for (context_of r part) b ≡ event_of_head (unfinished_by r) kind
   ended_event part at = let h = ends.each part at in last_event (context_of r part) b kind past_header h.1 h.0
 
   ended_after : (part : List ℕ) → StandsAt r part → after (context_of r part) b ≡ with_completed (record (context_of r part) {
     at = r.at + 1;
     part = cond (number == 0) [] (part ++ b ∷ []);
     records = cond (number == 0) (r.records + 1) r.records;
-  }) (event_of_head (begun_by r) kind)
+  }) (event_of_head (unfinished_by r) kind)
   ended_after part at =
       let h = ends.each part at in
       let c = context_of r part in
@@ -160,24 +156,24 @@ module _ (r : Reading) (kind : RecordKind) (number moment b : ℕ) (sound : IsSo
       ∙ ap (with_completed (kept number)) (ended_event part at)
 
   -- A record that is its head alone.
-  pub mark_emits : (event : Event) → event_of_head (begun_by r) kind ≡ Some event → CompletesEvent r moment b event
+  pub mark_emits : (event : Event) → event_of_head (unfinished_by r) kind ≡ Some event → CompletesEvent r moment b event
   mark_emits event is part at =
       let c = context_of r part in
       let h = ends.each part at in
-      let none = no_body (begun_by r) r.header.version kind event number is ends.allowed in (
-        ended_refusal part at ∙ head_meets (begun_by r) kind event r.at r.header.server r.connections is,
+      let none = no_body (unfinished_by r) r.header.version kind event number is ends.allowed in (
+        ended_refusal part at ∙ head_meets (unfinished_by r) kind event r.at r.header.server r.connections is,
         placed_some c b event (ended_event part at ∙ is)
             ∙ ap (λ m. Some (next_placed r.connections (in_record_of r m) event)) h.3,
         ended_after part at
-            ∙ ap (λ m. with_completed (record c { at = r.at + 1; part = cond (m == 0) [] (part ++ b ∷ []); records = cond (m == 0) (r.records + 1) r.records }) (event_of_head (begun_by r) kind)) none
+            ∙ ap (λ m. with_completed (record c { at = r.at + 1; part = cond (m == 0) [] (part ++ b ∷ []); records = cond (m == 0) (r.records + 1) r.records }) (event_of_head (unfinished_by r) kind)) none
             ∙ ap (with_completed (record c { at = r.at + 1; part = []; records = r.records + 1 })) is,
       )
 
-  quiet_refusal : event_of_head (begun_by r) kind ≡ None → (part : List ℕ) → StandsAt r part → refusal_for r.limit (context_of r part) b ≡ None
+  quiet_refusal : event_of_head (unfinished_by r) kind ≡ None → (part : List ℕ) → StandsAt r part → refusal_for r.limit (context_of r part) b ≡ None
   quiet_refusal is part at =
       ended_refusal part at ∙ ap (λ (o : Option Event). completed_refusal o r.at r.header.server r.connections) is
 
-  quiet_after : event_of_head (begun_by r) kind ≡ None → (part : List ℕ) → StandsAt r part → after (context_of r part) b ≡ record (context_of r part) {
+  quiet_after : event_of_head (unfinished_by r) kind ≡ None → (part : List ℕ) → StandsAt r part → after (context_of r part) b ≡ record (context_of r part) {
     at = r.at + 1;
     part = cond (number == 0) [] (part ++ b ∷ []);
     records = cond (number == 0) (r.records + 1) r.records;
@@ -204,7 +200,7 @@ module _ (r : Reading) (kind : RecordKind) (number moment b : ℕ) (sound : IsSo
       let body : body_length (part ++ b ∷ []) ≡ number = (ends.each part at).2 in
       (kind, kind_longer part at, goes, omega arith, omega arith, (ends.each part at).3)
 
-  pub body_advances : (direction : Direction) → direction_of (Some kind) ≡ Some direction → event_of_head (begun_by r) kind ≡ None
+  pub body_advances : (direction : Direction) → direction_of (Some kind) ≡ Some direction → event_of_head (unfinished_by r) kind ≡ None
       → Advances r (leaving (record r { at = r.at + 1; moment = moment }) direction number) (b ∷ []) []
   body_advances direction goes is = one_step r (leaving (record r { at = r.at + 1; moment = moment }) direction number) b [] refl (λ part at. (
     cond (number == 0) [] (part ++ b ∷ []),
@@ -215,7 +211,7 @@ module _ (r : Reading) (kind : RecordKind) (number moment b : ℕ) (sound : IsSo
   ))
 
   -- The head of a RELEASE.
-  pub release_advances : kind ≡ kinds.Release → event_of_head (begun_by r) kind ≡ None → number ≡ 2
+  pub release_advances : kind ≡ kinds.Release → event_of_head (unfinished_by r) kind ≡ None → number ≡ 2
       → Advances r (record r { at = r.at + 1; stage = stages.Release None; moment = moment }) (b ∷ []) []
   release_advances releases is two = one_step r (record r { at = r.at + 1; stage = stages.Release None; moment = moment }) b [] refl (λ part at. (
     part ++ b ∷ [],

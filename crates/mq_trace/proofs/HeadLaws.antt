@@ -1,5 +1,5 @@
 -- The head of a record that carries packets, all at once.
-use Rattle.std.proofs.Common.{◌≡◌, ℕ, ◌+◌, ◌-◌, ◌<◌, ◌≤◌, Bool, true, false, cond, ◌&&◌, nat_lt, List, [], ◌∷◌, ◌++◌, length, take, drop, Option, Some, None, is_some, refl, sym, ◌∙◌, ap, subst, arith, zero, suc, length-append, append_assoc}
+use Rattle.std.proofs.Common.{◌≡◌, ℕ, ◌+◌, ◌-◌, ◌<◌, ◌≤◌, Bool, true, false, cond, ◌&&◌, nat_lt, List, [], ◌∷◌, ◌++◌, length, take, drop, Some, None, is_some, refl, sym, ◌∙◌, ap, subst, arith, zero, suc, length-append, append_assoc}
 use Rattle.std.specs.Prelude.{◌==◌, nat_le, not, if◌then◌else◌, slice_index}
 use Rattle.std.specs.Int.{w32, from_be_bytes}
 use Rattle.std.specs.Option.{option_or}
@@ -12,9 +12,9 @@ use Rattle.mq_log.specs.declared.refusal.Refusal.TheVariants as refusals
 use Rattle.mq_trace.specs.declared.stage.Stage.TheVariants as stages
 use Rattle.mq_trace.specs.declared.reading.Reading.{Reading}
 use Rattle.mq_log.specs.Framing.{kind_named, kind_of, body_length, direction_of, opens, moment_in, length_end, head_length, longest_body}
-use Rattle.mq_log.specs.Events.{Placed, event_of_head}
+use Rattle.mq_log.specs.Events.{UnfinishedPackets, Placed, event_of_head}
 use Rattle.mq_log.specs.Refusals.{first_that_applies, allows_length}
-use Rattle.mq_log.specs.Context.{Context, ahead_of, begun_of, emptied, refusal_for, event_for, with_completed, after}
+use Rattle.mq_log.specs.Context.{Context, ahead_of, unfinished_of, emptied, refusal_for, event_for, with_completed, after}
 use Rattle.mq_trace.specs.Runs.{after_bytes, refused_in, events_by}
 use Rattle.mq_trace.specs.Keeping.{IsAt, context_of, begun_in, IsSound, Advances, Comes, StepStops}
 use Rattle.mq_trace.specs.Stepping.{kind_refusal, kind_for, IsBodyHead, leaving}
@@ -30,9 +30,9 @@ goes : (direction : Direction) → direction_of (Some (kind_for direction)) ≡ 
 goes directions.Sent = refl
 goes directions.Recv = refl
 
-silent : (begun : Option ℕ) (direction : Direction) → event_of_head begun (kind_for direction) ≡ None
-silent begun directions.Sent = refl
-silent begun directions.Recv = refl
+silent : (unfinished : UnfinishedPackets) (direction : Direction) → event_of_head unfinished (kind_for direction) ≡ None
+silent unfinished directions.Sent = refl
+silent unfinished directions.Recv = refl
 
 allowed : (version : ℕ) (direction : Direction) (number : ℕ) → number ≤ longest_body version → allows_length version (Some (kind_for direction)) number ≡ true
 allowed version directions.Sent number few = le-leb number (longest_body version) few
@@ -122,7 +122,7 @@ module _ (c : Context) (direction : Direction) (k : ℕ) (rest : List ℕ) (past
   amid_part = ap (λ (l : List ℕ). k ∷ l) (sym ends.2)
 
   last_none : event_for amid last ≡ None
-  last_none = let l = front_long in last_event amid last (kind_for direction) (omega arith) (omega arith) amid_kind ∙ silent (begun_of amid) direction
+  last_none = let l = front_long in last_event amid last (kind_for direction) (omega arith) (omega arith) amid_kind ∙ silent (unfinished_of amid) direction
 
   last_is : after amid last ≡ headed (body_length part == 0)
   last_is =
@@ -164,7 +164,7 @@ module _ (c : Context) (direction : Direction) (k : ℕ) (rest : List ℕ) (past
       ∙ ap (λ o. option_or o (refused_in limit (after_bytes begun front) (last ∷ []))) (middles_refused limit begun front (omega arith) (omega arith) (omega arith) (unopened []) among)
       ∙ ap (λ d. option_or (refusal_for limit d last) None) amid_is
       ∙ ap (λ o. option_or o None) (last_refusal limit amid last (kind_for direction) (omega arith) (omega arith) amid_kind (ap (λ (l : List ℕ). allows_length c.header.version (Some (kind_for direction)) (body_length l)) amid_part ∙ allowed)
-      ∙ ap (λ event. first_that_applies ((kept_too_early amid event, refusals.TooManyEarly amid.at) ∷ (is_some event && nat_le 4294967295 amid.events, refusals.TooLong amid.at) ∷ [])) (silent (begun_of amid) direction)))
+      ∙ ap (λ event. first_that_applies ((kept_too_early amid event, refusals.TooManyEarly amid.at) ∷ (is_some event && nat_le 4294967295 amid.events, refusals.TooLong amid.at) ∷ [])) (silent (unfinished_of amid) direction)))
     where
       -- the length is that of the whole head
       among : AllowedAmong begun front

@@ -12,9 +12,9 @@ use Rattle.mq_log.specs.declared.kind.Direction.{Direction}
 use Rattle.mq_log.specs.declared.kind.Direction.TheVariants as directions
 use Rattle.mq_log.specs.Pieces.{Pieces, pieces}
 use Rattle.mq_log.specs.Framing.{kind_of, direction_of, opens, if_direction, header_by, record_size, records, begun_records, begun_with, carried, stream, ahead_in, length_end, moment_in}
-use Rattle.mq_log.specs.Events.{Item, Event, Placed, lost, opened, closed, rested, sent, received, released, item_at, packet_with, event_by, event_in, events}
+use Rattle.mq_log.specs.Events.{UnfinishedPackets, Item, Event, Placed, lost, opened, closed, rested, sent, received, released, item_at, packet_with, event_by, event_in, events}
 use Rattle.mq_log.specs.Connections.{begins_connection}
-use Rattle.mq_log.specs.Context.{Context, ahead_of, begun_of, context, so_far_by, so_far_for, event_for, placed_with, placed_for, put}
+use Rattle.mq_log.specs.Context.{Context, ahead_of, unfinished_of, context, so_far_by, so_far_for, event_for, placed_with, placed_for, put}
 use Rattle.mq_trace.specs.Joined.{opened_records, joined, if_some, frame_item, frame_items, stream_items, opened_events, directed_item, connection_items}
 use Rattle.mq_log.proofs.Exports.{grown, pieces-grow, nothing_cut}
 use Rattle.mq_log.proofs.Exports.{head_least, ahead-unchanged, body_byte, if_direction-nothing, if_direction-append, kind_of-append, begun-grow, begun-header, rest-grow, record_size-is}
@@ -185,34 +185,34 @@ abbrev begins_some : Option Event → Bool
 begins_some None = false
 begins_some (Some event) = begins_connection event
 
-begins_by : (begun : Option ℕ) (ahead : ℕ) (kind : Option RecordKind) (part so_far : List ℕ) → begins_some (event_by begun ahead kind part so_far) ≡ (opens kind && (length part == ahead))
-begins_by begun ahead None part so_far = refl
-begins_by begun ahead (Some kinds.Open) part so_far = by (length part == ahead)
+begins_by : (unfinished : UnfinishedPackets) (ahead : ℕ) (kind : Option RecordKind) (part so_far : List ℕ) → begins_some (event_by unfinished ahead kind part so_far) ≡ (opens kind && (length part == ahead))
+begins_by unfinished ahead None part so_far = refl
+begins_by unfinished ahead (Some kinds.Open) part so_far = by (length part == ahead)
   where
     by : (t : Bool) → begins_some (if t then Some opened else None) ≡ t
     by true = refl
     by false = refl
-begins_by begun ahead (Some kinds.Close) part so_far = by (length part == ahead)
+begins_by unfinished ahead (Some kinds.Close) part so_far = by (length part == ahead)
   where
-    by : (t : Bool) → begins_some (if t then Some (closed begun) else None) ≡ false
+    by : (t : Bool) → begins_some (if t then Some (closed unfinished) else None) ≡ false
     by true = refl
     by false = refl
-begins_by begun ahead (Some kinds.Rest) part so_far = by (length part == ahead)
+begins_by unfinished ahead (Some kinds.Rest) part so_far = by (length part == ahead)
   where
     by : (t : Bool) → begins_some (if t then Some rested else None) ≡ false
     by true = refl
     by false = refl
-begins_by begun ahead (Some kinds.Release) part so_far = by (length part == ahead + 2) (from_be_bytes w16 (drop ahead part))
+begins_by unfinished ahead (Some kinds.Release) part so_far = by (length part == ahead + 2) (from_be_bytes w16 (drop ahead part))
   where
     by : (t : Bool) (n : ℕ) → begins_some (if t then Some (released n) else None) ≡ false
     by true n = refl
     by false n = refl
-begins_by begun ahead (Some kinds.Sent) part so_far = by (item_at so_far)
+begins_by unfinished ahead (Some kinds.Sent) part so_far = by (item_at so_far)
   where
     by : (item : Option Item) → begins_some (option_map sent item) ≡ false
     by None = refl
     by (Some item) = refl
-begins_by begun ahead (Some kinds.Recv) part so_far = by (item_at so_far)
+begins_by unfinished ahead (Some kinds.Recv) part so_far = by (item_at so_far)
   where
     by : (item : Option Item) → begins_some (option_map received item) ≡ false
     by None = refl
@@ -220,13 +220,13 @@ begins_by begun ahead (Some kinds.Recv) part so_far = by (item_at so_far)
 
 -- the event of a byte after the header
 event_is : (log : List ℕ) (byte : ℕ) → 8 ≤ length log
-    → event_for (context log) byte ≡ event_by (begun_of (context log)) (ahead_in log) (kind_of ((records log).rest ++ byte ∷ [])) ((records log).rest ++ byte ∷ []) (so_far_for (context log) byte)
+    → event_for (context log) byte ≡ event_by (unfinished_of (context log)) (ahead_in log) (kind_of ((records log).rest ++ byte ∷ [])) ((records log).rest ++ byte ∷ []) (so_far_for (context log) byte)
 unfolding event_for event_in context
 event_is log byte h =
     let so_far : List ℕ = so_far_for (context log) byte in
-    ap (λ n. if nat_lt n 8 then None else event_in (begun_of (context log)) (ahead_in log) ((context log).part ++ byte ∷ []) so_far) (at_context log)
-    ∙ ap (λ t. if t then None else event_in (begun_of (context log)) (ahead_in log) ((context log).part ++ byte ∷ []) so_far) (le-ltb (length log) 8 h)
-    ∙ ap (λ p. event_by (begun_of (context log)) (ahead_in log) (kind_of (p ++ byte ∷ [])) (p ++ byte ∷ []) so_far) (part_context log)
+    ap (λ n. if nat_lt n 8 then None else event_in (unfinished_of (context log)) (ahead_in log) ((context log).part ++ byte ∷ []) so_far) (at_context log)
+    ∙ ap (λ t. if t then None else event_in (unfinished_of (context log)) (ahead_in log) ((context log).part ++ byte ∷ []) so_far) (le-ltb (length log) 8 h)
+    ∙ ap (λ p. event_by (unfinished_of (context log)) (ahead_in log) (kind_of (p ++ byte ∷ [])) (p ++ byte ∷ []) so_far) (part_context log)
 
 opened_put : (c : Context) (moment : ℕ) (o : Option Event) (past : List Placed) → opened_events (put (placed_with c moment o) past) ≡ cond (begins_some o) (opened_events past + 1) (opened_events past)
 opened_put c moment None past = refl
@@ -249,7 +249,7 @@ opened_more_events log byte h =
     ap opened_events (events_more log byte)
     ∙ opened_put (context log) (moment_so log byte) (event_for (context log) byte) (events log)
     ∙ ap (λ o. cond (begins_some o) (m + 1) m) (event_is log byte h)
-    ∙ ap (λ t. cond t (m + 1) m) (begins_by (begun_of (context log)) (ahead_in log) (kind_of part) part (so_far_for (context log) byte))
+    ∙ ap (λ t. cond t (m + 1) m) (begins_by (unfinished_of (context log)) (ahead_in log) (kind_of part) part (so_far_for (context log) byte))
 
 opened_step : (ahead : ℕ) (o : Bool) (n m w : ℕ) → m + cond (o && nat_lt n ahead) 1 0 ≡ cond o (w + 1) w → cond (o && (n + 1 == ahead)) (m + 1) m + cond (o && nat_lt (n + 1) ahead) 1 0 ≡ cond o (w + 1) w
 opened_step ahead false n m w e = e
@@ -362,25 +362,25 @@ marks_nothing directions.Recv event items true none = ap if_some none
 marks_nothing directions.Sent event items false none = refl
 marks_nothing directions.Recv event items false none = refl
 
-event_items_by : (begun : Option ℕ) (ahead : ℕ) (kind : Option RecordKind) (direction : Direction) (part so_far : List ℕ) → event_items direction (event_by begun ahead kind part so_far) ≡ items_if direction (direction_of kind) (if_some (item_at so_far))
-event_items_by begun ahead None directions.Sent part so_far = refl
-event_items_by begun ahead None directions.Recv part so_far = refl
-event_items_by begun ahead (Some kinds.Open) directions.Sent part so_far = marks_nothing directions.Sent opened (if_some (item_at so_far)) (length part == ahead) refl
-event_items_by begun ahead (Some kinds.Open) directions.Recv part so_far = marks_nothing directions.Recv opened (if_some (item_at so_far)) (length part == ahead) refl
-event_items_by begun ahead (Some kinds.Close) directions.Sent part so_far = marks_nothing directions.Sent (closed begun) (if_some (item_at so_far)) (length part == ahead) refl
-event_items_by begun ahead (Some kinds.Close) directions.Recv part so_far = marks_nothing directions.Recv (closed begun) (if_some (item_at so_far)) (length part == ahead) refl
-event_items_by begun ahead (Some kinds.Rest) directions.Sent part so_far = marks_nothing directions.Sent rested (if_some (item_at so_far)) (length part == ahead) refl
-event_items_by begun ahead (Some kinds.Rest) directions.Recv part so_far = marks_nothing directions.Recv rested (if_some (item_at so_far)) (length part == ahead) refl
-event_items_by begun ahead (Some kinds.Release) directions.Sent part so_far = marks_nothing directions.Sent (released (from_be_bytes w16 (drop ahead part))) (if_some (item_at so_far)) (length part == ahead + 2) refl
-event_items_by begun ahead (Some kinds.Release) directions.Recv part so_far = marks_nothing directions.Recv (released (from_be_bytes w16 (drop ahead part))) (if_some (item_at so_far)) (length part == ahead + 2) refl
-event_items_by begun ahead (Some kinds.Sent) direction part so_far = by direction (item_at so_far)
+event_items_by : (unfinished : UnfinishedPackets) (ahead : ℕ) (kind : Option RecordKind) (direction : Direction) (part so_far : List ℕ) → event_items direction (event_by unfinished ahead kind part so_far) ≡ items_if direction (direction_of kind) (if_some (item_at so_far))
+event_items_by unfinished ahead None directions.Sent part so_far = refl
+event_items_by unfinished ahead None directions.Recv part so_far = refl
+event_items_by unfinished ahead (Some kinds.Open) directions.Sent part so_far = marks_nothing directions.Sent opened (if_some (item_at so_far)) (length part == ahead) refl
+event_items_by unfinished ahead (Some kinds.Open) directions.Recv part so_far = marks_nothing directions.Recv opened (if_some (item_at so_far)) (length part == ahead) refl
+event_items_by unfinished ahead (Some kinds.Close) directions.Sent part so_far = marks_nothing directions.Sent (closed unfinished) (if_some (item_at so_far)) (length part == ahead) refl
+event_items_by unfinished ahead (Some kinds.Close) directions.Recv part so_far = marks_nothing directions.Recv (closed unfinished) (if_some (item_at so_far)) (length part == ahead) refl
+event_items_by unfinished ahead (Some kinds.Rest) directions.Sent part so_far = marks_nothing directions.Sent rested (if_some (item_at so_far)) (length part == ahead) refl
+event_items_by unfinished ahead (Some kinds.Rest) directions.Recv part so_far = marks_nothing directions.Recv rested (if_some (item_at so_far)) (length part == ahead) refl
+event_items_by unfinished ahead (Some kinds.Release) directions.Sent part so_far = marks_nothing directions.Sent (released (from_be_bytes w16 (drop ahead part))) (if_some (item_at so_far)) (length part == ahead + 2) refl
+event_items_by unfinished ahead (Some kinds.Release) directions.Recv part so_far = marks_nothing directions.Recv (released (from_be_bytes w16 (drop ahead part))) (if_some (item_at so_far)) (length part == ahead + 2) refl
+event_items_by unfinished ahead (Some kinds.Sent) direction part so_far = by direction (item_at so_far)
   where
     by : (direction : Direction) (item : Option Item) → event_items direction (option_map sent item) ≡ items_if direction (Some directions.Sent) (if_some item)
     by directions.Sent None = refl
     by directions.Sent (Some item) = refl
     by directions.Recv None = refl
     by directions.Recv (Some item) = refl
-event_items_by begun ahead (Some kinds.Recv) direction part so_far = by direction (item_at so_far)
+event_items_by unfinished ahead (Some kinds.Recv) direction part so_far = by direction (item_at so_far)
   where
     by : (direction : Direction) (item : Option Item) → event_items direction (option_map received item) ≡ items_if direction (Some directions.Recv) (if_some item)
     by directions.Sent None = refl
@@ -409,7 +409,7 @@ items_more number direction log byte h =
     ∙ items_put number direction (context log) (moment_so log byte) o (events log)
     ∙ ap (λ (l : List Placed). before ++ cond (opened_events l == number) (event_items direction o) []) (sym (events_more log byte))
     ∙ ap (λ e. before ++ cond (opened_events (events (log ++ byte ∷ [])) == number) (event_items direction e) []) (event_is log byte h)
-    ∙ ap (λ items. before ++ cond (opened_events (events (log ++ byte ∷ [])) == number) items []) (event_items_by (begun_of (context log)) (ahead_in log) (kind_of part) direction part (so_far_for (context log) byte))
+    ∙ ap (λ items. before ++ cond (opened_events (events (log ++ byte ∷ [])) == number) items []) (event_items_by (unfinished_of (context log)) (ahead_in log) (kind_of part) direction part (so_far_for (context log) byte))
 
 -- a byte of a record, by whether it is one of its body, and which way that goes
 module _ (number : ℕ) (direction : Direction) (log : List ℕ) (byte : ℕ) (past_header : 8 ≤ length log) where

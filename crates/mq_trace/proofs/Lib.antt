@@ -27,4 +27,4 @@ pub mod Exports
 pub mod HeadLaws
 pub mod FrontLaws
 pub mod BeginLaws
-pub mod BegunLaws
+pub mod UnfinishedLaws

@@ -12,9 +12,9 @@ use Rattle.mq_log.specs.declared.kind.Direction.TheVariants as directions
 use Rattle.mq_log.specs.declared.refusal.Refusal.{Refusal}
 use Rattle.mq_log.specs.declared.refusal.Refusal.TheVariants as refusals
 use Rattle.mq_log.specs.Framing.{kind_of, body_length, record_size, direction_of, opens, length_end, moment_in}
-use Rattle.mq_log.specs.Events.{Item, Event, item_at, event_by, event_in, read_frame}
+use Rattle.mq_log.specs.Events.{UnfinishedPackets, Item, Event, item_at, event_by, event_in, read_frame}
 use Rattle.mq_log.specs.Refusals.{first_that_applies, allows_length, is_open_kind, needs_connection, is_release_kind, is_too_large, is_other_version, record_refusal, header_refusal}
-use Rattle.mq_log.specs.Context.{StreamState, Context, ahead_of, begun_of, state_for, so_far_in, so_far_by, so_far_for, situated, state_after, state_by, state_then, with_completed, after_header, after_part, after, put, placed_with, placed_for, refusal_for, event_for}
+use Rattle.mq_log.specs.Context.{StreamState, Context, ahead_of, unfinished_of, state_for, so_far_in, so_far_by, so_far_for, situated, state_after, state_by, state_then, with_completed, after_header, after_part, after, put, placed_with, placed_for, refusal_for, event_for}
 use Rattle.mq_trace.specs.Runs.{after_bytes, refused_in, events_by}
 use Rattle.mq_log.specs.Flows.{BodyContext, Flow, item_event, flows_too_early, flow_event, flow_refusal, flow_placed, flow_placed_with, flow_with, flow_after, flow_after_bytes, flow_refused, flow_events, context_in, flow_in, state_after_body, flowed}
 use Rattle.mq_log.proofs.Exports.{head_least}
@@ -30,16 +30,16 @@ opens_none (Some kinds.Close) direction e = refl
 opens_none (Some kinds.Rest) direction e = refl
 opens_none (Some kinds.Release) direction e = refl
 
-event_by_item : (begun : Option ℕ) (ahead : ℕ) (kind : Option RecordKind) (direction : Direction) (part so_far : List ℕ) → direction_of kind ≡ Some direction → event_by begun ahead kind part so_far ≡ option_map (item_event direction) (item_at so_far)
-event_by_item begun ahead None direction part so_far e = absurd (cc)
-event_by_item begun ahead (Some kinds.Open) direction part so_far e = absurd (cc)
-event_by_item begun ahead (Some kinds.Sent) directions.Sent part so_far e = refl
-event_by_item begun ahead (Some kinds.Sent) directions.Recv part so_far e = absurd (cc)
-event_by_item begun ahead (Some kinds.Recv) directions.Sent part so_far e = absurd (cc)
-event_by_item begun ahead (Some kinds.Recv) directions.Recv part so_far e = refl
-event_by_item begun ahead (Some kinds.Close) direction part so_far e = absurd (cc)
-event_by_item begun ahead (Some kinds.Rest) direction part so_far e = absurd (cc)
-event_by_item begun ahead (Some kinds.Release) direction part so_far e = absurd (cc)
+event_by_item : (unfinished : UnfinishedPackets) (ahead : ℕ) (kind : Option RecordKind) (direction : Direction) (part so_far : List ℕ) → direction_of kind ≡ Some direction → event_by unfinished ahead kind part so_far ≡ option_map (item_event direction) (item_at so_far)
+event_by_item unfinished ahead None direction part so_far e = absurd (cc)
+event_by_item unfinished ahead (Some kinds.Open) direction part so_far e = absurd (cc)
+event_by_item unfinished ahead (Some kinds.Sent) directions.Sent part so_far e = refl
+event_by_item unfinished ahead (Some kinds.Sent) directions.Recv part so_far e = absurd (cc)
+event_by_item unfinished ahead (Some kinds.Recv) directions.Sent part so_far e = absurd (cc)
+event_by_item unfinished ahead (Some kinds.Recv) directions.Recv part so_far e = refl
+event_by_item unfinished ahead (Some kinds.Close) direction part so_far e = absurd (cc)
+event_by_item unfinished ahead (Some kinds.Rest) direction part so_far e = absurd (cc)
+event_by_item unfinished ahead (Some kinds.Release) direction part so_far e = absurd (cc)
 
 -- the head of a record stays, whatever follows
 kind_stays : (part more : List ℕ) → length_end ≤ length part → kind_of (part ++ more) ≡ kind_of part
@@ -149,16 +149,16 @@ module _ (c : Context) (direction : Direction) (byte : ℕ) (past_header : 8 ≤
   event_is : event_for c byte ≡ flow_event context flow byte
   unfolding event_for event_in flow_event
   event_is =
-      ap (λ b. if b then None else event_by (begun_of c) (ahead_of c) (kind_of part) part (so_far_for c byte)) (le-ltb c.at 8 past_header)
-      ∙ event_by_item (begun_of c) (ahead_of c) (kind_of part) direction part (so_far_for c byte) goes_on
+      ap (λ b. if b then None else event_by (unfinished_of c) (ahead_of c) (kind_of part) part (so_far_for c byte)) (le-ltb c.at 8 past_header)
+      ∙ event_by_item (unfinished_of c) (ahead_of c) (kind_of part) direction part (so_far_for c byte) goes_on
       ∙ ap (λ t. option_map (item_event direction) (item_at t)) so_far_is
 
-  event_within : event_in (begun_of c) (ahead_of c) part (so_far_for c byte) ≡ flow_event context flow byte
+  event_within : event_in (unfinished_of c) (ahead_of c) part (so_far_for c byte) ≡ flow_event context flow byte
   unfolding event_in flow_event
-  event_within = event_by_item (begun_of c) (ahead_of c) (kind_of part) direction part (so_far_for c byte) goes_on ∙ ap (λ t. option_map (item_event direction) (item_at t)) so_far_is
+  event_within = event_by_item (unfinished_of c) (ahead_of c) (kind_of part) direction part (so_far_for c byte) goes_on ∙ ap (λ t. option_map (item_event direction) (item_at t)) so_far_is
 
   by_lines : (limit : ℕ) → record_refusal limit (situated c byte)
-      ≡ lines limit c part (so_far_for c byte) (length part == 1) (length part == length_end) (flows_too_early context flow (event_in (begun_of c) (ahead_of c) part (so_far_for c byte))) (event_in (begun_of c) (ahead_of c) part (so_far_for c byte))
+      ≡ lines limit c part (so_far_for c byte) (length part == 1) (length part == length_end) (flows_too_early context flow (event_in (unfinished_of c) (ahead_of c) part (so_far_for c byte))) (event_in (unfinished_of c) (ahead_of c) part (so_far_for c byte))
   unfolding record_refusal situated
   by_lines limit = refl
 
@@ -172,8 +172,8 @@ module _ (c : Context) (direction : Direction) (byte : ℕ) (past_header : 8 ≤
   refusal_lifted limit =
       ap (λ b. if b then header_refusal c.at byte else record_refusal limit (situated c byte)) (le-ltb c.at 8 past_header)
       ∙ by_lines limit
-      ∙ ap (λ b. lines limit c part (so_far_for c byte) b (length part == length_end) (flows_too_early context flow (event_in (begun_of c) (ahead_of c) part (so_far_for c byte))) (event_in (begun_of c) (ahead_of c) part (so_far_for c byte))) not_first
-      ∙ ap (λ b. lines limit c part (so_far_for c byte) false b (flows_too_early context flow (event_in (begun_of c) (ahead_of c) part (so_far_for c byte))) (event_in (begun_of c) (ahead_of c) part (so_far_for c byte))) not_head
+      ∙ ap (λ b. lines limit c part (so_far_for c byte) b (length part == length_end) (flows_too_early context flow (event_in (unfinished_of c) (ahead_of c) part (so_far_for c byte))) (event_in (unfinished_of c) (ahead_of c) part (so_far_for c byte))) not_first
+      ∙ ap (λ b. lines limit c part (so_far_for c byte) false b (flows_too_early context flow (event_in (unfinished_of c) (ahead_of c) part (so_far_for c byte))) (event_in (unfinished_of c) (ahead_of c) part (so_far_for c byte))) not_head
       ∙ ap (λ e. lines limit c part (so_far_for c byte) false false (flows_too_early context flow e) e) event_within
       ∙ ap (λ t. lines limit c part t false false (flows_too_early context flow (flow_event context flow byte)) (flow_event context flow byte)) so_far_is
       ∙ by_flow limit

@@ -10,7 +10,7 @@ use Rattle.mq_log.specs.declared.kind.Direction.{Direction}
 use Rattle.mq_log.specs.declared.kind.Direction.TheVariants as directions
 use Rattle.mq_log.specs.Framing.{kind_named, kind_of, body_length, record_size, direction_of, records, header_by, spelled_from, moment_in, length_end, head_length}
 use Rattle.mq_log.specs.Events.{Event, Placed, item_at, event_in, events}
-use Rattle.mq_log.specs.Context.{Context, ahead_of, begun_of, context, so_far_in, so_far_by, so_far_for, state_after, with_completed, after_header, after_part, after, put, placed_with, placed_for, event_for}
+use Rattle.mq_log.specs.Context.{Context, ahead_of, unfinished_of, context, so_far_in, so_far_by, so_far_for, state_after, with_completed, after_header, after_part, after, put, placed_with, placed_for, event_for}
 use Rattle.mq_trace.specs.Runs.{after_bytes, events_by}
 use Rattle.mq_log.specs.Flows.{BodyContext, Flow, item_event, flow_event, flow_placed, flow_placed_with, flow_with, flow_after, flow_after_bytes, flow_events, context_in, flow_in, flowed}
 use Rattle.mq_trace.specs.Writing.{sent_record, received_record, record_bytes, moment_bytes, framed}
@@ -38,14 +38,14 @@ so_far_counted c at count byte =
     ap (λ t. cond (nat_lt (ahead_of c) (length (c.part ++ byte ∷ []))) t []) (so_far_same (direction_of (kind_of (c.part ++ byte ∷ []))) c at count byte)
 
 -- The next byte's event doesn't depend on those numbers, ..
-event_known : (c : Context) (byte : ℕ) → 8 ≤ c.at → event_for c byte ≡ event_in (begun_of c) (ahead_of c) (c.part ++ byte ∷ []) (so_far_for c byte)
+event_known : (c : Context) (byte : ℕ) → 8 ≤ c.at → event_for c byte ≡ event_in (unfinished_of c) (ahead_of c) (c.part ++ byte ∷ []) (so_far_for c byte)
 unfolding event_for
-event_known c byte h = ap (λ t. if t then None else event_in (begun_of c) (ahead_of c) (c.part ++ byte ∷ []) (so_far_for c byte)) (le-ltb c.at 8 h)
+event_known c byte h = ap (λ t. if t then None else event_in (unfinished_of c) (ahead_of c) (c.part ++ byte ∷ []) (so_far_for c byte)) (le-ltb c.at 8 h)
 
 event_counted : (c : Context) (at count byte : ℕ) → 8 ≤ c.at → 8 ≤ at → event_for (counted c at count) byte ≡ event_for c byte
 event_counted c at count byte h h' =
     event_known (counted c at count) byte h'
-    ∙ ap (event_in (begun_of c) (ahead_of c) (c.part ++ byte ∷ [])) (so_far_counted c at count byte)
+    ∙ ap (event_in (unfinished_of c) (ahead_of c) (c.part ++ byte ∷ [])) (so_far_counted c at count byte)
     ∙ sym (event_known c byte h)
 
 -- .. nor does what is kept after it, but for themselves.

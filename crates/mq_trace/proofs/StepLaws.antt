@@ -12,10 +12,10 @@ use Rattle.mq_log.specs.declared.kind.Direction.TheVariants as directions
 use Rattle.mq_log.specs.declared.refusal.Refusal.{Refusal}
 use Rattle.mq_log.specs.declared.refusal.Refusal.TheVariants as refusals
 use Rattle.mq_log.specs.Framing.{kind_named, kind_of, body_length, record_size, opens, direction_of, length_end, moment_in}
-use Rattle.mq_log.specs.Events.{Event, opened, closed, rested, released, sent, received, item_at, event_by, event_in, event_of_head}
+use Rattle.mq_log.specs.Events.{UnfinishedPackets, Event, opened, closed, rested, released, sent, received, item_at, event_by, event_in, event_of_head}
 use Rattle.mq_log.specs.Refusals.{Situation, header_refusal, record_refusal, first_that_applies, comes_too_early, allows_length, is_open_kind, is_release_kind, needs_connection}
 use Rattle.mq_log.specs.Connections.{is_too_early}
-use Rattle.mq_log.specs.Context.{StreamState, Context, ahead_of, begun_of, emptied, so_far_by, so_far_for, situated, refusal_for, event_for, placed_with, placed_for, state_by, state_then, with_completed, after_header, after_part, after, put}
+use Rattle.mq_log.specs.Context.{StreamState, Context, ahead_of, unfinished_of, emptied, so_far_by, so_far_for, situated, refusal_for, event_for, placed_with, placed_for, state_by, state_then, with_completed, after_header, after_part, after, put}
 use Rattle.mq_trace.specs.Runs.{after_bytes, refused_in, events_by}
 use Rattle.mq_log.proofs.Exports.{head_least, body_length-append, kind_of-append}
 
@@ -26,7 +26,7 @@ header_refused limit c b h = ap (λ t. if t then header_refusal c.at b else reco
 
 pub header_event : (c : Context) (b : ℕ) → c.at < 8 → event_for c b ≡ None
 unfolding event_for
-header_event c b h = ap (λ t. if t then None else event_in (begun_of c) (ahead_of c) (c.part ++ b ∷ []) (so_far_for c b)) (lt-ltb c.at 8 h)
+header_event c b h = ap (λ t. if t then None else event_in (unfinished_of c) (ahead_of c) (c.part ++ b ∷ []) (so_far_for c b)) (lt-ltb c.at 8 h)
 
 pub header_placed : (c : Context) (b : ℕ) → c.at < 8 → placed_for c b ≡ None
 unfolding placed_for
@@ -49,7 +49,7 @@ situation_with c part = record {
   part = part;
   record_no = c.records + 1;
   so_far = [];
-  begun = begun_of c;
+  unfinished = unfinished_of c;
   events = c.events;
   connected = c.connected;
   connack_seen = c.connack_seen;
@@ -69,7 +69,7 @@ lines_with c part first ends kind event long =
     ∷ []
 
 lines_emitted : (limit : ℕ) (c : Context) (part : List ℕ) (first ends : Bool) (kind : Option RecordKind) (event : Option Event) (long : Bool)
-    → (length part == 1) ≡ first → (length part == length_end) ≡ ends → kind_of part ≡ kind → event_in (begun_of c) (ahead_of c) part [] ≡ event
+    → (length part == 1) ≡ first → (length part == length_end) ≡ ends → kind_of part ≡ kind → event_in (unfinished_of c) (ahead_of c) part [] ≡ event
     → ((first && nat_lt 4294967295 (c.records + 1)) || (is_some event && nat_le 4294967295 c.events)) ≡ long
     → record_refusal limit (situation_with c part) ≡ first_that_applies (lines_with c part first ends kind event long)
 unfolding record_refusal frame_size fixed_header_of
@@ -77,9 +77,9 @@ lines_emitted limit c part first ends kind event long f e k v l =
     let lines = lines_with c part in
     let no = nat_lt 4294967295 (c.records + 1) in
     let full = nat_le 4294967295 c.events in
-    ap (λ t. first_that_applies (lines t (length part == length_end) (kind_of part) (event_in (begun_of c) (ahead_of c) part []) ((t && no) || (is_some (event_in (begun_of c) (ahead_of c) part []) && full)))) f
-    ∙ ap (λ t. first_that_applies (lines first t (kind_of part) (event_in (begun_of c) (ahead_of c) part []) ((first && no) || (is_some (event_in (begun_of c) (ahead_of c) part []) && full)))) e
-    ∙ ap (λ t. first_that_applies (lines first ends t (event_in (begun_of c) (ahead_of c) part []) ((first && no) || (is_some (event_in (begun_of c) (ahead_of c) part []) && full)))) k
+    ap (λ t. first_that_applies (lines t (length part == length_end) (kind_of part) (event_in (unfinished_of c) (ahead_of c) part []) ((t && no) || (is_some (event_in (unfinished_of c) (ahead_of c) part []) && full)))) f
+    ∙ ap (λ t. first_that_applies (lines first t (kind_of part) (event_in (unfinished_of c) (ahead_of c) part []) ((first && no) || (is_some (event_in (unfinished_of c) (ahead_of c) part []) && full)))) e
+    ∙ ap (λ t. first_that_applies (lines first ends t (event_in (unfinished_of c) (ahead_of c) part []) ((first && no) || (is_some (event_in (unfinished_of c) (ahead_of c) part []) && full)))) k
     ∙ ap (λ t. first_that_applies (lines first ends kind t ((first && no) || (is_some t && full)))) v
     ∙ ap (λ t. first_that_applies (lines first ends kind event t)) l
 
@@ -92,7 +92,7 @@ situated_with c b part is none =
       part = bytes;
       record_no = c.records + 1;
       so_far = so_far_for c b;
-      begun = begun_of c;
+      unfinished = unfinished_of c;
       events = c.events;
       connected = c.connected;
       connack_seen = c.connack_seen;
@@ -104,7 +104,7 @@ situated_with c b part is none =
       part = part;
       record_no = c.records + 1;
       so_far = bytes;
-      begun = begun_of c;
+      unfinished = unfinished_of c;
       events = c.events;
       connected = c.connected;
       connack_seen = c.connack_seen;
@@ -117,12 +117,12 @@ refusal_with limit c b part h is none =
     ap (λ t. if t then header_refusal c.at b else record_refusal limit (situated c b)) (le-ltb c.at 8 h)
     ∙ ap (record_refusal limit) (situated_with c b part is none)
 
-event_with : (c : Context) (b : ℕ) (part : List ℕ) → 8 ≤ c.at → c.part ++ b ∷ [] ≡ part → so_far_for c b ≡ [] → event_for c b ≡ event_in (begun_of c) (ahead_of c) part []
+event_with : (c : Context) (b : ℕ) (part : List ℕ) → 8 ≤ c.at → c.part ++ b ∷ [] ≡ part → so_far_for c b ≡ [] → event_for c b ≡ event_in (unfinished_of c) (ahead_of c) part []
 unfolding event_for
 event_with c b part h is none =
-    ap (λ t. if t then None else event_in (begun_of c) (ahead_of c) (c.part ++ b ∷ []) (so_far_for c b)) (le-ltb c.at 8 h)
-    ∙ ap (λ bytes. event_in (begun_of c) (ahead_of c) bytes (so_far_for c b)) is
-    ∙ ap (event_in (begun_of c) (ahead_of c) part) none
+    ap (λ t. if t then None else event_in (unfinished_of c) (ahead_of c) (c.part ++ b ∷ []) (so_far_for c b)) (le-ltb c.at 8 h)
+    ∙ ap (λ bytes. event_in (unfinished_of c) (ahead_of c) bytes (so_far_for c b)) is
+    ∙ ap (event_in (unfinished_of c) (ahead_of c) part) none
 
 -- what is kept after a byte of a record, with its tests' answers
 abbrev settled_with : Context → List ℕ → (whole : Bool) → StreamState → StreamState → Context
@@ -164,18 +164,18 @@ unfolding state_then
 head_recv ahead state part b h = ap (λ t. cond (opens (kind_of part)) emptied (cond t (state_by directions.Recv (direction_of (kind_of part)) state b) state)) (le-ltb ahead (length part) h)
 
 -- Where the head isn't whole, there is no event and no whole record.
-headless_event : (begun : Option ℕ) (ahead : ℕ) (kind : Option RecordKind) (part : List ℕ) → (length part == ahead) ≡ false → (length part == ahead + 2) ≡ false → event_by begun ahead kind part [] ≡ None
-headless_event begun ahead None part there beyond = refl
-headless_event begun ahead (Some kinds.Open) part there beyond = ap (λ t. if t then Some opened else None) there
-headless_event begun ahead (Some kinds.Close) part there beyond = ap (λ t. if t then Some (closed begun) else None) there
-headless_event begun ahead (Some kinds.Rest) part there beyond = ap (λ t. if t then Some rested else None) there
-headless_event begun ahead (Some kinds.Release) part there beyond = ap (λ t. if t then Some (released (from_be_bytes w16 (drop ahead part))) else None) beyond
-headless_event begun ahead (Some kinds.Sent) part there beyond = ap (option_map sent) no_item
-headless_event begun ahead (Some kinds.Recv) part there beyond = ap (option_map received) no_item
+headless_event : (unfinished : UnfinishedPackets) (ahead : ℕ) (kind : Option RecordKind) (part : List ℕ) → (length part == ahead) ≡ false → (length part == ahead + 2) ≡ false → event_by unfinished ahead kind part [] ≡ None
+headless_event unfinished ahead None part there beyond = refl
+headless_event unfinished ahead (Some kinds.Open) part there beyond = ap (λ t. if t then Some opened else None) there
+headless_event unfinished ahead (Some kinds.Close) part there beyond = ap (λ t. if t then Some (closed unfinished) else None) there
+headless_event unfinished ahead (Some kinds.Rest) part there beyond = ap (λ t. if t then Some rested else None) there
+headless_event unfinished ahead (Some kinds.Release) part there beyond = ap (λ t. if t then Some (released (from_be_bytes w16 (drop ahead part))) else None) beyond
+headless_event unfinished ahead (Some kinds.Sent) part there beyond = ap (option_map sent) no_item
+headless_event unfinished ahead (Some kinds.Recv) part there beyond = ap (option_map received) no_item
 
-headless_in : (begun : Option ℕ) (ahead : ℕ) (part : List ℕ) → length part < ahead → event_in begun ahead part [] ≡ None
+headless_in : (unfinished : UnfinishedPackets) (ahead : ℕ) (part : List ℕ) → length part < ahead → event_in unfinished ahead part [] ≡ None
 unfolding event_in
-headless_in begun ahead part short = headless_event begun ahead (kind_of part) part (ne_eqb (length part) ahead (λ e. omega arith)) (ne_eqb (length part) (ahead + 2) (λ e. omega arith))
+headless_in unfinished ahead part short = headless_event unfinished ahead (kind_of part) part (ne_eqb (length part) ahead (λ e. omega arith)) (ne_eqb (length part) (ahead + 2) (λ e. omega arith))
 
 headless_record : (ahead : ℕ) (part : List ℕ) → length part < ahead → is_some (record_size ahead part) ≡ false
 unfolding record_size
@@ -192,8 +192,8 @@ first_part c b none = ap (λ part. part ++ b ∷ []) none
 first_packet : (c : Context) (b : ℕ) → c.part ≡ [] → so_far_for c b ≡ []
 first_packet c b none = let least = head_least c.header.version in let l : length c.part ≡ 0 = ap length none in head_packet c b (omega arith)
 
-first_in : (c : Context) (b : ℕ) → event_in (begun_of c) (ahead_of c) (b ∷ []) [] ≡ None
-first_in c b = let least = head_least c.header.version in headless_in (begun_of c) (ahead_of c) (b ∷ []) (omega arith)
+first_in : (c : Context) (b : ℕ) → event_in (unfinished_of c) (ahead_of c) (b ∷ []) [] ≡ None
+first_in c b = let least = head_least c.header.version in headless_in (unfinished_of c) (ahead_of c) (b ∷ []) (omega arith)
 
 first_kind : (b : ℕ) → kind_of (b ∷ []) ≡ kind_named b
 unfolding kind_of
@@ -254,8 +254,8 @@ recv_stays c b some short opening =
     let l = one_longer c b in
     head_recv (ahead_of c) c.recv (c.part ++ b ∷ []) b (omega arith) ∙ ap (λ t. cond t emptied c.recv) (opens_more c b some) ∙ stays (opens (kind_of c.part)) c.recv (λ e. (opening e).1)
 
-middle_in : (c : Context) (b : ℕ) → length c.part + 1 < ahead_of c → event_in (begun_of c) (ahead_of c) (c.part ++ b ∷ []) [] ≡ None
-middle_in c b short = let l = one_longer c b in headless_in (begun_of c) (ahead_of c) (c.part ++ b ∷ []) (omega arith)
+middle_in : (c : Context) (b : ℕ) → length c.part + 1 < ahead_of c → event_in (unfinished_of c) (ahead_of c) (c.part ++ b ∷ []) [] ≡ None
+middle_in c b short = let l = one_longer c b in headless_in (unfinished_of c) (ahead_of c) (c.part ++ b ∷ []) (omega arith)
 
 -- with this byte the record's length is whole, and it is allowed
 abbrev pub AllowedAt : Context → ℕ → Type 0
@@ -297,7 +297,7 @@ length_refusal limit c b h ends barred =
     let part = c.part ++ b ∷ [] in
     let l = one_longer c b in
     let least = head_least c.header.version in
-    let event = event_in (begun_of c) (ahead_of c) part [] in
+    let event = event_in (unfinished_of c) (ahead_of c) part [] in
     let long = is_some event && nat_le 4294967295 c.events in
     refusal_with limit c b part h refl (head_packet c b (omega arith))
     ∙ lines_emitted limit c part false true (kind_of part) event long (ne_eqb (length part) 1 (λ e. omega arith)) (eq-eqb (length part) length_end (omega arith)) refl refl refl
@@ -388,13 +388,13 @@ unfolding body_length
 fifth_length k x y z b = refl
 
 -- .. and the event.
-head_event : (begun : Option ℕ) (ahead : ℕ) (kind : RecordKind) (part : List ℕ) → (length part == ahead) ≡ true → (length part == ahead + 2) ≡ false → event_by begun ahead (Some kind) part [] ≡ event_of_head begun kind
-head_event begun ahead kinds.Open part there beyond = ap (λ t. if t then Some opened else None) there
-head_event begun ahead kinds.Close part there beyond = ap (λ t. if t then Some (closed begun) else None) there
-head_event begun ahead kinds.Rest part there beyond = ap (λ t. if t then Some rested else None) there
-head_event begun ahead kinds.Release part there beyond = ap (λ t. if t then Some (released (from_be_bytes w16 (drop ahead part))) else None) beyond
-head_event begun ahead kinds.Sent part there beyond = ap (option_map sent) no_item
-head_event begun ahead kinds.Recv part there beyond = ap (option_map received) no_item
+head_event : (unfinished : UnfinishedPackets) (ahead : ℕ) (kind : RecordKind) (part : List ℕ) → (length part == ahead) ≡ true → (length part == ahead + 2) ≡ false → event_by unfinished ahead (Some kind) part [] ≡ event_of_head unfinished kind
+head_event unfinished ahead kinds.Open part there beyond = ap (λ t. if t then Some opened else None) there
+head_event unfinished ahead kinds.Close part there beyond = ap (λ t. if t then Some (closed unfinished) else None) there
+head_event unfinished ahead kinds.Rest part there beyond = ap (λ t. if t then Some rested else None) there
+head_event unfinished ahead kinds.Release part there beyond = ap (λ t. if t then Some (released (from_be_bytes w16 (drop ahead part))) else None) beyond
+head_event unfinished ahead kinds.Sent part there beyond = ap (option_map sent) no_item
+head_event unfinished ahead kinds.Recv part there beyond = ap (option_map received) no_item
 
 -- an event comes too early, from what is kept
 abbrev pub kept_too_early : Context → Option Event → Bool
@@ -404,33 +404,33 @@ kept_too_early c event = is_too_early c.header.server c.connected c.connack_seen
 kind_more : (c : Context) (b : ℕ) (kind : RecordKind) → 1 ≤ length c.part → kind_of c.part ≡ Some kind → kind_of (c.part ++ b ∷ []) ≡ Some kind
 kind_more c b kind some is = kind_of-append c.part (b ∷ []) (omega arith) ∙ is
 
-last_in : (c : Context) (b : ℕ) (kind : RecordKind) → length c.part + 1 ≡ ahead_of c → kind_of c.part ≡ Some kind → event_in (begun_of c) (ahead_of c) (c.part ++ b ∷ []) [] ≡ event_of_head (begun_of c) kind
+last_in : (c : Context) (b : ℕ) (kind : RecordKind) → length c.part + 1 ≡ ahead_of c → kind_of c.part ≡ Some kind → event_in (unfinished_of c) (ahead_of c) (c.part ++ b ∷ []) [] ≡ event_of_head (unfinished_of c) kind
 unfolding event_in
 last_in c b kind ends is =
     let l = one_longer c b in
     let least = head_least c.header.version in
-    ap (λ k. event_by (begun_of c) (ahead_of c) k (c.part ++ b ∷ []) []) (kind_more c b kind (omega arith) is)
-    ∙ head_event (begun_of c) (ahead_of c) kind (c.part ++ b ∷ []) (eq-eqb (length (c.part ++ b ∷ [])) (ahead_of c) (omega arith)) (ne_eqb (length (c.part ++ b ∷ [])) (ahead_of c + 2) (λ e. omega arith))
+    ap (λ k. event_by (unfinished_of c) (ahead_of c) k (c.part ++ b ∷ []) []) (kind_more c b kind (omega arith) is)
+    ∙ head_event (unfinished_of c) (ahead_of c) kind (c.part ++ b ∷ []) (eq-eqb (length (c.part ++ b ∷ [])) (ahead_of c) (omega arith)) (ne_eqb (length (c.part ++ b ∷ [])) (ahead_of c + 2) (λ e. omega arith))
 
-pub last_event : (c : Context) (b : ℕ) (kind : RecordKind) → 8 ≤ c.at → length c.part + 1 ≡ ahead_of c → kind_of c.part ≡ Some kind → event_for c b ≡ event_of_head (begun_of c) kind
+pub last_event : (c : Context) (b : ℕ) (kind : RecordKind) → 8 ≤ c.at → length c.part + 1 ≡ ahead_of c → kind_of c.part ≡ Some kind → event_for c b ≡ event_of_head (unfinished_of c) kind
 last_event c b kind h ends is = event_with c b (c.part ++ b ∷ []) h refl (head_packet c b (omega arith)) ∙ last_in c b kind ends is
 
 pub last_refusal : (limit : ℕ) (c : Context) (b : ℕ) (kind : RecordKind) → 8 ≤ c.at → length c.part + 1 ≡ ahead_of c → kind_of c.part ≡ Some kind
     → allows_length c.header.version (Some kind) (body_length (c.part ++ b ∷ [])) ≡ true
     → refusal_for limit c b ≡ first_that_applies (
-    (kept_too_early c (event_of_head (begun_of c) kind), refusals.TooManyEarly c.at)
-    ∷ (is_some (event_of_head (begun_of c) kind) && nat_le 4294967295 c.events, refusals.TooLong c.at)
+    (kept_too_early c (event_of_head (unfinished_of c) kind), refusals.TooManyEarly c.at)
+    ∷ (is_some (event_of_head (unfinished_of c) kind) && nat_le 4294967295 c.events, refusals.TooLong c.at)
     ∷ [])
 last_refusal limit c b kind h ends is allowed =
     let part = c.part ++ b ∷ [] in
     let l = one_longer c b in
     let least = head_least c.header.version in
-    let long = is_some (event_of_head (begun_of c) kind) && nat_le 4294967295 c.events in
+    let long = is_some (event_of_head (unfinished_of c) kind) && nat_le 4294967295 c.events in
     let whole = length part == length_end in
     refusal_with limit c b part h refl (head_packet c b (omega arith))
-    ∙ lines_emitted limit c part false whole (Some kind) (event_of_head (begun_of c) kind) long (ne_eqb (length part) 1 (λ e. omega arith)) refl
+    ∙ lines_emitted limit c part false whole (Some kind) (event_of_head (unfinished_of c) kind) long (ne_eqb (length part) 1 (λ e. omega arith)) refl
     (kind_more c b kind (omega arith) is) (last_in c b kind ends is) refl
-    ∙ passed (whole && not (allows_length c.header.version (Some kind) (body_length part))) (refusals.Length c.at) ((kept_too_early c (event_of_head (begun_of c) kind), refusals.TooManyEarly c.at) ∷ (long, refusals.TooLong c.at) ∷ [])
+    ∙ passed (whole && not (allows_length c.header.version (Some kind) (body_length part))) (refusals.Length c.at) ((kept_too_early c (event_of_head (unfinished_of c) kind), refusals.TooManyEarly c.at) ∷ (long, refusals.TooLong c.at) ∷ [])
     (ends_or_allowed whole (allows_length c.header.version (Some kind) (body_length part)) (λ e. allowed))
 
 some_if : (t : Bool) (n : ℕ) → is_some (if t then Some n else None) ≡ t
@@ -482,11 +482,11 @@ unfolding state_then
 release_recv ahead state part b is =
     ap (λ k. cond (opens k) emptied (cond (nat_lt ahead (length part)) (state_by directions.Recv (direction_of k) state b) state)) is ∙ either_direction (nat_lt ahead (length part)) state
 
-release_in : (begun : Option ℕ) (ahead : ℕ) (part : List ℕ) (whole : Bool) → kind_of part ≡ Some kinds.Release → (length part == ahead + 2) ≡ whole
-    → event_in begun ahead part [] ≡ (if whole then Some (released (from_be_bytes w16 (drop ahead part))) else None)
+release_in : (unfinished : UnfinishedPackets) (ahead : ℕ) (part : List ℕ) (whole : Bool) → kind_of part ≡ Some kinds.Release → (length part == ahead + 2) ≡ whole
+    → event_in unfinished ahead part [] ≡ (if whole then Some (released (from_be_bytes w16 (drop ahead part))) else None)
 unfolding event_in
-release_in begun ahead part whole is beyond =
-    ap (λ k. event_by begun ahead k part []) is ∙ ap (λ t. if t then Some (released (from_be_bytes w16 (drop ahead part))) else None) beyond
+release_in unfinished ahead part whole is beyond =
+    ap (λ k. event_by unfinished ahead k part []) is ∙ ap (λ t. if t then Some (released (from_be_bytes w16 (drop ahead part))) else None) beyond
 
 -- The first byte of a RELEASE's body ..
 pub release_high_refusal : (limit : ℕ) (c : Context) (b : ℕ) → 8 ≤ c.at → kind_of c.part ≡ Some kinds.Release → length c.part ≡ ahead_of c → refusal_for limit c b ≡ None
@@ -497,7 +497,7 @@ release_high_refusal limit c b h is five =
     let kind = kind_more c b kinds.Release (omega arith) is in
     refusal_with limit c b part h refl (release_packet c b kind)
     ∙ lines_emitted limit c part false false (Some kinds.Release) None false (ne_eqb (length part) 1 (λ e. omega arith)) (ne_eqb (length part) length_end (λ e. omega arith)) kind
-    (release_in (begun_of c) (ahead_of c) part false kind (ne_eqb (length part) (ahead_of c + 2) (λ e. omega arith))) refl
+    (release_in (unfinished_of c) (ahead_of c) part false kind (ne_eqb (length part) (ahead_of c + 2) (λ e. omega arith))) refl
 
 pub release_high_event : (c : Context) (b : ℕ) → 8 ≤ c.at → kind_of c.part ≡ Some kinds.Release → length c.part ≡ ahead_of c → event_for c b ≡ None
 release_high_event c b h is five =
@@ -505,7 +505,7 @@ release_high_event c b h is five =
     let l = one_longer c b in
     let least = head_least c.header.version in
     let kind = kind_more c b kinds.Release (omega arith) is in
-    event_with c b part h refl (release_packet c b kind) ∙ release_in (begun_of c) (ahead_of c) part false kind (ne_eqb (length part) (ahead_of c + 2) (λ e. omega arith))
+    event_with c b part h refl (release_packet c b kind) ∙ release_in (unfinished_of c) (ahead_of c) part false kind (ne_eqb (length part) (ahead_of c + 2) (λ e. omega arith))
 
 pub release_high_after : (c : Context) (b : ℕ) → 8 ≤ c.at → kind_of c.part ≡ Some kinds.Release → body_length c.part ≡ 2 → length c.part ≡ ahead_of c
     → after c b ≡ record c { at = c.at + 1; part = c.part ++ b ∷ [] }
@@ -527,12 +527,12 @@ identifier_bytes c b head first is five =
     ap (λ part. drop (ahead_of c) (part ++ b ∷ [])) is ∙ ap (drop (ahead_of c)) (append_assoc head (first ∷ []) (b ∷ [])) ∙ drop_at head (first ∷ b ∷ []) (ahead_of c) five
 
 release_low_in : (c : Context) (b : ℕ) (head : List ℕ) (first : ℕ) → kind_of c.part ≡ Some kinds.Release → c.part ≡ head ++ first ∷ [] → length head ≡ ahead_of c
-    → event_in (begun_of c) (ahead_of c) (c.part ++ b ∷ []) [] ≡ Some (released (from_be_bytes w16 (first ∷ b ∷ [])))
+    → event_in (unfinished_of c) (ahead_of c) (c.part ++ b ∷ []) [] ≡ Some (released (from_be_bytes w16 (first ∷ b ∷ [])))
 release_low_in c b head first kind is five =
     let l = one_longer c b in
     let least = head_least c.header.version in
     let six = six_long c head first is five in
-    release_in (begun_of c) (ahead_of c) (c.part ++ b ∷ []) true (kind_more c b kinds.Release (omega arith) kind) (eq-eqb (length (c.part ++ b ∷ [])) (ahead_of c + 2) (omega arith))
+    release_in (unfinished_of c) (ahead_of c) (c.part ++ b ∷ []) true (kind_more c b kinds.Release (omega arith) kind) (eq-eqb (length (c.part ++ b ∷ [])) (ahead_of c + 2) (omega arith))
     ∙ ap (λ bytes. Some (released (from_be_bytes w16 bytes))) (identifier_bytes c b head first is five)
 
 pub release_low_event : (c : Context) (b : ℕ) (head : List ℕ) (first : ℕ) → 8 ≤ c.at → kind_of c.part ≡ Some kinds.Release → c.part ≡ head ++ first ∷ [] → length head ≡ ahead_of c

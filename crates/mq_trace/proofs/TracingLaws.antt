@@ -10,16 +10,16 @@ use Rattle.mq_trace.specs.declared.stage.Stage.{Stage}
 use Rattle.mq_trace.specs.declared.stage.Stage.TheVariants as stages
 use Rattle.mq_trace.specs.declared.reading.Reading.{Reading}
 use Rattle.mq_log.specs.Framing.{header_by, length_end, head_length, moment_in, records}
-use Rattle.mq_log.specs.Events.{Event, Placed, events, event_at, packet_at}
+use Rattle.mq_log.specs.Events.{Event, Placed, events, event_at, packet_at, unfinished_at}
 use Rattle.mq_log.specs.Refusals.{refused, refusal_at, is_cut_short}
 use Rattle.mq_log.specs.Refusing.{moved}
-use Rattle.mq_log.specs.Context.{Context, ahead_of, context, fresh, so_far_for, event_for, placed_for, placed_with, put}
+use Rattle.mq_log.specs.Context.{Context, ahead_of, unfinished_of, context, fresh, so_far_for, event_for, placed_for, placed_with, put}
 use Rattle.mq_trace.specs.Runs.{after_bytes, refused_in, events_by}
 use Rattle.mq_log.specs.Reception.{AreEvents, Declines}
 use Rattle.mq_trace.specs.Deframing.{NeedsMemory, FlowWhy}
-use Rattle.mq_trace.specs.Keeping.{IsAt, context_of, Comes, StepStops}
-use Rattle.mq_trace.specs.Tracing.{HasRead, HasReceived, Why, Stops, is_between}
-use Rattle.mq_log.proofs.Exports.{at_context, part_context, context_is, context-nothing, refused-nothing, packet-kept, header-so_far, event-kept, refused-grow}
+use Rattle.mq_trace.specs.Keeping.{IsAt, context_of, unfinished_by, Comes, StepStops}
+use Rattle.mq_trace.specs.Tracing.{HasRead, HasReceived, Why, Stops, left_if, left_at_end, is_between}
+use Rattle.mq_log.proofs.Exports.{at_context, connected_context, unfinished-kept, part_context, context_is, context-nothing, refused-nothing, packet-kept, header-so_far, event-kept, refused-grow}
 use Rattle.mq_log.proofs.Exports.{head_least}
 use Rattle.mq_trace.proofs.RunLaws.{events_append, context_run, events_run, passes, stops}
 
@@ -251,6 +251,12 @@ kept_at r log keeps = ap (λ (c : Context). c.at) (sym keeps.kept) ∙ at_contex
 
 pub kept_header : (r : Reading) (log : List ℕ) → HasRead r log → r.header ≡ header_by log
 kept_header r log keeps = ap (λ (c : Context). c.header) (sym keeps.kept ∙ context_is log)
+
+pub kept_unfinished : (r : Reading) (log : List ℕ) → HasRead r log → left_at_end log ≡ left_if r.connections.connected (unfinished_by r)
+kept_unfinished r log keeps =
+    ap (λ (b : Bool). left_if b (unfinished_at log)) (sym (connected_context log))
+    ∙ ap (left_if (context log).connected) (unfinished-kept log)
+    ∙ ap (λ (c : Context). left_if c.connected (unfinished_of c)) keeps.kept
 
 -- a part of a record is there, or none is, as the stage says
 part_there : (ahead moment : ℕ) (stage : Stage) (part : List ℕ) → length_end ≤ ahead → IsAt ahead moment stage part → nat_lt 0 (length part) ≡ not (is_between stage)

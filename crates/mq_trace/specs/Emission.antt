@@ -14,7 +14,7 @@ use Rattle.mq_log.specs.Refusing.{moved}
 -- what an event does to its connection; the flag says whether the tested end is a server
 abbrev pub effect_of : Bool → Event → Effect
 effect_of server opened = effects.Begins
-effect_of server (closed begun) = effects.Ends
+effect_of server (closed unfinished) = effects.Ends
 effect_of server rested = effects.Nothing
 effect_of server (released identifier) = effects.Nothing
 effect_of server (sent item) = if is_answer server (sent item) then effects.Answers else effects.Nothing

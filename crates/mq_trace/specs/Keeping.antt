@@ -11,7 +11,7 @@ use Rattle.mq_packet.specs.declared.header.FixedHeader.TheVariants as headers
 use Rattle.mq_packet.specs.Stream.{fixed_header_of}
 use Rattle.mq_log.specs.Framing.{kind_of, opens, direction_of, body_length, spelled_from, moment_in, length_end, head_length, longest_record}
 use Rattle.mq_log.specs.Refusals.{allows_length}
-use Rattle.mq_log.specs.Events.{Placed}
+use Rattle.mq_log.specs.Events.{UnfinishedPackets, Placed}
 use Rattle.mq_log.specs.Context.{StreamState, Context, so_far_for}
 use Rattle.mq_trace.specs.Heads.{IsHead, IsWithinHead}
 use Rattle.mq_trace.specs.Runs.{after_bytes, refused_in, events_by}
@@ -85,6 +85,10 @@ abbrev pub IsShort : ℕ → List ℕ → FixedHeader → Type 0
 IsShort limit bytes headers.Short = length bytes ≤ 4
 IsShort limit bytes headers.Lost = ⊥
 IsShort limit bytes (headers.Whole header size) = (length bytes < size) × (size ≤ limit)
+
+-- what is unfinished on the connection
+abbrev pub unfinished_by : Reading → UnfinishedPackets
+unfinished_by r = record { sent = r.sent.unfinished.items; received = r.recv.unfinished.items }
 
 -- the bytes of an unfinished packet
 abbrev pub IsUnfinished : ℕ → StreamState → Type 0

@@ -6,7 +6,6 @@ use Rattle.mq_log.specs.declared.kind.RecordKind.TheVariants as kinds
 use Rattle.mq_log.specs.declared.kind.Direction.{Direction}
 use Rattle.mq_log.specs.declared.place.InRecord.{InRecord}
 use Rattle.mq_log.specs.declared.refusal.Refusal.{Refusal}
-use Rattle.mq_trace.specs.declared.stage.Stage.{Stage}
 use Rattle.mq_trace.specs.declared.stage.Stage.TheVariants as stages
 use Rattle.mq_trace.specs.declared.reading.Reading.{Reading}
 use Rattle.mq_log.specs.Framing.{kind_named, kind_of, body_length, opens, moment_in, head_length, longest_body}

@@ -1,12 +1,13 @@
 -- The state of a tracer, and what its calls return.
-use Rattle.std.specs.Prelude.{◌≡◌, ℕ, ◌<◌, ◌≤◌, nat_lt, ◌⊎◌, Bool, true, false, List, [], ◌∷◌, ◌++◌, length, Option, Some, None, is_some, Result, Ok, Err}
+use Rattle.std.specs.Prelude.{◌≡◌, ℕ, ◌<◌, ◌≤◌, nat_lt, ◌⊎◌, Bool, true, false, cond, List, [], ◌∷◌, ◌++◌, length, Option, Some, None, is_some, Result, Ok, Err}
 use Rattle.mq_log.specs.declared.refusal.Refusal.{Refusal}
 use Rattle.mq_log.specs.declared.refusal.Refusal.TheVariants as refusals
 use Rattle.mq_trace.specs.declared.stage.Stage.{Stage}
 use Rattle.mq_trace.specs.declared.stage.Stage.TheVariants as stages
 use Rattle.mq_trace.specs.declared.reading.Reading.{Reading}
 use Rattle.mq_log.specs.Framing.{header_by}
-use Rattle.mq_log.specs.Events.{Placed, events, event_at, packet_at}
+use Rattle.mq_log.specs.Events.{UnfinishedPackets, Placed, events, event_at, packet_at, unfinished_at}
+use Rattle.mq_log.specs.Connections.{has_open_connection}
 use Rattle.mq_log.specs.Refusals.{refused, refusal_at, is_cut_short}
 use Rattle.mq_log.specs.Refusing.{moved}
 use Rattle.mq_log.specs.Context.{context}
@@ -104,6 +105,14 @@ pub record Begins (tracer : Traced) (log piece rest : List ℕ) : Type 0 where
 abbrev pub Ends : List ℕ → Result (Unit {0}) Refusal → Type 0
 Ends log (Ok _) = is_cut_short log ≡ false
 Ends log (Err refusal) = (refusal ≡ refusals.Cut (length log)) × (is_cut_short log ≡ true)
+
+-- what is unfinished, if the connection is open; once that is closed, nothing is left of it
+abbrev pub left_if : Bool → UnfinishedPackets → UnfinishedPackets
+left_if connected unfinished = cond connected unfinished (record { sent = []; received = [] })
+
+-- what the end of a log leaves unfinished (MQTT 5.0, section 2.1)
+abbrev pub left_at_end : List ℕ → UnfinishedPackets
+left_at_end log = left_if (has_open_connection (events log)) (unfinished_at log)
 
 -- the stage is between two records
 abbrev pub is_between : Stage → Bool

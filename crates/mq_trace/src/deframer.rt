@@ -10,9 +10,9 @@ ghost use Rattle.mq_packet.specs.Reading.{view};
 ghost use Rattle.mq_packet.specs.Sizes.{size_with, remaining_length};
 ghost use Rattle.mq_packet.specs.declared.header.FixedHeader.TheVariants as headers;
 ghost use Rattle.mq_packet.specs.declared.packet.Packet.TheVariants as packets;
-ghost use Rattle.mq_log.specs.Events.{Placed, bad, lost, first_byte, read_frame};
+ghost use Rattle.mq_log.specs.Events.{Placed, bad, lost, read_frame};
 ghost use Rattle.mq_log.specs.Context.{put};
-ghost use Rattle.mq_log.specs.Reception.{AreEvents, Declines};
+ghost use Rattle.mq_log.specs.Reception.{AreEvents, Declines, packets_of};
 ghost use Rattle.mq_trace.specs.Emission.{NotEmitted, event_refusal, connections_with, next_placed};
 ghost use Rattle.mq_trace.specs.Keeping.{state_in, IsUnfinished};
 ghost use Rattle.mq_trace.specs.Settling.{IsByteStep, IsFrame, IsStep, IsWhole};
@@ -23,7 +23,7 @@ use super::connections::{Connections, Effect, emit, emit_packet, emit_publish};
 use super::frame::Frame;
 use super::sink::Sink;
 use super::unfinished::Unfinished;
-use mq_log::{Direction, InRecord, Item, Refusal, item_event};
+use mq_log::{Direction, InRecord, Item, Refusal, UnfinishedPackets, item_event};
 use mq_packet::{
     DecodeFault, FixedHeader, Packet, PacketRule, Publish, decode, decode_brief_acknowledgement,
     decode_brief_publish, decode_identified_publish, decode_ping, decode_publish, fixed_header,
@@ -76,6 +76,16 @@ pub enum ByteStep {
     Loses,
 }
 
+/// What these two directions of a connection leave unfinished.
+pub fn unfinished_packets<'a>(sent: &'a Deframer, recv: &'a Deframer) -> UnfinishedPackets<'a>
+    ensures { packets_of result ≡ record { sent = sent.now.unfinished.items; received = recv.now.unfinished.items } }
+{
+    UnfinishedPackets {
+        sent: sent.unfinished.as_slice(),
+        received: recv.unfinished.as_slice(),
+    }
+}
+
 impl Deframer {
     /// A direction in which nothing has come.
     pub fn new(alloc: Global) -> Self
@@ -101,17 +111,6 @@ impl Deframer {
         ensures { IsTrue result → state_in self.now ≡ record { unfinished = []; lost = false } }
     {
         !self.lost && self.unfinished.is_empty()
-    }
-
-    /// The first byte of the packet that has begun and not ended, if there is one and the direction
-    /// isn't lost.
-    pub fn begun(&self) -> Option<u8>
-        ensures { result ≡ first_byte self.now.unfinished.items }
-    {
-        match *self.unfinished.as_slice() {
-            [] => None,
-            [first, ..] => Some(first),
-        }
     }
 
     /// Takes in the next bytes of the direction, which are this and don't begin with a whole

@@ -8,7 +8,7 @@ ghost use Rattle.mq_log.specs.declared.kind.Direction.{Direction};
 ghost use Rattle.mq_log.specs.Pieces.{Pieces, AreCut};
 ghost use Rattle.mq_log.specs.Framing.{record_size, records, ahead_in, stream, kind_of, opens, carried};
 ghost use Rattle.mq_log.specs.Connections.{events_on_connection, is_answer, is_too_early};
-ghost use Rattle.mq_log.specs.Events.{Event, opened, closed, released, event_at, events};
+ghost use Rattle.mq_log.specs.Events.{UnfinishedPackets, Event, opened, closed, released, event_at, events};
 ghost use Rattle.mq_log.specs.Refusals.{refused, is_cut_short};
 ghost use Rattle.mq_trace.specs.Rows.{client_header, silent_header, open_bytes, close_bytes, close_start, release_bytes, timed_header, timed_open};
 ghost use Rattle.mq_log.specs.Context.{context, after, put, placed_for};
@@ -63,12 +63,11 @@ pub fn worked_logs()
     ensures moments { events (timed_header ++ timed_open) ≡ record { place = record { position = 1; record_no = 1; moment = 258 }; event = opened } ∷ [] }
 {}
 
-/// A CLOSE says nothing of a packet where none was begun, nor of one that was received, or begun on
-/// an earlier connection: short logs, computed from the definitions alone.
+/// A CLOSE says nothing where no packet was begun, nor of one that was begun on an earlier
+/// connection: short logs, computed from the definitions alone.
 pub fn worked_closes()
-    ensures nothing { event_at (client_header ++ open_bytes ++ close_start) 0 ≡ Some (closed None) }
-    ensures received { event_at (client_header ++ open_bytes ++ (3 ∷ 0 ∷ 0 ∷ 0 ∷ 2 ∷ 50 ∷ 7 ∷ []) ++ close_start) 0 ≡ Some (closed None) }
-    ensures earlier { event_at (client_header ++ open_bytes ++ (2 ∷ 0 ∷ 0 ∷ 0 ∷ 1 ∷ 50 ∷ []) ++ close_bytes ++ open_bytes ++ close_start) 0 ≡ Some (closed None) }
+    ensures nothing { event_at (client_header ++ open_bytes ++ close_start) 0 ≡ Some (closed (record { sent = []; received = [] })) }
+    ensures earlier { event_at (client_header ++ open_bytes ++ (2 ∷ 0 ∷ 0 ∷ 0 ∷ 1 ∷ 50 ∷ []) ++ (3 ∷ 0 ∷ 0 ∷ 0 ∷ 1 ∷ 50 ∷ []) ++ close_bytes ++ open_bytes ++ close_start) 0 ≡ Some (closed (record { sent = []; received = [] })) }
 {}
 
 /// On a connection without its CONNACK 4,096 events may come, and after them only its CLOSE and its
@@ -76,7 +75,7 @@ pub fn worked_closes()
 pub fn early_events_are_counted()
     ensures room { (server connected : Bool) (event : Option Event) → is_too_early server connected false 4095 event ≡ false }
     ensures full { (server : Bool) (identifier : ℕ) → is_too_early server true false 4096 (Some (released identifier)) ≡ true }
-    ensures closes { (server connected connack_seen : Bool) (count : ℕ) (begun : Option ℕ) → is_too_early server connected connack_seen count (Some (closed begun)) ≡ false }
+    ensures closes { (server connected connack_seen : Bool) (count : ℕ) (unfinished : UnfinishedPackets) → is_too_early server connected connack_seen count (Some (closed unfinished)) ≡ false }
     ensures answered { (server connected : Bool) (count : ℕ) (event : Option Event) → is_too_early server connected true count event ≡ false }
     ensures answers { (server connected connack_seen : Bool) (count : ℕ) (event : Event) → is_answer server event ≡ true → is_too_early server connected connack_seen count (Some event) ≡ false }
     ensures between { (server connack_seen : Bool) (count : ℕ) (event : Option Event) → is_too_early server false connack_seen count event ≡ false }

@@ -22,7 +22,7 @@ mod writer;
 
 pub use converting::{ConvertFault, convert};
 pub use feeding::{Feed, Halt, feed_all};
-pub use mq_log::{Direction, Event, Header, Item, Place3, Refusal};
+pub use mq_log::{Direction, Event, Header, Item, Place3, Refusal, UnfinishedPackets};
 pub use sink::Sink;
 pub use tracer::Tracer;
 pub use writer::{TraceWriter, WriteFault};

@@ -1,13 +1,13 @@
 //! Reads a log: its header, its records, and what they carry.
 
 ghost use Rattle.std.specs.Prelude.{◌≡◌, ◌≢◌, ◌+◌, ◌*◌, ◌^◌, ◌<◌, ◌≤◌, ◌∷◌, [], Bool, List, true, false, cond, Some, None, OnOk, IfOk, IfErr, IfSome, IsTrue, length, take, OnErr};
-ghost use Rattle.mq_trace.specs.Keeping.{state_in, context_of, IsSound, Comes, StepStops, HoldsHeader};
+ghost use Rattle.mq_trace.specs.Keeping.{state_in, context_of, unfinished_by, IsSound, Comes, StepStops, HoldsHeader};
 ghost use Rattle.mq_log.specs.Refusals.{header_refusal};
 ghost use Rattle.mq_log.specs.Refusing.{refusal_offset};
 ghost use Rattle.std.specs.Int.{w32, from_be_bytes};
 ghost use Rattle.mq_trace.specs.declared.stage.Stage.TheVariants as stages;
 ghost use Rattle.mq_log.specs.Framing.{kind_named, opens, moment_in, head_length};
-ghost use Rattle.mq_log.specs.Events.{Placed};
+ghost use Rattle.mq_log.specs.Events.{Placed, closed};
 ghost use Rattle.mq_log.specs.Reception.{AreEvents, Declines, event_of};
 ghost use Rattle.mq_trace.specs.Emission.{effect_of, event_refusal, next_placed, NotEmitted};
 ghost use Rattle.mq_log.specs.Context.{fresh};
@@ -18,7 +18,7 @@ ghost use Rattle.mq_trace.specs.Stepping.{err_of, after_header_byte, kind_refusa
 mod bodies;
 
 use super::connections::{Connections, Effect, emit};
-use super::deframer::{Deframer, Step};
+use super::deframer::{Deframer, Step, unfinished_packets};
 use super::head::{Head, HeadStep};
 use super::sink::Sink;
 use super::stage::Stage;
@@ -542,10 +542,7 @@ impl Reading {
                 Ok(())
             }
             RecordKind::Open => self.end_mark(Effect::Begins, Event::Open, moment, sink),
-            RecordKind::Close => {
-                let begun = self.sent.begun();
-                self.end_mark(Effect::Ends, Event::Close { begun }, moment, sink)
-            }
+            RecordKind::Close => self.end_close(moment, sink),
             RecordKind::Rest => self.end_mark(Effect::Nothing, Event::Rest, moment, sink),
             RecordKind::Release => {
                 self.begin_release(moment);
@@ -594,6 +591,39 @@ impl Reading {
             },
             effect,
             event,
+            sink,
+        ) {
+            Ok(()) => {
+                self.end_record();
+                Ok(())
+            }
+            Err(refusal) => Err(refusal),
+        }
+    }
+
+    // Ends a CLOSE of this moment.
+    //
+    // Errors: As `end_mark`.
+    fn end_close<S: Sink>(&mut self, moment: u64, sink: &mut S) -> Result<(), Refusal>
+        requires room { self.old.at + 1 < 2 ^ 64 }
+        requires numbered { self.old.records < 4294967295 }
+        ensures met { OnOk result (event_refusal self.old.at self.old.header.server self.old.connections (closed (unfinished_by self.old)) ≡ None) }
+        ensures kept { OnOk result (self.new ≡ marked self.old (closed (unfinished_by self.old))) }
+        ensures receives { (earlier : List Placed) → S.agrees sink.old earlier → AreEvents (next_placed self.old.connections (in_record_of self.old moment) (closed (unfinished_by self.old)) ∷ earlier)
+            → OnOk result (S.agrees sink.new (next_placed self.old.connections (in_record_of self.old moment) (closed (unfinished_by self.old)) ∷ earlier)) }
+        ensures err { IfErr result (λ refusal. NotEmitted (Declines S.agrees S.refuses) self.old.at (event_refusal self.old.at self.old.header.server self.old.connections (closed (unfinished_by self.old))) (next_placed self.old.connections (in_record_of self.old moment) (closed (unfinished_by self.old)) ∷ []) sink.old sink.new refusal) }
+        ensures stays { OnErr result (HoldsHeader self.old self.new) }
+    {
+        let unfinished = unfinished_packets(&self.sent, &self.recv);
+        match emit(
+            &mut self.connections,
+            self.at,
+            InRecord {
+                record_no: self.records + 1,
+                moment,
+            },
+            Effect::Ends,
+            Event::Close { unfinished },
             sink,
         ) {
             Ok(()) => {

@@ -2,13 +2,15 @@
 
 ghost use Rattle.std.specs.Prelude.{◌≡◌, ℕ, ◌+◌, ◌-◌, ◌*◌, ◌≤◌, min, List, [], ◌++◌, ◌||◌, not, nat_lt, length, Some, None, Err, IfErr, IfOk, IfSome, OnOk, if◌then◌else◌};
 ghost use Rattle.mq_log.specs.Framing.{header_by};
-ghost use Rattle.mq_trace.specs.Keeping.{IsSound};
-ghost use Rattle.mq_trace.specs.Tracing.{IsTracedTo, Begins, TracesPiece, Ends, HasRead, HasReceived, KeepsHeader, StopsAt, StopsInHeader, is_between};
+ghost use Rattle.mq_trace.specs.Keeping.{IsSound, unfinished_by};
+ghost use Rattle.mq_trace.specs.Tracing.{IsTracedTo, Begins, TracesPiece, Ends, HasRead, HasReceived, KeepsHeader, StopsAt, StopsInHeader, left_if, left_at_end, is_between};
+ghost use Rattle.mq_log.specs.Reception.{packets_of};
 ghost use Rattle.mq_log.specs.Refusing.{refusal_offset};
 
+use super::deframer::unfinished_packets;
 use super::reading::Reading;
 use super::sink::Sink;
-use mq_log::{HEADER_LENGTH, Header, Refusal};
+use mq_log::{HEADER_LENGTH, Header, Refusal, UnfinishedPackets};
 use std::alloc::Global;
 use std::marker::Model;
 
@@ -170,6 +172,22 @@ impl Tracer {
             return Err(refusal);
         }
         Ok(())
+    }
+
+    /// What the log leaves unfinished, if it ends after the bytes that were taken in: nothing, if no
+    /// connection is open. After a refusal it is what is kept of the bytes before the refused one.
+    pub fn unfinished(&self) -> UnfinishedPackets<'_>
+        ensures follows { (log : List ℕ) → IsTracedTo self.now log → packets_of result ≡ left_at_end log }
+        ensures kept { packets_of result ≡ left_if self.now.reading.connections.connected (unfinished_by self.now.reading) }
+    {
+        if self.reading.connections.connected {
+            unfinished_packets(&self.reading.sent, &self.reading.recv)
+        } else {
+            UnfinishedPackets {
+                sent: &[],
+                received: &[],
+            }
+        }
     }
 
     /// How many bytes of unfinished packets are kept.

@@ -1,5 +1,5 @@
 //! What `show --long` prints of an event after its line's usual words: the fields and properties of
-//! its packet, by name, or the bytes of one that breaks a rule.
+//! its packet, by name, or the bytes of one that breaks a rule, or that a CLOSE leaves unfinished.
 #![tactic(auto, using(crate::proofs::OutgoingLaws::putting, crate::proofs::DetailLaws::detailing))]
 
 ghost use Rattle.std.specs.Prelude.{ℕ, List, ◌++◌};
@@ -19,6 +19,7 @@ mod laws;
 mod marking;
 mod property;
 mod quoting;
+mod unfinished;
 
 use super::outgoing::Outgoing;
 pub use broken::put_broken;
@@ -29,16 +30,18 @@ use mq_props::Props;
 use mq_rules::qos_number;
 use property::put_properties;
 use std::io::Write;
+use unfinished::put_unfinished;
 
 /// Appends what `--long` prints of an event after its line's usual words, each word with a space
 /// before it: the fields and the properties of a packet, the type and the bytes of one that breaks
-/// a rule, and nothing for any other event.
+/// a rule, those of a packet that a CLOSE leaves unfinished, and nothing for any other event.
 pub fn put_details<W: Write>(out: &mut Outgoing<'_, W>, event: &Event<'_>)
     ensures { Puts W.contents out.old (detail_text (event_of event.now)) out.new }
 {
     match event {
         Event::Sent(item) | Event::Recv(item) => put_item_details(out, item),
-        Event::Open | Event::Close { .. } | Event::Rest | Event::Release(_) => {}
+        Event::Close { unfinished } => put_unfinished(out, unfinished),
+        Event::Open | Event::Rest | Event::Release(_) => {}
     }
 }
 
@@ -53,14 +56,15 @@ fn put_item_details<W: Write>(out: &mut Outgoing<'_, W>, item: &Item<'_>)
     }
 }
 
-/// Appends only the type and the bytes of a packet that breaks a rule, in the same way, and nothing
-/// for any other event.
+/// Appends only the type and the bytes of a packet that breaks a rule, or that a CLOSE leaves
+/// unfinished, in the same way, and nothing for any other event.
 pub fn put_broken_details<W: Write>(out: &mut Outgoing<'_, W>, event: &Event<'_>)
     ensures { Puts W.contents out.old (broken_detail_text (event_of event.now)) out.new }
 {
     match event {
         Event::Sent(item) | Event::Recv(item) => put_broken_item(out, item),
-        Event::Open | Event::Close { .. } | Event::Rest | Event::Release(_) => {}
+        Event::Close { unfinished } => put_unfinished(out, unfinished),
+        Event::Open | Event::Rest | Event::Release(_) => {}
     }
 }
 

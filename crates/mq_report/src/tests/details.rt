@@ -2,7 +2,7 @@
 use crate::display::details::put_details;
 use crate::display::outgoing::Outgoing;
 use crate::report::RunFault;
-use mq_log::{Event, Item};
+use mq_log::{Event, Item, UnfinishedPackets};
 use mq_packet::{PacketRule, decode};
 use std::alloc::Global;
 use std::process::Abort;
@@ -143,13 +143,44 @@ fn has_no_details(alloc: Global, event: &Event<'_>) -> bool {
 fn nothing_is_said_of_other_events(rt: HostRuntime) {
     for event in [
         Event::Open,
-        Event::Close { begun: None },
-        Event::Close { begun: Some(0x32) },
         Event::Rest,
         Event::Release(7),
         Event::Recv(Item::Lost),
     ] {
         assert!(rt; has_no_details(rt.alloc(), &event));
+    }
+}
+
+// Whether this is printed of a CLOSE that leaves these bytes unfinished.
+fn closes_as(alloc: Global, sent: &[u8], received: &[u8], text: &str) -> bool {
+    let unfinished = UnfinishedPackets { sent, received };
+    let mut written = Vec::new(alloc);
+    let answer = write_details(&Event::Close { unfinished }, &mut written);
+    answer.is_ok() && written.as_slice() == text.as_bytes()
+}
+
+#[test]
+fn a_close_has_what_it_leaves_unfinished(rt: HostRuntime) {
+    let rows: [(&[u8], &[u8], &str); 4] = [
+        (b"", b"", ""),
+        (
+            b"\x30\x0d\x00",
+            b"",
+            " unfinished sent type PUBLISH size 3 bytes 30 0D 00",
+        ),
+        (
+            b"",
+            b"\xf0",
+            " unfinished received type AUTH size 1 bytes F0",
+        ),
+        (
+            b"\x32",
+            b"\x40\x02",
+            " unfinished sent type PUBLISH size 1 bytes 32 unfinished received type PUBACK size 2 bytes 40 02",
+        ),
+    ];
+    for (sent, received, text) in rows {
+        assert!(rt; closes_as(rt.alloc(), sent, received, text), "{text}");
     }
 }
 

@@ -3,7 +3,7 @@
 ghost use Rattle.std.specs.Prelude.{◌≡◌};
 
 use super::logs::{ANSWERED_LINES, Part, log_of};
-use mq_trace::{Event, Item, Place3, Refusal, Sink, Tracer};
+use mq_trace::{Event, Item, Place3, Refusal, Sink, Tracer, UnfinishedPackets};
 use std::alloc::{AllocError, Global};
 use std::process::Abort;
 use std::test::Fail;
@@ -48,7 +48,7 @@ impl Lines {
         }
         match event {
             Event::Open => self.text.push_str("OPEN\n"),
-            Event::Close { begun } => self.write_close(*begun),
+            Event::Close { unfinished } => self.write_close(unfinished),
             Event::Rest => self.text.push_str("REST\n"),
             Event::Release(identifier) => writeln!(self.text, "RELEASE {identifier}"),
             Event::Sent(item) => self.write_item("SENT", item),
@@ -56,12 +56,13 @@ impl Lines {
         }
     }
 
-    // Writes the rest of a CLOSE's line, with the first byte of a packet that was begun.
-    fn write_close(&mut self, begun: Option<u8>) -> Result<(), AllocError> {
-        match begun {
-            Some(first) => writeln!(self.text, "CLOSE after {first}"),
-            None => self.text.push_str("CLOSE\n"),
+    // Writes the rest of a CLOSE's line, with what it leaves unfinished.
+    fn write_close(&mut self, unfinished: &UnfinishedPackets<'_>) -> Result<(), AllocError> {
+        let UnfinishedPackets { sent, received } = *unfinished;
+        if sent.is_empty() && received.is_empty() {
+            return self.text.push_str("CLOSE\n");
         }
+        writeln!(self.text, "CLOSE after {sent:?} and {received:?}")
     }
 
     // Writes the rest of the line of what was sent or received.

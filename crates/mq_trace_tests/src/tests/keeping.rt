@@ -108,6 +108,29 @@ fn keeps_unfinished_packets_alone(rt: HostRuntime) -> Result<(), Fail> {
     Ok(())
 }
 
+// What the log's end leaves unfinished is of the connection that is open alone.
+#[test]
+fn says_what_the_end_leaves_unfinished(rt: HostRuntime) -> Result<(), Fail> {
+    let mut tracer = Tracer::new(rt.alloc(), LIMIT);
+    let mut emitted = Lines::new(rt.alloc(), true, u32::MAX);
+    let begin = log_of(rt.alloc(), true, &[], false)?;
+    let pieces: [(&[u8], &[u8], &[u8]); 6] = [
+        (begin.as_slice(), b"", b""),
+        (b"\x02\x00\x00\x00\x03\x32\x07\x00", b"\x32\x07\x00", b""),
+        (b"\x03\x00\x00\x00\x01\x40", b"\x32\x07\x00", b"\x40"),
+        (b"\x03\x00\x00\x00\x03\x02\x00\x01", b"\x32\x07\x00", b""),
+        (b"\x04\x00\x00\x00\x00", b"", b""),
+        (b"\x01\x00\x00\x00\x00", b"", b""),
+    ];
+    for (piece, sent, received) in pieces {
+        assert_eq!(rt; tracer.feed(piece, &mut emitted), Ok(()));
+        let unfinished = tracer.unfinished();
+        assert_eq!(rt; unfinished.sent, sent, "after {piece:?}");
+        assert_eq!(rt; unfinished.received, received, "after {piece:?}");
+    }
+    Ok(())
+}
+
 // A packet that is cut over several records is kept until its last byte, and then emitted, up to
 // the limit's size.
 #[test]

@@ -135,13 +135,13 @@ pub static SESSIONS: [Row; 17] = [
             Recv(CONNACK),
             Sent(CONNECT),
         ],
-        lines: "4 record 5 RECV LOST\n5 record 6 CLOSE after 50\n6 record 7 RELEASE 9\n7 record 8 OPEN\n8 record 9 SENT Connect 15\n\
-            9 record 10 RECV Connack 5\n10 record 11 SENT Publish 9\n11 record 12 SENT LOST\n12 record 14 CLOSE\n\
+        lines: "4 record 5 RECV LOST\n5 record 6 CLOSE after [50, 7, 0, 1, 97] and []\n6 record 7 RELEASE 9\n7 record 8 OPEN\n8 record 9 SENT Connect 15\n\
+            9 record 10 RECV Connack 5\n10 record 11 SENT Publish 9\n11 record 12 SENT LOST\n12 record 14 CLOSE after [] and [64]\n\
             13 record 15 OPEN\n14 record 16 RECV Connack 5\n15 record 17 SENT Connect 15\n",
         answer: Ok(()),
     },
-    // A CLOSE says the first byte of the packet that the tested end had begun, however many of its
-    // bytes came, and whatever came before it.
+    // A CLOSE says the bytes of the packets that it leaves unfinished, however many came, and
+    // whatever came before them.
     Row {
         connack_seen: true,
         parts: &[
@@ -156,12 +156,12 @@ pub static SESSIONS: [Row; 17] = [
             Open,
             Close,
         ],
-        lines: "4 record 5 CLOSE after 50\n5 record 6 OPEN\n6 record 7 SENT Connect 15\n7 record 8 RECV Connack 5\n\
-            8 record 9 SENT Pingreq 2\n9 record 10 RECV Pingresp 2\n10 record 11 CLOSE after 52\n\
+        lines: "4 record 5 CLOSE after [50] and []\n5 record 6 OPEN\n6 record 7 SENT Connect 15\n7 record 8 RECV Connack 5\n\
+            8 record 9 SENT Pingreq 2\n9 record 10 RECV Pingresp 2\n10 record 11 CLOSE after [52, 7, 0, 1] and [48]\n\
             11 record 12 OPEN\n12 record 13 CLOSE\n",
         answer: Ok(()),
     },
-    // It says none of a packet that ended, of one that was received, or after the direction is lost.
+    // It says none of a packet that ended, or after the direction is lost.
     Row {
         connack_seen: true,
         parts: &[
@@ -173,7 +173,7 @@ pub static SESSIONS: [Row; 17] = [
             Sent(b"\x82\x80\x80\x80\x80"),
             Close,
         ],
-        lines: "4 record 5 SENT Publish 9\n5 record 7 CLOSE\n6 record 8 OPEN\n7 record 9 SENT LOST\n8 record 10 CLOSE\n",
+        lines: "4 record 5 SENT Publish 9\n5 record 7 CLOSE after [] and [50, 7, 0, 1, 97]\n6 record 8 OPEN\n7 record 9 SENT LOST\n8 record 10 CLOSE\n",
         answer: Ok(()),
     },
     // A tested server sends the CONNACK.

@@ -15,7 +15,7 @@ use mq_packet::PacketRule;
 use std::io::Write;
 
 /// How many bytes are shown at most.
-const SHOWN: usize = 64;
+pub const SHOWN: usize = 64;
 
 /// How many of them come before the marked one, if that isn't among the packet's first `SHOWN`.
 const BEFORE: usize = 32;
@@ -52,8 +52,8 @@ fn put_mark<W: Write>(out: &mut Outgoing<'_, W>, at: usize, mark: usize)
     }
 }
 
-// Appends the type that the first byte names (MQTT 5.0, section 2.1.2).
-fn put_type<W: Write>(out: &mut Outgoing<'_, W>, bytes: &[u8])
+/// Appends the type that the first byte names (MQTT 5.0, section 2.1.2).
+pub fn put_type<W: Write>(out: &mut Outgoing<'_, W>, bytes: &[u8])
     ensures { Puts W.contents out.old (with_spaces (type_words bytes.now)) out.new }
 {
     match bytes {
@@ -113,8 +113,8 @@ fn shown_from(at: usize) -> usize
     if at < SHOWN { 0 } else { at - BEFORE }
 }
 
-// The bytes from one offset to another, of which the latter doesn't count, as far as there are any.
-fn between(bytes: &[u8], start: usize, end: usize) -> &[u8]
+/// The bytes from one offset to another, of which the latter doesn't count, as far as there are any.
+pub fn between(bytes: &[u8], start: usize, end: usize) -> &[u8]
     ensures { result.now ≡ between start end bytes.now }
 {
     let end = end.min(bytes.len());
@@ -122,8 +122,8 @@ fn between(bytes: &[u8], start: usize, end: usize) -> &[u8]
     &bytes[start..end]
 }
 
-// Appends `..` if bytes are left out.
-fn put_gap<W: Write>(out: &mut Outgoing<'_, W>, left_out: bool)
+/// Appends `..` if bytes are left out.
+pub fn put_gap<W: Write>(out: &mut Outgoing<'_, W>, left_out: bool)
     ensures { Puts W.contents out.old (with_spaces (gap_words left_out)) out.new }
 {
     if left_out {
@@ -131,8 +131,8 @@ fn put_gap<W: Write>(out: &mut Outgoing<'_, W>, left_out: bool)
     }
 }
 
-// Appends bytes in hexadecimal digits, each with a space before it.
-fn put_hex<W: Write>(out: &mut Outgoing<'_, W>, bytes: &[u8])
+/// Appends bytes in hexadecimal digits, each with a space before it.
+pub fn put_hex<W: Write>(out: &mut Outgoing<'_, W>, bytes: &[u8])
     ensures { Puts W.contents out.old (with_spaces (flat_map hex_words bytes.now)) out.new }
 {
     for byte in bytes {
