@@ -27,7 +27,8 @@ use Rattle.mq_rules.proofs.Exports.{both_true, moment-newest, moment-older}
 use Rattle.mq_evidence.specs.declared.evidence.Evidence.{Evidence}
 use Rattle.mq_evidence.specs.Evidence.{found, reason}
 use Rattle.mq_evidence.specs.Turning.{evidence_under}
-use Rattle.mq_evidence.specs.Trailing.{is_found, is_explained, explained_at, is_shut, IsExplained}
+use Rattle.mq_evidence.specs.declared.trail.SessionTrail.{SessionTrail}
+use Rattle.mq_evidence.specs.Trailing.{is_found, needs_subscriptions, any_needs, finds, is_explained, explained_at, is_shut, IsExplained}
 use Rattle.mq_evidence.proofs.TurnLaws.{evidence-older, evidence-newest}
 
 -- ---- the faults that are looked at with an event
@@ -83,12 +84,42 @@ pub wanted-listed : (chosen : Rule → Bool) (wanted : FaultMap) (k : ℕ) (r : 
 wanted-listed chosen wanted k r finds there =
     listed chosen k r finds (entries wanted) (sym (is_some-find key_cmp (record { position = k; rule = r }) (entries wanted)) ∙ sym (ap is_some (get-entries wanted (record { position = k; rule = r }))) ∙ there)
 
+-- ---- the faults that need Topic Filters
+
+-- one of these faults needs them, if one of this statement does
+needed : (k : ℕ) (r : Rule) → needs_subscriptions r ≡ true → (fs : List (FaultKey × Fault)) → list_any (eq_by_cmp key_cmp (record { position = k; rule = r })) (map (λ f. f.0) fs) ≡ true
+    → list_any (λ f. needs_subscriptions f.0.rule) fs ≡ true
+needed k r needs [] h = absurd (cc)
+needed k r needs (f ∷ fs) h = go (eq_by_cmp key_cmp q f.0) refl h (needed k r needs fs)
+  where
+    q : FaultKey
+    q = record { position = k; rule = r }
+
+    go : (b : Bool) → eq_by_cmp key_cmp q f.0 ≡ b → (b || list_any (eq_by_cmp key_cmp q) (map (λ f. f.0) fs)) ≡ true
+        → (list_any (eq_by_cmp key_cmp q) (map (λ f. f.0) fs) ≡ true → list_any (λ f. needs_subscriptions f.0.rule) fs ≡ true)
+        → (needs_subscriptions f.0.rule || list_any (λ f. needs_subscriptions f.0.rule) fs) ≡ true
+    go true is h rest =
+        let parts : (nat_eq k f.0.position ≡ true) × (same_rule r f.0.rule ≡ true) = both_true (nat_eq k f.0.position) (same_rule r f.0.rule) (laws.matches_eq-law q f.0 ∙ is) in
+        let of : f.0.rule ≡ r = sym (same_true the_type tt r f.0.rule parts.1) in
+        ap (λ b. b || list_any (λ f. needs_subscriptions f.0.rule) fs) (ap needs_subscriptions of ∙ needs)
+    go false is h rest = ap (λ b. needs_subscriptions f.0.rule || b) (rest h) ∙ or_right (needs_subscriptions f.0.rule)
+
+-- a trail that keeps them where one of these faults needs them finds the evidence of each
+pub enough-found : (t : SessionTrail) (wanted : FaultMap) → is_some t.subscriptions ≡ any_needs wanted → (k : ℕ) (r : Rule) → is_some (fault_at wanted k r) ≡ true → is_found r ≡ true → finds t r ≡ true
+enough-found t wanted enough k r there finds_it = ap (λ b. b && (not (needs_subscriptions r) || is_some t.subscriptions)) finds_it ∙ go (needs_subscriptions r) refl
+  where
+    go : (b : Bool) → needs_subscriptions r ≡ b → (not b || is_some t.subscriptions) ≡ true
+    go false is = refl
+    go true is =
+        enough ∙ needed k r is (entries wanted) (sym (is_some-find key_cmp (record { position = k; rule = r }) (entries wanted)) ∙ sym (ap is_some (get-entries wanted (record { position = k; rule = r }))) ∙ there)
+
 -- ---- one event more
 
-pub explained-next : (tested : Tested) (f : Fate) (e : Seen) (past : List Seen) (wanted : FaultMap) (old new : ℕ → Rule → Option Evidence) → IsExplained wanted old tested (fate_before tested f e past) past
-    → (is_open e.note ≡ false → (k : ℕ) (r : Rule) → new k r ≡ option_or (explained_at is_found (entries wanted) (length past + 1) k r (found (reason tested.role r) (Some f) None (newest e past))) (old k r))
+pub explained-next : (tested : Tested) (f : Fate) (e : Seen) (past : List Seen) (wanted : FaultMap) (chosen : Rule → Bool) (old new : ℕ → Rule → Option Evidence)
+    → ((k : ℕ) (r : Rule) → is_some (fault_at wanted k r) ≡ true → is_found r ≡ true → chosen r ≡ true) → IsExplained wanted old tested (fate_before tested f e past) past
+    → (is_open e.note ≡ false → (k : ℕ) (r : Rule) → new k r ≡ option_or (explained_at chosen (entries wanted) (length past + 1) k r (found (reason tested.role r) (Some f) None (newest e past))) (old k r))
     → (is_open e.note ≡ true → (k : ℕ) (r : Rule) → new k r ≡ old k r) → IsExplained wanted new tested (Some f) (e ∷ past)
-explained-next tested f e past wanted old new before closed opened = λ k r within finds there shut. go k r finds there shut (is_open e.note) refl (k == length past + 1) refl (fits k within)
+explained-next tested f e past wanted chosen old new enough before closed opened = λ k r within finds there shut. go k r finds there shut (is_open e.note) refl (k == length past + 1) refl (fits k within)
   where
     fits : (k : ℕ) → k ≤ length (e ∷ past) → k ≤ length past + 1
     fits k h = omega arith
@@ -110,8 +141,8 @@ explained-next tested f e past wanted old new before closed opened = λ k r with
     go k r finds there shut false opens true at within =
         let is : k ≡ length past + 1 = eqb-true k (length past + 1) at in
         closed opens k r
-        ∙ ap (λ p. option_or (explained_at is_found (entries wanted) p k r (Ev r)) (old k r)) (sym is)
-        ∙ ap (λ b. option_or (only b (Some (Ev r))) (old k r)) (wanted-listed is_found wanted k r finds there)
+        ∙ ap (λ p. option_or (explained_at chosen (entries wanted) p k r (Ev r)) (old k r)) (sym is)
+        ∙ ap (λ b. option_or (only b (Some (Ev r))) (old k r)) (wanted-listed chosen wanted k r (enough k r there finds) there)
         ∙ ap (λ x. Some x) (sym (evidence-newest tested f e past k r is))
     go k r finds there shut true opens false at within =
         let le : k ≤ length past = below k (length past) at within in
@@ -125,7 +156,7 @@ explained-next tested f e past wanted old new before closed opened = λ k r with
     go k r finds there shut false opens false at within =
         let le : k ≤ length past = below k (length past) at within in
         closed opens k r
-        ∙ ap (λ b. option_or (only b (Some (Ev r))) (old k r)) (unlisted is_found (length past + 1) k r (λ same. absurd (let t = eq-eqb k (length past + 1) (sym same) in cc)) (entries wanted))
+        ∙ ap (λ b. option_or (only b (Some (Ev r))) (old k r)) (unlisted chosen (length past + 1) k r (λ same. absurd (let t = eq-eqb k (length past + 1) (sym same) in cc)) (entries wanted))
         ∙ older k r le finds there shut
       where
         below : (k n : ℕ) → (k == n + 1) ≡ false → k ≤ n + 1 → k ≤ n

@@ -2,6 +2,7 @@ pub mod StretchLaws
 pub mod TurnLaws
 pub mod TrailLaws
 pub mod ExplainLaws
+pub mod NextLaws
 pub mod UnansweredLaws
 pub mod RequestLaws
 pub mod KeptLaws

@@ -17,6 +17,7 @@ use Rattle.mq_evidence.specs.declared.connection_trail.ConnectionTrail.{Connecti
 use Rattle.mq_evidence.specs.declared.connection_explaining.ConnectionExplaining.{ConnectionExplaining}
 use Rattle.mq_evidence.specs.Evidence.{found, reason, nothing}
 use Rattle.mq_evidence.specs.Findings.{found_at}
+use Rattle.mq_evidence.specs.Trailing.{IsNext}
 use Rattle.mq_evidence.specs.Stretches.{Stretches}
 use Rattle.mq_evidence.specs.Handshakes.{IsHandshake}
 use Rattle.mq_evidence.specs.Accepted.{IsAccepted}
@@ -86,4 +87,5 @@ IsConnectionExplained wanted found tested past = (k : ℕ) (rule : Rule) → 1 �
 -- These events lead to what is kept, and to what was found.
 pub record IsConnectionExplaining (x : ConnectionExplaining) (tested : Tested) (past : List Seen) : Type 0 where
   pub trail_is : IsConnectionTrail x.trail tested past
+  pub next_is : IsNext x.wanted x.next (length past)
   pub explained : IsConnectionExplained x.wanted (found_at x.findings) tested past

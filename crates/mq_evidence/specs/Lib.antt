@@ -21,5 +21,6 @@ pub mod Topics
 pub mod Unsettled
 pub mod Settling
 pub mod Ceilings
+pub mod Subscriptions
 pub mod ConnectionTrails
 pub mod Passing

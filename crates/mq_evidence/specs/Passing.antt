@@ -1,11 +1,10 @@
 -- Events that pass by what is kept: they neither begin a stretch anew nor concern it.
 use Rattle.std.specs.Prelude.{Bool, true, false, ◌&&◌, not}
-use Rattle.mq_packet.specs.declared.packet.Qos.{Qos}
 use Rattle.mq_rules.specs.declared.note.Note.{Note}
 use Rattle.mq_rules.specs.declared.note.Note.TheVariants as notes
 use Rattle.mq_rules.specs.declared.note.ItemNote.TheVariants as items
 use Rattle.mq_rules.specs.declared.packet_note.PacketFields.{PacketFields}
-use Rattle.mq_rules.specs.declared.packet_note.PacketFields.TheVariants.{Connect, Connack, Publish, Puback, Pubrec, Pubrel, Pubcomp, Subscribe, Suback, Unsubscribe, Unsuback, Pingreq, Pingresp, Disconnect, Auth}
+use Rattle.mq_rules.specs.declared.packet_note.PacketFields.TheVariants.{Connect, Connack, Publish, Puback, Pubrec, Pubrel, Pubcomp, Subscribe, Suback, Unsubscribe, Unsuback, Disconnect}
 use Rattle.mq_rules.specs.Notes.{is_acknowledged}
 use Rattle.mq_evidence.specs.declared.turn.Turn.{Turn}
 

@@ -1,6 +1,7 @@
 -- What a second reading keeps to find the evidence of the statements on sessions.
-use Rattle.std.specs.Prelude.{ℕ, ◌≡◌, ◌≤◌, Bool, true, false, ◌&&◌, not, nat_eq, List, length, Option, Some, is_some}
+use Rattle.std.specs.Prelude.{ℕ, ◌≡◌, ◌≤◌, Bool, true, false, ◌&&◌, ◌||◌, not, nat_eq, nat_lt, List, length, Option, Some, is_some, IfSome}
 use Rattle.std.specs.List.{list_any}
+use Rattle.std.specs.FinMap.{entries}
 use Rattle.mq_rules.specs.declared.role.Tested.{Tested}
 use Rattle.mq_rules.specs.declared.fate.Fate.{Fate}
 use Rattle.mq_rules.specs.declared.rule.Rule.{Rule}
@@ -13,7 +14,7 @@ use Rattle.mq_rules.specs.Words.{is_some_and, only}
 use Rattle.mq_rules.specs.Notes.{is_open}
 use Rattle.mq_rules.specs.Rules.{same_rule}
 use Rattle.mq_rules.specs.Moments.{note, moment}
-use Rattle.mq_rules.specs.Connections.{any_accepted, session}
+use Rattle.mq_rules.specs.Connections.{any_accepted}
 use Rattle.mq_evidence.specs.declared.evidence.Evidence.{Evidence}
 use Rattle.mq_evidence.specs.declared.trail.SessionTrail.{SessionTrail}
 use Rattle.mq_evidence.specs.declared.explaining.Explaining.{Explaining}
@@ -23,9 +24,7 @@ use Rattle.mq_evidence.specs.Senders.{IsSenders}
 use Rattle.mq_evidence.specs.Answering.{IsAnswering, IsWaiting}
 use Rattle.mq_evidence.specs.Received.{IsReceived}
 use Rattle.mq_evidence.specs.Overtaking.{IsOvertaking}
-use Rattle.mq_evidence.specs.Subscribed.{IsSubscribed}
-use Rattle.mq_evidence.specs.Topics.{IsTopics}
-use Rattle.mq_evidence.specs.Ceilings.{IsCeilings}
+use Rattle.mq_evidence.specs.Subscriptions.{IsSubscriptions}
 use Rattle.mq_evidence.specs.Begun.{IsBegun}
 use Rattle.mq_evidence.specs.Handshakes.{IsHandshake}
 use Rattle.mq_evidence.specs.Counters.{IsCounters}
@@ -43,11 +42,9 @@ pub record IsTrail (t : SessionTrail) (tested : Tested) (taken : Option Fate) (p
   pub waiting_are : IsWaiting t.waiting (stretches tested.role taken past)
   pub received_are : IsReceived t.received (stretches tested.role taken past)
   pub overtaking_is : IsOvertaking t.overtaking tested.role taken past
-  pub subscribed_are : IsSubscribed t.subscribed past (session tested.role taken past)
-  pub topics_are : IsTopics t.topics (stretches tested.role taken past)
-  pub ceilings_are : IsCeilings t.ceilings past (session tested.role taken past)
+  pub subscriptions_are : IfSome t.subscriptions (λ x. IsSubscriptions x past (stretches tested.role taken past))
 
--- the statements whose evidence it finds
+-- the statements whose evidence is found by what came in the session
 abbrev pub is_found : Rule → Bool
 is_found S01 = true
 is_found S02 = true
@@ -74,6 +71,20 @@ is_found L2 = true
 is_found L3 = true
 is_found _ = false
 
+-- those of them whose evidence needs the Topic Filters that stand, or those that wait for their SUBACK
+abbrev pub needs_subscriptions : Rule → Bool
+needs_subscriptions B01 = true
+needs_subscriptions B02 = true
+needs_subscriptions _ = false
+
+-- those whose evidence it finds: these two only if it keeps the filters
+abbrev pub finds : SessionTrail → Rule → Bool
+finds t rule = is_found rule && (not (needs_subscriptions rule) || is_some t.subscriptions)
+
+-- the filters are needed for one of these faults
+abbrev pub any_needs : FaultMap → Bool
+any_needs wanted = list_any (λ f. needs_subscriptions f.0.rule) (entries wanted)
+
 -- at this event, the fault of a statement, which is one of those whose evidence is found
 abbrev pub is_explained : (Rule → Bool) → ℕ → Rule → FaultKey × Fault → Bool
 is_explained finds k rule f = nat_eq f.0.position k && (same_rule f.0.rule rule && finds rule)
@@ -81,6 +92,14 @@ is_explained finds k rule f = nat_eq f.0.position k && (same_rule f.0.rule rule 
 -- what is added at an event to what was found: this evidence, for those of these faults that are there
 abbrev pub explained_at : (Rule → Bool) → List (FaultKey × Fault) → ℕ → ℕ → Rule → Evidence → Option Evidence
 explained_at finds faults at k rule evidence = only (list_any (is_explained finds k rule) (faults_at at faults)) (Some evidence)
+
+-- the fault is at an event after this many events, and before this position
+abbrev pub is_between : ℕ → ℕ → FaultKey × Fault → Bool
+is_between count next f = nat_lt count f.0.position && nat_lt f.0.position next
+
+-- after so many events none of these faults is before this position
+abbrev pub IsNext : FaultMap → ℕ → ℕ → Type 0
+IsNext wanted next count = list_any (is_between count next) (entries wanted) ≡ false
 
 -- the event at position k is no OPEN: at an OPEN nothing is at fault
 abbrev pub is_shut : List Seen → ℕ → Bool
@@ -91,7 +110,9 @@ abbrev pub IsExplained : FaultMap → (ℕ → Rule → Option Evidence) → Tes
 IsExplained wanted found tested taken past = (k : ℕ) (rule : Rule) → k ≤ length past → is_found rule ≡ true → is_some (fault_at wanted k rule) ≡ true → is_shut past k ≡ true
     → found k rule ≡ Some (evidence_under tested taken past k rule)
 
--- These events lead to what is kept, and to what was found.
+-- These events lead to what is kept, which is enough for these faults, and to what was found.
 pub record IsExplaining (x : Explaining) (tested : Tested) (taken : Option Fate) (past : List Seen) : Type 0 where
   pub trail_is : IsTrail x.trail tested taken past
+  pub enough : is_some x.trail.subscriptions ≡ any_needs x.wanted
+  pub next_is : IsNext x.wanted x.next (length past)
   pub explained : IsExplained x.wanted (found_at x.findings) tested taken past

@@ -94,7 +94,7 @@ pub struct Ceilings {
 fn asked_filters(alloc: Global, filters: &[NotedFilter]) -> Result<Vec<Asked>, Memory>
     ensures { IfOk result (λ kept. kept.items ≡ granted filters.now []) }
 {
-    let mut kept = Vec::new(alloc);
+    let mut kept = Vec::with_capacity(alloc, filters.len())?;
     let mut filters = filters;
     while let Some((filter, next_filters)) = filters.split_first() {
         add(alloc, &mut kept, filter.filter.as_str(), filter.options % 4)?;
@@ -280,6 +280,14 @@ impl AllAsking {
         }
     }
 
+    // None waits so far. There is room for one: seldom more come under one identifier.
+    fn with_room(alloc: Global) -> Result<Self, Memory>
+        ensures { IfOk result (λ requests. requests ≡ []) }
+    {
+        let requests = Vec::with_capacity(alloc, 1)?;
+        Ok(AllAsking { requests })
+    }
+
     // One more waits.
     fn wait(&mut self, request: Asking) -> Result<(), Memory>
         ensures { OnOk result (self.new ≡ self.old ++ (request ∷ [])) }
@@ -370,7 +378,7 @@ fn wait(
     let request = Asking::of(alloc, position, filters)?;
     let mut requests = match waiting.swap_remove(&identifier) {
         Some(requests) => requests,
-        None => AllAsking::new(alloc),
+        None => AllAsking::with_room(alloc)?,
     };
     requests.wait(request)?;
     waiting.insert(identifier, requests)?;

@@ -12,10 +12,11 @@ ghost use Rattle.mq_rules.specs.Moments.{newest};
 ghost use Rattle.mq_rules.specs.Under.{seen, IsUnder, fate_before};
 ghost use Rattle.mq_evidence.specs.Evidence.{found, reason};
 ghost use Rattle.mq_evidence.specs.Findings.{found_at};
-ghost use Rattle.mq_evidence.specs.Trailing.{IsTrail, IsExplaining, explained_at, is_found};
+ghost use Rattle.mq_evidence.specs.Trailing.{IsTrail, IsExplaining, IsNext, explained_at, finds};
 
 use crate::findings::Findings;
 use crate::trail::SessionTrail;
+use crate::wanted::{any_on_filters, next_after};
 use mq_log::Place3;
 use mq_rules::{Fate, Faults, Memory, Note, Tested};
 use std::alloc::Global;
@@ -24,6 +25,8 @@ use std::alloc::Global;
 #[derive(Drop)]
 pub struct Explaining {
     wanted: Faults,
+    /// Before this position there is no fault that is still to be explained.
+    next: u32,
     trail: SessionTrail,
     findings: Findings,
 }
@@ -34,9 +37,11 @@ impl Explaining {
         ensures wanted { result.wanted ≡ wanted }
         ensures agrees { IsExplaining result tested (Some Void) [] }
     {
+        let keeps_filters = any_on_filters(&wanted);
         Explaining {
             wanted,
-            trail: SessionTrail::new(alloc, tested),
+            next: 0,
+            trail: SessionTrail::new(alloc, tested, keeps_filters),
             findings: Findings::new(alloc),
         }
     }
@@ -56,17 +61,36 @@ impl Explaining {
     }
 
     // Explains the faults of the next event. At an OPEN nothing is at fault.
+    #[inline(always)]
     fn explain(&mut self, at: Place3, note: &Note) -> Result<(), Memory>
         ensures same { OnOk result ((self.new.wanted ≡ self.old.wanted) × (self.new.trail ≡ self.old.trail)) }
+        ensures next { OnOk result ((count : ℕ) → at.position ≡ count + 1 → IsNext self.old.wanted self.old.next count → IsNext self.new.wanted self.new.next (count + 1)) }
+        ensures opened { OnOk result (is_open note.now ≡ true → (k : ℕ) (r : TheRule) → found_at self.new.findings k r ≡ found_at self.old.findings k r) }
+        ensures closed { OnOk result (is_open note.now ≡ false → (tested : TheTested) (fate : TheFate) (past : List Seen) → at.position ≡ length past + 1 → IsNext self.old.wanted self.old.next (length past) → IsTrail self.old.trail tested (Some fate) past
+            → (k : ℕ) (r : TheRule)
+            → found_at self.new.findings k r ≡ option_or (explained_at (finds self.old.trail) (map.entries self.old.wanted) at.position k r (found (reason tested.role r) (Some fate) None (newest (seen at note.now) past))) (found_at self.old.findings k r)) }
+    {
+        if at.position < self.next {
+            return Ok(());
+        }
+        self.explain_due(at, note)
+    }
+
+    // The same, where a fault may be.
+    #[inline(never)]
+    fn explain_due(&mut self, at: Place3, note: &Note) -> Result<(), Memory>
+        ensures same { OnOk result ((self.new.wanted ≡ self.old.wanted) × (self.new.trail ≡ self.old.trail)) }
+        ensures next { OnOk result ((count : ℕ) → at.position ≡ count + 1 → IsNext self.old.wanted self.old.next count → IsNext self.new.wanted self.new.next (count + 1)) }
         ensures opened { OnOk result (is_open note.now ≡ true → (k : ℕ) (r : TheRule) → found_at self.new.findings k r ≡ found_at self.old.findings k r) }
         ensures closed { OnOk result (is_open note.now ≡ false → (tested : TheTested) (fate : TheFate) (past : List Seen) → at.position ≡ length past + 1 → IsTrail self.old.trail tested (Some fate) past → (k : ℕ) (r : TheRule)
-            → found_at self.new.findings k r ≡ option_or (explained_at is_found (map.entries self.old.wanted) at.position k r (found (reason tested.role r) (Some fate) None (newest (seen at note.now) past))) (found_at self.old.findings k r)) }
+            → found_at self.new.findings k r ≡ option_or (explained_at (finds self.old.trail) (map.entries self.old.wanted) at.position k r (found (reason tested.role r) (Some fate) None (newest (seen at note.now) past))) (found_at self.old.findings k r)) }
     {
         if note.is_open() {
             return Ok(());
         }
         self.trail
             .explain(&self.wanted, at, note, &mut self.findings)?;
+        self.next = next_after(&self.wanted, at.position);
         Ok(())
     }
 

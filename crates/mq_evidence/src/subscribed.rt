@@ -203,7 +203,7 @@ fn refuse_each(
 fn asked_filters(alloc: Global, filters: &[NotedFilter]) -> Result<Vec<Text>, Memory>
     ensures { IfOk result (λ kept. kept.items ≡ texts filters.now) }
 {
-    let mut kept = Vec::new(alloc);
+    let mut kept = Vec::with_capacity(alloc, filters.len())?;
     let mut filters = filters;
     while let Some((filter, next_filters)) = filters.split_first() {
         let text = Text::of(alloc, filter.filter.as_str())?;
@@ -224,13 +224,12 @@ impl Request {
 }
 
 impl Requests {
-    // None waits.
-    fn new(alloc: Global) -> Self
-        ensures { result ≡ [] }
+    // None waits so far. There is room for one: seldom more come under one identifier.
+    fn with_room(alloc: Global) -> Result<Self, Memory>
+        ensures { IfOk result (λ requests. requests ≡ []) }
     {
-        Requests {
-            requests: Vec::new(alloc),
-        }
+        let requests = Vec::with_capacity(alloc, 1)?;
+        Ok(Requests { requests })
     }
 
     // One more waits.
@@ -262,7 +261,7 @@ fn wait(
     let request = Request::of(alloc, filters)?;
     let mut requests = match waiting.swap_remove(&identifier) {
         Some(requests) => requests,
-        None => Requests::new(alloc),
+        None => Requests::with_room(alloc)?,
     };
     requests.wait(request)?;
     waiting.insert(identifier, requests)?;

@@ -1,17 +1,16 @@
 //! What a second reading of a log keeps to find the evidence of the statements on sessions, each
 //! event taken in with the fate of its connection.
-ghost use Rattle.std.specs.Prelude.{◌≡◌, ◌∷◌, ◌+◌, ℕ, [], List, length, Option, Some, None, true, false, OnOk, IfOk};
+ghost use Rattle.std.specs.Prelude.{◌≡◌, ◌∷◌, ◌+◌, ℕ, [], List, length, Option, Some, None, is_some, true, false, OnOk, IfOk};
 ghost use Rattle.mq_rules.specs.declared.role.Tested.{Tested as TheTested};
 ghost use Rattle.mq_log.specs.declared.place.Place3.{Place3 as ThePlace};
 ghost use Rattle.mq_rules.specs.declared.fate.Fate.{Fate as TheFate};
 ghost use Rattle.mq_rules.specs.declared.fate.Fate.TheVariants.{Void};
 ghost use Rattle.mq_rules.specs.declared.rule.Rule.TheVariants.{S01, S02, S03, S04, S05, B01, B02, E3A, L1, L2, L3};
 ghost use Rattle.mq_rules.specs.declared.note.Seen.{Seen};
-ghost use Rattle.mq_rules.specs.Notes.{is_open, sent_publish, qos_number as number_of_qos};
-ghost use Rattle.mq_rules.specs.Moments.{Moment, newest, note as note_of};
+ghost use Rattle.mq_rules.specs.Moments.{newest};
 ghost use Rattle.mq_rules.specs.Under.{seen, IsUnder, fate_before};
 ghost use Rattle.mq_rules.specs.declared.role.Role.{Role as TheRole};
-ghost use Rattle.mq_evidence.specs.Evidence.{found, reason, by_asked, by_order, two_of};
+ghost use Rattle.mq_evidence.specs.Evidence.{found, reason, by_asked, by_order};
 ghost use Rattle.mq_evidence.specs.Stretches.{Stretches, stretches};
 ghost use Rattle.mq_evidence.specs.Senders.{IsSenders};
 ghost use Rattle.mq_evidence.specs.Overtaking.{opened_under};
@@ -24,14 +23,13 @@ ghost use Rattle.mq_rules.specs.declared.rule.Rule.{Rule as TheRule};
 ghost use Rattle.mq_rules.specs.Rules.{same_rule};
 ghost use Rattle.mq_rules.specs.Words.{only};
 ghost use Rattle.mq_evidence.specs.Findings.{found_at};
-ghost use Rattle.mq_evidence.specs.Trailing.{IsTrail, explained_at, is_found};
+ghost use Rattle.mq_evidence.specs.Trailing.{IsTrail, explained_at, finds};
 
 use crate::answering::{Answering, Waiting};
 use crate::asked::Asked;
 use crate::begun::Begun;
-use crate::ceilings::Ceilings;
 use crate::counters::Counters;
-use crate::evidence::{Evidence, Numbers};
+use crate::evidence::Evidence;
 use crate::exchange::Exchange;
 use crate::findings::Findings;
 use crate::handshake::Handshake;
@@ -39,12 +37,10 @@ use crate::overtaking::Overtaking;
 use crate::received::Received;
 use crate::senders::Senders;
 use crate::session::Session;
-use crate::subscribed::Subscribed;
-use crate::topics::Topics;
+use crate::subscriptions::{Subscriptions, kept_if, take_if_kept};
 use crate::unanswered::Unanswered;
 use mq_log::Place3;
-use mq_packet::Qos;
-use mq_rules::{Fate, Faults, Memory, Note, PublishNote, Role, Rule, Tested, qos_number};
+use mq_rules::{Fate, Faults, Memory, Note, Role, Rule, Tested};
 use std::alloc::Global;
 
 /// What came in the session and on the connection, as far as the evidence of a later fault may need
@@ -61,15 +57,17 @@ pub struct SessionTrail {
     waiting: Waiting,
     received: Received,
     overtaking: Overtaking,
-    subscribed: Subscribed,
-    topics: Topics,
-    ceilings: Ceilings,
+    /// The Topic Filters of the session, and the topics of what is sent. They are much, and only the
+    /// evidence of B01 and B02 needs them: a trail that isn't asked for it keeps none.
+    subscriptions: Option<Subscriptions>,
 }
 
 impl SessionTrail {
-    /// Before any event, for this tested end.
-    pub fn new(alloc: Global, tested: Tested) -> Self
-        ensures { IsTrail result tested (Some Void) [] }
+    /// Before any event, for this tested end. It finds evidence of B01 and B02 only if it is to keep
+    /// Topic Filters.
+    pub fn new(alloc: Global, tested: Tested, keeps_filters: bool) -> Self
+        ensures agrees { IsTrail result tested (Some Void) [] }
+        ensures keeps { is_some result.subscriptions ≡ keeps_filters }
     {
         SessionTrail {
             role: tested.role,
@@ -82,9 +80,7 @@ impl SessionTrail {
             waiting: Waiting::new(alloc),
             received: Received::new(alloc),
             overtaking: Overtaking::new(alloc),
-            subscribed: Subscribed::new(alloc),
-            topics: Topics::new(alloc),
-            ceilings: Ceilings::new(alloc),
+            subscriptions: kept_if(alloc, keeps_filters),
         }
     }
 
@@ -94,7 +90,8 @@ impl SessionTrail {
     ///
     /// `Memory` if there is no memory for what it keeps. Its state is then of no use.
     pub fn take(&mut self, at: Place3, fate: Fate, note: &Note) -> Result<(), Memory>
-        ensures { OnOk result ((tested : TheTested) (decided : ℕ) (past : List Seen) → IsUnder tested fate decided (seen at note.now) past → IsTrail self.old tested (fate_before tested fate (seen at note.now) past) past → IsTrail self.new tested (Some fate) (seen at note.now ∷ past)) }
+        ensures keeps { OnOk result (is_some self.new.subscriptions ≡ is_some self.old.subscriptions) }
+        ensures agrees { OnOk result ((tested : TheTested) (decided : ℕ) (past : List Seen) → IsUnder tested fate decided (seen at note.now) past → IsTrail self.old tested (fate_before tested fate (seen at note.now) past) past → IsTrail self.new tested (Some fate) (seen at note.now ∷ past)) }
     {
         let turn = self.session.turn(at, fate, note);
         self.begun.take(turn, note);
@@ -102,13 +99,11 @@ impl SessionTrail {
         self.counters.take(turn, note);
         let opened = self.opened_by(note);
         self.overtaking.take(turn, note, opened)?;
-        self.subscribed.take(turn, note)?;
         self.senders.take(turn, note)?;
         self.answering.take(turn, note)?;
         self.waiting.take(turn, note)?;
         self.received.take(turn, note)?;
-        self.topics.take(turn, note)?;
-        self.ceilings.take(turn, note)?;
+        take_if_kept(&mut self.subscriptions, turn, note)?;
         self.session.take(fate, note);
         Ok(())
     }
@@ -173,38 +168,25 @@ impl SessionTrail {
         }
     }
 
-    // That of B01: how many filters stand.
-    fn of_unasked(&self) -> Evidence
-        ensures { (tested : TheTested) (e : Seen) (fate : TheFate) (past : List Seen) → IsTrail self.now tested (Some fate) past → result ≡ found (reason tested.role B01) (Some fate) None (newest e past) }
+    // That of B01, if Topic Filters are kept.
+    fn of_unasked(&self) -> Option<Evidence>
+        ensures { (tested : TheTested) (e : Seen) (fate : TheFate) (past : List Seen) → IsTrail self.now tested (Some fate) past → result ≡ only (is_some self.now.subscriptions) (Some (found (reason tested.role B01) (Some fate) None (newest e past))) }
     {
-        Evidence {
-            because: None,
-            numbers: Numbers::One(self.subscribed.different()),
+        match &self.subscriptions {
+            Some(subscriptions) => Some(subscriptions.of_unasked()),
+            None => None,
         }
     }
 
-    // That of B02: the last SUBSCRIBE that matches, and the QoS that is exceeded.
-    fn of_exceeding(&self, note: &Note) -> Result<Evidence, Memory>
-        ensures { IfOk result (λ evidence. (tested : TheTested) (at : ThePlace) (fate : TheFate) (past : List Seen) → IsTrail self.now tested (Some fate) past → evidence ≡ found (reason tested.role B02) (Some fate) None (newest (seen at note.now) past)) }
+    // That of B02, if they are.
+    fn of_exceeding(&self, note: &Note) -> Result<Option<Evidence>, Memory>
+        ensures { IfOk result (λ evidence. (tested : TheTested) (at : ThePlace) (fate : TheFate) (past : List Seen) → IsTrail self.now tested (Some fate) past → evidence ≡ only (is_some self.now.subscriptions) (Some (found (reason tested.role B02) (Some fate) None (newest (seen at note.now) past)))) }
     {
-        let Some(publish) = note.sent_publish() else {
-            return Ok(Evidence::nothing());
+        let Some(subscriptions) = &self.subscriptions else {
+            return Ok(None);
         };
-        let evidence = self.of_exceeding_publish(publish)?;
-        Ok(evidence)
-    }
-
-    // The same of a PUBLISH that is sent.
-    fn of_exceeding_publish(&self, publish: &PublishNote) -> Result<Evidence, Memory>
-        ensures { IfOk result (λ evidence. (tested : TheTested) (fate : TheFate) (k : Moment) → IsTrail self.now tested (Some fate) k.past → sent_publish (note_of k) ≡ Some publish.now → evidence ≡ found (reason tested.role B02) (Some fate) None k) }
-    {
-        let Some(topic) = self.topics.topic(publish) else {
-            return Ok(Evidence::nothing());
-        };
-        let ceiling = self.ceilings.greatest(topic)?;
-        let because = self.ceilings.last_request(topic);
-        let numbers = numbers_of(publish.qos, ceiling);
-        Ok(Evidence { because, numbers })
+        let evidence = subscriptions.of_exceeding(note)?;
+        Ok(Some(evidence))
     }
 
     // That of E1A, E2A and E4A to E6A: what became of what the event answers.
@@ -263,7 +245,7 @@ impl SessionTrail {
 
     // What a fault of a statement at an event conflicts with, but for B02. It takes no memory.
     fn find_at_once(&self, rule: Rule, at: Place3, note: &Note) -> Option<Evidence>
-        ensures { (tested : TheTested) (fate : TheFate) (past : List Seen) → same_rule rule B02 ≡ false → at.position ≡ length past + 1 → IsTrail self.now tested (Some fate) past → result ≡ only (is_found rule) (Some (found (reason tested.role rule) (Some fate) None (newest (seen at note.now) past))) }
+        ensures { (tested : TheTested) (fate : TheFate) (past : List Seen) → same_rule rule B02 ≡ false → at.position ≡ length past + 1 → IsTrail self.now tested (Some fate) past → result ≡ only (finds self.now rule) (Some (found (reason tested.role rule) (Some fate) None (newest (seen at note.now) past))) }
     {
         let (answering, waiting) = (&self.answering, &self.waiting);
         match rule {
@@ -272,7 +254,7 @@ impl SessionTrail {
             Rule::S03 => Some(self.of_repeating(note)),
             Rule::S04 => Some(self.of_receding(note)),
             Rule::S05 => Some(self.of_following(note)),
-            Rule::B01 => Some(self.of_unasked()),
+            Rule::B01 => self.of_unasked(),
             Rule::S07 => Some(self.counters.quota(at.position, &self.handshake)),
             Rule::E7R => Some(self.counters.pings()),
             Rule::E1A => Some(self.of_answering(&answering.pubacks, Exchange::PublishPuback, note)),
@@ -305,18 +287,19 @@ impl SessionTrail {
         }
     }
 
-    /// What a fault of this statement at an event conflicts with, if it is one of those that it
-    /// finds. It is asked before the event is taken in.
+    /// What a fault of this statement at an event conflicts with, if it is one of those whose evidence
+    /// it finds: those on sessions, B01 and B02 only if it keeps Topic Filters. It is asked before the
+    /// event is taken in.
     ///
     /// # Errors
     ///
     /// `Memory` if there is no memory to look for it.
     pub fn find(&self, rule: Rule, at: Place3, note: &Note) -> Result<Option<Evidence>, Memory>
-        ensures { IfOk result (λ evidence. (tested : TheTested) (fate : TheFate) (past : List Seen) → at.position ≡ length past + 1 → IsTrail self.now tested (Some fate) past → evidence ≡ only (is_found rule) (Some (found (reason tested.role rule) (Some fate) None (newest (seen at note.now) past)))) }
+        ensures { IfOk result (λ evidence. (tested : TheTested) (fate : TheFate) (past : List Seen) → at.position ≡ length past + 1 → IsTrail self.now tested (Some fate) past → evidence ≡ only (finds self.now rule) (Some (found (reason tested.role rule) (Some fate) None (newest (seen at note.now) past)))) }
     {
         if rule == Rule::B02 {
             let evidence = self.of_exceeding(note)?;
-            return Ok(Some(evidence));
+            return Ok(evidence);
         }
         Ok(self.find_at_once(rule, at, note))
     }
@@ -335,7 +318,7 @@ impl SessionTrail {
         findings: &mut Findings,
     ) -> Result<(), Memory>
         ensures { OnOk result ((tested : TheTested) (fate : TheFate) (past : List Seen) → at.position ≡ length past + 1 → IsTrail self.now tested (Some fate) past → (k : ℕ) (r : TheRule)
-            → found_at findings.new k r ≡ option_or (explained_at is_found (map.entries wanted.now) at.position k r (found (reason tested.role r) (Some fate) None (newest (seen at note.now) past))) (found_at findings.old k r)) }
+            → found_at findings.new k r ≡ option_or (explained_at (finds self.now) (map.entries wanted.now) at.position k r (found (reason tested.role r) (Some fate) None (newest (seen at note.now) past))) (found_at findings.old k r)) }
     {
         for (key, _) in wanted.at(at.position) {
             let found = self.find(key.rule, at, note)?;
@@ -354,15 +337,5 @@ fn of_overtaking(unanswered: &Unanswered, exchange: Exchange, note: &Note) -> Ev
     match exchange.answer(note) {
         Some(i) => Evidence::of(unanswered.first_other(i)),
         None => Evidence::nothing(),
-    }
-}
-
-// The QoS of a PUBLISH and the greatest that is allowed, if any is.
-fn numbers_of(qos: Qos, ceiling: Option<u8>) -> Numbers
-    ensures { result ≡ two_of (Some (number_of_qos qos)) ceiling }
-{
-    match ceiling {
-        Some(ceiling) => Numbers::Two(u64::from(qos_number(qos)), u64::from(ceiling)),
-        None => Numbers::Nothing,
     }
 }

@@ -1,4 +1,4 @@
--- A watcher that is told a log's events up to one of them: with one event more, and what it finds of the faults that were decided by then.
+-- A watcher that takes in a log's events up to one of them: with one event more, and what it finds of the faults that were decided by then.
 use Rattle.std.proofs.Common.{◌≡◌, ◌≤◌, ◌<◌, ◌+◌, ◌||◌, ℕ, Bool, true, false, cond, nat_eq, nat_lt, arith, List, [], ◌∷◌, length, Option, Some, None, refl, ap, sym, subst, ◌∙◌}
 use Rattle.std.specs.Prelude.{is_some, unwrap_or, option_map}
 use Rattle.std.specs.Option.{option_and_then, option_or}
@@ -40,7 +40,7 @@ up_to-all n [] le = refl
 up_to-all n (e ∷ past) le = ap (λ b. cond b (up_to n past) (e ∷ past)) (not-after n (length past + 1) (omega arith))
 
 module _ {W : Type 0} (agrees : W → Tested → Option Fate → List Seen → Type 0) (wanted : FaultMap) (tested : Tested) (last position : ℕ) where
-  -- before an event that comes no later than the last one that it is told
+  -- before an event that comes no later than the last one that it takes in
   pub seen-all : (w : W) (past : List Seen) → position ≡ length past + 1 → position ≤ last → HasSeenUntil agrees wanted tested last w past → HasFollowed agrees tested w past
   seen-all w past at before was = subst (λ (log : List Seen). HasFollowed agrees tested w log) (up_to-all last past (omega (arith, at, before))) was.so_far
 
@@ -52,7 +52,7 @@ module _ {W : Type 0} (agrees : W → Tested → Option Fate → List Seen → T
     none_later = was.none_later;
   }
 
-  -- it isn't told what comes later
+  -- it doesn't take in what comes later
   pub seen-still : (w : W) (e : Seen) (past : List Seen) → position ≡ length past + 1 → last < position → HasSeenUntil agrees wanted tested last w past → HasSeenUntil agrees wanted tested last w (e ∷ past)
   seen-still w e past at later was = record {
     so_far = subst (λ (log : List Seen). HasFollowed agrees tested w log) (sym (ap (λ b. cond b (up_to last past) (e ∷ past)) (ap (λ n. nat_lt last n) (sym at) ∙ lt-ltb last position later))) was.so_far;

@@ -1,5 +1,5 @@
--- A watcher that is told a log's events up to one of them.
-use Rattle.std.specs.Prelude.{◌≡◌, ℕ, ◌+◌, nat_lt, Bool, true, false, ◌||◌, cond, List, [], ◌∷◌, length, Option}
+-- A watcher that takes in a log's events up to one of them.
+use Rattle.std.specs.Prelude.{◌≡◌, ℕ, ◌+◌, nat_lt, Bool, false, cond, List, [], ◌∷◌, length, Option}
 use Rattle.std.specs.List.{list_any}
 use Rattle.std.specs.FinMap.{entries}
 use Rattle.mq_rules.specs.declared.role.Tested.{Tested}
@@ -23,8 +23,3 @@ up_to n (e ∷ past) = cond (nat_lt n (length past + 1)) (up_to n past) (e ∷ p
 pub record HasSeenUntil {W : Type 0} (agrees : W → Tested → Option Fate → List Seen → Type 0) (wanted : FaultMap) (tested : Tested) (last : ℕ) (watcher : W) (past : List Seen) : Type 0 where
   pub so_far : HasFollowed agrees tested watcher (up_to last past)
   pub none_later : list_any (is_decided_after last) (entries wanted) ≡ false
-
--- what neither adds, both together don't
-pub neither : (a b : Bool) → a ≡ false → b ≡ false → (a || b) ≡ false
-neither false b x y = y
-neither true b x y = x

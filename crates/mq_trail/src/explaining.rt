@@ -143,9 +143,17 @@ fn watcher_of<K: Wanted>(
     let introducing = introducing_of::<K>(alloc, tested, faults)?;
     let reviewing = reviewing_of::<K>(alloc, tested, faults)?;
     let rejudging = Rejudging::new(alloc, tested);
-    let both = Both::new(introducing, reviewing);
+    let both = beside(introducing, reviewing);
     let explaining = Until::new(both, faults);
-    Ok(Both::new(rejudging, explaining))
+    Ok(beside(rejudging, explaining))
+}
+
+// Two watchers as one, before any event. They are of any types, so that what each keeps needn't be
+// spelled out where they are put together.
+fn beside<A: Watch, B: Watch>(a: A, b: B) -> Both<A, B>
+    ensures { (tested : TheTested) → A.agrees a tested (Some Void) [] → B.agrees b tested (Some Void) [] → ⟦<Both<A, B> as Watch>⟧.agrees result tested (Some Void) [] }
+{
+    Both::new(a, b)
 }
 
 // What explains these faults on connections, before any event.

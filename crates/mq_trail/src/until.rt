@@ -32,11 +32,11 @@ pub trait Explainer: Watch {
 }
 
 impl<A: Explainer, B: Explainer> Explainer for Both<A, B> {
-    ghost use Rattle.mq_trail.specs.Until.{neither};
+    ghost use Rattle.std.specs.Prelude.{◌||◌};
 
     ghost takes_any = { λ tested taken e past on. (A.takes_any tested taken e past on, B.takes_any tested taken e past on) };
 
-    ghost adds_none = { λ tested e past k r. neither (A.adds tested e past k r) (B.adds tested e past k r) (A.adds_none tested e past k r) (B.adds_none tested e past k r) };
+    ghost adds_none = { λ tested e past k r i. A.adds_none tested e past k r i || B.adds_none tested e past k r i };
 }
 
 impl<K: Wanted> Explainer for Early<Reviewing<K>> {

@@ -2,7 +2,5 @@ use Rattle.mq_trail.proofs.explaining.watcher_of.Goals as goal
 
 pub returns : goal.returns
 returns g c =
-    rw c.new.ensures (
-      c.new-rejudging.ensures,
-      c.new-explaining.ensures c.args.tested c.requires (rw c.new-both.ensures (c.in_ok-introducing.ensures, c.in_ok-reviewing.ensures)),
-    )
+    c.beside.ensures c.args.tested c.new-rejudging.ensures
+    (c.new-explaining.ensures c.args.tested c.requires (c.beside-both.ensures c.args.tested c.in_ok-introducing.ensures c.in_ok-reviewing.ensures))

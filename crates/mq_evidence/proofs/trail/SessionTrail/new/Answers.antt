@@ -1,9 +1,9 @@
-use Rattle.std.proofs.Common.{refl, Some, []}
+use Rattle.std.proofs.Common.{refl, Some}
 use Rattle.mq_rules.specs.declared.fate.Fate.TheVariants.{Void}
 use Rattle.mq_evidence.proofs.trail.SessionTrail.new.Goals as goal
 
-pub returns : goal.returns
-returns c = record {
+pub returns-clause-agrees : goal.returns-clause-agrees
+returns-clause-agrees c = record {
   same_role = refl;
   any_are = c.new.ensures c.args.tested;
   begun_is = c.new-2.ensures;
@@ -14,7 +14,5 @@ returns c = record {
   waiting_are = c.new-7.ensures;
   received_are = c.new-8.ensures;
   overtaking_is = c.new-9.ensures c.args.tested.role (Some Void);
-  subscribed_are = c.new-10.ensures [];
-  topics_are = c.new-11.ensures;
-  ceilings_are = c.new-12.ensures [];
+  subscriptions_are = c.kept_if.ensures.agrees;
 }

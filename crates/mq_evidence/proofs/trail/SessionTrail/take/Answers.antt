@@ -1,11 +1,10 @@
 use Rattle.std.proofs.Common.{◌≡◌, ap, sym, subst, ◌∙◌, refl, Some, ◌∷◌}
+use Rattle.std.specs.Prelude.{IfSome}
 use Rattle.mq_rules.specs.Moments.{newest}
 use Rattle.mq_rules.specs.Under.{seen, fate_before}
 use Rattle.mq_rules.proofs.Exports.{session-members}
 use Rattle.mq_evidence.specs.Begun.{IsBegun}
-use Rattle.mq_evidence.specs.Subscribed.{IsSubscribed}
-use Rattle.mq_evidence.specs.Topics.{IsTopics}
-use Rattle.mq_evidence.specs.Ceilings.{IsCeilings}
+use Rattle.mq_evidence.specs.Subscriptions.{IsSubscriptions}
 use Rattle.mq_evidence.specs.Handshakes.{IsHandshake}
 use Rattle.mq_evidence.specs.Senders.{IsSenders}
 use Rattle.mq_evidence.specs.Answering.{IsAnswering, IsWaiting}
@@ -14,8 +13,8 @@ use Rattle.mq_evidence.specs.Stretches.{Comes, stretches, advanced}
 use Rattle.mq_evidence.proofs.TurnLaws.{advanced-under, any-next}
 use Rattle.mq_evidence.proofs.trail.SessionTrail.take.Goals as goal
 
-pub returns : goal.returns
-returns c = λ tested decided past under trail.
+pub returns-clause-agrees : goal.returns-clause-agrees
+returns-clause-agrees c = λ tested decided past under trail.
     let e = seen c.args.at c.args.note.now in
     let m = newest e past in
     let s = stretches tested.role (fate_before tested c.args.fate e past) past in
@@ -24,18 +23,15 @@ returns c = λ tested decided past under trail.
     ap (λ t. advanced t m s) c.turn-turn.ensures ∙ sym (advanced-under tested c.args.fate c.args.self.now.session.has_accepted c.args.at.position e past trail.any_are) in
     record {
       same_role = trail.same_role;
-      any_are = c.take-12.ensures ∙ any-next tested c.args.fate c.args.self.now.session.has_accepted e past trail.any_are;
+      any_are = c.take-9.ensures ∙ any-next tested c.args.fate c.args.self.now.session.has_accepted e past trail.any_are;
       begun_is = subst (λ t. IsBegun c.take.new.self tested.role t) turned (c.take.ensures tested.role m s comes trail.begun_is);
       handshake_is = subst (λ t. IsHandshake c.take-2.new.self tested.role t) turned (c.take-2.ensures tested.role m s comes trail.handshake_is);
       counters_are = c.take-3.ensures tested.role m comes trail.counters_are;
       overtaking_is = c.in_ok-take.ensures tested c.args.fate c.args.at past comes (c.opened_by-opened.ensures s trail.senders_are) trail.overtaking_is;
-      subscribed_are = subst (λ t. IsSubscribed c.take-5.new.self (e ∷ past) t.session) turned
-          (c.in_ok-take-2.ensures e past s.session comes (λ j there. (session-members tested.role (fate_before tested c.args.fate e past) past j there).0) trail.subscribed_are);
-      senders_are = subst (λ t. IsSenders c.take-6.new.self t) turned (c.in_ok-take-3.ensures m s comes trail.senders_are);
-      answering_are = subst (λ t. IsAnswering c.take-7.new.self t) turned (c.in_ok-take-4.ensures m s comes trail.answering_are);
-      waiting_are = subst (λ t. IsWaiting c.take-8.new.self t) turned (c.in_ok-take-5.ensures m s comes trail.waiting_are);
-      received_are = subst (λ t. IsReceived c.take-9.new.self t) turned (c.in_ok-take-6.ensures m s comes trail.received_are);
-      topics_are = subst (λ t. IsTopics c.take-10.new.self t) turned (c.in_ok-take-7.ensures m s comes trail.topics_are);
-      ceilings_are = subst (λ t. IsCeilings c.take-11.new.self (e ∷ past) t.session) turned
-          (c.in_ok-take-8.ensures e past s.session comes (λ j there. (session-members tested.role (fate_before tested c.args.fate e past) past j there).0) trail.ceilings_are);
+      senders_are = subst (λ t. IsSenders c.take-5.new.self t) turned (c.in_ok-take-2.ensures m s comes trail.senders_are);
+      answering_are = subst (λ t. IsAnswering c.take-6.new.self t) turned (c.in_ok-take-3.ensures m s comes trail.answering_are);
+      waiting_are = subst (λ t. IsWaiting c.take-7.new.self t) turned (c.in_ok-take-4.ensures m s comes trail.waiting_are);
+      received_are = subst (λ t. IsReceived c.take-8.new.self t) turned (c.in_ok-take-5.ensures m s comes trail.received_are);
+      subscriptions_are = subst (λ t. IfSome c.take_if_kept.new.subscriptions (λ x. IsSubscriptions x (e ∷ past) t)) turned
+          (c.in_ok-take_if_kept.ensures.agrees e past s comes (λ j there. (session-members tested.role (fate_before tested c.args.fate e past) past j there).0) trail.subscriptions_are);
     }
