@@ -285,7 +285,7 @@ with_true : (a : Bool) → (a && true) ≡ a
 with_true true = refl
 with_true false = refl
 
-undelivered : (bound b : Bool) (n : Note) (sharing : Bool) (topics : ℕ → Option (List ℕ)) (test : PublishNote → List ℕ → Bool) → (is_some (sent_publish n) && bound) ≡ false → (bound && (b && delivers_so n sharing topics test)) ≡ false
+pub undelivered : (bound b : Bool) (n : Note) (sharing : Bool) (topics : ℕ → Option (List ℕ)) (test : PublishNote → List ℕ → Bool) → (is_some (sent_publish n) && bound) ≡ false → (bound && (b && delivers_so n sharing topics test)) ≡ false
 undelivered true b n sharing topics test h = ap (λ o. b && is_some_and (λ p. is_some_and (test p) (judged_topic sharing topics p)) o) (nothing (sent_publish n) (sym (with_true (is_some (sent_publish n))) ∙ h)) ∙ and_false b
 undelivered false b n sharing topics test h = refl
 

@@ -37,6 +37,7 @@ pub mod KeepLaws
 pub mod ConcernLaws
 pub mod RequestLaws
 pub mod UsingConcernLaws
+mod LeftOutLaws
 pub mod MovingLaws
 pub mod SelectingLaws
 pub mod SizeLaws

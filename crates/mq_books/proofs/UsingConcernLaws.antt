@@ -38,25 +38,25 @@ use Rattle.mq_books.proofs.EarlierLaws.{earlier-stays, inside-uncut}
 use Rattle.mq_books.proofs.InflightLaws.{inflight-next, inflight-gains}
 
 -- nothing of these is there
-record Quiet (tested : Tested) (n : Note) : Type 0 where
-  closed : is_open n ≡ false
-  inside : is_boundary n ≡ false
-  awake : is_rest n ≡ false
-  unended : ends_by n ≡ false
-  delivery : delivery_of n ≡ None
-  closer : closer_of n ≡ None
-  opener : opener_of n ≡ None
-  resend : resend_of n ≡ None
-  pubrel : sent_as pubrel_in n ≡ None
-  pubrec : received_as accepting_pubrec_in n ≡ None
-  subscribe : sent_as subscribe_in n ≡ None
-  suback : received_as suback_in n ≡ None
-  unsubscribe : sent_as unsubscribe_in n ≡ None
-  unsuback : received_as unsuback_in n ≡ None
-  room : announced tested.role n ≡ None
-  bounds : bounds_by tested.role n ≡ None
+pub record Quiet (tested : Tested) (n : Note) : Type 0 where
+  pub closed : is_open n ≡ false
+  pub inside : is_boundary n ≡ false
+  pub awake : is_rest n ≡ false
+  pub unended : ends_by n ≡ false
+  pub delivery : delivery_of n ≡ None
+  pub closer : closer_of n ≡ None
+  pub opener : opener_of n ≡ None
+  pub resend : resend_of n ≡ None
+  pub pubrel : sent_as pubrel_in n ≡ None
+  pub pubrec : received_as accepting_pubrec_in n ≡ None
+  pub subscribe : sent_as subscribe_in n ≡ None
+  pub suback : received_as suback_in n ≡ None
+  pub unsubscribe : sent_as unsubscribe_in n ≡ None
+  pub unsuback : received_as unsuback_in n ≡ None
+  pub room : announced tested.role n ≡ None
+  pub bounds : bounds_by tested.role n ≡ None
 
-quiet : (tested : Tested) (n : Note) → concerns_flight tested n ≡ false → Quiet tested n
+pub quiet : (tested : Tested) (n : Note) → concerns_flight tested n ≡ false → Quiet tested n
 quiet tested n h =
     let h1 = neither (is_boundary n) (is_rest n || (ends_by n || (moves_identifiers n || (is_some (announced tested.role n) || is_some (bounds_by tested.role n))))) h in
     let h2 = neither (is_rest n) (ends_by n || (moves_identifiers n || (is_some (announced tested.role n) || is_some (bounds_by tested.role n)))) h1.1 in
@@ -146,7 +146,7 @@ flown-stays counted n old a b c =
 
 -- ---- nothing is broken
 
-takes-nothing : (role : Role) (n : Note) → opener_of n ≡ None → sent_as subscribe_in n ≡ None → sent_as unsubscribe_in n ≡ None → taken_by role n ≡ None
+pub takes-nothing : (role : Role) (n : Note) → opener_of n ≡ None → sent_as subscribe_in n ≡ None → sent_as unsubscribe_in n ≡ None → taken_by role n ≡ None
 takes-nothing Client n a b c =
     ap (λ o. option_or o (option_or (sent_as subscribe_in n) (sent_as unsubscribe_in n))) a ∙ ap (λ o. option_or o (sent_as unsubscribe_in n)) b ∙ c
 takes-nothing Server n a b c = a

@@ -20,7 +20,7 @@ use crate::counting::{Asks, places_after};
 use crate::exchange::Exchange;
 use crate::fated::Fated;
 use crate::known::{excuse, judge_by};
-use crate::selective::Selective;
+use crate::selective::{Discerning, Selective};
 use mq_log::Place3;
 use mq_rules::{
     Bare, Brisk, CountedByIdentifier, Fate, Faults, Memory, Note, NoteRef, Rule, Tested, Watch,
@@ -222,8 +222,9 @@ impl<X: Exchange> Asks for Asked<X> {
         0
     }
 
-    fn count(&self, places: &mut u32, at: Place3, decided: u32, fate: Fate, note: &Note) {
-        let answered = is_answered(self.binds, fate, X::answer(&NoteRef::Kept(note)));
+    #[inline(always)]
+    fn count(&self, places: &mut u32, at: Place3, decided: u32, fate: Fate, event: NoteRef<'_>) {
+        let answered = is_answered(self.binds, fate, X::answer(&event));
         let here = excuse(surprises::<X>(fate), decided == at.position, answered);
         *places = places_after(here, *places, at.position);
     }
@@ -231,4 +232,8 @@ impl<X: Exchange> Asks for Asked<X> {
     fn places_of(places: &u32, _: Rule) -> u32 {
         *places
     }
+}
+
+impl<X: Exchange> Discerning for Asked<X> {
+    fn leaves_out(&self) {}
 }

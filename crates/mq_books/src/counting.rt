@@ -4,6 +4,7 @@ ghost use Rattle.mq_rules.specs.declared.role.Tested.{Tested as TheTested};
 ghost use Rattle.mq_rules.specs.declared.fate.Fate.{Fate as TheFate};
 ghost use Rattle.mq_rules.specs.declared.fate.Fate.TheVariants.{Void};
 ghost use Rattle.mq_rules.specs.declared.note.Seen.{Seen as TheSeen};
+ghost use Rattle.mq_rules.specs.Notes.{note_in};
 ghost use Rattle.mq_rules.specs.Under.{seen, IsUnder, IsKnown, fate_before, turns_known};
 ghost use Rattle.mq_rules.specs.declared.role.Role.{Role as TheRole};
 ghost use Rattle.mq_rules.specs.declared.rule.Rule.{Rule as TheRule};
@@ -13,7 +14,7 @@ ghost use Rattle.std.specs.Prelude.{◌&&◌, ◌||◌, refl};
 
 use crate::fated::Fated;
 use mq_log::Place3;
-use mq_rules::{Bare, Both, Brisk, Fate, Faults, Memory, Note, Rule, Watch, step_noted};
+use mq_rules::{Bare, Both, Brisk, Fate, Faults, Memory, Note, NoteRef, Rule, Watch};
 
 /// A watcher that can tell, before it takes in an event, which of its statements the event puts to
 /// the test.
@@ -38,8 +39,15 @@ pub trait Asks: Fated {
 
     /// Counts the places that turn out with an event of a connection that has this fate. The
     /// watcher takes in the event after that.
-    fn count(&self, places: &mut Self::Places, at: Place3, decided: u32, fate: Fate, note: &Note)
-        ensures { (tested : TheTested) (past : List TheSeen) → IsUnder tested fate decided (seen at note.now) past → Self.agrees self.now tested (fate_before tested fate (seen at note.now) past) past → counts places.old tested (fate_before tested fate (seen at note.now) past) past → counts places.new tested (Some fate) (seen at note.now ∷ past) };
+    fn count(
+        &self,
+        places: &mut Self::Places,
+        at: Place3,
+        decided: u32,
+        fate: Fate,
+        event: NoteRef<'_>,
+    )
+        ensures { (tested : TheTested) (past : List TheSeen) → IsUnder tested fate decided (seen at (note_in event.entry)) past → Self.agrees self.now tested (fate_before tested fate (seen at (note_in event.entry)) past) past → counts places.old tested (fate_before tested fate (seen at (note_in event.entry)) past) past → counts places.new tested (Some fate) (seen at (note_in event.entry) ∷ past) };
 
     /// How many places one of them has.
     fn places_of(places: &Self::Places, rule: Rule) -> u32
@@ -59,6 +67,7 @@ pub struct Counting<W: Asks> {
 }
 
 /// One place more, or none: there are fewer than events.
+#[inline(always)]
 pub fn places_after(here: bool, old: u32, position: u32) -> u32
     ensures { old < position → result ≡ cond here 1 0 + old }
 {
@@ -129,7 +138,7 @@ impl<W: Asks> Fated for Counting<W> {
         faults: &mut Faults,
     ) -> Result<(), Memory> {
         self.watcher
-            .count(&mut self.places, at, decided, fate, note);
+            .count(&mut self.places, at, decided, fate, NoteRef::Kept(note));
         self.watcher.fated(at, decided, fate, note, faults)?;
         self.fate = fate;
         Ok(())
@@ -140,9 +149,13 @@ impl<W: Asks> Fated for Counting<W> {
     ghost known_adds = { λ tested e past k r. refl };
 }
 
-impl<W: Asks> Brisk for Counting<W> {
+impl<W: Asks + Brisk> Brisk for Counting<W> {
+    #[inline(always)]
     fn step_bare(&mut self, at: Place3, bare: Bare<'_>, faults: &mut Faults) -> Result<(), Memory> {
-        step_noted(self, at, bare, faults)?;
+        let event = NoteRef::Bare(bare);
+        self.watcher
+            .count(&mut self.places, at, at.position, self.fate, event);
+        self.watcher.step_bare(at, bare, faults)?;
         Ok(())
     }
 }
@@ -164,9 +177,17 @@ impl<A: Asks, B: Asks> Asks for Both<A, B> {
         Both::new(A::no_places(), B::no_places())
     }
 
-    fn count(&self, places: &mut Self::Places, at: Place3, decided: u32, fate: Fate, note: &Note) {
-        self.a.count(&mut places.a, at, decided, fate, note);
-        self.b.count(&mut places.b, at, decided, fate, note);
+    #[inline(always)]
+    fn count(
+        &self,
+        places: &mut Self::Places,
+        at: Place3,
+        decided: u32,
+        fate: Fate,
+        event: NoteRef<'_>,
+    ) {
+        self.a.count(&mut places.a, at, decided, fate, event);
+        self.b.count(&mut places.b, at, decided, fate, event);
     }
 
     fn places_of(places: &Self::Places, rule: Rule) -> u32 {

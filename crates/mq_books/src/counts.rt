@@ -6,6 +6,7 @@ ghost use Rattle.mq_rules.specs.declared.rule.Rule.{Rule as TheRule};
 ghost use Rattle.mq_rules.specs.declared.rule.Rule.TheVariants.{B03, B04};
 ghost use Rattle.mq_rules.specs.declared.fate.Fate.TheVariants.{Void};
 ghost use Rattle.mq_rules.specs.Moments.{Moment};
+ghost use Rattle.mq_rules.specs.Notes.{note_in};
 ghost use Rattle.mq_rules.specs.Connections.{accepts};
 ghost use Rattle.mq_rules.specs.Statements.{statement, in_session};
 ghost use Rattle.mq_rules.specs.Subscriptions.{applies_B03, applies_B04, breaks_B03, breaks_B04};
@@ -24,10 +25,10 @@ ghost use Rattle.mq_books.specs.Countings.{Counting, IsCounting, IsCounted, coun
 use crate::counting::{Asks, places_after};
 use crate::fated::Fated;
 use crate::known::judge_by;
-use crate::selective::Selective;
+use crate::selective::{Discerning, Selective};
 use mq_log::Place3;
 use mq_rules::{
-    CountedByIdentifier, Fate, Faults, Memory, Note, PacketFields, Rule, Tested, Watch,
+    CountedByIdentifier, Fate, Faults, Memory, Note, NoteRef, PacketFields, Rule, Tested, Watch,
 };
 use std::alloc::Global;
 use std::marker::PhantomData;
@@ -57,8 +58,8 @@ pub trait Replies {
         ensures { result ≡ counting.request note.now };
 
     /// A packet that is sent and answers one.
-    fn reply(note: &Note) -> Option<Counted>
-        ensures { result ≡ counting.reply note.now };
+    fn reply(event: &NoteRef<'_>) -> Option<Counted>
+        ensures { result ≡ counting.reply (note_in event.now) };
 
     /// The statement that there is a Reason Code for each filter.
     fn judged() -> Rule
@@ -183,7 +184,7 @@ impl<R: Replies> Fated for Counts<R> {
         note: &Note,
         faults: &mut Faults,
     ) -> Result<(), Memory> {
-        let reply = R::reply(note);
+        let reply = R::reply(&NoteRef::Kept(note));
         let broken = is_broken(self.bound, fate, &self.counts, reply);
         keep_count(
             &mut self.counts,
@@ -246,14 +247,19 @@ impl<R: Replies> Asks for Counts<R> {
         0
     }
 
-    fn count(&self, places: &mut u32, at: Place3, _: u32, fate: Fate, note: &Note) {
-        let here = is_put_to_test(self.bound, fate, &self.counts, R::reply(note));
+    #[inline(always)]
+    fn count(&self, places: &mut u32, at: Place3, _: u32, fate: Fate, event: NoteRef<'_>) {
+        let here = is_put_to_test(self.bound, fate, &self.counts, R::reply(&event));
         *places = places_after(here, *places, at.position);
     }
 
     fn places_of(places: &u32, _: Rule) -> u32 {
         *places
     }
+}
+
+impl<R: Replies> Discerning for Counts<R> {
+    fn leaves_out(&self) {}
 }
 
 /// SUBSCRIBE and SUBACK: B03.
@@ -304,8 +310,13 @@ impl Replies for Subacks {
         subscribe_request(note)
     }
 
-    fn reply(note: &Note) -> Option<Counted> {
-        suback_reply(note)
+    #[inline(always)]
+    #[tactic(auto, unfolding(mq_rules::specs::Notes::note_of_bare))]
+    fn reply(event: &NoteRef<'_>) -> Option<Counted> {
+        match event {
+            NoteRef::Kept(note) => suback_reply(note),
+            NoteRef::Bare(_) => None,
+        }
     }
 
     fn judged() -> Rule {
@@ -371,8 +382,13 @@ impl Replies for Unsubacks {
         unsubscribe_request(note)
     }
 
-    fn reply(note: &Note) -> Option<Counted> {
-        unsuback_reply(note)
+    #[inline(always)]
+    #[tactic(auto, unfolding(mq_rules::specs::Notes::note_of_bare))]
+    fn reply(event: &NoteRef<'_>) -> Option<Counted> {
+        match event {
+            NoteRef::Kept(note) => unsuback_reply(note),
+            NoteRef::Bare(_) => None,
+        }
     }
 
     fn judged() -> Rule {

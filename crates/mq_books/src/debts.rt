@@ -15,7 +15,7 @@ use crate::counting::Asks;
 use crate::exchange::Exchange;
 use crate::fated::Fated;
 use crate::owed::{Owed, OwedPlaces};
-use crate::selective::Selective;
+use crate::selective::{Discerning, Selective};
 use mq_log::Place3;
 use mq_rules::{Bare, Both, Brisk, Fate, Faults, Memory, Note, NoteRef, Rule, Tested, Watch};
 use std::alloc::Global;
@@ -124,18 +124,25 @@ impl<X: Exchange> Asks for Debts<X> {
         <Both<Asked<X>, Owed<X>>>::no_places()
     }
 
+    #[inline(always)]
     fn count(
         &self,
         places: &mut Both<u32, OwedPlaces>,
         at: Place3,
         decided: u32,
         fate: Fate,
-        note: &Note,
+        event: NoteRef<'_>,
     ) {
-        self.parts.count(places, at, decided, fate, note);
+        self.parts.count(places, at, decided, fate, event);
     }
 
     fn places_of(places: &Both<u32, OwedPlaces>, rule: Rule) -> u32 {
         <Both<Asked<X>, Owed<X>>>::places_of(places, rule)
+    }
+}
+
+impl<X: Exchange> Discerning for Debts<X> {
+    fn leaves_out(&self) {
+        self.parts.leaves_out();
     }
 }

@@ -47,7 +47,8 @@ use entry::{Entry, take_entries};
 use indexmap::{IndexMap, IndexSet};
 use mq_log::{Direction, Place3};
 use mq_rules::{
-    Bare, BareFields, Fate, Faults, ItemNote, Memory, Note, PacketFields, Role, Rule, Tested, Watch,
+    Bare, BareFields, Fate, Faults, ItemNote, Memory, Note, NoteRef, PacketFields, Role, Rule,
+    Tested, Watch,
 };
 use resends::{
     Bounds, Resent, bounded_after, bounds_after, excused_by_itself, excused_now, passed_since,
@@ -422,7 +423,8 @@ impl Fated for Inflight {
         let broken = self.broken_by(fate, decided == at.position, note);
         judge_all(&broken, at, decided, faults)?;
         let known = decided == at.position;
-        let settles = settles_now(fate, known, self.ended, &self.unanswered, note);
+        let event = NoteRef::Kept(note);
+        let settles = settles_now(fate, known, self.ended, &self.unanswered, event);
         let single = excused_by_itself(self.fate, self.bounds, self.opened, self.bounded);
         let excused = excused_now(self.peer, self.in_flight, single);
         self.again = settle(

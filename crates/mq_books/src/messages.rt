@@ -11,12 +11,12 @@ use crate::counting::Asks;
 use crate::debts::Debts;
 use crate::exchange::{E1, E2, E3, E4};
 use crate::fated::Fated;
-use crate::selective::Selective;
+use crate::selective::{Discerning, Selective};
 use mq_log::{Direction, Place3};
 use mq_packet::Qos;
 use mq_rules::{
-    Bare, BareFields, Both, Brisk, Fate, Faults, ItemNote, Memory, Note, PacketFields, Rule,
-    Tested, Watch,
+    Bare, BareFields, Both, Brisk, Fate, Faults, ItemNote, Memory, Note, NoteRef, PacketFields,
+    Rule, Tested, Watch,
 };
 use std::alloc::Global;
 
@@ -133,12 +133,26 @@ impl Asks for Messages {
         <Both<Both<Debts<E1>, Debts<E2>>, Both<Debts<E3>, Debts<E4>>>>::no_places()
     }
 
-    fn count(&self, places: &mut Self::Places, at: Place3, decided: u32, fate: Fate, note: &Note) {
-        self.watchers.count(places, at, decided, fate, note);
+    #[inline(always)]
+    fn count(
+        &self,
+        places: &mut Self::Places,
+        at: Place3,
+        decided: u32,
+        fate: Fate,
+        event: NoteRef<'_>,
+    ) {
+        self.watchers.count(places, at, decided, fate, event);
     }
 
     fn places_of(places: &Self::Places, rule: Rule) -> u32 {
         <Both<Both<Debts<E1>, Debts<E2>>, Both<Debts<E3>, Debts<E4>>>>::places_of(places, rule)
+    }
+}
+
+impl Discerning for Messages {
+    fn leaves_out(&self) {
+        self.watchers.leaves_out();
     }
 }
 

@@ -8,6 +8,7 @@ ghost use Rattle.mq_books.specs.Placings.{on_any, on_either, on_rest, is_on_sess
 ghost use Rattle.mq_rules.specs.Occasions.{occasion};
 ghost use Rattle.mq_rules.specs.declared.fate.Fate.TheVariants.{Void};
 ghost use Rattle.mq_rules.specs.Words.{is_some_and};
+ghost use Rattle.mq_rules.specs.Notes.{note_in};
 ghost use Rattle.mq_rules.specs.Connections.{accepts};
 ghost use Rattle.mq_rules.specs.KeptOrder.{value_under, values_of};
 ghost use Rattle.mq_rules.specs.Rules.{same_rule, binds as is_bound};
@@ -24,7 +25,7 @@ use crate::exchange::Exchange;
 use crate::fated::Fated;
 use crate::ordering::{Debt, judge_order, passes_over, take_queue, tidy};
 use crate::pings::ended_after;
-use crate::selective::Selective;
+use crate::selective::{Discerning, Selective};
 use mq_log::Place3;
 use mq_rules::{
     Bare, Brisk, CountedByIdentifier, Fate, Fault, FaultKey, Faults, Memory, Note, NoteRef, Rule,
@@ -322,28 +323,30 @@ fn pending_after(begins: bool, opens: bool, rests: bool, pending: u32) -> u32
 
 impl<X: Exchange> Owed<X> {
     // Whether the statement on RESTs is judged, and this is one that binds.
-    fn rests(&self, fate: Fate, is_decided: bool, note: &Note) -> bool
-        ensures { result ≡ (self.now.binds && binds_by fate is_decided self.now.ended note.now) }
+    #[inline(always)]
+    fn rests(&self, fate: Fate, is_decided: bool, event: NoteRef<'_>) -> bool
+        ensures { result ≡ (self.now.binds && binds_by fate is_decided self.now.ended (note_in event.entry)) }
     {
-        rests_now(self.binds, fate, is_decided, self.ended, note)
+        self.binds && (event.is_rest() && (is_decided && (fate.accepts() && !self.ended)))
     }
 
     // Whether the event is a cause, and nothing is due under its identifier.
-    fn begins(&self, note: &Note) -> bool
-        ensures { result ≡ is_some_and (λ i. not (is_some (value_under self.now.due i))) (X.exchange.cause note.now) }
+    #[inline(always)]
+    fn begins(&self, event: NoteRef<'_>) -> bool
+        ensures { result ≡ is_some_and (λ i. not (is_some (value_under self.now.due i))) (X.exchange.cause (note_in event.entry)) }
     {
-        match X::cause(&NoteRef::Kept(note)) {
+        match X::cause(&event) {
             Some(i) => !self.due.contains(i),
             None => false,
         }
     }
 
     // Whether the statement on the order is judged, and put to the test.
-    fn orders(&self, fate: Fate, note: &Note) -> bool
-        ensures { result ≡ (self.now.order_binds && (accepts fate && chooses (value_under self.now.due) (X.exchange.answer note.now))) }
+    #[inline(always)]
+    fn orders(&self, fate: Fate, event: NoteRef<'_>) -> bool
+        ensures { result ≡ (self.now.order_binds && (accepts fate && chooses (value_under self.now.due) (X.exchange.answer (note_in event.entry)))) }
     {
-        self.order_binds
-            && (fate.accepts() && has_choice(&self.due, X::answer(&NoteRef::Kept(note))))
+        self.order_binds && (fate.accepts() && has_choice(&self.due, X::answer(&event)))
     }
 }
 
@@ -377,16 +380,28 @@ impl<X: Exchange> Asks for Owed<X> {
         }
     }
 
-    fn count(&self, places: &mut OwedPlaces, at: Place3, decided: u32, fate: Fate, note: &Note) {
-        let rests = self.rests(fate, decided == at.position, note);
-        let begins = self.begins(note);
-        let orders = self.orders(fate, note);
+    #[inline(always)]
+    fn count(
+        &self,
+        places: &mut OwedPlaces,
+        at: Place3,
+        decided: u32,
+        fate: Fate,
+        event: NoteRef<'_>,
+    ) {
+        let rests = self.rests(fate, decided == at.position, event);
+        let begins = self.begins(event);
+        let orders = self.orders(fate, event);
         places.settled = settled_after(rests, places.settled, places.pending);
-        places.pending = pending_after(begins, note.is_open(), rests, places.pending);
+        places.pending = pending_after(begins, event.is_open(), rests, places.pending);
         places.ordered = places_after(orders, places.ordered, at.position);
     }
 
     fn places_of(places: &OwedPlaces, rule: Rule) -> u32 {
         pick(rule == X::settled_rule(), places.settled, places.ordered)
     }
+}
+
+impl<X: Exchange> Discerning for Owed<X> {
+    fn leaves_out(&self) {}
 }

@@ -11,18 +11,18 @@ ghost use Rattle.mq_books.specs.Pingings.{IsPings};
 ghost use Rattle.mq_books.specs.Placings.{on_one};
 ghost use Rattle.mq_rules.specs.Occasions.{places_under};
 ghost use Rattle.mq_books.specs.Concerns.{concerns_pings};
-ghost use Rattle.mq_rules.specs.Notes.{note_of_bare};
+ghost use Rattle.mq_rules.specs.Notes.{note_in, note_of_bare};
 ghost use Rattle.mq_books.specs.Selecting as selecting;
 
 use crate::counting::{Asks, places_after};
 use crate::fated::Fated;
 use crate::known::judge_by;
 use crate::quota::more;
-use crate::selective::Selective;
+use crate::selective::{Discerning, Selective};
 use mq_log::{Direction, Place3};
 use mq_rules::{
-    Bare, BareFields, Brisk, Fate, Faults, ItemNote, Memory, Note, PacketFields, Role, Rule,
-    Tested, Watch,
+    Bare, BareFields, Brisk, Fate, Faults, ItemNote, Memory, Note, NoteRef, PacketFields, Role,
+    Rule, Tested, Watch,
 };
 
 /// Watches E7R.
@@ -244,12 +244,20 @@ fn bare_may_concern_pings(bare: Bare<'_>) -> bool
 }
 
 // Whether this is a REST that binds, on a connection on which a PINGREQ came.
-fn is_put_to_test(role: Role, fate: Fate, known: bool, ended: bool, note: &Note, asked: u64) -> bool
-    ensures { result ≡ keeping.pinged role fate known ended note.now asked }
+#[inline(always)]
+fn is_put_to_test(
+    role: Role,
+    fate: Fate,
+    known: bool,
+    ended: bool,
+    event: NoteRef<'_>,
+    asked: u64,
+) -> bool
+    ensures { result ≡ keeping.pinged role fate known ended (note_in event.entry) asked }
 {
     matches!(role, Role::Server)
         && (fate.accepts()
-            && ((note.is_rest() && (known && (fate.accepts() && !ended))) && 0 < asked))
+            && ((event.is_rest() && (known && (fate.accepts() && !ended))) && 0 < asked))
 }
 
 impl Asks for Pings {
@@ -269,13 +277,14 @@ impl Asks for Pings {
         0
     }
 
-    fn count(&self, places: &mut u32, at: Place3, decided: u32, fate: Fate, note: &Note) {
+    #[inline(always)]
+    fn count(&self, places: &mut u32, at: Place3, decided: u32, fate: Fate, event: NoteRef<'_>) {
         let here = is_put_to_test(
             self.role,
             fate,
             decided == at.position,
             self.ended,
-            note,
+            event,
             self.asked,
         );
         *places = places_after(here, *places, at.position);
@@ -284,4 +293,8 @@ impl Asks for Pings {
     fn places_of(places: &u32, _: Rule) -> u32 {
         *places
     }
+}
+
+impl Discerning for Pings {
+    fn leaves_out(&self) {}
 }

@@ -15,19 +15,19 @@ ghost use Rattle.mq_books.specs.Quotas.{IsQuota};
 ghost use Rattle.mq_books.specs.Placings.{on_one};
 ghost use Rattle.mq_rules.specs.Occasions.{places_under};
 ghost use Rattle.mq_books.specs.Concerns.{concerns_quota};
-ghost use Rattle.mq_rules.specs.Notes.{note_of_bare};
+ghost use Rattle.mq_rules.specs.Notes.{note_in, note_of_bare};
 ghost use Rattle.mq_books.specs.Selecting as selecting;
 
 use crate::counting::{Asks, places_after};
 use crate::fated::Fated;
 use crate::known::judge_by;
 use crate::messages::is_acknowledged;
-use crate::selective::Selective;
+use crate::selective::{Discerning, Selective};
 use mq_log::{Direction, Place3};
 use mq_packet::Qos;
 use mq_rules::{
-    Bare, BareFields, Brisk, Fate, Faults, ItemNote, Memory, Note, PacketFields, Role, Rule,
-    Tested, Watch,
+    Bare, BareFields, Brisk, Fate, Faults, ItemNote, Memory, Note, NoteRef, PacketFields, Role,
+    Rule, Tested, Watch,
 };
 
 /// The Receive Maximum of a peer that announces none.
@@ -342,11 +342,19 @@ fn bare_may_concern_quota(bare: Bare<'_>) -> bool
 }
 
 // Whether a PUBLISH is sent that uses up the quota, or passes it.
-fn uses_up(fate: Fate, note: &Note, role: Role, peer: Option<u16>, old: u64, position: u32) -> bool
-    ensures { old < position → result ≡ keeping.uses_up fate note.now role peer old }
+#[inline(always)]
+fn uses_up(
+    fate: Fate,
+    event: NoteRef<'_>,
+    role: Role,
+    peer: Option<u16>,
+    old: u64,
+    position: u32,
+) -> bool
+    ensures { old < position → result ≡ keeping.uses_up fate (note_in event.entry) role peer old }
 {
     fate.accepts()
-        && (note.delivery().is_some()
+        && (event.delivery().is_some()
             && (may_count(role, peer)
                 && u64::from(peer.unwrap_or(RECEIVE_MAXIMUM)) <= more(old, position)))
 }
@@ -368,10 +376,11 @@ impl Asks for Quota {
         0
     }
 
-    fn count(&self, places: &mut u32, at: Place3, _: u32, fate: Fate, note: &Note) {
+    #[inline(always)]
+    fn count(&self, places: &mut u32, at: Place3, _: u32, fate: Fate, event: NoteRef<'_>) {
         let here = uses_up(
             fate,
-            note,
+            event,
             self.role,
             self.peer,
             self.in_flight,
@@ -383,4 +392,8 @@ impl Asks for Quota {
     fn places_of(places: &u32, _: Rule) -> u32 {
         *places
     }
+}
+
+impl Discerning for Quota {
+    fn leaves_out(&self) {}
 }

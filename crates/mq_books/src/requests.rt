@@ -14,10 +14,11 @@ use crate::debts::Debts;
 use crate::exchange::{E5, E6};
 use crate::fated::Fated;
 use crate::owed::OwedPlaces;
-use crate::selective::Selective;
+use crate::selective::{Discerning, Selective};
 use mq_log::Place3;
 use mq_rules::{
-    Bare, Both, Brisk, Fate, Faults, ItemNote, Memory, Note, PacketFields, Rule, Tested, Watch,
+    Bare, Both, Brisk, Fate, Faults, ItemNote, Memory, Note, NoteRef, PacketFields, Rule, Tested,
+    Watch,
 };
 use std::alloc::Global;
 
@@ -205,13 +206,30 @@ impl Asks for Requests {
         <Both<Debts<E5>, Debts<E6>>>::no_places()
     }
 
-    fn count(&self, places: &mut RequestPlaces, at: Place3, decided: u32, fate: Fate, note: &Note) {
+    #[inline(always)]
+    fn count(
+        &self,
+        places: &mut RequestPlaces,
+        at: Place3,
+        decided: u32,
+        fate: Fate,
+        event: NoteRef<'_>,
+    ) {
         if let Some(watchers) = &self.watchers {
-            watchers.count(places, at, decided, fate, note);
+            watchers.count(places, at, decided, fate, event);
         }
     }
 
     fn places_of(places: &RequestPlaces, rule: Rule) -> u32 {
         <Both<Debts<E5>, Debts<E6>>>::places_of(places, rule)
+    }
+}
+
+impl Discerning for Requests {
+    fn leaves_out(&self) {
+        match &self.watchers {
+            Some(watchers) => watchers.leaves_out(),
+            None => {}
+        }
     }
 }

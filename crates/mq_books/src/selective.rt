@@ -1,19 +1,19 @@
 //! Watchers that are given only the events that may concern them.
-ghost use Rattle.std.specs.Prelude.{◌≡◌, ◌∷◌, ◌+◌, ◌&&◌, ◌||◌, ℕ, Bool, false, List, Option, Some, length, OnOk, OnErr, refl};
+ghost use Rattle.std.specs.Prelude.{◌≡◌, ◌∷◌, ◌+◌, ◌<◌, ◌&&◌, ◌||◌, ℕ, Bool, false, List, Option, Some, length, OnOk, OnErr, refl};
 ghost use Rattle.mq_rules.specs.Connections.{latest_fate};
 ghost use Rattle.mq_rules.specs.Growing.{Gains, GainsWithin};
 ghost use Rattle.mq_rules.specs.declared.role.Tested.{Tested};
 ghost use Rattle.mq_rules.specs.declared.fate.Fate.{Fate as TheFate};
 ghost use Rattle.mq_rules.specs.declared.note.Note.{Note as TheNote};
 ghost use Rattle.mq_rules.specs.declared.note.Seen.{Seen};
-ghost use Rattle.mq_rules.specs.Notes.{note_of_bare};
+ghost use Rattle.mq_rules.specs.Notes.{note_in, note_of_bare};
 ghost use Rattle.mq_rules.specs.Under.{seen, Follows, IsUnder, IsKnown, fate_before, turns_known};
 ghost use Rattle.mq_books.specs.Concerns.{Passes};
 
 use crate::counting::Asks;
 use crate::fated::Fated;
 use mq_log::Place3;
-use mq_rules::{Bare, Both, Brisk, Fate, Faults, Memory, Note, Rule, Watch};
+use mq_rules::{Bare, Both, Brisk, Fate, Faults, Memory, Note, NoteRef, Rule, Watch};
 
 /// A watcher of which it is known which events concern it: any other event leaves what it keeps as
 /// it is, and shows none of its statements to be false.
@@ -49,6 +49,32 @@ impl<A: Selective, B: Selective> Selective for Both<A, B> {
     fn passes(&self) {
         self.a.passes();
         self.b.passes();
+    }
+}
+
+/// A watcher for which an event that doesn't concern it is no place of its statements.
+pub trait Discerning: Selective + Asks {
+    /// The law on such an event: the counts before it are also those after it. The call does
+    /// nothing.
+    fn leaves_out(&self)
+        ensures { (places : Self.Places) (tested : Tested) (fate : TheFate) (at : ℕ) (e : Seen) (past : List Seen) → Self.concerns tested e.note ≡ false → e.place.position < 4294967296 → IsUnder tested fate at e past → Self.agrees self.now tested (fate_before tested fate e past) past → Self.counts places tested (fate_before tested fate e past) past → Self.counts places tested (Some fate) (e ∷ past) };
+}
+
+// Whether an event may concern a watcher.
+#[inline(always)]
+fn may_concern_event<W: Selective>(watcher: &W, event: NoteRef<'_>) -> bool
+    ensures { result ≡ false → (tested : Tested) (taken : Option TheFate) (past : List Seen) → W.agrees watcher.now tested taken past → W.concerns tested (note_in event.entry) ≡ false }
+{
+    match event {
+        NoteRef::Kept(note) => watcher.may_concern(note),
+        NoteRef::Bare(bare) => watcher.may_concern_bare(bare),
+    }
+}
+
+impl<A: Discerning, B: Discerning> Discerning for Both<A, B> {
+    fn leaves_out(&self) {
+        self.a.leaves_out();
+        self.b.leaves_out();
     }
 }
 
@@ -130,8 +156,7 @@ impl<W: Selective + Brisk> Brisk for Selecting<W> {
     }
 }
 
-// Its watcher is asked of every event, also of those that it isn't given.
-impl<W: Selective + Asks> Asks for Selecting<W> {
+impl<W: Discerning> Asks for Selecting<W> {
     type Places = W::Places;
 
     ghost counts = { W.counts };
@@ -148,8 +173,20 @@ impl<W: Selective + Asks> Asks for Selecting<W> {
         W::no_places()
     }
 
-    fn count(&self, places: &mut W::Places, at: Place3, decided: u32, fate: Fate, note: &Note) {
-        self.watcher.count(places, at, decided, fate, note);
+    #[inline(always)]
+    fn count(
+        &self,
+        places: &mut W::Places,
+        at: Place3,
+        decided: u32,
+        fate: Fate,
+        event: NoteRef<'_>,
+    ) {
+        if !may_concern_event(&self.watcher, event) {
+            self.watcher.leaves_out();
+            return;
+        }
+        self.watcher.count(places, at, decided, fate, event);
     }
 
     fn places_of(places: &W::Places, rule: Rule) -> u32 {

@@ -15,7 +15,7 @@ use crate::requests::Requests;
 use crate::selective::Selecting;
 use crate::subs_all::Subs;
 use mq_log::Place3;
-use mq_rules::{Bare, Both, Brisk, Fate, Faults, Memory, Note, Rule, Tested, Watch};
+use mq_rules::{Bare, Both, Brisk, Fate, Faults, Memory, Note, NoteRef, Rule, Tested, Watch};
 use std::alloc::Global;
 
 /// What is sent under Packet Identifiers, within the send quota, and in answer to pings.
@@ -155,8 +155,16 @@ impl Asks for Sessions {
         <Both<Sending, Both<Exchanges, Delivering>>>::no_places()
     }
 
-    fn count(&self, places: &mut Self::Places, at: Place3, decided: u32, fate: Fate, note: &Note) {
-        self.watchers.count(places, at, decided, fate, note);
+    #[inline(always)]
+    fn count(
+        &self,
+        places: &mut Self::Places,
+        at: Place3,
+        decided: u32,
+        fate: Fate,
+        event: NoteRef<'_>,
+    ) {
+        self.watchers.count(places, at, decided, fate, event);
     }
 
     fn places_of(places: &Self::Places, rule: Rule) -> u32 {

@@ -11,12 +11,12 @@ ghost use Rattle.mq_books.specs.Selecting as selecting;
 use crate::counting::Asks;
 use crate::counts::{Counts, Subacks, Unsubacks};
 use crate::fated::Fated;
-use crate::selective::{Selective, step_first};
+use crate::selective::{Discerning, Selective, step_first};
 use crate::subs::Deliveries;
 use mq_log::{Direction, Place3};
 use mq_rules::{
-    Bare, BareFields, Both, Brisk, Fate, Faults, ItemNote, Memory, Note, PacketFields, Rule,
-    Tested, Watch,
+    Bare, BareFields, Both, Brisk, Fate, Faults, ItemNote, Memory, Note, NoteRef, PacketFields,
+    Rule, Tested, Watch,
 };
 use std::alloc::Global;
 
@@ -133,12 +133,26 @@ impl Asks for Subs {
         <Both<Deliveries, Both<Counts<Subacks>, Counts<Unsubacks>>>>::no_places()
     }
 
-    fn count(&self, places: &mut Self::Places, at: Place3, decided: u32, fate: Fate, note: &Note) {
-        self.watchers.count(places, at, decided, fate, note);
+    #[inline(always)]
+    fn count(
+        &self,
+        places: &mut Self::Places,
+        at: Place3,
+        decided: u32,
+        fate: Fate,
+        event: NoteRef<'_>,
+    ) {
+        self.watchers.count(places, at, decided, fate, event);
     }
 
     fn places_of(places: &Self::Places, rule: Rule) -> u32 {
         <Both<Deliveries, Both<Counts<Subacks>, Counts<Unsubacks>>>>::places_of(places, rule)
+    }
+}
+
+impl Discerning for Subs {
+    fn leaves_out(&self) {
+        self.watchers.leaves_out();
     }
 }
 

@@ -19,7 +19,7 @@ mod plain;
 
 pub use counting::CountingWatchers;
 use mq_log::Place3;
-use mq_rules::{Bare, Brisk, Faults, Memory, Note, Rule, Tested, Watch};
+use mq_rules::{Bare, Brisk, Faults, Memory, Note, Rule, Tested, Watch, step_noted};
 pub use plain::PlainWatchers;
 use std::alloc::Global;
 
@@ -66,6 +66,31 @@ impl Watchers {
         match self {
             Watchers::Plain(_) => None,
             Watchers::Counting(watchers) => watchers.places(rule),
+        }
+    }
+}
+
+impl Watchers {
+    /// Takes in a packet without properties by its numbers where places are counted, and else by a
+    /// note that is made of it: so the quick way of a check isn't there a second time.
+    ///
+    /// # Errors
+    ///
+    /// As in `step`.
+    pub fn step_counted(
+        &mut self,
+        at: Place3,
+        bare: Bare<'_>,
+        faults: &mut Faults,
+    ) -> Result<(), Memory>
+        ensures agrees { OnOk result ((tested : TheTested) (taken : Option TheFate) (past : List TheSeen) → Follows tested (seen at (note_of_bare bare.entry)) past → IsOnConnection (seen at (note_of_bare bare.entry)) past → ⟦<Watchers as Watch>⟧.agrees self.old tested taken past → ⟦<Watchers as Watch>⟧.agrees self.new tested (latest_fate tested.role (seen at (note_of_bare bare.entry) ∷ past)) (seen at (note_of_bare bare.entry) ∷ past)) }
+        ensures grows { OnOk result ((tested : TheTested) (taken : Option TheFate) (past : List TheSeen) → Follows tested (seen at (note_of_bare bare.entry)) past → IsOnConnection (seen at (note_of_bare bare.entry)) past → ⟦<Watchers as Watch>⟧.agrees self.old tested taken past → Gains (turns tested (seen at (note_of_bare bare.entry)) past) tested (seen at (note_of_bare bare.entry) ∷ past) (length past + 1) faults.old faults.new) }
+        ensures memory { OnErr result ((tested : TheTested) (taken : Option TheFate) (past : List TheSeen) → Follows tested (seen at (note_of_bare bare.entry)) past → IsOnConnection (seen at (note_of_bare bare.entry)) past → ⟦<Watchers as Watch>⟧.agrees self.old tested taken past → GainsWithin (turns tested (seen at (note_of_bare bare.entry)) past) tested (seen at (note_of_bare bare.entry) ∷ past) (length past + 1) faults.old faults.new) }
+        ensures kind { counts self.new ≡ counts self.old }
+    {
+        match self {
+            Watchers::Plain(watchers) => step_noted(watchers, at, bare, faults),
+            Watchers::Counting(watchers) => watchers.step_bare(at, bare, faults),
         }
     }
 }

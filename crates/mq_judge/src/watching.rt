@@ -283,6 +283,118 @@ impl Watching {
     }
 }
 
+// The numbers of a packet that is taken in by them: a PUBLISH without properties, what acknowledges
+// one without, or a ping.
+#[inline(always)]
+#[tactic(auto, unfolding(mq_rules::specs::Notes::note_of_bare))]
+fn bare_of<'a>(direction: Direction, size: u32, packet: &Packet<'a>) -> Option<Bare<'a>>
+    ensures { IfSome result (λ bare. note_of_bare bare ≡ note_of (item_event direction (packet_item size (view packet.now)))) }
+{
+    match packet {
+        Packet::Publish(publish) => bare_of_publish(direction, size, publish),
+        _ => match BareFields::of_packet(packet) {
+            Some(fields) => Some(Bare {
+                direction,
+                size,
+                fields,
+            }),
+            None => None,
+        },
+    }
+}
+
+// The same of a PUBLISH.
+#[inline(always)]
+fn bare_of_publish<'a>(direction: Direction, size: u32, publish: &Publish<'a>) -> Option<Bare<'a>>
+    ensures { IfSome result (λ bare. note_of_bare bare ≡ note_of (item_event direction (packet_item size (view (packets.Publish publish.now))))) }
+{
+    if !is_bare(publish) {
+        return None;
+    }
+    let bare = Bare::of_publish(
+        direction,
+        size,
+        publish.identifier,
+        publish.qos,
+        publish.duplicate,
+        publish.topic,
+    );
+    Some(bare)
+}
+
+/// Where places are counted.
+impl Watching {
+    // Takes in the next event, a packet without properties, by its numbers.
+    //
+    // Errors: As in `take_in`.
+    #[inline(always)]
+    fn take_counted(&mut self, at: Place3, bare: Bare<'_>) -> Result<(), Memory>
+        ensures tested { self.new.tested ≡ self.old.tested }
+        ensures ok { OnOk result (TakesIn self.old self.new at (note_of_bare bare.entry)) }
+        ensures memory { OnErr result (LeavesOut self.old self.new at (note_of_bare bare.entry)) }
+        ensures counts { OnOk result (CountsNothing self.old self.new) }
+    {
+        match self.watchers.step_counted(at, bare, &mut self.faults) {
+            Ok(()) => {
+                self.events = at.position;
+                Ok(())
+            }
+            Err(Memory) => {
+                self.faults.drop_decided(at.position);
+                Err(Memory)
+            }
+        }
+    }
+
+    // Takes in the next event, a packet.
+    //
+    // Errors: As in `take_in`.
+    #[inline(always)]
+    fn receive_counted(
+        &mut self,
+        at: Place3,
+        direction: Direction,
+        size: u32,
+        packet: Packet<'_>,
+    ) -> Result<(), Memory>
+        ensures tested { self.new.tested ≡ self.old.tested }
+        ensures ok { OnOk result (TakesIn self.old self.new at (note_of (item_event direction (packet_item size (view packet.entry))))) }
+        ensures memory { OnErr result (LeavesOut self.old self.new at (note_of (item_event direction (packet_item size (view packet.entry))))) }
+        ensures counts { OnOk result (CountsNothing self.old self.new) }
+    {
+        match bare_of(direction, size, &packet) {
+            Some(bare) => self.take_counted(at, bare),
+            None => self.take_packet(at, direction, size, packet),
+        }
+    }
+
+    // Takes in the next event, a packet, and counts the statements on a packet's bytes that it puts
+    // to the test. A call of its own, so that nothing of it stands where no places are counted.
+    //
+    // Errors: As in `take_in`.
+    #[inline(never)]
+    fn count_packet(
+        &mut self,
+        place: Place3,
+        direction: Direction,
+        size: u32,
+        packet: Packet<'_>,
+    ) -> Result<(), Memory>
+        ensures tested { self.new.tested ≡ self.old.tested }
+        ensures ok { OnOk result (TakesIn self.old self.new place (note_of (item_event direction (packet_item size (view packet.entry))))) }
+        ensures memory { OnErr result (LeavesOut self.old self.new place (note_of (item_event direction (packet_item size (view packet.entry))))) }
+        ensures counts { OnOk result (counts self.new.watchers ≡ counts self.old.watchers) }
+        ensures tallies { OnOk result ((p : Placed) (events : List Placed) → p.event ≡ item_event direction (packet_item size (view packet.entry)) → place.position ≡ length events + 1 → IsTallying self.old events → IsTallying self.new (p ∷ events)) }
+    {
+        self.tally
+            .count_packet(place.position, direction, size, &packet);
+        match self.receive_counted(place, direction, size, packet) {
+            Ok(()) => Ok(()),
+            Err(Memory) => Err(Memory),
+        }
+    }
+}
+
 // The watchers of all statements, before any event.
 fn watch(alloc: Global, tested: Tested, counting: bool) -> Watchers
     ensures kind { counts result ≡ counting }
@@ -373,7 +485,10 @@ impl<K: End> Sink for Judging<K> {
         packet: Packet<'_>,
     ) -> Result<(), Refusal> {
         if self.watching.is_counting() {
-            return self.event(place, item_event(direction, Item::Packet(packet)));
+            return match self.watching.count_packet(place, direction, size, packet) {
+                Ok(()) => Ok(()),
+                Err(Memory) => Err(Refusal::Memory(0)),
+            };
         }
         match self.watching.receive_packet(place, direction, size, packet) {
             Ok(()) => Ok(()),
@@ -391,7 +506,10 @@ impl<K: End> Sink for Judging<K> {
     ) -> Result<(), Refusal> {
         if self.watching.is_counting() {
             let packet = Packet::Publish(publish);
-            return self.event(place, item_event(direction, Item::Packet(packet)));
+            return match self.watching.count_packet(place, direction, size, packet) {
+                Ok(()) => Ok(()),
+                Err(Memory) => Err(Refusal::Memory(0)),
+            };
         }
         match self
             .watching

@@ -39,6 +39,7 @@ pub mod WaitingLaws
 pub mod TallyLaws
 pub mod TrialLaws
 pub mod ByteTallyLaws
+mod PartsLaws
 pub mod HistoryLaws
 pub mod ByIdentifierLaws
 pub mod IdentifierCountLaws

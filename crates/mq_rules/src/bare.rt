@@ -1,18 +1,18 @@
 //! Notes of packets without properties, most packets of most logs. They take no memory.
-ghost use Rattle.std.specs.Prelude.{◌≡◌, ◌≤◌, ◌&&◌, ℕ, [], false, length, IsTrue, IfSome};
+ghost use Rattle.std.specs.Prelude.{◌≡◌, ◌≤◌, ◌&&◌, ℕ, [], false, length, is_some, IsTrue, IfSome};
 ghost use Rattle.mq_packet.specs.Reading.{view};
 ghost use Rattle.mq_log.specs.Events.{packet as packet_item};
 ghost use Rattle.mq_log.specs.Flows.{item_event};
 ghost use Rattle.mq_log.specs.declared.kind.Direction.{Direction as TheDirection};
 ghost use Rattle.mq_rules.specs.declared.packet_note.PacketFields.TheVariants as fields_of;
-ghost use Rattle.mq_rules.specs.Notes.{is_acknowledged, bare_fields, bare_note, bare_publish_note, note_of, kept_topic, note_of_bare};
+ghost use Rattle.mq_rules.specs.Notes.{is_acknowledged, fields_type, publish_in, bare_fields, bare_note, bare_publish_note, note_of, kept_topic, is_sent_direction, note_of_bare};
 
 use crate::conversion::{is_retained, nonempty};
 use crate::note::{ItemNote, Note};
 use crate::packet_note::{PacketFields, PacketNote, PublishNote};
 use crate::text::Text;
 use mq_log::Direction;
-use mq_packet::{Packet, Publish, Qos};
+use mq_packet::{Packet, PacketType, Publish, Qos};
 
 /// Whether a PUBLISH has no properties, and a Topic Name that is short enough to lie in its note.
 /// One with RETAIN 1 and a QoS above 0 counts as one with properties.
@@ -175,6 +175,32 @@ impl BareFields<'_> {
     }
 }
 
+impl BareFields<'_> {
+    /// The packet's type (MQTT 5.0, section 2.1.2).
+    #[inline(always)]
+    pub fn kind(&self) -> PacketType
+        ensures { (direction : TheDirection) → result ≡ fields_type (bare_fields direction self.now) }
+    {
+        match self {
+            BareFields::Publish { .. } => PacketType::Publish,
+            BareFields::Puback { .. } => PacketType::Puback,
+            BareFields::Pubrec { .. } => PacketType::Pubrec,
+            BareFields::Pubrel { .. } => PacketType::Pubrel,
+            BareFields::Pubcomp { .. } => PacketType::Pubcomp,
+            BareFields::Pingreq => PacketType::Pingreq,
+            BareFields::Pingresp => PacketType::Pingresp,
+        }
+    }
+
+    /// Whether it is a PUBLISH.
+    #[inline(always)]
+    pub fn is_publish(&self) -> bool
+        ensures { (direction : TheDirection) → result ≡ is_some (publish_in (bare_fields direction self.now)) }
+    {
+        matches!(self, BareFields::Publish { .. })
+    }
+}
+
 /// A packet without properties, by its numbers. A watcher that takes it in needs no note, unless it
 /// looks at more of it.
 #[derive(Clone, Copy)]
@@ -220,6 +246,17 @@ impl<'a> Bare<'a> {
             direction,
             size,
             fields,
+        }
+    }
+
+    /// Whether the tested end sent it.
+    #[inline(always)]
+    pub fn is_sent(&self) -> bool
+        ensures { result ≡ is_sent_direction self.now.direction }
+    {
+        match self.direction {
+            Direction::Sent => true,
+            Direction::Recv => false,
         }
     }
 

@@ -1,42 +1,157 @@
 //! How often W01 to W21 are put to the test, counted in one pass.
-ghost use Rattle.std.specs.Prelude.{◌≡◌, ◌∷◌, ◌+◌, ◌<◌, [], Bool, cond, length, List};
+ghost use Rattle.std.specs.Prelude.{◌≡◌, ◌∷◌, ◌+◌, ◌<◌, [], Bool, cond, length, List, IfSome};
 ghost use Rattle.mq_packet.specs.declared.rule.PacketRule.{PacketRule as ThePacketRule};
-ghost use Rattle.mq_packet.specs.Reading.{view};
+ghost use Rattle.mq_packet.specs.Reading.{view, publish_view};
+ghost use Rattle.mq_packet.specs.Tries.{tries};
 ghost use Rattle.mq_log.specs.Events.{Placed, packet as packet_item};
 ghost use Rattle.mq_log.specs.Flows.{item_event};
 ghost use Rattle.mq_log.specs.Reception.{event_of, item_of};
 ghost use Rattle.mq_rules.specs.declared.role.Tested.{Tested as TheTested};
-ghost use Rattle.mq_rules.specs.ByteTallies.{CountsBytes, count_of, tried_in};
+ghost use Rattle.mq_rules.specs.ByteTallies.{CountsBytes, count_of, tried_in, parts_try, ping_parts, acknowledgement_parts, publish_parts};
 ghost use Rattle.mq_rules.specs.Trials.{places_bytes, tried_by};
 
 use crate::conn::places_after;
+use crate::conversion::nonempty;
 use crate::rule::Rule;
 use mq_log::{Direction, Event, Item};
-use mq_packet::{Packet, PacketRule};
+use mq_packet::{Acknowledgement, Packet, PacketRule, Publish, Qos};
+
+// What of a packet without properties puts rules on bytes to the test: it is a PUBLISH,
+// acknowledges one, or is a ping.
+#[derive(Clone, Copy)]
+struct Parts {
+    // It is a PUBLISH.
+    publish: bool,
+    // It has a Topic Name that isn't empty.
+    named: bool,
+    // It is a PUBLISH of QoS 0.
+    at_most_once: bool,
+    // It has a Packet Identifier.
+    identified: bool,
+    // A Reason Code is written in it.
+    coded: bool,
+}
+
+impl Parts {
+    // Whether one of them puts the rule to the test.
+    #[inline(always)]
+    fn tries(&self, rule: PacketRule) -> bool
+        ensures { result ≡ parts_try self.now rule }
+    {
+        match rule {
+            PacketRule::W01 => !self.publish,
+            PacketRule::W02 | PacketRule::W03 | PacketRule::W06 => true,
+            PacketRule::W04 | PacketRule::W05 | PacketRule::W14 => self.named,
+            PacketRule::W07 => self.publish,
+            PacketRule::W08 => self.at_most_once,
+            PacketRule::W09 => self.identified,
+            PacketRule::W13 => self.coded,
+            PacketRule::W21 => self.publish && !self.named,
+            PacketRule::W10
+            | PacketRule::W11
+            | PacketRule::W12
+            | PacketRule::W15
+            | PacketRule::W16
+            | PacketRule::W17
+            | PacketRule::W18
+            | PacketRule::W19
+            | PacketRule::W20 => false,
+        }
+    }
+
+    // Those of a ping.
+    #[inline(always)]
+    fn of_ping() -> Parts
+        ensures { result ≡ ping_parts }
+    {
+        Parts {
+            publish: false,
+            named: false,
+            at_most_once: false,
+            identified: false,
+            coded: false,
+        }
+    }
+
+    // Those of what acknowledges a PUBLISH, if it has no properties.
+    #[inline(always)]
+    fn of_acknowledgement(size: u32, packet: &Acknowledgement<'_>) -> Option<Parts>
+        ensures { IfSome result (λ parts. (packet.now.properties.items ≡ []) × (parts ≡ acknowledgement_parts size)) }
+    {
+        match nonempty(&packet.properties) {
+            Some(_) => None,
+            None => Some(Parts {
+                publish: false,
+                named: false,
+                at_most_once: false,
+                identified: true,
+                coded: 4 < size,
+            }),
+        }
+    }
+
+    // Those of a PUBLISH, if it has no properties.
+    #[inline(always)]
+    fn of_publish(publish: &Publish<'_>) -> Option<Parts>
+        ensures { IfSome result (λ parts. (publish.now.properties.items ≡ []) × (parts ≡ publish_parts (publish_view publish.now))) }
+    {
+        match nonempty(&publish.properties) {
+            Some(_) => None,
+            None => Some(Parts {
+                publish: true,
+                named: !publish.topic.is_empty(),
+                at_most_once: matches!(publish.qos, Qos::AtMostOnce),
+                identified: publish.identifier.is_some(),
+                coded: false,
+            }),
+        }
+    }
+
+    // Those of a packet of this size, if it has no properties, and is a PUBLISH, acknowledges one or
+    // is a ping.
+    #[inline(always)]
+    fn of_packet(size: u32, packet: &Packet<'_>) -> Option<Parts>
+        ensures { IfSome result (λ parts. (rule : ThePacketRule) → parts_try parts rule ≡ tries rule size (view packet.now)) }
+    {
+        match packet {
+            Packet::Publish(publish) => Parts::of_publish(publish),
+            Packet::Puback(packet) => Parts::of_acknowledgement(size, packet),
+            Packet::Pubrec(packet) => Parts::of_acknowledgement(size, packet),
+            Packet::Pubrel(packet) => Parts::of_acknowledgement(size, packet),
+            Packet::Pubcomp(packet) => Parts::of_acknowledgement(size, packet),
+            Packet::Pingreq => Some(Parts::of_ping()),
+            Packet::Pingresp => Some(Parts::of_ping()),
+            _ => None,
+        }
+    }
+}
 
 // What the tested end sent, and puts rules on bytes to the test.
 #[derive(Clone, Copy)]
 enum Trial<'p, 'a> {
     // A packet of this size in bytes.
     Sized(u32, &'p Packet<'a>),
+    // A packet that has these parts, and no properties.
+    Plain(Parts),
     // Bytes that break this rule.
     Broken(PacketRule),
 }
 
 impl Trial<'_, '_> {
     // Whether it puts the rule to the test.
-    #[inline]
+    #[inline(always)]
     fn tries(&self, rule: PacketRule) -> bool
         ensures { result ≡ tried_in self.now rule }
     {
         match self {
             Trial::Sized(size, packet) => packet.tries(*size, rule),
+            Trial::Plain(parts) => parts.tries(rule),
             Trial::Broken(broken) => rule == *broken,
         }
     }
 
     // The count of a rule after it, at this position.
-    #[inline]
+    #[inline(always)]
     fn counted(&self, rule: PacketRule, count: u32, position: u32) -> u32
         ensures { count < position → result ≡ cond (tried_in self.now rule) 1 0 + count }
     {
@@ -101,6 +216,7 @@ impl ByteTally {
     }
 
     // Counts the rules that this puts to the test.
+    #[inline(always)]
     fn count(&mut self, position: u32, trial: Trial<'_, '_>)
         ensures { (rule : ThePacketRule) → count_of self.old rule < position → count_of self.new rule ≡ cond (tried_in trial.entry rule) 1 0 + count_of self.old rule }
     {
@@ -127,7 +243,27 @@ impl ByteTally {
         self.w21 = trial.counted(PacketRule::W21, self.w21, position);
     }
 
+    // Counts the rules that a packet of this size puts to the test, each by a look at the packet.
+    #[inline(never)]
+    fn count_sized(&mut self, position: u32, size: u32, packet: &Packet<'_>)
+        ensures { (rule : ThePacketRule) → count_of self.old rule < position → count_of self.new rule ≡ cond (tries rule size (view packet.now)) 1 0 + count_of self.old rule }
+    {
+        self.count(position, Trial::Sized(size, packet));
+    }
+
+    // Counts the rules that a packet of this size puts to the test.
+    #[inline(always)]
+    fn count_tried(&mut self, position: u32, size: u32, packet: &Packet<'_>)
+        ensures { (rule : ThePacketRule) → count_of self.old rule < position → count_of self.new rule ≡ cond (tries rule size (view packet.now)) 1 0 + count_of self.old rule }
+    {
+        match Parts::of_packet(size, packet) {
+            Some(parts) => self.count(position, Trial::Plain(parts)),
+            None => self.count_sized(position, size, packet),
+        }
+    }
+
     /// Counts the statements that a packet of `size` bytes puts to the test, which went this way.
+    #[inline(always)]
     pub fn count_packet(
         &mut self,
         position: u32,
@@ -138,7 +274,7 @@ impl ByteTally {
         ensures { (tested : TheTested) (p : Placed) (events : List Placed) → p.event ≡ item_event direction (packet_item size (view packet.now)) → position ≡ length events + 1 → CountsBytes self.old tested events → CountsBytes self.new tested (p ∷ events) }
     {
         match direction {
-            Direction::Sent => self.count(position, Trial::Sized(size, packet)),
+            Direction::Sent => self.count_tried(position, size, packet),
             Direction::Recv => {}
         }
     }
@@ -150,7 +286,7 @@ impl ByteTally {
         match item {
             Item::Packet(packet) => {
                 let size = packet.size().unwrap_or(0);
-                self.count(position, Trial::Sized(size, packet));
+                self.count_sized(position, size, packet);
             }
             Item::Bad { rule, .. } => self.count(position, Trial::Broken(*rule)),
             Item::Lost => self.count(position, Trial::Broken(PacketRule::W03)),

@@ -63,7 +63,7 @@ pub struct Seen {
 
 // The number of a packet's type (MQTT 5.0, section 2.1.2).
 #[inline]
-fn type_number(packet_type: PacketType) -> u8
+pub(crate) fn type_number(packet_type: PacketType) -> u8
     ensures { result ≡ type_number packet_type }
 {
     match packet_type {

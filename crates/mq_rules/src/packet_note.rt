@@ -1,8 +1,8 @@
 //! What the statements look at in a packet.
-ghost use Rattle.std.specs.Prelude.{◌≡◌, option_map, not, Some};
+ghost use Rattle.std.specs.Prelude.{◌≡◌, ◌==◌, option_map, not, Some};
 ghost use Rattle.std.specs.Option.{option_and_then, option_or};
 ghost use Rattle.mq_rules.specs.Words.{only};
-ghost use Rattle.mq_rules.specs.Notes.{fate_by, resumed_by, refuses as is_refusing, delivery_in, opener_in, resend_in, is_at_least_once, is_exactly_once, fields_type, connect_in, connack_in, publish_in, disconnect_in, puback_in, pubrec_in, accepting_pubrec_in, pubrel_in, pubcomp_in, subscribe_in, suback_in, unsubscribe_in, unsuback_in, settled_in, ended_in, unmatched_pubrec_in, success_pubcomp_in, is_pingreq as pings, is_pingresp as answers_ping, is_session_packet as needs_a_session, may_explain as explains};
+ghost use Rattle.mq_rules.specs.Notes.{fate_by, resumed_by, refuses as is_refusing, is_acknowledged, delivery_in, opener_in, resend_in, is_at_least_once, is_exactly_once, fields_type, connect_in, connack_in, publish_in, disconnect_in, puback_in, pubrec_in, accepting_pubrec_in, pubrel_in, pubcomp_in, subscribe_in, suback_in, unsubscribe_in, unsuback_in, settled_in, ended_in, unmatched_pubrec_in, success_pubcomp_in, is_pingreq as pings, is_pingresp as answers_ping, is_session_packet as needs_a_session, may_explain as explains};
 
 use crate::fate::Fate;
 use crate::text::{CodeList, FilterList, Text};
@@ -240,6 +240,33 @@ pub(crate) fn exactly_once(qos: Qos, identifier: Option<u16>) -> Option<u16>
     }
 }
 
+// The Packet Identifier of a PUBLISH, if its QoS is above 0.
+#[inline(always)]
+pub(crate) fn delivered(qos: Qos, identifier: Option<u16>) -> Option<u16>
+    ensures { result ≡ only (is_acknowledged qos) identifier }
+{
+    match qos {
+        Qos::AtMostOnce => None,
+        Qos::AtLeastOnce | Qos::ExactlyOnce => identifier,
+    }
+}
+
+// The Packet Identifier, if the Reason Code of a PUBREC refuses.
+#[inline(always)]
+pub(crate) fn refused(identifier: u16, code: u8) -> Option<u16>
+    ensures { result ≡ only (is_refusing code) (Some identifier) }
+{
+    (code >= REFUSING).then_some(identifier)
+}
+
+// The Packet Identifier, if the Reason Code of a PUBCOMP is Success.
+#[inline(always)]
+pub(crate) fn succeeded(identifier: u16, code: u8) -> Option<u16>
+    ensures { result ≡ only (code == 0) (Some identifier) }
+{
+    (code == SUCCESS).then_some(identifier)
+}
+
 // The Packet Identifier of a PUBREC, if its Reason Code doesn't refuse.
 #[inline(always)]
 pub(crate) fn accepted(identifier: u16, code: u8) -> Option<u16>
@@ -257,10 +284,7 @@ impl PublishNote {
     pub fn delivery(&self) -> Option<u16>
         ensures { result ≡ delivery_in self.now }
     {
-        match self.qos {
-            Qos::AtMostOnce => None,
-            Qos::AtLeastOnce | Qos::ExactlyOnce => self.identifier,
-        }
+        delivered(self.qos, self.identifier)
     }
 
     /// The Packet Identifier that it opens: its QoS is above 0, and DUP is 0 (MQTT 5.0, section
@@ -493,7 +517,7 @@ impl PacketFields {
         ensures { result ≡ success_pubcomp_in self.now }
     {
         match self {
-            PacketFields::Pubcomp { identifier, code } => (*code == SUCCESS).then_some(*identifier),
+            PacketFields::Pubcomp { identifier, code } => succeeded(*identifier, *code),
             _ => None,
         }
     }
@@ -507,7 +531,7 @@ impl PacketFields {
         match self {
             PacketFields::Puback { identifier, .. } | PacketFields::Pubcomp { identifier, .. } =>
                 Some(*identifier),
-            PacketFields::Pubrec { identifier, code } => (*code >= REFUSING).then_some(*identifier),
+            PacketFields::Pubrec { identifier, code } => refused(*identifier, *code),
             _ => None,
         }
     }
@@ -520,7 +544,7 @@ impl PacketFields {
     {
         match self {
             PacketFields::Pubcomp { identifier, .. } => Some(*identifier),
-            PacketFields::Pubrec { identifier, code } => (*code >= REFUSING).then_some(*identifier),
+            PacketFields::Pubrec { identifier, code } => refused(*identifier, *code),
             _ => None,
         }
     }

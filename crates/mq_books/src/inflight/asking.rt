@@ -7,7 +7,7 @@ ghost use Rattle.mq_rules.specs.declared.fate.Fate.{Fate as TheFate};
 ghost use Rattle.mq_rules.specs.declared.fate.Fate.TheVariants.{Void};
 ghost use Rattle.mq_rules.specs.declared.note.Seen.{Seen as TheSeen};
 ghost use Rattle.mq_rules.specs.Words.{is_some_and};
-ghost use Rattle.mq_rules.specs.Notes.{resend_of};
+ghost use Rattle.mq_rules.specs.Notes.{note_in, resend_of};
 ghost use Rattle.mq_rules.specs.Under.{seen, IsUnder, fate_before};
 ghost use Rattle.mq_rules.specs.Occasions.{places_under};
 ghost use Rattle.mq_books.specs.Using.{is_taken as taken, is_at_once as judged_at_once, is_inflight, past_pubrel, IsUsing};
@@ -22,9 +22,10 @@ use super::resends::passed_since;
 use super::resuming::{ResumedPlaces, count_resumed};
 use crate::counting::{Asks, pick, places_after};
 use crate::known::excuse;
+use crate::selective::Discerning;
 use indexmap::{IndexMap, IndexSet};
 use mq_log::Place3;
-use mq_rules::{Fate, Note, Rule};
+use mq_rules::{Fate, NoteRef, Rule};
 
 /// How often S01 to S05 were put to the test.
 #[derive(Drop)]
@@ -68,20 +69,22 @@ impl Inflight {
     }
 
     // Whether an event puts S01 to the test: it takes an identifier while something is in use.
-    fn tries_taking(&self, fate: Fate, known: bool, note: &Note) -> bool
-        ensures { result ≡ tried.tries_taking self.now fate known note.now }
+    #[inline(always)]
+    fn tries_taking(&self, fate: Fate, known: bool, event: NoteRef<'_>) -> bool
+        ensures { result ≡ tried.tries_taking self.now fate known (note_in event.entry) }
     {
         let taking = fate.accepts()
-            && (note.taken_identifier(self.role).is_some() && self.has_any_used(fate));
+            && (event.taken_identifier(self.role).is_some() && self.has_any_used(fate));
         excuse(fate.is_unasked(), known, taking)
     }
 
     // Whether it puts S02 to the test: it sends a PUBLISH again, and none was cut off.
-    fn tries_resending(&self, fate: Fate, known: bool, note: &Note) -> bool
-        ensures { result ≡ tried.tries_resending self.now fate known note.now }
+    #[inline(always)]
+    fn tries_resending(&self, fate: Fate, known: bool, event: NoteRef<'_>) -> bool
+        ensures { result ≡ tried.tries_resending self.now fate known (note_in event.entry) }
     {
         let resending = fate.accepts()
-            && (note.resend().is_some() && !(self.earlier.cut_on_void || self.earlier.cut));
+            && (event.resend().is_some() && !(self.earlier.cut_on_void || self.earlier.cut));
         excuse(fate.surprises(), known, resending)
     }
 
@@ -96,59 +99,64 @@ impl Inflight {
     }
 
     // Whether it puts S04 to the test: it sends such a PUBLISH again, or its PUBREL.
-    fn tries_released(&self, fate: Fate, note: &Note) -> bool
-        ensures { result ≡ tried.tries_released self.now fate note.now }
+    #[inline(always)]
+    fn tries_released(&self, fate: Fate, event: NoteRef<'_>) -> bool
+        ensures { result ≡ tried.tries_released self.now fate (note_in event.entry) }
     {
         fate.accepts()
-            && match note.resend().or(note.sent_pubrel()) {
+            && match event.resend().or(event.sent_pubrel()) {
                 Some(i) => self.is_released(i),
                 None => false,
             }
     }
 
     // Whether what is sent again is open.
-    fn is_open_again(&self, note: &Note) -> bool
-        ensures { result ≡ is_some_and (λ i. is_some (get nat_eq self.now.entries i)) (resend_of note.now) }
+    #[inline(always)]
+    fn is_open_again(&self, event: NoteRef<'_>) -> bool
+        ensures { result ≡ is_some_and (λ i. is_some (get nat_eq self.now.entries i)) (resend_of (note_in event.entry)) }
     {
-        match note.resend() {
+        match event.resend() {
             Some(i) => self.entries.contains_key(&i),
             None => false,
         }
     }
 
     // Whether it puts S05 to the test: it sends again what is open, after another such PUBLISH.
-    fn tries_ordering(&self, fate: Fate, note: &Note) -> bool
-        ensures { result ≡ tried.tries_ordering self.now fate note.now }
+    #[inline(always)]
+    fn tries_ordering(&self, fate: Fate, event: NoteRef<'_>) -> bool
+        ensures { result ≡ tried.tries_ordering self.now fate (note_in event.entry) }
     {
-        self.ordered && (fate.accepts() && (self.is_open_again(note) && 0 < self.resent))
+        self.ordered && (fate.accepts() && (self.is_open_again(event) && 0 < self.resent))
     }
 }
 
 // Whether an event puts S03 to the test: it sends a PUBLISH again.
-fn tries_repeating(fate: Fate, note: &Note) -> bool
-    ensures { result ≡ tried.tries_repeating fate note.now }
+#[inline(always)]
+fn tries_repeating(fate: Fate, event: NoteRef<'_>) -> bool
+    ensures { result ≡ tried.tries_repeating fate (note_in event.entry) }
 {
-    fate.accepts() && note.resend().is_some()
+    fate.accepts() && event.resend().is_some()
 }
 
 /// Counts the places of S01 to S05 that turn out with an event of a connection that has this fate,
 /// which is taken in after that.
+#[inline(always)]
 pub fn count_at_once(
     flight: &Inflight,
     places: &mut AtOncePlaces,
     at: Place3,
     decided: u32,
     fate: Fate,
-    note: &Note,
+    event: NoteRef<'_>,
 )
-    ensures { (tested : TheTested) (past : List TheSeen) → IsUnder tested fate decided (seen at note.now) past → IsUsing flight.now tested (fate_before tested fate (seen at note.now) past) past → CountsAtOnce places.old tested (fate_before tested fate (seen at note.now) past) past → CountsAtOnce places.new tested (Some fate) (seen at note.now ∷ past) }
+    ensures { (tested : TheTested) (past : List TheSeen) → IsUnder tested fate decided (seen at (note_in event.entry)) past → IsUsing flight.now tested (fate_before tested fate (seen at (note_in event.entry)) past) past → CountsAtOnce places.old tested (fate_before tested fate (seen at (note_in event.entry)) past) past → CountsAtOnce places.new tested (Some fate) (seen at (note_in event.entry) ∷ past) }
 {
     let known = decided == at.position;
-    let taking = flight.tries_taking(fate, known, note);
-    let resending = flight.tries_resending(fate, known, note);
-    let repeating = tries_repeating(fate, note);
-    let released = flight.tries_released(fate, note);
-    let ordering = flight.tries_ordering(fate, note);
+    let taking = flight.tries_taking(fate, known, event);
+    let resending = flight.tries_resending(fate, known, event);
+    let repeating = tries_repeating(fate, event);
+    let released = flight.tries_released(fate, event);
+    let ordering = flight.tries_ordering(fate, event);
     places.taking = places_after(taking, places.taking, at.position);
     places.resending = places_after(resending, places.resending, at.position);
     places.repeating = places_after(repeating, places.repeating, at.position);
@@ -216,16 +224,17 @@ impl Asks for Inflight {
         }
     }
 
+    #[inline(always)]
     fn count(
         &self,
         places: &mut InflightPlaces,
         at: Place3,
         decided: u32,
         fate: Fate,
-        note: &Note,
+        event: NoteRef<'_>,
     ) {
-        count_at_once(self, &mut places.at_once, at, decided, fate, note);
-        count_resumed(self, &mut places.resumed, at, decided, fate, note);
+        count_at_once(self, &mut places.at_once, at, decided, fate, event);
+        count_resumed(self, &mut places.resumed, at, decided, fate, event);
     }
 
     fn places_of(places: &InflightPlaces, rule: Rule) -> u32 {
@@ -235,4 +244,8 @@ impl Asks for Inflight {
             places.resumed.places(),
         )
     }
+}
+
+impl Discerning for Inflight {
+    fn leaves_out(&self) {}
 }

@@ -4,7 +4,7 @@ ghost use Rattle.std.specs.List.{list_any};
 ghost use Rattle.indexmap.specs.IndexMap.{get, values};
 ghost use Rattle.indexmap.specs.IndexSet.{contains, index_set_len};
 ghost use Rattle.mq_rules.specs.Words.{is_some_and, is_id};
-ghost use Rattle.mq_rules.specs.Notes.{is_open as opens};
+ghost use Rattle.mq_rules.specs.Notes.{note_in, is_open as opens};
 ghost use Rattle.mq_books.specs.Owings.{Keeps};
 ghost use Rattle.mq_books.specs.Resending as resending;
 ghost use Rattle.mq_books.specs.declared.inflight.resends.Excused.{Excused as TheExcused};
@@ -13,7 +13,7 @@ ghost use Rattle.mq_books.specs.Resending.{by_itself, bounded_next, entire, due_
 use super::entry::Entry;
 use crate::quota::RECEIVE_MAXIMUM;
 use indexmap::{IndexMap, IndexSet};
-use mq_rules::{Fate, Fault, FaultKey, Faults, Memory, Note, Role, Rule};
+use mq_rules::{Fate, Fault, FaultKey, Faults, Memory, Note, NoteRef, Role, Rule};
 use std::alloc::Global;
 
 /// What the peer announced of what may be sent.
@@ -454,21 +454,23 @@ pub fn settle(
 
 /// Whether this is a REST that settles what a resumed session owes: nothing that was sent on the
 /// connection waits for its answer.
+#[inline(always)]
 pub fn settles_now(
     fate: Fate,
     known: bool,
     ended: bool,
     unanswered: &IndexSet<u16>,
-    note: &Note,
+    event: NoteRef<'_>,
 ) -> bool
-    ensures { result ≡ (settles fate known ended note.now && (index_set_len unanswered.now == 0)) }
+    ensures { result ≡ (settles fate known ended (note_in event.entry) && (index_set_len unanswered.now == 0)) }
 {
-    rests_now(fate, known, ended, note) && unanswered.len() == 0
+    rests_now(fate, known, ended, event) && unanswered.len() == 0
 }
 
 // Whether this is a REST that binds, on a resumed connection.
-fn rests_now(fate: Fate, known: bool, ended: bool, note: &Note) -> bool
-    ensures { result ≡ settles fate known ended note.now }
+#[inline(always)]
+fn rests_now(fate: Fate, known: bool, ended: bool, event: NoteRef<'_>) -> bool
+    ensures { result ≡ settles fate known ended (note_in event.entry) }
 {
-    fate.resumes() && (note.is_rest() && (known && (fate.accepts() && !ended)))
+    fate.resumes() && (event.is_rest() && (known && (fate.accepts() && !ended)))
 }

@@ -7,7 +7,7 @@ ghost use Rattle.mq_rules.specs.declared.fate.Fate.TheVariants.{Void};
 ghost use Rattle.mq_rules.specs.declared.rule.Rule.TheVariants.{S06};
 ghost use Rattle.mq_rules.specs.declared.note.Seen.{Seen as TheSeen};
 ghost use Rattle.mq_rules.specs.Words.{is_some_and};
-ghost use Rattle.mq_rules.specs.Notes.{opener_of};
+ghost use Rattle.mq_rules.specs.Notes.{note_in, opener_of};
 ghost use Rattle.mq_rules.specs.Connections.{accepts, begins};
 ghost use Rattle.mq_rules.specs.Under.{seen, IsUnder, fate_before};
 ghost use Rattle.mq_rules.specs.Occasions.{places_under};
@@ -20,7 +20,7 @@ use super::entry::Entry;
 use super::resends::settles_now;
 use indexmap::IndexMap;
 use mq_log::Place3;
-use mq_rules::{Fate, Note};
+use mq_rules::{Fate, NoteRef};
 
 /// How often S06 was put to the test, and what is kept to count each opener once. Its numbers are
 /// changed at an event without a look at what is open.
@@ -38,17 +38,19 @@ pub struct ResumedPlaces {
 }
 
 // The identifier that an event opens or closes.
-fn moved(note: &Note) -> Option<u16>
-    ensures { result ≡ resumings.moved note.now }
+#[inline(always)]
+fn moved(event: NoteRef<'_>) -> Option<u16>
+    ensures { result ≡ resumings.moved (note_in event.entry) }
 {
-    note.opener().or(note.closer())
+    event.opener().or(event.closer())
 }
 
 // The same, if its connection has this fate.
-fn moved_identifier(fate: Fate, note: &Note) -> Option<u16>
-    ensures { result ≡ moved_on fate note.now }
+#[inline(always)]
+fn moved_identifier(fate: Fate, event: NoteRef<'_>) -> Option<u16>
+    ensures { result ≡ moved_on fate (note_in event.entry) }
 {
-    if fate.accepts() { moved(note) } else { None }
+    if fate.accepts() { moved(event) } else { None }
 }
 
 // Where what is open under an identifier was opened.
@@ -65,6 +67,7 @@ fn opener_place(entries: &IndexMap<u16, Entry>, identifier: Option<u16>) -> Opti
 }
 
 // Whether what an event closes was opened from this position on.
+#[inline(always)]
 fn is_ended_since(ended: Option<u32>, from: u32) -> bool
     ensures { result ≡ is_some_and (nat_le from) ended }
 {
@@ -75,6 +78,7 @@ fn is_ended_since(ended: Option<u32>, from: u32) -> bool
 }
 
 // How many are open after an event, of those that were opened from a position on.
+#[inline(always)]
 fn still_open(from: u32, opens: bool, ended: Option<u32>, old: u32) -> u32
     ensures { old < 4294967295 → result ≡ remaining from opens ended old }
 {
@@ -83,10 +87,11 @@ fn still_open(from: u32, opens: bool, ended: Option<u32>, old: u32) -> u32
 }
 
 // Whether an event opens an identifier, if its connection has this fate.
-fn opens_one(fate: Fate, note: &Note) -> bool
-    ensures { result ≡ (accepts fate && is_some (opener_of note.now)) }
+#[inline(always)]
+fn opens_one(fate: Fate, event: NoteRef<'_>) -> bool
+    ensures { result ≡ (accepts fate && is_some (opener_of (note_in event.entry))) }
 {
-    fate.accepts() && note.opener().is_some()
+    fate.accepts() && event.opener().is_some()
 }
 
 impl ResumedPlaces {
@@ -145,25 +150,26 @@ impl ResumedPlaces {
 
 /// Counts the places of S06 that turn out with an event of a connection that has this fate, which
 /// is taken in after that.
+#[inline(always)]
 pub fn count_resumed(
     flight: &Inflight,
     places: &mut ResumedPlaces,
     at: Place3,
     decided: u32,
     fate: Fate,
-    note: &Note,
+    event: NoteRef<'_>,
 )
-    ensures { (tested : TheTested) (past : List TheSeen) → IsUnder tested fate decided (seen at note.now) past → IsUsing flight.now tested (fate_before tested fate (seen at note.now) past) past → CountsResumed places.old tested (fate_before tested fate (seen at note.now) past) past → CountsResumed places.new tested (Some fate) (seen at note.now ∷ past) }
+    ensures { (tested : TheTested) (past : List TheSeen) → IsUnder tested fate decided (seen at (note_in event.entry)) past → IsUsing flight.now tested (fate_before tested fate (seen at (note_in event.entry)) past) past → CountsResumed places.old tested (fate_before tested fate (seen at (note_in event.entry)) past) past → CountsResumed places.new tested (Some fate) (seen at (note_in event.entry) ∷ past) }
 {
-    if note.is_open() {
+    if event.is_open() {
         places.begin(fate);
         return;
     }
     let known = decided == at.position;
-    if settles_now(fate, known, flight.ended, &flight.unanswered, note) {
+    if settles_now(fate, known, flight.ended, &flight.unanswered, event) {
         places.settle(flight.opened);
         return;
     }
-    let ended = opener_place(&flight.entries, moved_identifier(fate, note));
-    places.go_on(opens_one(fate, note), ended, flight.opened);
+    let ended = opener_place(&flight.entries, moved_identifier(fate, event));
+    places.go_on(opens_one(fate, event), ended, flight.opened);
 }

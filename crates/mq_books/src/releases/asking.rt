@@ -2,7 +2,7 @@
 ghost use Rattle.std.specs.Prelude.{◌≡◌, ◌&&◌, ◌||◌, is_some, refl, Some};
 ghost use Rattle.mq_rules.specs.declared.rule.Rule.TheVariants.{L1, L2, L3};
 ghost use Rattle.mq_rules.specs.Words.{is_some_and};
-ghost use Rattle.mq_rules.specs.Notes.{released_id};
+ghost use Rattle.mq_rules.specs.Notes.{note_in, released_id};
 ghost use Rattle.mq_rules.specs.Connections.{accepts};
 ghost use Rattle.mq_rules.specs.Rules.{same_rule};
 ghost use Rattle.mq_rules.specs.Occasions.{occasion, places_under};
@@ -13,8 +13,9 @@ use super::Releases;
 use crate::counting::{Asks, pick, places_after};
 use crate::fated::Fated;
 use crate::known::{is_placed, place};
+use crate::selective::Discerning;
 use mq_log::Place3;
-use mq_rules::{CountedByIdentifier, Fate, Note, Rule};
+use mq_rules::{CountedByIdentifier, Fate, NoteRef, Rule};
 
 /// How often the statements on releases were put to the test.
 #[derive(Drop)]
@@ -26,10 +27,11 @@ pub struct ReleasePlaces {
 }
 
 // Whether releases are recorded, and the event is one.
-fn is_released(releases: bool, note: &Note) -> bool
-    ensures { result ≡ (releases && is_some (released_id note.now)) }
+#[inline(always)]
+fn is_released(releases: bool, event: NoteRef<'_>) -> bool
+    ensures { result ≡ (releases && is_some (released_id (note_in event.entry))) }
 {
-    releases && note.released_identifier().is_some()
+    releases && event.released_identifier().is_some()
 }
 
 // Whether releases are recorded, and an exchange is completed with success whose message needs one.
@@ -67,10 +69,18 @@ impl Asks for Releases {
         }
     }
 
-    fn count(&self, places: &mut ReleasePlaces, at: Place3, decided: u32, fate: Fate, note: &Note) {
+    #[inline(always)]
+    fn count(
+        &self,
+        places: &mut ReleasePlaces,
+        at: Place3,
+        decided: u32,
+        fate: Fate,
+        event: NoteRef<'_>,
+    ) {
         let placed = is_placed(fate, decided == at.position);
-        let released = place(placed, is_released(self.releases, note));
-        let success = note.sent_success_pubcomp();
+        let released = place(placed, is_released(self.releases, event));
+        let success = event.sent_success_pubcomp();
         let completed = is_completed(self.releases, fate, success, &self.due);
         places.released = places_after(released, places.released, at.position);
         places.completed = places_after(completed, places.completed, at.position);
@@ -81,4 +91,8 @@ impl Asks for Releases {
     }
 
     ghost on_sessions = { λ role rule judged. on_either (same_rule rule L1 || same_rule rule L2) (same_rule rule L3) (is_on_sessions (occasion role rule)) (on_either (same_rule rule L1) (same_rule rule L2) (is_on_sessions (occasion role rule)) (on_one role L1 rule refl) (on_one role L2 rule refl)) (on_one role L3 rule refl) judged };
+}
+
+impl Discerning for Releases {
+    fn leaves_out(&self) {}
 }

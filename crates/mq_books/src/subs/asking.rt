@@ -2,7 +2,7 @@
 ghost use Rattle.std.specs.Prelude.{◌≡◌, ◌&&◌, ◌||◌, nat_eq, true, refl, Some};
 ghost use Rattle.indexmap.specs.IndexMap.{get};
 ghost use Rattle.mq_rules.specs.declared.rule.Rule.TheVariants.{B01, B02};
-ghost use Rattle.mq_rules.specs.Notes.{is_acknowledged as waits};
+ghost use Rattle.mq_rules.specs.Notes.{note_in, is_acknowledged as waits};
 ghost use Rattle.mq_rules.specs.Connections.{accepts};
 ghost use Rattle.mq_rules.specs.Rules.{same_rule};
 ghost use Rattle.mq_rules.specs.Occasions.{occasion, places_under};
@@ -13,9 +13,10 @@ use super::{Deliveries, judged_topic};
 use crate::counting::{Asks, pick, places_after};
 use crate::fated::Fated;
 use crate::messages::is_acknowledged;
+use crate::selective::Discerning;
 use indexmap::IndexMap;
 use mq_log::Place3;
-use mq_rules::{Fate, Note, Rule, Text};
+use mq_rules::{Fate, Note, NoteRef, Rule, Text};
 
 /// How often the statements on deliveries were put to the test.
 #[derive(Drop)]
@@ -52,19 +53,43 @@ fn has_acknowledged_topic(sharing: bool, topics: &IndexMap<u16, Text>, note: &No
     }
 }
 
+// Whether an event is a PUBLISH that is sent and of which B01 looks at a topic.
+#[inline(always)]
+fn delivers_topic(sharing: bool, topics: &IndexMap<u16, Text>, event: NoteRef<'_>) -> bool
+    ensures { result ≡ delivers_so (note_in event.entry) sharing (get nat_eq topics.now) (λ p topic. true) }
+{
+    match event {
+        NoteRef::Kept(note) => has_topic(sharing, topics, note),
+        NoteRef::Bare(bare) => has_topic(sharing, topics, &bare.note()),
+    }
+}
+
+// The same of B02.
+#[inline(always)]
+fn delivers_acknowledged(sharing: bool, topics: &IndexMap<u16, Text>, event: NoteRef<'_>) -> bool
+    ensures { result ≡ delivers_so (note_in event.entry) sharing (get nat_eq topics.now) (λ p topic. waits p.qos) }
+{
+    match event {
+        NoteRef::Kept(note) => has_acknowledged_topic(sharing, topics, note),
+        NoteRef::Bare(bare) => has_acknowledged_topic(sharing, topics, &bare.note()),
+    }
+}
+
 impl Deliveries {
     // Whether deliveries are judged, and the event puts B01 to the test.
-    fn is_delivered(&self, fate: Fate, note: &Note) -> bool
-        ensures { result ≡ (self.now.bound && (accepts fate && delivers_so note.now self.now.sharing (get nat_eq self.now.topics) (λ p topic. true))) }
+    #[inline(always)]
+    fn is_delivered(&self, fate: Fate, event: NoteRef<'_>) -> bool
+        ensures { result ≡ (self.now.bound && (accepts fate && delivers_so (note_in event.entry) self.now.sharing (get nat_eq self.now.topics) (λ p topic. true))) }
     {
-        self.bound && (fate.accepts() && has_topic(self.sharing, &self.topics, note))
+        self.bound && (fate.accepts() && delivers_topic(self.sharing, &self.topics, event))
     }
 
     // The same of B02.
-    fn is_granted(&self, fate: Fate, note: &Note) -> bool
-        ensures { result ≡ (self.now.bound && (accepts fate && delivers_so note.now self.now.sharing (get nat_eq self.now.topics) (λ p topic. waits p.qos))) }
+    #[inline(always)]
+    fn is_granted(&self, fate: Fate, event: NoteRef<'_>) -> bool
+        ensures { result ≡ (self.now.bound && (accepts fate && delivers_so (note_in event.entry) self.now.sharing (get nat_eq self.now.topics) (λ p topic. waits p.qos))) }
     {
-        self.bound && (fate.accepts() && has_acknowledged_topic(self.sharing, &self.topics, note))
+        self.bound && (fate.accepts() && delivers_acknowledged(self.sharing, &self.topics, event))
     }
 }
 
@@ -86,9 +111,17 @@ impl Asks for Deliveries {
         }
     }
 
-    fn count(&self, places: &mut DeliveryPlaces, at: Place3, _: u32, fate: Fate, note: &Note) {
-        let delivered = self.is_delivered(fate, note);
-        let granted = self.is_granted(fate, note);
+    #[inline(always)]
+    fn count(
+        &self,
+        places: &mut DeliveryPlaces,
+        at: Place3,
+        _: u32,
+        fate: Fate,
+        event: NoteRef<'_>,
+    ) {
+        let delivered = self.is_delivered(fate, event);
+        let granted = self.is_granted(fate, event);
         places.delivered = places_after(delivered, places.delivered, at.position);
         places.acknowledged = places_after(granted, places.acknowledged, at.position);
     }
@@ -98,4 +131,8 @@ impl Asks for Deliveries {
     }
 
     ghost on_sessions = { λ role rule judged. on_either (same_rule rule B01) (same_rule rule B02) (is_on_sessions (occasion role rule)) (on_one role B01 rule refl) (on_one role B02 rule refl) judged };
+}
+
+impl Discerning for Deliveries {
+    fn leaves_out(&self) {}
 }

@@ -16,7 +16,7 @@ use crate::sessions::Sessions;
 use mq_log::Place3;
 use mq_rules::{
     Bare, Both, Brisk, ConnTally, CountingConn, Faults, Memory, Note, Rule, Shapes, Tested, Watch,
-    conn_places, step_noted,
+    conn_places,
 };
 use std::alloc::Global;
 
@@ -84,8 +84,10 @@ impl Watch for CountingWatchers {
 }
 
 impl Brisk for CountingWatchers {
+    // A call of its own: what is counted would else stand wherever packets are taken in.
+    #[inline(never)]
     fn step_bare(&mut self, at: Place3, bare: Bare<'_>, faults: &mut Faults) -> Result<(), Memory> {
-        step_noted(self, at, bare, faults)?;
+        self.parts.step_bare(at, bare, faults)?;
         Ok(())
     }
 }

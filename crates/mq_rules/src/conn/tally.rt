@@ -6,6 +6,7 @@ ghost use Rattle.mq_rules.specs.declared.fate.Fate.{Fate as TheFate};
 ghost use Rattle.mq_rules.specs.declared.fate.Fate.TheVariants.{Void};
 ghost use Rattle.mq_rules.specs.declared.note.Seen.{Seen as TheSeen};
 ghost use Rattle.mq_rules.specs.Connections.{IsOnConnection};
+ghost use Rattle.mq_rules.specs.Notes.{note_in};
 ghost use Rattle.mq_rules.specs.Rules.{same_rule};
 ghost use Rattle.mq_rules.specs.Statements.{is_on_past};
 ghost use Rattle.mq_rules.specs.Steps.{turns};
@@ -24,9 +25,10 @@ use super::trying::{
 use crate::bare::Bare;
 use crate::faults::{Faults, Memory};
 use crate::note::Note;
+use crate::note_ref::NoteRef;
 use crate::role::{Role, Tested};
 use crate::rule::Rule;
-use crate::watch::{Both, Brisk, Watch, step_noted};
+use crate::watch::{Both, Brisk, Watch};
 use mq_log::Place3;
 use std::alloc::Global;
 use std::marker::PhantomData;
@@ -44,8 +46,8 @@ pub trait Tally: Drop {
         ensures { (tested : TheTested) → counts result tested [] };
 
     /// Counts the statements that an event puts to the test, by what is kept of those before it.
-    fn count(&mut self, role: Role, state: &ConnectionState, at: Place3, note: &Note)
-        ensures { (tested : TheTested) (past : List TheSeen) → role ≡ tested.role → state.now ≡ kept tested.role past → at.position ≡ length past + 1 → counts self.old tested past → counts self.new tested (seen at note.now ∷ past) };
+    fn count(&mut self, role: Role, state: &ConnectionState, at: Place3, event: NoteRef<'_>)
+        ensures { (tested : TheTested) (past : List TheSeen) → role ≡ tested.role → state.now ≡ kept tested.role past → at.position ≡ length past + 1 → counts self.old tested past → counts self.new tested (seen at (note_in event.entry) ∷ past) };
 
     /// Whether a statement is one of them.
     fn tests(rule: Rule) -> bool
@@ -64,6 +66,7 @@ pub struct One<T> {
 }
 
 /// One place more, or none: there are fewer than events.
+#[inline(always)]
 pub fn places_after(here: bool, old: u32, position: u32) -> u32
     ensures { old < position → result ≡ cond here 1 0 + old }
 {
@@ -90,8 +93,9 @@ impl<T: Tried> Tally for One<T> {
         rule == T::rule()
     }
 
-    fn count(&mut self, role: Role, state: &ConnectionState, at: Place3, note: &Note) {
-        let here = T::is_tried(role, state, note);
+    #[inline(always)]
+    fn count(&mut self, role: Role, state: &ConnectionState, at: Place3, event: NoteRef<'_>) {
+        let here = T::is_tried(role, state, event);
         self.places = places_after(here, self.places, at.position);
     }
 
@@ -113,9 +117,10 @@ impl<A: Tally, B: Tally> Tally for Both<A, B> {
         A::tests(rule) || B::tests(rule)
     }
 
-    fn count(&mut self, role: Role, state: &ConnectionState, at: Place3, note: &Note) {
-        self.a.count(role, state, at, note);
-        self.b.count(role, state, at, note);
+    #[inline(always)]
+    fn count(&mut self, role: Role, state: &ConnectionState, at: Place3, event: NoteRef<'_>) {
+        self.a.count(role, state, at, event);
+        self.b.count(role, state, at, event);
     }
 
     fn places_of(&self, rule: Rule) -> u32 {
@@ -179,8 +184,9 @@ impl<T: Tally> Watch for CountingConn<T> {
     ghost bound = { λ tested taken past. aliases_sent past };
 
     fn step(&mut self, at: Place3, note: &Note, faults: &mut Faults) -> Result<(), Memory> {
+        let event = NoteRef::Kept(note);
         self.places
-            .count(self.conn.role, &self.conn.state, at, note);
+            .count(self.conn.role, &self.conn.state, at, event);
         self.conn.step(at, note, faults)?;
         Ok(())
     }
@@ -191,8 +197,12 @@ impl<T: Tally> Watch for CountingConn<T> {
 }
 
 impl<T: Tally> Brisk for CountingConn<T> {
+    #[inline(always)]
     fn step_bare(&mut self, at: Place3, bare: Bare<'_>, faults: &mut Faults) -> Result<(), Memory> {
-        step_noted(self, at, bare, faults)?;
+        let event = NoteRef::Bare(bare);
+        self.places
+            .count(self.conn.role, &self.conn.state, at, event);
+        self.conn.step_bare(at, bare, faults)?;
         Ok(())
     }
 }

@@ -8,7 +8,7 @@ ghost use Rattle.mq_rules.specs.declared.rule.Rule.TheVariants as rules;
 ghost use Rattle.mq_rules.specs.declared.note.Note.{Note as TheNote};
 ghost use Rattle.mq_rules.specs.declared.conn.state.ConnectionState.{ConnectionState as TheState};
 ghost use Rattle.mq_rules.specs.Words.{is_some_and};
-ghost use Rattle.mq_rules.specs.Notes.{is_close as closes, is_rest as rests, sent_packet as packet_of, sent_publish as publish_of, sent_connack as connack_of, sent_disconnect as disconnect_of, resumed_by, may_explain as may_be_explained};
+ghost use Rattle.mq_rules.specs.Notes.{note_in, is_close as closes, is_rest as rests, sent_packet as packet_of, sent_publish as publish_of, sent_connack as connack_of, sent_disconnect as disconnect_of, resumed_by, may_explain as may_be_explained};
 ghost use Rattle.mq_rules.specs.Moments.{Moment};
 ghost use Rattle.mq_rules.specs.Pasts as pasts;
 ghost use Rattle.mq_rules.specs.Statements.{on_past};
@@ -18,9 +18,12 @@ ghost use Rattle.mq_rules.specs.Trying.{Tries};
 
 use super::state::ConnectionState;
 use super::used_alias;
+use crate::bare::BareFields;
 use crate::note::{ItemNote, Note};
+use crate::note_ref::NoteRef;
 use crate::role::Role;
 use crate::rule::Rule;
+use mq_log::Direction;
 use mq_packet::PacketType;
 
 /// A statement on the past of a connection.
@@ -37,8 +40,8 @@ pub trait Tried {
         ensures { result ≡ rule };
 
     /// Whether it binds an end of this role, and an event puts it to the test after what is kept.
-    fn is_tried(role: Role, state: &ConnectionState, note: &Note) -> bool
-        ensures { result ≡ found role state.now note.now };
+    fn is_tried(role: Role, state: &ConnectionState, event: NoteRef<'_>) -> bool
+        ensures { result ≡ found role state.now (note_in event.entry) };
 
     /// The table of occasions says so.
     ghost says: { (role : TheRole) → occasion role rule ≡ Some (on_past (test role)) };
@@ -46,13 +49,24 @@ pub trait Tried {
     ghost finds: { Tries rule test found };
 }
 
-// Whether something of a type but 0 is sent.
+// Whether something of a type but 0 is sent. Any packet has a type from 1 to 15.
+#[inline(always)]
+#[tactic(auto, unfolding(crate::specs::Notes::note_of_bare), using(crate::proofs::TallyLaws::has_type))]
+fn sends_any_type(event: NoteRef<'_>) -> bool
+    ensures { result ≡ trying.tries_C01 (note_in event.entry) }
+{
+    match event {
+        NoteRef::Kept(note) => is_any_type_sent(note),
+        NoteRef::Bare(bare) => bare.is_sent(),
+    }
+}
+
+// The same of a note.
 #[tactic(auto, using(crate::proofs::TallyLaws::has_type))]
-fn sends_any_type(note: &Note) -> bool
+fn is_any_type_sent(note: &Note) -> bool
     ensures { result ≡ trying.tries_C01 note.now }
 {
     match note {
-        // Any packet has a type from 1 to 15.
         Note::Sent(ItemNote::Packet(_)) => true,
         Note::Sent(ItemNote::Bad { first, .. }) => *first / 16 != 0,
         _ => false,
@@ -60,121 +74,159 @@ fn sends_any_type(note: &Note) -> bool
 }
 
 // Whether a packet is sent, or bytes that break a rule; or the connection closes.
-fn sends_or_closes(note: &Note) -> bool
-    ensures { result ≡ (trying.sends_some note.now || closes note.now) }
+#[inline(always)]
+fn sends_or_closes(event: NoteRef<'_>) -> bool
+    ensures { result ≡ (trying.sends_some (note_in event.entry) || closes (note_in event.entry)) }
 {
-    note.is_typed_sent() || note.is_close()
-}
-
-// Whether a packet is sent.
-fn sends_packet(note: &Note) -> bool
-    ensures { result ≡ is_some (packet_of note.now) }
-{
-    matches!(note, Note::Sent(ItemNote::Packet(_)))
+    event.is_typed_sent() || event.is_close()
 }
 
 // Whether a packet is sent, or the connection closes.
-fn sends_packet_or_closes(note: &Note) -> bool
-    ensures { result ≡ (is_some (packet_of note.now) || closes note.now) }
+#[inline(always)]
+fn sends_packet_or_closes(event: NoteRef<'_>) -> bool
+    ensures { result ≡ (is_some (packet_of (note_in event.entry)) || closes (note_in event.entry)) }
 {
-    sends_packet(note) || note.is_close()
-}
-
-// Whether a PUBLISH is sent.
-fn sends_publish(note: &Note) -> bool
-    ensures { result ≡ is_some (publish_of note.now) }
-{
-    match note.sent_publish() {
-        Some(_) => true,
-        None => false,
-    }
+    event.is_packet_sent() || event.is_close()
 }
 
 // Whether a PUBLISH is sent with a Topic Alias.
-fn sends_alias(note: &Note) -> bool
-    ensures { result ≡ is_some (option_and_then (λ p. p.topic_alias) (publish_of note.now)) }
+#[inline(always)]
+#[tactic(auto, unfolding(crate::specs::Notes::note_of_bare))]
+fn sends_alias(event: NoteRef<'_>) -> bool
+    ensures { result ≡ is_some (option_and_then (λ p. p.topic_alias) (publish_of (note_in event.entry))) }
 {
-    match note.sent_publish() {
-        Some(publish) => publish.topic_alias.is_some(),
-        None => false,
+    match event {
+        NoteRef::Kept(note) => match note.sent_publish() {
+            Some(publish) => publish.topic_alias.is_some(),
+            None => false,
+        },
+        NoteRef::Bare(_) => false,
     }
 }
 
 // Whether a PUBLISH is sent whose Topic Alias stands for a Topic Name.
-fn uses_alias(note: &Note) -> bool
-    ensures { result ≡ trying.tries_C16 note.now }
+#[inline(always)]
+#[tactic(auto, unfolding(crate::specs::Notes::note_of_bare))]
+fn uses_alias(event: NoteRef<'_>) -> bool
+    ensures { result ≡ trying.tries_C16 (note_in event.entry) }
 {
-    match note.sent_publish() {
-        Some(publish) => used_alias(publish).is_some(),
-        None => false,
+    match event {
+        NoteRef::Kept(note) => match note.sent_publish() {
+            Some(publish) => used_alias(publish).is_some(),
+            None => false,
+        },
+        NoteRef::Bare(_) => false,
     }
 }
 
 // Whether a CONNACK is sent.
-fn sends_connack(note: &Note) -> bool
-    ensures { result ≡ is_some (connack_of note.now) }
+#[inline(always)]
+#[tactic(auto, unfolding(crate::specs::Notes::note_of_bare))]
+fn sends_connack(event: NoteRef<'_>) -> bool
+    ensures { result ≡ is_some (connack_of (note_in event.entry)) }
 {
-    match note.sent_connack() {
-        Some(_) => true,
-        None => false,
+    match event {
+        NoteRef::Kept(note) => note.sent_connack().is_some(),
+        NoteRef::Bare(_) => false,
     }
 }
 
 // Whether a CONNACK is sent that accepts.
-fn accepts(note: &Note) -> bool
-    ensures { result ≡ pasts.accepts_so note.now }
+#[inline(always)]
+#[tactic(auto, unfolding(crate::specs::Notes::note_of_bare))]
+fn accepts(event: NoteRef<'_>) -> bool
+    ensures { result ≡ pasts.accepts_so (note_in event.entry) }
 {
-    match note.sent_connack() {
-        Some(connack) => connack.code == 0,
-        None => false,
+    match event {
+        NoteRef::Kept(note) => match note.sent_connack() {
+            Some(connack) => connack.code == 0,
+            None => false,
+        },
+        NoteRef::Bare(_) => false,
     }
 }
 
 // Whether a CONNACK is sent with Session Present 1.
-fn says_session_present(note: &Note) -> bool
-    ensures { result ≡ pasts.says_session_present note.now }
+#[inline(always)]
+#[tactic(auto, unfolding(crate::specs::Notes::note_of_bare))]
+fn says_session_present(event: NoteRef<'_>) -> bool
+    ensures { result ≡ pasts.says_session_present (note_in event.entry) }
 {
-    match note.sent_connack() {
-        Some(connack) => connack.session_present,
-        None => false,
+    match event {
+        NoteRef::Kept(note) => match note.sent_connack() {
+            Some(connack) => connack.session_present,
+            None => false,
+        },
+        NoteRef::Bare(_) => false,
     }
 }
 
 // Whether a CONNACK is sent with Response Information.
-fn gives_response_information(note: &Note) -> bool
-    ensures { result ≡ is_some_and (λ c. c.has_response_information) (connack_of note.now) }
+#[inline(always)]
+#[tactic(auto, unfolding(crate::specs::Notes::note_of_bare))]
+fn gives_response_information(event: NoteRef<'_>) -> bool
+    ensures { result ≡ is_some_and (λ c. c.has_response_information) (connack_of (note_in event.entry)) }
 {
-    match note.sent_connack() {
-        Some(connack) => connack.has_response_information,
-        None => false,
+    match event {
+        NoteRef::Kept(note) => match note.sent_connack() {
+            Some(connack) => connack.has_response_information,
+            None => false,
+        },
+        NoteRef::Bare(_) => false,
+    }
+}
+
+// Whether a DISCONNECT is sent.
+#[inline(always)]
+#[tactic(auto, unfolding(crate::specs::Notes::note_of_bare))]
+fn sends_disconnect(event: NoteRef<'_>) -> bool
+    ensures { result ≡ is_some (disconnect_of (note_in event.entry)) }
+{
+    match event {
+        NoteRef::Kept(note) => note.sent_disconnect().is_some(),
+        NoteRef::Bare(_) => false,
     }
 }
 
 // Whether a DISCONNECT is sent with a Session Expiry Interval other than 0.
-fn sets_expiry(note: &Note) -> bool
-    ensures { result ≡ is_some_and (λ d. is_some_and (λ seconds. not (seconds == 0)) d.session_expiry) (disconnect_of note.now) }
+#[inline(always)]
+#[tactic(auto, unfolding(crate::specs::Notes::note_of_bare))]
+fn sets_expiry(event: NoteRef<'_>) -> bool
+    ensures { result ≡ is_some_and (λ d. is_some_and (λ seconds. not (seconds == 0)) d.session_expiry) (disconnect_of (note_in event.entry)) }
 {
-    match note.sent_disconnect() {
-        Some(disconnect) => disconnect.session_expiry.unwrap_or(0) != 0,
-        None => false,
+    match event {
+        NoteRef::Kept(note) => match note.sent_disconnect() {
+            Some(disconnect) => disconnect.session_expiry.unwrap_or(0) != 0,
+            None => false,
+        },
+        NoteRef::Bare(_) => false,
     }
 }
 
 // Whether a packet is sent of which a client can ask that it explains nothing.
-fn may_be_silent(note: &Note) -> bool
-    ensures { result ≡ is_some_and (λ p. not (may_be_explained p.fields)) (packet_of note.now) }
+#[inline(always)]
+#[tactic(auto, unfolding(crate::specs::Notes::note_of_bare))]
+fn may_be_silent(event: NoteRef<'_>) -> bool
+    ensures { result ≡ is_some_and (λ p. not (may_be_explained p.fields)) (packet_of (note_in event.entry)) }
 {
-    match note.sent_packet() {
-        Some(packet) => !packet.fields.may_explain(),
-        None => false,
+    match event {
+        NoteRef::Kept(note) => match note.sent_packet() {
+            Some(packet) => !packet.fields.may_explain(),
+            None => false,
+        },
+        NoteRef::Bare(bare) => match bare.direction {
+            Direction::Sent => !matches!(bare.fields, BareFields::Publish { .. }),
+            Direction::Recv => false,
+        },
     }
 }
 
 // Whether the end is at rest, or its connection closes.
-fn rests_or_closes(note: &Note) -> bool
-    ensures { result ≡ (rests note.now || closes note.now) }
+#[inline(always)]
+fn rests_or_closes(event: NoteRef<'_>) -> bool
+    ensures { result ≡ (rests (note_in event.entry) || closes (note_in event.entry)) }
 {
-    note.is_rest() || note.is_close()
+    event.is_rest() || event.is_close()
 }
 
 impl ConnectionState {
@@ -200,10 +252,10 @@ impl ConnectionState {
 
     // Whether a CONNACK that accepts says that a session is there, or could say so of one that
     // isn't.
-    fn may_be_wrong(&self, note: &Note) -> bool
-        ensures { result ≡ (pasts.says_session_present note.now || (is_some_and (λ c. not c.clean_start) self.now.connect && not self.now.was_alive)) }
+    fn may_be_wrong(&self, event: NoteRef<'_>) -> bool
+        ensures { result ≡ (pasts.says_session_present (note_in event.entry) || (is_some_and (λ c. not c.clean_start) self.now.connect && not self.now.was_alive)) }
     {
-        says_session_present(note) || (self.has_no_clean_start() && !self.was_alive)
+        says_session_present(event) || (self.has_no_clean_start() && !self.was_alive)
     }
 
     // Whether a session was resumed that wasn't there.
@@ -229,8 +281,9 @@ impl Tried for C01 {
         Rule::C01
     }
 
-    fn is_tried(_: Role, _: &ConnectionState, note: &Note) -> bool {
-        sends_any_type(note)
+    #[inline(always)]
+    fn is_tried(_: Role, _: &ConnectionState, event: NoteRef<'_>) -> bool {
+        sends_any_type(event)
     }
 
     ghost says = { λ role. refl };
@@ -253,8 +306,9 @@ impl Tried for C02 {
         Rule::C02
     }
 
-    fn is_tried(role: Role, state: &ConnectionState, note: &Note) -> bool {
-        matches!(role, Role::Client) && (note.is_typed_sent() && !state.has_sent)
+    #[inline(always)]
+    fn is_tried(role: Role, state: &ConnectionState, event: NoteRef<'_>) -> bool {
+        matches!(role, Role::Client) && (event.is_typed_sent() && !state.has_sent)
     }
 
     ghost says = { λ role. refl };
@@ -277,8 +331,9 @@ impl Tried for C03 {
         Rule::C03
     }
 
-    fn is_tried(role: Role, _: &ConnectionState, note: &Note) -> bool {
-        matches!(role, Role::Client) && note.sends_type(PacketType::Connect)
+    #[inline(always)]
+    fn is_tried(role: Role, _: &ConnectionState, event: NoteRef<'_>) -> bool {
+        matches!(role, Role::Client) && event.sends_type(PacketType::Connect)
     }
 
     ghost says = { λ role. refl };
@@ -301,8 +356,9 @@ impl Tried for C04 {
         Rule::C04
     }
 
-    fn is_tried(role: Role, _: &ConnectionState, note: &Note) -> bool {
-        matches!(role, Role::Server) && note.sends_type(PacketType::Connack)
+    #[inline(always)]
+    fn is_tried(role: Role, _: &ConnectionState, event: NoteRef<'_>) -> bool {
+        matches!(role, Role::Server) && event.sends_type(PacketType::Connack)
     }
 
     ghost says = { λ role. refl };
@@ -325,10 +381,11 @@ impl Tried for C05 {
         Rule::C05
     }
 
-    fn is_tried(role: Role, state: &ConnectionState, note: &Note) -> bool {
+    #[inline(always)]
+    fn is_tried(role: Role, state: &ConnectionState, event: NoteRef<'_>) -> bool {
         matches!(role, Role::Server)
-            && (note.is_typed_sent()
-                && (!note.sends_type(PacketType::Auth) && !state.has_sent_connack))
+            && (event.is_typed_sent()
+                && (!event.sends_type(PacketType::Auth) && !state.has_sent_connack))
     }
 
     ghost says = { λ role. refl };
@@ -351,8 +408,9 @@ impl Tried for C06 {
         Rule::C06
     }
 
-    fn is_tried(role: Role, _: &ConnectionState, note: &Note) -> bool {
-        matches!(role, Role::Server) && note.sends_type(PacketType::Connack)
+    #[inline(always)]
+    fn is_tried(role: Role, _: &ConnectionState, event: NoteRef<'_>) -> bool {
+        matches!(role, Role::Server) && event.sends_type(PacketType::Connack)
     }
 
     ghost says = { λ role. refl };
@@ -375,8 +433,9 @@ impl Tried for C07 {
         Rule::C07
     }
 
-    fn is_tried(role: Role, state: &ConnectionState, note: &Note) -> bool {
-        matches!(role, Role::Server) && (sends_connack(note) && state.has_clean_start())
+    #[inline(always)]
+    fn is_tried(role: Role, state: &ConnectionState, event: NoteRef<'_>) -> bool {
+        matches!(role, Role::Server) && (sends_connack(event) && state.has_clean_start())
     }
 
     ghost says = { λ role. refl };
@@ -399,8 +458,9 @@ impl Tried for C08 {
         Rule::C08
     }
 
-    fn is_tried(role: Role, state: &ConnectionState, note: &Note) -> bool {
-        matches!(role, Role::Server) && (accepts(note) && state.may_be_wrong(note))
+    #[inline(always)]
+    fn is_tried(role: Role, state: &ConnectionState, event: NoteRef<'_>) -> bool {
+        matches!(role, Role::Server) && (accepts(event) && state.may_be_wrong(event))
     }
 
     ghost says = { λ role. refl };
@@ -423,8 +483,9 @@ impl Tried for C09 {
         Rule::C09
     }
 
-    fn is_tried(role: Role, _: &ConnectionState, note: &Note) -> bool {
-        matches!(role, Role::Server) && (sends_connack(note) && !accepts(note))
+    #[inline(always)]
+    fn is_tried(role: Role, _: &ConnectionState, event: NoteRef<'_>) -> bool {
+        matches!(role, Role::Server) && (sends_connack(event) && !accepts(event))
     }
 
     ghost says = { λ role. refl };
@@ -447,8 +508,9 @@ impl Tried for C10 {
         Rule::C10
     }
 
-    fn is_tried(role: Role, state: &ConnectionState, note: &Note) -> bool {
-        matches!(role, Role::Server) && (accepts(note) && state.is_unnamed())
+    #[inline(always)]
+    fn is_tried(role: Role, state: &ConnectionState, event: NoteRef<'_>) -> bool {
+        matches!(role, Role::Server) && (accepts(event) && state.is_unnamed())
     }
 
     ghost says = { λ role. refl };
@@ -471,8 +533,9 @@ impl Tried for C11 {
         Rule::C11
     }
 
-    fn is_tried(_: Role, state: &ConnectionState, note: &Note) -> bool {
-        sends_or_closes(note) && state.has_sent_disconnect
+    #[inline(always)]
+    fn is_tried(_: Role, state: &ConnectionState, event: NoteRef<'_>) -> bool {
+        sends_or_closes(event) && state.has_sent_disconnect
     }
 
     ghost says = { λ role. refl };
@@ -495,8 +558,9 @@ impl Tried for C12 {
         Rule::C12
     }
 
-    fn is_tried(role: Role, state: &ConnectionState, note: &Note) -> bool {
-        matches!(role, Role::Server) && (sends_or_closes(note) && state.has_sent_refusal)
+    #[inline(always)]
+    fn is_tried(role: Role, state: &ConnectionState, event: NoteRef<'_>) -> bool {
+        matches!(role, Role::Server) && (sends_or_closes(event) && state.has_sent_refusal)
     }
 
     ghost says = { λ role. refl };
@@ -519,9 +583,10 @@ impl Tried for C13 {
         Rule::C13
     }
 
-    fn is_tried(role: Role, state: &ConnectionState, note: &Note) -> bool {
+    #[inline(always)]
+    fn is_tried(role: Role, state: &ConnectionState, event: NoteRef<'_>) -> bool {
         matches!(role, Role::Client)
-            && (sends_packet_or_closes(note) && state.is_resumed_for_nothing())
+            && (sends_packet_or_closes(event) && state.is_resumed_for_nothing())
     }
 
     ghost says = { λ role. refl };
@@ -544,8 +609,9 @@ impl Tried for C14 {
         Rule::C14
     }
 
-    fn is_tried(role: Role, state: &ConnectionState, note: &Note) -> bool {
-        sends_packet(note) && state.size_limit(role).is_some()
+    #[inline(always)]
+    fn is_tried(role: Role, state: &ConnectionState, event: NoteRef<'_>) -> bool {
+        event.is_packet_sent() && state.size_limit(role).is_some()
     }
 
     ghost says = { λ role. refl };
@@ -568,8 +634,9 @@ impl Tried for C15 {
         Rule::C15
     }
 
-    fn is_tried(role: Role, state: &ConnectionState, note: &Note) -> bool {
-        state.may_look(role) && sends_alias(note)
+    #[inline(always)]
+    fn is_tried(role: Role, state: &ConnectionState, event: NoteRef<'_>) -> bool {
+        state.may_look(role) && sends_alias(event)
     }
 
     ghost says = { λ role. refl };
@@ -592,8 +659,9 @@ impl Tried for C16 {
         Rule::C16
     }
 
-    fn is_tried(_: Role, _: &ConnectionState, note: &Note) -> bool {
-        uses_alias(note)
+    #[inline(always)]
+    fn is_tried(_: Role, _: &ConnectionState, event: NoteRef<'_>) -> bool {
+        uses_alias(event)
     }
 
     ghost says = { λ role. refl };
@@ -616,8 +684,9 @@ impl Tried for C17 {
         Rule::C17
     }
 
-    fn is_tried(role: Role, state: &ConnectionState, note: &Note) -> bool {
-        matches!(role, Role::Client) && (sends_publish(note) && state.has_maximum_qos())
+    #[inline(always)]
+    fn is_tried(role: Role, state: &ConnectionState, event: NoteRef<'_>) -> bool {
+        matches!(role, Role::Client) && (event.is_publish_sent() && state.has_maximum_qos())
     }
 
     ghost says = { λ role. refl };
@@ -640,8 +709,9 @@ impl Tried for C18 {
         Rule::C18
     }
 
-    fn is_tried(role: Role, _: &ConnectionState, note: &Note) -> bool {
-        matches!(role, Role::Client) && sends_publish(note)
+    #[inline(always)]
+    fn is_tried(role: Role, _: &ConnectionState, event: NoteRef<'_>) -> bool {
+        matches!(role, Role::Client) && event.is_publish_sent()
     }
 
     ghost says = { λ role. refl };
@@ -664,8 +734,9 @@ impl Tried for C19 {
         Rule::C19
     }
 
-    fn is_tried(role: Role, _: &ConnectionState, note: &Note) -> bool {
-        matches!(role, Role::Server) && note.sent_disconnect().is_some()
+    #[inline(always)]
+    fn is_tried(role: Role, _: &ConnectionState, event: NoteRef<'_>) -> bool {
+        matches!(role, Role::Server) && sends_disconnect(event)
     }
 
     ghost says = { λ role. refl };
@@ -688,8 +759,9 @@ impl Tried for C20 {
         Rule::C20
     }
 
-    fn is_tried(role: Role, _: &ConnectionState, note: &Note) -> bool {
-        matches!(role, Role::Client) && sets_expiry(note)
+    #[inline(always)]
+    fn is_tried(role: Role, _: &ConnectionState, event: NoteRef<'_>) -> bool {
+        matches!(role, Role::Client) && sets_expiry(event)
     }
 
     ghost says = { λ role. refl };
@@ -712,9 +784,10 @@ impl Tried for C21 {
         Rule::C21
     }
 
-    fn is_tried(role: Role, state: &ConnectionState, note: &Note) -> bool {
+    #[inline(always)]
+    fn is_tried(role: Role, state: &ConnectionState, event: NoteRef<'_>) -> bool {
         matches!(role, Role::Server)
-            && (may_be_silent(note) && state.wants_no_problem_information())
+            && (may_be_silent(event) && state.wants_no_problem_information())
     }
 
     ghost says = { λ role. refl };
@@ -737,8 +810,9 @@ impl Tried for C22 {
         Rule::C22
     }
 
-    fn is_tried(role: Role, _: &ConnectionState, note: &Note) -> bool {
-        matches!(role, Role::Server) && gives_response_information(note)
+    #[inline(always)]
+    fn is_tried(role: Role, _: &ConnectionState, event: NoteRef<'_>) -> bool {
+        matches!(role, Role::Server) && gives_response_information(event)
     }
 
     ghost says = { λ role. refl };
@@ -761,8 +835,9 @@ impl Tried for C23 {
         Rule::C23
     }
 
-    fn is_tried(role: Role, state: &ConnectionState, note: &Note) -> bool {
-        rests_or_closes(note) && state.has_left(role)
+    #[inline(always)]
+    fn is_tried(role: Role, state: &ConnectionState, event: NoteRef<'_>) -> bool {
+        rests_or_closes(event) && state.has_left(role)
     }
 
     ghost says = { λ role. refl };

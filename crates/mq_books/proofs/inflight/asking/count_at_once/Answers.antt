@@ -1,3 +1,4 @@
+use Rattle.mq_rules.specs.Notes.{note_in}
 use Rattle.mq_rules.specs.Under.{seen}
 use Rattle.mq_books.proofs.TriedLaws.{S01-places, S02-places, S03-places, S04-places, S05-places}
 use Rattle.mq_books.proofs.inflight.asking.count_at_once.Goals as goal
@@ -6,7 +7,7 @@ pub returns : goal.returns
 returns c = λ tested past under kept was.
     let s = c.args.flight.now in
     let p = c.args.places.now in
-    let e = seen c.args.at c.args.note.now in
+    let e = seen c.args.at (note_in c.args.event) in
     let f = c.args.fate in
     let at = c.args.decided in
     record {

@@ -1,19 +1,18 @@
 use Rattle.std.proofs.Common.{ap, ◌∙◌}
 use Rattle.mq_packet.specs.Reading.{view}
+use Rattle.mq_packet.specs.Tries.{tries}
 use Rattle.mq_log.specs.Events.{packet}
 use Rattle.mq_log.specs.Flows.{item_event}
 use Rattle.mq_rules.specs.Trials.{item_sent, tried_by}
 use Rattle.mq_rules.specs.Words.{is_some_and}
-use Rattle.mq_rules.specs.declared.byte_tally.Trial.TheVariants.{Sized}
-use Rattle.mq_rules.specs.ByteTallies.{tried_in}
 use Rattle.mq_rules.proofs.ByteTallyLaws.{counts-next, counts-stay}
 use Rattle.mq_rules.proofs.byte_tally.ByteTally.count_packet.Goals as goal
 
 pub returns-in-Sent : goal.returns-in-Sent
 returns-in-Sent c = λ tested p events is.
-    counts-next _ _ (tried_in (Sized c.args.size c.args.packet)) _ tested p events
+    counts-next _ _ (λ rule. tries rule c.args.size (view c.args.packet.now)) _ tested p events
     (λ rule. ap (λ e. is_some_and (tried_by rule) (item_sent e)) (is ∙ ap (λ d. item_event d (packet c.args.size (view c.args.packet.now))) c.in-Sent.is))
-    c.count.ensures
+    c.count_tried.ensures
 
 pub returns-in-Recv : goal.returns-in-Recv
 returns-in-Recv c = λ tested p events is at.

@@ -1,6 +1,6 @@
 use Rattle.std.proofs.Common.{◌≡◌, ◌==◌, ◌&&◌, is_some, ap, ◌∙◌}
 use Rattle.mq_rules.specs.Words.{is_some_and}
-use Rattle.mq_rules.specs.Notes.{released_id}
+use Rattle.mq_rules.specs.Notes.{note_in, released_id}
 use Rattle.mq_rules.specs.Connections.{accepts}
 use Rattle.mq_rules.specs.Under.{seen}
 use Rattle.mq_books.specs.Knowing.{is_placed}
@@ -12,7 +12,7 @@ pub returns : goal.returns
 returns c = λ tested past under kept was.
     let s = c.args.self.now in
     let p = c.args.places.now in
-    let n = c.args.note.now in
+    let n = note_in c.args.event in
     let e = seen c.args.at n in
     let f = c.args.fate in
     let here : c.place-released.result ≡ ((s.releases && is_some (released_id n)) && is_placed f (c.args.decided == c.args.at.position)) =

@@ -1,5 +1,6 @@
 use Rattle.std.proofs.Common.{nat_eq}
 use Rattle.indexmap.specs.IndexMap.{get}
+use Rattle.mq_rules.specs.Notes.{note_in}
 use Rattle.mq_rules.specs.Under.{seen}
 use Rattle.mq_books.proofs.DeliveryPlacesLaws.{B01-places, B02-places}
 use Rattle.mq_books.proofs.subs.asking.DeliveriesAsks.count.Goals as goal
@@ -8,7 +9,7 @@ pub returns : goal.returns
 returns c = λ tested past under kept was.
     let s = c.args.self.now in
     let p = c.args.places.now in
-    let e = seen c.args.at c.args.note.now in
+    let e = seen c.args.at (note_in c.args.event) in
     let f = c.args.fate in (
       B01-places tested s.fate f s.filters.settled s.filters.waiting s.sharing (get nat_eq s.topics) c.args.arg4 e past s.bound c.is_delivered-delivered.result p.delivered c.places_after-places.result under kept.1 kept.0 was.0
           c.is_delivered-delivered.ensures c.places_after-places.ensures,

@@ -1,0 +1,13 @@
+use Rattle.mq_rules.proofs.FaultKeyLaws.{on_err}
+use Rattle.mq_rules.proofs.conn.tally.CountingConnBrisk.step_bare.Goals as goal
+
+pub returns-clause-agrees : goal.returns-clause-agrees
+returns-clause-agrees g c = λ tested taken past follows on was.
+    (c.in_ok-step_bare.ensures.agrees tested taken past follows on was.0, c.count.ensures tested past was.0.same_role was.0.same_state follows.placed.0 was.1)
+
+pub returns-clause-grows : goal.returns-clause-grows
+returns-clause-grows g c = λ tested taken past follows on was. c.in_ok-step_bare.ensures.grows tested taken past follows on was.0
+
+pub returns-in_err-step_bare-clause-memory : goal.returns-in_err-step_bare-clause-memory
+returns-in_err-step_bare-clause-memory g c =
+    on_err c.from_residual.result _ (λ tested taken past follows on was. c.in_err-step_bare.ensures.memory tested taken past follows on was.0)
