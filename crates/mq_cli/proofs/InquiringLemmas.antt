@@ -2,6 +2,7 @@
 use Rattle.std.proofs.Common.{◌≡◌, ◌==◌, ℕ, Bool, true, false, List, [], ◌++◌, length, Option, Some, None, Result, Ok, Err, IfErr, IfOk, IfSome, OnOk, ◌⊎◌, refl, sym, ap, ap₂, subst, ◌∙◌, inl, inr, arith, append-nil}
 use Rattle.std.specs.FinMap as map
 use Rattle.std.specs.Prelude.{slice_index}
+use Rattle.std.proofs.KnownBytes.{Keeps-refl}
 use Rattle.std.specs.Io.KnownBytes.{Appends, IsAtEnd, Keeps, prepend_known}
 use Rattle.mq_log.specs.Events.{events}
 use Rattle.mq_rules.specs.declared.role.Role.{Role}
@@ -21,11 +22,12 @@ use Rattle.mq_judge.specs.declared.Refusal.TheVariants as refusals
 use Rattle.mq_judge.specs.Runner.{IsFaultless, IsVerdictOn}
 use Rattle.mq_host.specs.declared.failure.Failure.{Failure}
 use Rattle.mq_host.specs.declared.failure.Failure.TheVariants as failures
-use Rattle.mq_cli.specs.declared.inquiring.Lapse.{Lapse}
-use Rattle.mq_cli.specs.declared.inquiring.Lapse.TheVariants.{Failed, Changed}
+use Rattle.mq_cli.specs.declared.lapse.Lapse.{Lapse}
+use Rattle.mq_cli.specs.declared.lapse.Lapse.TheVariants.{Failed, Changed}
 use Rattle.mq_cli.specs.Inquiring.{AreReasonsAgain, AreReasonsOf, HasChanged, HasReleases, HaveSameVerdict, IsExplained, IsPassed, IsReasoned, StopsExplaining, StopsFirst, StopsInquiry, StopsReport, StopsReportBy, reasoned_report, reasoned_verdict}
 use Rattle.mq_cli.specs.Messages.{BeginsRefusal, IsRefusedBy, LacksJsonMemory, failure_of}
 use Rattle.mq_cli.specs.Program.{FailsInquiryBegun, FailsInquiryReaders}
+use Rattle.mq_cli.specs.Lapses.{LacksReasons}
 use Rattle.mq_cli.specs.Reviewing.{IfBoth}
 use Rattle.mq_host.specs.declared.trouble.Trouble.{Trouble}
 use Rattle.mq_host.specs.Streams.{AppendsPart, Stream}
@@ -309,3 +311,12 @@ inquiry_of_file_stops path form file judged again old new is_closed error k l (i
   changed = for_two_readings file judged again (λ first second. HasChanged first second old new) k l changes.changed;
   told = changes.told;
 }))
+
+-- nothing was written where it isn't known what the faults conflict with
+pub lacks_explaining : (form : Form) (tested : Tested) (count : ℕ) (faults : List (FaultKey × Fault)) (lapse : Lapse) (again left old : Option (List ℕ))
+    → IfSome again (λ log. LacksReasons tested count faults lapse log left) → IfSome again (λ log. StopsExplaining form tested count faults lapse log left old old)
+lacks_explaining form tested count faults lapse None left old h = tt
+lacks_explaining form tested count faults (Failed failures.Read) (Some log) left old h = (h.0, h.1, Keeps-refl old)
+lacks_explaining form tested count faults (Failed failures.Memory) (Some log) left old h = Keeps-refl old
+lacks_explaining form tested count faults (Failed failures.Write) (Some log) left old h = absurd h
+lacks_explaining form tested count faults Changed (Some log) left old h = (h, Keeps-refl old)

@@ -4,4 +4,5 @@ pub mod PacketLaws
 pub mod MessageLaws
 pub mod BeginningLaws
 pub mod ConvertingLaws
+pub mod LapseLaws
 pub mod InquiringLemmas

@@ -28,13 +28,14 @@ use Rattle.mq_report.specs.Stopping.{IsJudged, default_limit, IsRefusedAt}
 use Rattle.mq_host.specs.declared.failure.Failure.{Failure}
 use Rattle.mq_host.specs.declared.failure.Failure.TheVariants as failures
 use Rattle.mq_host.specs.declared.trouble.Trouble.{Trouble}
-use Rattle.mq_cli.specs.declared.inquiring.Lapse.{Lapse}
-use Rattle.mq_cli.specs.declared.inquiring.Lapse.TheVariants.{Failed, Changed}
-use Rattle.mq_cli.specs.Inquiring.{HasChanged, HasReleases, lapse_of}
+use Rattle.mq_cli.specs.declared.lapse.Lapse.{Lapse}
+use Rattle.mq_cli.specs.declared.lapse.Lapse.TheVariants.{Failed, Changed}
+use Rattle.mq_cli.specs.Inquiring.{HasChanged, HasReleases}
 use Rattle.mq_cli.specs.Program.{FailsBegun, FailsReaders}
 use Rattle.mq_host.specs.Streams.{Stream}
 use Rattle.mq_host.specs.Troubles.{Tells, failure_in}
-use Rattle.mq_cli.specs.Reviewing.{AreFoundReasons, AreShownReasons, IfAll, IsReviewed, LacksReasons, Plan, RefusesPlan, StopsJudging, StopsPlan, StopsShowing, count_of, is_count, reviewed, text_with}
+use Rattle.mq_cli.specs.Lapses.{AreVerdictReasons, LacksReasons}
+use Rattle.mq_cli.specs.Reviewing.{AreFoundReasons, AreShownReasons, IfAll, IsReviewed, Plan, RefusesPlan, StopsJudging, StopsPlan, StopsShowing, count_of, is_count, reviewed, text_with}
 use Rattle.mq_cli.specs.Messages.{BeginsRefusal, IsOfLog, LacksJsonMemory, RefusesShow, StopsShow, failure_of}
 use Rattle.mq_cli.proofs.InquiringLemmas.{again_if, differs_if, faulty_if}
 use Rattle.mq_cli.proofs.MessageLaws.{own_refusal, part-kept}
@@ -116,35 +117,10 @@ nothing_found tested count faults (Some log) none = inl (nil_from_length (map.en
 
 -- what was found is what the faults conflict with
 pub those_found : (tested : Tested) (count : ℕ) (faults : List (FaultKey × Fault)) (again : Option (List ℕ)) (reasons : List Evidence)
-    → IfSome again (λ log. IsJudged log × IsSame tested (tested_by log) count faults (seen_in log) × AreReasons tested (seen_in log) faults reasons)
+    → IfSome again (λ log. AreVerdictReasons tested count faults log reasons)
     → IfSome again (λ log. AreFoundReasons tested count faults log reasons)
 those_found tested count faults None reasons found = tt
 those_found tested count faults (Some log) reasons found = inr found
-
--- a log that is refused so isn't judged again for this reason
-refused_again : (tested : Tested) (count : ℕ) (faults : List (FaultKey × Fault)) (log : List ℕ) (left : Option (List ℕ)) (refusal : Refusal)
-    → IsRefusedAt default_limit log left refusal → LacksReasons tested count faults (lapse_of refusal) log left
-refused_again tested count faults log left (refusals.Read at) h = (at, h)
-refused_again tested count faults log left (refusals.Memory at) h = tt
-refused_again tested count faults log left refusal h = inl (refusal, own_refusal log left refusal tt h)
-
-pub refused_lacks : (tested : Tested) (count : ℕ) (faults : List (FaultKey × Fault)) (again left : Option (List ℕ)) (refusal : Refusal) (lapse : Lapse) → lapse ≡ lapse_of refusal
-    → IfSome again (λ log. IsRefusedAt default_limit log left refusal) → IfSome again (λ log. LacksReasons tested count faults lapse log left)
-refused_lacks tested count faults None left refusal lapse is h = tt
-refused_lacks tested count faults (Some log) left refusal lapse is h =
-    subst (λ (l : Lapse). LacksReasons tested count faults l log left) (sym is) (refused_again tested count faults log left refusal h)
-
--- nor is one that has another verdict
-pub changed_lacks : (tested : Tested) (count : ℕ) (faults : List (FaultKey × Fault)) (again left : Option (List ℕ))
-    → IfSome again (λ log. IsJudged log × (¬ IsSame tested (tested_by log) count faults (seen_in log))) → IfSome again (λ log. LacksReasons tested count faults Changed log left)
-changed_lacks tested count faults None left h = tt
-changed_lacks tested count faults (Some log) left h = inr h
-
--- nothing is said of a log for which there was no memory
-pub memory_lacks : (tested : Tested) (count : ℕ) (faults : List (FaultKey × Fault)) (again left : Option (List ℕ))
-    → IfSome again (λ log. LacksReasons tested count faults (Failed failures.Memory) log left)
-memory_lacks tested count faults None left = tt
-memory_lacks tested count faults (Some log) left = tt
 
 -- what was found for a verdict is what is shown
 shown_reasons : (first second : List ℕ) (releases : Bool) (role : Role) (count : ℕ) (faults : FaultMap) (reasons : List Evidence) → IsVerdictOn first role count faults

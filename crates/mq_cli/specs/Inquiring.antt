@@ -1,5 +1,5 @@
 -- A check that says what each fault conflicts with, and reads a log that has faults twice: what the words ask for, and what each status means.
-use Rattle.std.specs.Prelude.{◌≡◌, ◌⊎◌, ℕ, Bool, false, List, ◌∷◌, [], ◌++◌, codes, length, Option, None, Some, Result, Ok, Err, IfSome, if◌then◌else◌, option_map, string_bytes}
+use Rattle.std.specs.Prelude.{◌≡◌, ◌⊎◌, ℕ, Bool, false, List, length, Option, None, Some, Result, Ok, Err, IfSome, if◌then◌else◌, option_map, string_bytes}
 use Rattle.std.specs.Io.KnownBytes.{Appends, Keeps}
 use Rattle.clap.specs.Words.{Text}
 use Rattle.mq_log.specs.Events.{events}
@@ -24,8 +24,8 @@ use Rattle.mq_command.specs.CommandLine.{path_named}
 use Rattle.mq_host.specs.declared.failure.Failure.{Failure}
 use Rattle.mq_host.specs.declared.failure.Failure.TheVariants as failures
 use Rattle.mq_host.specs.Streams.{AppendsPart, no_file_for_why_line, two_reports_line}
-use Rattle.mq_cli.specs.declared.inquiring.Lapse.{Lapse}
-use Rattle.mq_cli.specs.declared.inquiring.Lapse.TheVariants.{Failed, Changed}
+use Rattle.mq_cli.specs.declared.lapse.Lapse.{Lapse}
+use Rattle.mq_cli.specs.declared.lapse.Lapse.TheVariants.{Failed, Changed}
 use Rattle.mq_cli.specs.Messages.{IsRefusedBy, report_for}
 
 -- ---- what the words ask for
@@ -122,12 +122,6 @@ failure_by (run_faults.Refused refusal) = failures.Write
 failure_by run_faults.Write = failures.Write
 failure_by run_faults.Memory = failures.Memory
 
--- why a log isn't judged again that is refused so
-abbrev pub lapse_of : Refusal → Lapse
-lapse_of (refusals.Read at) = Failed failures.Read
-lapse_of (refusals.Memory at) = Failed failures.Memory
-lapse_of _ = Changed
-
 -- the header of the log says this of releases, if the log is known
 abbrev pub HasReleases : (releases : Bool) → Option (List ℕ) → Type 0
 HasReleases releases log = IfSome log (λ bytes. releases ≡ (tested_by bytes).releases)
@@ -154,7 +148,3 @@ StopsExplaining form tested count faults (Failed failures.Write) log left old ne
     × ((reasons : List Evidence) × AreReasons tested (seen_in log) faults reasons × AppendsPart old new (reasoned_verdict form tested count faults reasons))
 StopsExplaining form tested count faults Changed log left old new =
     (((refusal : Refusal) × IsRefusedBy log refusal) ⊎ (IsJudged log × (¬ IsSame tested (tested_by log) count faults (seen_in log)))) × Keeps old new
-
--- the line for a log that changed
-abbrev pub changed_line : List ℕ
-changed_line = codes "mqjudge: the log changed between two readings" ++ 10 ∷ []

@@ -3,3 +3,4 @@ pub mod Messages
 pub mod Reviewing
 pub mod Program
 pub mod Inquiring
+pub mod Lapses

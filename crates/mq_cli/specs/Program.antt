@@ -20,8 +20,9 @@ use Rattle.mq_cli.specs.Converting.{DoesToFiles, FailsConverting, Files, IsConve
 use Rattle.mq_host.specs.Effects.{Doing}
 use Rattle.mq_host.specs.Given.{Given, bytes_at}
 use Rattle.mq_judge.specs.declared.Form.{Form}
-use Rattle.mq_cli.specs.Inquiring.{HasChanged, IsPassed, IsReasoned, StopsInquiry, changed_line, log_of}
-use Rattle.mq_cli.specs.declared.inquiring.Lapse.TheVariants as lapses
+use Rattle.mq_cli.specs.Inquiring.{HasChanged, IsPassed, IsReasoned, StopsInquiry, log_of}
+use Rattle.mq_cli.specs.Lapses.{changed_line}
+use Rattle.mq_cli.specs.declared.lapse.Lapse.TheVariants as lapses
 use Rattle.mq_cli.specs.Reviewing.{IfAll, IfBoth, IsReviewed, Plan, RefusesPlan, StopsPlan, plan_of}
 use Rattle.mq_cli.specs.Messages.{RefusesCheck, form_of, FailsMisnamed, StopsTask, HasFailed, HasPassed, IsMisnamed, IsRefusedOn, IsReportedOn, IsShownOn, IsPrintedOn}
 use Rattle.mq_host.specs.Streams.{AppendsPart, IsCutOff, IsTold, Stream, exists_line, failure_line, same_file_line}

@@ -25,8 +25,9 @@ use Rattle.mq_cli.specs.declared.reviewing.Plan.{Plan as SourcePlan}
 use Rattle.mq_host.specs.declared.failure.Failure.{Failure}
 use Rattle.mq_host.specs.declared.failure.Failure.TheVariants as failures
 use Rattle.mq_command.specs.CommandLine.{path_named}
-use Rattle.mq_cli.specs.declared.inquiring.Lapse.{Lapse}
-use Rattle.mq_cli.specs.declared.inquiring.Lapse.TheVariants.{Failed, Changed}
+use Rattle.mq_cli.specs.declared.lapse.Lapse.{Lapse}
+use Rattle.mq_cli.specs.declared.lapse.Lapse.TheVariants.{Failed, Changed}
+use Rattle.mq_cli.specs.Lapses.{AreVerdictReasons, StopsReading}
 use Rattle.mq_cli.specs.Inquiring.{AreReasonsAgain, HasChanged}
 use Rattle.mq_cli.specs.Messages.{IsRefusedBy, RefusesCheck, RefusesShow, StopsShow}
 use Rattle.mq_host.specs.Streams.{AppendsPart, no_faults_line, no_file_line, no_number_line}
@@ -109,13 +110,7 @@ StopsJudging failures.Read log left old new = (at : ℕ) × IsRefusedAt default_
 StopsJudging failures.Memory log left old new = (at : ℕ) × IsRefusedAt default_limit log left (refusals.Memory at) × Keeps old new
 StopsJudging failures.Write log left old new = (refusal : Refusal) × IsRefusedBy log refusal × AppendsPart old new (refused_line refusal)
 
--- 4, while the log was read again: reading it failed, or memory ran out. This log is the one whose reader has these bytes left.
-abbrev pub StopsReading : Failure → List ℕ → (left : Option (List ℕ)) → Type 0
-StopsReading failures.Read log left = (at : ℕ) × IsRefusedAt default_limit log left (refusals.Read at)
-StopsReading failures.Memory log left = ⊤
-StopsReading failures.Write log left = ⊥
-
--- 4: that failed for a log that was judged and has faults, and nothing was written
+-- 4: reading the log again failed, or memory ran out, for a log that was judged and has faults, and nothing was written
 abbrev pub StopsRereading : Failure → (judged again : List ℕ) → (left old new : Option (List ℕ)) → Type 0
 StopsRereading failure judged again left old new = IsJudged judged × (¬ IsFaultless judged) × StopsReading failure again left × Keeps old new
 
@@ -139,12 +134,7 @@ IfAll judged again shown P = IfSome judged (λ first. IfBoth again shown (P firs
 -- these are what the faults of a verdict conflict with: none if there is no fault; else the log that was read again has this verdict, and these are those of its faults
 abbrev pub AreFoundReasons : Tested → ℕ → List (FaultKey × Fault) → List ℕ → List Evidence → Type 0
 AreFoundReasons tested count faults log reasons = ((faults ≡ []) × (reasons ≡ []))
-    ⊎ (IsJudged log × IsSame tested (tested_by log) count faults (seen_in log) × AreReasons tested (seen_in log) faults reasons)
-
--- these weren't found: reading failed, or memory ran out; or the log is refused or has another verdict
-abbrev pub LacksReasons : Tested → ℕ → List (FaultKey × Fault) → Lapse → List ℕ → (left : Option (List ℕ)) → Type 0
-LacksReasons tested count faults (Failed failure) log left = StopsReading failure log left
-LacksReasons tested count faults Changed log left = ((refusal : Refusal) × IsRefusedBy log refusal) ⊎ (IsJudged log × (¬ IsSame tested (tested_by log) count faults (seen_in log)))
+    ⊎ AreVerdictReasons tested count faults log reasons
 
 -- showing the log by this text of events failed so, and for no other reason
 abbrev pub StopsShowing : (List Placed → List ℕ) → Lapse → List ℕ → (left old new : Option (List ℕ)) → Type 0

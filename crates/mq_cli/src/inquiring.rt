@@ -3,35 +3,26 @@ ghost use Rattle.std.specs.Prelude.{◌≡◌, ◌≤◌, ◌⊎◌, ◌==◌, O
 ghost use Rattle.std.specs.FinMap as map;
 ghost use Rattle.std.specs.Io.KnownBytes.{Appends, Keeps, prepend_known};
 ghost use Rattle.mq_report.specs.Report.{report_on};
-ghost use Rattle.mq_cli.specs.declared.inquiring.Lapse.TheVariants as lapses;
+ghost use Rattle.mq_cli.specs.declared.lapse.Lapse.TheVariants as lapses;
 ghost use Rattle.mq_cli.specs.Messages.{RefusesCheck};
 ghost use Rattle.mq_cli.specs.Program.{FailsInquiry, FailsInquiryBegun, FailsInquiryFile, FailsInquiryReaders, FindsReasons, IsHinted, MisusesInquiry, PassesInquiry, RefusesInquiry};
-ghost use Rattle.mq_cli.specs.Inquiring.{HasReleases, IsExplained, IsPassed, IsReasoned, StopsExplaining, StopsInquiry, StopsReportBy, changed_line, failure_by, lapse_of, log_of};
+ghost use Rattle.mq_cli.specs.Inquiring.{HasReleases, IsExplained, IsPassed, IsReasoned, StopsExplaining, StopsInquiry, StopsReportBy, failure_by, log_of};
 ghost use Rattle.mq_cli.specs.Reviewing.{IfBoth};
 ghost use Rattle.mq_host.specs.Streams.{IsTold, misuse_line, stream};
 ghost use Rattle.mq_host.specs.Troubles.{hint_line};
 
+use crate::lapse::{Lapse, explain_again, tell_of_change};
 use crate::tasks::{form_of, refuse, see_out};
 use mq_command::{Inquiry, path_named};
 use mq_host::{
     ErrorStream, FAILED, FAULTY, Failure, Host, MISUSED, Misuse, Noting, Output, PASSED, REFUSED,
     Trouble, give_hint, read_start,
 };
-use mq_judge::{Form, Refusal, RunFault, Verdict, judge_reader};
+use mq_judge::{Form, RunFault, Verdict, judge_reader};
 use mq_report::{write_reasoned_report, write_report};
 use mq_rules::{Role, Tested};
-use mq_trail::{Unexplained, explain_reader};
 use std::alloc::Global;
 use std::io::{Read, Write};
-
-/// What keeps a log from being judged and its faults from being explained.
-#[derive(Clone, Copy, Debug, PartialEq, Eq)]
-pub enum Lapse {
-    /// Something failed.
-    Failed(Failure),
-    /// The log isn't the one any more in which the faults were found.
-    Changed,
-}
 
 /// Judges a log, says what each fault conflicts with, and returns the status to exit with.
 ///
@@ -200,16 +191,6 @@ pub fn has_releases(start: &[u8]) -> bool
     }
 }
 
-/// Writes to `error` that the log changed, and returns the status.
-pub fn tell_of_change<E: ErrorStream>(error: &mut E) -> u8
-    ensures status { result ≡ FAILED }
-    ensures told { IsTold (stream E.contents E.has_failed error.old error.new) changed_line }
-{
-    // Nothing more can be done if `error` fails.
-    let _ = error.write_message("mqjudge: the log changed between two readings\n");
-    FAILED
-}
-
 /// Judges the log from one reader, explains the faults that were found by the log from the other,
 /// and returns the status. The two are one log, unless its file changed between the readings.
 /// `releases` says what the header of the first one says of releases.
@@ -275,6 +256,7 @@ fn pass<W: Write>(
 
 // Explains the faults of a verdict by the log that a reader gives, writes the report, and returns
 // the status.
+#[tactic(auto, using(crate::proofs::InquiringLemmas::lacks_explaining))]
 fn explain<S: Read, W: Write>(
     alloc: Global,
     verdict: &Verdict,
@@ -290,23 +272,17 @@ fn explain<S: Read, W: Write>(
         (λ log. StopsExplaining form tested verdict.now.events (map.entries verdict.now.faults) lapse log (S.remaining again.new)
         (W.contents output.old) (W.contents output.new))) }
 {
-    match explain_reader(alloc, again, tested, verdict) {
-        Ok(reasons) => {
-            match write_reasoned_report(
-                alloc,
-                verdict,
-                tested.role,
-                reasons.as_slice(),
-                form,
-                output,
-            ) {
-                Ok(()) => end_with(FAULTY, output),
-                Err(fault) => Err(Lapse::Failed(failure_of(fault))),
-            }
-        }
-        Err(Unexplained::Refused(refusal)) => Err(lapse_of(refusal)),
-        Err(Unexplained::Changed) => Err(Lapse::Changed),
-        Err(Unexplained::Memory) => Err(Lapse::Failed(Failure::Memory)),
+    let reasons = explain_again(alloc, tested, verdict, again)?;
+    match write_reasoned_report(
+        alloc,
+        verdict,
+        tested.role,
+        reasons.as_slice(),
+        form,
+        output,
+    ) {
+        Ok(()) => end_with(FAULTY, output),
+        Err(fault) => Err(Lapse::Failed(failure_of(fault))),
     }
 }
 
@@ -330,16 +306,5 @@ fn failure_of(fault: RunFault) -> Failure
         RunFault::Refused(_) => Failure::Write,
         RunFault::Write => Failure::Write,
         RunFault::Memory => Failure::Memory,
-    }
-}
-
-/// Why the log isn't judged again that this refuses: reading failed, memory ran out, or it changed.
-pub fn lapse_of(refusal: Refusal) -> Lapse
-    ensures { result ≡ lapse_of refusal }
-{
-    match refusal {
-        Refusal::Read(_) => Lapse::Failed(Failure::Read),
-        Refusal::Memory(_) => Lapse::Failed(Failure::Memory),
-        _ => Lapse::Changed,
     }
 }

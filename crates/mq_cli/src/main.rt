@@ -3,6 +3,7 @@
 
 mod converting;
 mod inquiring;
+mod lapse;
 mod meter;
 mod program;
 mod reviewing;

@@ -9,11 +9,13 @@ ghost use Rattle.mq_command.specs.CommandLine.{path_named};
 ghost use Rattle.mq_cli.specs.Messages.{RefusesShow};
 ghost use Rattle.mq_cli.specs.Inquiring.{HasReleases};
 ghost use Rattle.mq_cli.specs.Program.{FailsBegun, FailsFile, FailsReaders, FailsReview, IsHinted, MisusesReview, PassesReview, RefusesReview};
-ghost use Rattle.mq_cli.specs.Reviewing.{AreFoundReasons, IfAll, IsReviewed, LacksReasons, RefusesPlan, StopsPlan, StopsShowing, count_of, plan_near, plan_of, plan_on, plan_view, text_with};
+ghost use Rattle.mq_cli.specs.Lapses.{LacksReasons};
+ghost use Rattle.mq_cli.specs.Reviewing.{AreFoundReasons, IfAll, IsReviewed, RefusesPlan, StopsPlan, StopsShowing, count_of, plan_near, plan_of, plan_on, plan_view, text_with};
 ghost use Rattle.mq_host.specs.Streams.{IsTold, misuse_line, stream};
 ghost use Rattle.mq_host.specs.Troubles.{hint_line};
 
-use crate::inquiring::{Lapse, has_releases, lapse_of, tell_of_change};
+use crate::inquiring::has_releases;
+use crate::lapse::{Lapse, explain_again, tell_of_change};
 use crate::tasks::{EventView, refuse, show_log};
 use mq_command::{Review, path_named};
 use mq_evidence::Evidence;
@@ -23,7 +25,6 @@ use mq_host::{
 };
 use mq_judge::{Extent, Form, Verdict, judge_reader};
 use mq_rules::{Role, Tested};
-use mq_trail::{Unexplained, explain_reader};
 use std::alloc::Global;
 use std::io::{Read, Write};
 
@@ -297,7 +298,7 @@ pub fn show_reasoned<R: Read, S: Read, T: Read, W: Write>(
 
 // What each fault of a verdict conflicts with, by the log that a reader gives: that isn't read if
 // there is no fault.
-#[tactic(auto, using(crate::proofs::ReviewingLemmas::nothing_found, crate::proofs::ReviewingLemmas::those_found, crate::proofs::ReviewingLemmas::refused_lacks, crate::proofs::ReviewingLemmas::changed_lacks, crate::proofs::ReviewingLemmas::memory_lacks))]
+#[tactic(auto, using(crate::proofs::ReviewingLemmas::nothing_found, crate::proofs::ReviewingLemmas::those_found))]
 fn reasons_for<S: Read>(
     alloc: Global,
     tested: Tested,
@@ -313,12 +314,8 @@ fn reasons_for<S: Read>(
     if verdict.faults.is_empty() {
         return Ok(Vec::new(alloc));
     }
-    match explain_reader(alloc, again, tested, verdict) {
-        Ok(reasons) => Ok(reasons),
-        Err(Unexplained::Refused(refusal)) => Err(lapse_of(refusal)),
-        Err(Unexplained::Changed) => Err(Lapse::Changed),
-        Err(Unexplained::Memory) => Err(Lapse::Failed(Failure::Memory)),
-    }
+    let reasons = explain_again(alloc, tested, verdict, again)?;
+    Ok(reasons)
 }
 
 // Shows a log with the faults of a verdict and what they conflict with, and returns the status.

@@ -1,6 +1,7 @@
 //! `check --why`.
 use super::harness::{CONNECTED, NESTED, Narrow, Trickle, WHOLE_LOG, add_record};
-use crate::inquiring::{Lapse, inquire_twice};
+use crate::inquiring::inquire_twice;
+use crate::lapse::Lapse;
 use mq_host::{FAULTY, Failure, PASSED, REFUSED};
 use mq_judge::Form;
 use std::alloc::{AllocError, Global};

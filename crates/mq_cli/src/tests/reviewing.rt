@@ -1,6 +1,6 @@
 //! `show --faults`.
 use super::harness::{CONNECTED, CONNECTED_LINES, NESTED, Narrow, Trickle, add_record};
-use crate::inquiring::Lapse;
+use crate::lapse::Lapse;
 use crate::reviewing::{Plan, show_reasoned};
 use mq_host::{Failure, PASSED, REFUSED};
 use mq_judge::Extent;
