@@ -160,6 +160,13 @@ impl<W: Fated> Early<W> {
 }
 
 impl<W> Early<W> {
+    /// What becomes of the latest connection. None if it is undecided.
+    pub fn latest_fate(&self) -> Option<Fate>
+        ensures { result ≡ self.now.fate }
+    {
+        self.fate
+    }
+
     // Whether a packet without properties goes on to the watcher, and changes nothing here: the latest
     // connection is decided, so that no events are held, and its history stays as it is.
     #[inline(always)]

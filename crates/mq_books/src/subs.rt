@@ -68,8 +68,9 @@ fn has_shared(fields: &PacketFields) -> bool
     }
 }
 
-// Whether an event is a SUBSCRIBE that is received and asks for a shared subscription.
-fn asks_for_shared(note: &Note) -> bool
+/// Whether an event is a SUBSCRIBE that is received and asks for a shared subscription (MQTT 5.0,
+/// section 4.8.2).
+pub fn asks_for_shared(note: &Note) -> bool
     ensures { result ≡ is_some_and (λ s. list_any begins_shared s.filters) (received_subscription note.now) }
 {
     match note.received_fields() {

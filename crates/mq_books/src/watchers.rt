@@ -19,7 +19,7 @@ mod plain;
 
 pub use counting::CountingWatchers;
 use mq_log::Place3;
-use mq_rules::{Bare, Brisk, Faults, Memory, Note, Rule, Tested, Watch, step_noted};
+use mq_rules::{Bare, Brisk, Fate, Faults, Memory, Note, Rule, Tested, Watch, step_noted};
 pub use plain::PlainWatchers;
 use std::alloc::Global;
 
@@ -66,6 +66,17 @@ impl Watchers {
         match self {
             Watchers::Plain(_) => None,
             Watchers::Counting(watchers) => watchers.places(rule),
+        }
+    }
+
+    /// What becomes of the latest connection (MQTT 5.0, section 3.2.2). None if it is undecided: it
+    /// has no CONNACK and no CLOSE so far.
+    pub fn latest_fate(&self) -> Option<Fate>
+        ensures { (tested : TheTested) (taken : Option TheFate) (past : List TheSeen) → ⟦<Watchers as Watch>⟧.agrees self.now tested taken past → result ≡ latest_fate tested.role past }
+    {
+        match self {
+            Watchers::Plain(watchers) => watchers.latest_fate(),
+            Watchers::Counting(watchers) => watchers.latest_fate(),
         }
     }
 }

@@ -4,7 +4,7 @@ ghost use Rattle.mq_rules.specs.declared.fate.Fate.TheVariants.{Void};
 ghost use Rattle.mq_rules.specs.declared.fate.Fate.{Fate as TheFate};
 ghost use Rattle.mq_rules.specs.declared.role.Tested.{Tested as TheTested};
 ghost use Rattle.mq_rules.specs.declared.note.Seen.{Seen as TheSeen};
-ghost use Rattle.mq_rules.specs.Connections.{IsOnConnection};
+ghost use Rattle.mq_rules.specs.Connections.{IsOnConnection, latest_fate};
 ghost use Rattle.mq_rules.specs.Occasions.{places};
 ghost use Rattle.mq_rules.specs.Statements.{is_on_bytes};
 ghost use Rattle.mq_rules.specs.Steps.{turns};
@@ -15,8 +15,8 @@ use crate::early::Early;
 use crate::sessions::Sessions;
 use mq_log::Place3;
 use mq_rules::{
-    Bare, Both, Brisk, ConnTally, CountingConn, Faults, Memory, Note, Rule, Shapes, Tested, Watch,
-    conn_places,
+    Bare, Both, Brisk, ConnTally, CountingConn, Fate, Faults, Memory, Note, Rule, Shapes, Tested,
+    Watch, conn_places,
 };
 use std::alloc::Global;
 
@@ -59,6 +59,13 @@ impl CountingWatchers {
             return Some(later.b.places(rule));
         }
         conn_places(&later.a, rule)
+    }
+
+    /// What becomes of the latest connection. None if it is undecided.
+    pub fn latest_fate(&self) -> Option<Fate>
+        ensures { (tested : TheTested) (taken : Option TheFate) (past : List TheSeen) → ⟦<CountingWatchers as Watch>⟧.agrees self.now tested taken past → result ≡ latest_fate tested.role past }
+    {
+        self.parts.b.b.latest_fate()
     }
 }
 

@@ -1,14 +1,17 @@
 //! All statements, of which faults are found and no places counted.
-ghost use Rattle.std.specs.Prelude.{◌≡◌, ◌*◌, [], Some};
+ghost use Rattle.std.specs.Prelude.{◌≡◌, ◌*◌, [], List, Option, Some};
 ghost use Rattle.mq_rules.specs.declared.fate.Fate.TheVariants.{Void};
-ghost use Rattle.mq_rules.specs.Connections.{IsOnConnection};
+ghost use Rattle.mq_rules.specs.declared.fate.Fate.{Fate as TheFate};
+ghost use Rattle.mq_rules.specs.declared.role.Tested.{Tested as TheTested};
+ghost use Rattle.mq_rules.specs.declared.note.Seen.{Seen as TheSeen};
+ghost use Rattle.mq_rules.specs.Connections.{IsOnConnection, latest_fate};
 ghost use Rattle.mq_rules.specs.Steps.{turns};
 ghost use Rattle.mq_books.specs.Burden.{burden};
 
 use crate::early::Early;
 use crate::sessions::Sessions;
 use mq_log::Place3;
-use mq_rules::{Bare, Both, Brisk, Conn, Faults, Memory, Note, Shapes, Tested, Watch};
+use mq_rules::{Bare, Both, Brisk, Conn, Fate, Faults, Memory, Note, Shapes, Tested, Watch};
 use std::alloc::Global;
 
 /// Watches all 74 statements, and counts nothing: W and C as the events come, and those on sessions
@@ -40,6 +43,13 @@ impl PlainWatchers {
                 ),
             ),
         }
+    }
+
+    /// What becomes of the latest connection. None if it is undecided.
+    pub fn latest_fate(&self) -> Option<Fate>
+        ensures { (tested : TheTested) (taken : Option TheFate) (past : List TheSeen) → ⟦<PlainWatchers as Watch>⟧.agrees self.now tested taken past → result ≡ latest_fate tested.role past }
+    {
+        self.parts.b.b.latest_fate()
     }
 }
 
