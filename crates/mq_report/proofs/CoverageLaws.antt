@@ -15,7 +15,9 @@ use Rattle.mq_report.specs.declared.report.coverage.Covered.{Covered}
 use Rattle.mq_report.specs.Report.{line}
 use Rattle.mq_report.specs.Coverage.{places_text, places_lines, has_place, covered_count, places_data, places_items, covered_data}
 use Rattle.mq_trace.proofs.Exports.{piece-written, stopped-in-piece}
+use Rattle.mq_report.specs.declared.report.unjudged.Gap.{Gap}
 use Rattle.mq_report.proofs.JsonLaws.{faults_unfloating}
+use Rattle.mq_report.proofs.UnjudgedLaws.{gaps_unfloating}
 
 next_row : (e : Covered) (rows : List Covered) (i : ℕ) → i < length rows → drop i rows ≡ get_or rows i e ∷ drop (i + 1) rows
 next_row e rows i h = rw (add-one, drop-cons rows i e) refl
@@ -97,5 +99,5 @@ places_unfloating : (role : Role) (rows : List Covered) → items_have_float (pl
 places_unfloating role [] = refl
 places_unfloating role (row ∷ rows) = places_unfloating role rows
 
-pub covered_unfloating : (role : Role) (faults : List (FaultKey × Fault)) (events : ℕ) (rows : List Covered) → has_float (covered_data role faults events rows) ≡ false
-covered_unfloating role faults events rows = rw (places_unfloating role rows, faults_unfloating role faults) refl
+pub covered_unfloating : (role : Role) (faults : List (FaultKey × Fault)) (events : ℕ) (rows : List Covered) (gaps : List Gap) → has_float (covered_data role faults events rows gaps) ≡ false
+covered_unfloating role faults events rows gaps = rw (places_unfloating role rows, faults_unfloating role faults, gaps_unfloating gaps) refl

@@ -5,6 +5,7 @@ pub mod LineLaws
 pub mod ReportLaws
 pub mod JsonLaws
 pub mod SummaryLaws
+pub mod UnjudgedLaws
 pub mod CoverageLaws
 pub mod ReasonLaws
 pub mod OutgoingLaws

@@ -1,6 +1,7 @@
 pub mod Stopping
 pub mod Chosen
 pub mod Report
+pub mod Unjudged
 pub mod Coverage
 pub mod Reasons
 pub mod Because

@@ -15,12 +15,14 @@ pub mod packet_summary;
 pub mod reasons;
 pub mod summary;
 pub mod text;
+pub mod unjudged;
 
 use self::coverage::Covered;
 use self::json::{write_covered_json, write_json, write_reasoned_json, write_refusal};
 use self::line::write_line;
 use self::summary::{write_covered_summary, write_summary};
 use self::text::{write_covered_text, write_reasoned_text, write_text};
+use self::unjudged::Gap;
 use super::lines::Lines;
 use mq_evidence::Evidence;
 use mq_log::Refusal;
@@ -125,7 +127,7 @@ pub fn write_report<W: Write>(
 }
 
 /// Writes the report on a verdict for an end in this role, in this form, which also says how often
-/// each of these statements was put to the test.
+/// each of these statements was put to the test, and what wasn't judged: these gaps.
 ///
 /// # Errors
 ///
@@ -135,18 +137,19 @@ pub fn write_covered_report<W: Write>(
     verdict: &Verdict,
     role: Role,
     rows: &[Covered],
+    gaps: &[Gap],
     form: Form,
     writer: &mut W,
 ) -> Result<(), RunFault>
     ensures ok { OnOk result (Appends (W.contents writer.old) (W.contents writer.new)
-        (covered_report_on form role (map.entries verdict.now.faults) verdict.now.events rows.now)) }
+        (covered_report_on form role (map.entries verdict.now.faults) verdict.now.events rows.now gaps.now)) }
     ensures err { IfErr result (FailsToReport form (W.contents writer.old) (W.contents writer.new)
-        (covered_report_on form role (map.entries verdict.now.faults) verdict.now.events rows.now)) }
+        (covered_report_on form role (map.entries verdict.now.faults) verdict.now.events rows.now gaps.now)) }
 {
     match form {
-        Form::Text => write_covered_text(verdict, role, rows, writer),
-        Form::Json => write_covered_json(alloc, verdict, role, rows, writer),
-        Form::Summary => write_covered_summary(verdict, role, rows, writer),
+        Form::Text => write_covered_text(verdict, role, rows, gaps, writer),
+        Form::Json => write_covered_json(alloc, verdict, role, rows, gaps, writer),
+        Form::Summary => write_covered_summary(verdict, role, rows, gaps, writer),
     }
 }
 

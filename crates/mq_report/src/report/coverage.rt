@@ -7,7 +7,8 @@ ghost use Rattle.mq_report.specs.Coverage.{places_text, places_lines, covered_co
 
 use super::super::lines::Lines;
 use super::line::write_line;
-use super::{RunFault, Verdict, write_verdict};
+use super::unjudged::{Gap, write_unjudged_ending};
+use super::{RunFault, Verdict};
 use mq_rules::{Role, Rule};
 use std::fmt;
 use std::io::Write;
@@ -59,7 +60,7 @@ impl fmt::Display for Total {
 }
 
 /// Writes the end of a report in words: a line for each of these statements, how many of them were
-/// put to the test, and the verdict's line. Each line is built in the buffer.
+/// put to the test, what wasn't judged, and the verdict's line. Each line is built in the buffer.
 ///
 /// # Errors
 ///
@@ -68,16 +69,17 @@ pub fn write_covered_ending<W: Write>(
     verdict: &Verdict,
     role: Role,
     rows: &[Covered],
+    gaps: &[Gap],
     lines: &mut Lines,
     writer: &mut W,
 ) -> Result<(), RunFault>
     ensures ok { OnOk result (Appends (W.contents writer.old) (W.contents writer.new)
-        (covered_ending role (length (map.entries verdict.now.faults)) verdict.now.events rows.now)) }
+        (covered_ending role (length (map.entries verdict.now.faults)) verdict.now.events rows.now gaps.now)) }
     ensures write { IfErr result (λ fault. (fault ≡ RunFault.Write) × AppendsBeginning (W.contents writer.old) (W.contents writer.new)
-        (covered_ending role (length (map.entries verdict.now.faults)) verdict.now.events rows.now)) }
+        (covered_ending role (length (map.entries verdict.now.faults)) verdict.now.events rows.now gaps.now)) }
 {
     write_coverage(rows, role, lines, writer)?;
-    write_verdict(verdict, lines, writer)
+    write_unjudged_ending(verdict, gaps, lines, writer)
 }
 
 // Writes a line for each of these statements, and how many of them were put to the test.

@@ -8,14 +8,16 @@ ghost use Rattle.serde_json.specs.Written.{compact_text, has_float};
 ghost use Rattle.mq_report.specs.declared.report.Form.TheVariants.{Json};
 ghost use Rattle.mq_report.specs.Report.{line, fault_data, fault_items, verdict_word, report_data, refused_data, refused_report, report_on, FailsToReport};
 ghost use Rattle.mq_report.specs.Coverage.{places_data, places_items, covered_data, covered_report_on};
+ghost use Rattle.mq_report.specs.Unjudged.{gap_data, gap_items};
 ghost use Rattle.mq_report.specs.Reasons.{event_data, number_items, with_member, reasoned, reasoned_data, reasoned_items, reasoned_report_data, reasoned_report_on};
 
 use super::coverage::Covered;
 use super::line::write_bytes;
 use super::reasons::{first_reason, later_reasons};
+use super::unjudged::Gap;
 use super::{RunFault, Verdict};
 use mq_evidence::{Evidence, Numbers};
-use mq_log::Refusal;
+use mq_log::{Place3, Refusal};
 use mq_rules::{Fault, FaultKey, Faults, Role};
 use serde_json::{Value, json, push, put};
 use std::alloc::{AllocError, Global};
@@ -49,7 +51,8 @@ pub fn write_json<W: Write>(
 }
 
 /// Writes the report on a verdict for an end in this role as one line of JSON, as `write_json`
-/// does, and with it how often each of these statements was put to the test, in their order.
+/// does, and with it how often each of these statements was put to the test, and these gaps, in their
+/// order.
 ///
 /// # Errors
 ///
@@ -60,14 +63,15 @@ pub fn write_covered_json<W: Write>(
     verdict: &Verdict,
     role: Role,
     rows: &[Covered],
+    gaps: &[Gap],
     writer: &mut W,
 ) -> Result<(), RunFault>
     ensures ok { OnOk result (Appends (W.contents writer.old) (W.contents writer.new)
-        (covered_report_on Json role (map.entries verdict.now.faults) verdict.now.events rows.now)) }
+        (covered_report_on Json role (map.entries verdict.now.faults) verdict.now.events rows.now gaps.now)) }
     ensures err { IfErr result (FailsToReport Json (W.contents writer.old) (W.contents writer.new)
-        (covered_report_on Json role (map.entries verdict.now.faults) verdict.now.events rows.now)) }
+        (covered_report_on Json role (map.entries verdict.now.faults) verdict.now.events rows.now gaps.now)) }
 {
-    match covered_value(alloc, verdict, role, rows) {
+    match covered_value(alloc, verdict, role, rows, gaps) {
         Ok(value) => write_value(alloc, &value, writer),
         Err(_) => Err(RunFault::Memory),
     }
@@ -141,21 +145,25 @@ fn report_value(alloc: Global, verdict: &Verdict, role: Role) -> Result<Value, A
     })
 }
 
-// The report on a verdict, and how often each of these statements was put to the test, as a value.
+// The report on a verdict, how often each of these statements was put to the test, and these gaps,
+// as a value.
 fn covered_value(
     alloc: Global,
     verdict: &Verdict,
     role: Role,
     rows: &[Covered],
+    gaps: &[Gap],
 ) -> Result<Value, AllocError>
-    ensures { IfOk result (λ value. view value ≡ covered_data role (map.entries verdict.now.faults) verdict.now.events rows.now) }
+    ensures { IfOk result (λ value. view value ≡ covered_data role (map.entries verdict.now.faults) verdict.now.events rows.now gaps.now) }
 {
     let coverage = places_values(alloc, rows, role)?;
     let faults = fault_values(alloc, &verdict.faults, role)?;
+    let unjudged = gap_values(alloc, gaps)?;
     json!(in alloc; {
         "coverage": coverage,
         "events": verdict.events,
         "faults": faults,
+        "unjudged": unjudged,
         "verdict": verdict_word(&verdict.faults)
     })
 }
@@ -198,6 +206,42 @@ fn places_value(alloc: Global, role: Role, row: Covered) -> Result<Value, AllocE
         "code": row.rule.code(),
         "places": row.places
     })
+}
+
+// What wasn't judged, as values, in their order.
+fn gap_values(alloc: Global, gaps: &[Gap]) -> Result<Vec<Value>, AllocError>
+    ensures { IfOk result (λ values. items_view values.items ≡ gap_items gaps.now) }
+{
+    let mut values = Vec::new(alloc);
+    for gap in gaps {
+        let value = gap_value(alloc, *gap)?;
+        push(&mut values, value)?;
+    }
+    Ok(values)
+}
+
+// Something that wasn't judged, as a value.
+fn gap_value(alloc: Global, gap: Gap) -> Result<Value, AllocError>
+    ensures { IfOk result (λ value. view value ≡ gap_data gap) }
+{
+    match gap.place() {
+        Some(
+            Place3 {
+                position,
+                record_no,
+                ..
+            },
+        ) => json!(in alloc; {
+            "event": position,
+            "record": record_no,
+            "what": gap.what(),
+            "why": gap.why()
+        }),
+        None => json!(in alloc; {
+            "what": gap.what(),
+            "why": gap.why()
+        }),
+    }
 }
 
 // The verdict as a word.

@@ -11,6 +11,7 @@ ghost use Rattle.mq_report.specs.Coverage.{covered_report_on};
 use super::super::lines::Lines;
 use super::coverage::{Covered, write_covered_ending};
 use super::line::write_line;
+use super::unjudged::Gap;
 use super::{RunFault, Verdict, write_verdict};
 use mq_rules::{Fault, FaultKey, Faults, Role, Rule};
 use std::fmt;
@@ -71,8 +72,8 @@ pub fn write_summary<W: Write>(
 }
 
 /// Writes the report in short on a verdict for an end in this role, as `write_summary` does, but
-/// before the last line also how often each of these statements was put to the test. It takes no
-/// memory.
+/// before the last line also how often each of these statements was put to the test, and these gaps.
+/// It takes no memory.
 ///
 /// # Errors
 ///
@@ -81,15 +82,16 @@ pub fn write_covered_summary<W: Write>(
     verdict: &Verdict,
     role: Role,
     rows: &[Covered],
+    gaps: &[Gap],
     writer: &mut W,
 ) -> Result<(), RunFault>
     ensures ok { OnOk result (Appends (W.contents writer.old) (W.contents writer.new)
-        (covered_report_on Summary role (map.entries verdict.now.faults) verdict.now.events rows.now)) }
+        (covered_report_on Summary role (map.entries verdict.now.faults) verdict.now.events rows.now gaps.now)) }
     ensures write { IfErr result (λ fault. (fault ≡ run_faults.Write) × AppendsBeginning (W.contents writer.old) (W.contents writer.new)
-        (covered_report_on Summary role (map.entries verdict.now.faults) verdict.now.events rows.now)) }
+        (covered_report_on Summary role (map.entries verdict.now.faults) verdict.now.events rows.now gaps.now)) }
 {
     write_rules(Rule::all(), &verdict.faults, role, writer)?;
-    write_covered_ending(verdict, role, rows, &mut Lines::new(), writer)
+    write_covered_ending(verdict, role, rows, gaps, &mut Lines::new(), writer)
 }
 
 // Writes a line for each of these statements that has faults.

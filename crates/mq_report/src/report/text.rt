@@ -11,6 +11,7 @@ use super::super::lines::Lines;
 use super::coverage::{Covered, write_covered_ending};
 use super::line::write_line;
 use super::reasons::write_reasoned_faults;
+use super::unjudged::Gap;
 use super::{Form, RunFault, Verdict, write_verdict};
 use mq_evidence::Evidence;
 use mq_rules::{Fault, FaultKey, Faults, Role};
@@ -82,7 +83,8 @@ pub fn write_text<W: Write>(verdict: &Verdict, role: Role, writer: &mut W) -> Re
 }
 
 /// Writes the report on a verdict for an end in this role, as `write_text` does, but before the
-/// last line also how often each of these statements was put to the test. It takes no memory.
+/// last line also how often each of these statements was put to the test, and these gaps. It takes
+/// no memory.
 ///
 /// # Errors
 ///
@@ -91,16 +93,17 @@ pub fn write_covered_text<W: Write>(
     verdict: &Verdict,
     role: Role,
     rows: &[Covered],
+    gaps: &[Gap],
     writer: &mut W,
 ) -> Result<(), RunFault>
     ensures ok { OnOk result (Appends (W.contents writer.old) (W.contents writer.new)
-        (covered_report_on Form.Text role (map.entries verdict.now.faults) verdict.now.events rows.now)) }
+        (covered_report_on Form.Text role (map.entries verdict.now.faults) verdict.now.events rows.now gaps.now)) }
     ensures write { IfErr result (λ fault. (fault ≡ RunFault.Write) × AppendsBeginning (W.contents writer.old) (W.contents writer.new)
-        (covered_report_on Form.Text role (map.entries verdict.now.faults) verdict.now.events rows.now)) }
+        (covered_report_on Form.Text role (map.entries verdict.now.faults) verdict.now.events rows.now gaps.now)) }
 {
     let mut lines = Lines::new();
     write_faults(&verdict.faults, role, &mut lines, writer)?;
-    write_covered_ending(verdict, role, rows, &mut lines, writer)
+    write_covered_ending(verdict, role, rows, gaps, &mut lines, writer)
 }
 
 /// Writes the report on a verdict for an end in this role, as `write_text` does, but after each

@@ -9,7 +9,7 @@ returns-in_err-write_coverage-clause-write g c =
     rw (p.1, p.2) (failed.0, first_stops _ _ _ _ failed.1)
 
 pub returns-clause-ok : goal.returns-clause-ok
-returns-clause-ok g c = both_written (g.W.Write.contents c.args.writer.now) (g.W.Write.contents c.write_coverage.new.writer) (g.W.Write.contents c.write_verdict.new.writer) _ _ c.write_verdict.result c.in_ok-write_coverage.ensures.ok c.write_verdict.ensures.ok
+returns-clause-ok g c = both_written (g.W.Write.contents c.args.writer.now) (g.W.Write.contents c.write_coverage.new.writer) (g.W.Write.contents c.write_unjudged_ending.new.writer) _ _ c.write_unjudged_ending.result c.in_ok-write_coverage.ensures.ok c.write_unjudged_ending.ensures.ok
 
 pub returns-clause-write : goal.returns-clause-write
-returns-clause-write g c = second_stops (g.W.Write.contents c.args.writer.now) (g.W.Write.contents c.write_coverage.new.writer) (g.W.Write.contents c.write_verdict.new.writer) _ _ c.write_verdict.result c.in_ok-write_coverage.ensures.ok c.write_verdict.ensures.write
+returns-clause-write g c = second_stops (g.W.Write.contents c.args.writer.now) (g.W.Write.contents c.write_coverage.new.writer) (g.W.Write.contents c.write_unjudged_ending.new.writer) _ _ c.write_unjudged_ending.result c.in_ok-write_coverage.ensures.ok c.write_unjudged_ending.ensures.write

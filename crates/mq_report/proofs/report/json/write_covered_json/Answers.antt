@@ -6,4 +6,4 @@ use Rattle.mq_report.proofs.report.json.write_covered_json.Goals as goal
 
 pub write_value-requires : goal.write_value-requires
 write_value-requires g c =
-    ap has_float c.in-Ok.ensures ∙ covered_unfloating c.args.role (map.entries c.args.verdict.now.faults) c.args.verdict.now.events c.args.rows.now
+    ap has_float c.in-Ok.ensures ∙ covered_unfloating c.args.role (map.entries c.args.verdict.now.faults) c.args.verdict.now.events c.args.rows.now c.args.gaps.now

@@ -1,0 +1,15 @@
+use Rattle.std.proofs.lemmas.Result.{err_from_is_err_and}
+use Rattle.mq_report.proofs.ReportLaws.{both_written, first_stops, second_stops}
+use Rattle.mq_report.proofs.report.unjudged.write_unjudged_ending.Goals as goal
+
+pub returns-in_err-write_gaps-clause-write : goal.returns-in_err-write_gaps-clause-write
+returns-in_err-write_gaps-clause-write g c =
+    let p = err_from_is_err_and c.from_residual.result c.from_residual.ensures.1 in
+    let failed = c.in_err-write_gaps.ensures.write in
+    rw (p.1, p.2) (failed.0, first_stops _ _ _ _ failed.1)
+
+pub returns-clause-ok : goal.returns-clause-ok
+returns-clause-ok g c = both_written (g.W.Write.contents c.args.writer.now) (g.W.Write.contents c.write_gaps.new.writer) (g.W.Write.contents c.write_verdict.new.writer) _ _ c.write_verdict.result c.in_ok-write_gaps.ensures.ok c.write_verdict.ensures.ok
+
+pub returns-clause-write : goal.returns-clause-write
+returns-clause-write g c = second_stops (g.W.Write.contents c.args.writer.now) (g.W.Write.contents c.write_gaps.new.writer) (g.W.Write.contents c.write_verdict.new.writer) _ _ c.write_verdict.result c.in_ok-write_gaps.ensures.ok c.write_verdict.ensures.write
