@@ -20,8 +20,10 @@ use Rattle.mq_report.specs.Report.{report, report_on, FailsToReport}
 use Rattle.mq_trace.specs.Feeding.{FedAll}
 use Rattle.mq_report.specs.Stopping.{FedBefore, IsRefusedAt, IsRefusedByte, IsRefusedEnd, default_limit, IsJudged}
 use Rattle.mq_report.specs.declared.report.coverage.Covered.{Covered}
+use Rattle.mq_report.specs.declared.report.unjudged.Gap.{Gap}
 use Rattle.mq_report.specs.Coverage.{covered_report_on}
 use Rattle.mq_judge.specs.Coverage.{coverage_of}
+use Rattle.mq_judge.specs.Unjudged.{unjudged_of}
 use Rattle.mq_judge.specs.Runner.{covered_report, outcome_of, IsVerdictOn, JudgesOver, RunsCoveredOver, RunsOver}
 use Rattle.mq_judge.proofs.JudgeLaws.{unrefused}
 use Rattle.mq_report.specs.Chosen.{is_judged}
@@ -116,19 +118,27 @@ for_both : (remaining : Option (List ℕ)) (P Q R : List ℕ → Type 0) → ((l
 for_both None P Q R f h k = tt
 for_both (Some log) P Q R f h k = f log h k
 
-covered-report-is : (form : Form) (log : List ℕ) (role : Role) (count : ℕ) (faults : FaultMap) (rows : List Covered) → IsVerdictOn log role count faults → rows ≡ coverage_of log
-    → covered_report_on form role (map.entries faults) count rows ≡ covered_report form log
+-- how often each statement of a log is put to the test, and what isn't judged of it
+abbrev pub AreListsOf : List Covered → List Gap → List ℕ → Type 0
+AreListsOf rows gaps log = (rows ≡ coverage_of log) × (gaps ≡ unjudged_of log)
+
+pub lists-known : (x : Option (List ℕ)) (rows : List Covered) (gaps : List Gap) → IfSome x (λ log. rows ≡ coverage_of log) → IfSome x (λ log. gaps ≡ unjudged_of log)
+    → IfSome x (AreListsOf rows gaps)
+lists-known x rows gaps = for_both x (λ log. rows ≡ coverage_of log) (λ log. gaps ≡ unjudged_of log) (AreListsOf rows gaps) (λ log covered left. (covered, left))
+
+covered-report-is : (form : Form) (log : List ℕ) (role : Role) (count : ℕ) (faults : FaultMap) (rows : List Covered) (gaps : List Gap) → IsVerdictOn log role count faults → AreListsOf rows gaps log
+    → covered_report_on form role (map.entries faults) count rows gaps ≡ covered_report form log
 unfolding covered_report
-covered-report-is form log role count faults rows v is = rw (v.role_is, v.faults_are, v.count_is, is) refl
+covered-report-is form log role count faults rows gaps v are = rw (v.role_is, v.faults_are, v.count_is, are.0, are.1) refl
 
 -- a run that came to an outcome, and said how often each statement was put to the test
-pub run-covers : (x y : Option (List ℕ)) (form : Form) (w z : Option (List ℕ)) (count : ℕ) (faults : FaultMap) (role : Role) (rows : List Covered) (outcome : Outcome)
-    → IfSome x (λ log. IsVerdictOn log role count faults) → IfSome x (λ log. rows ≡ coverage_of log)
-    → Appends w z (covered_report_on form role (map.entries faults) count rows) → outcome ≡ (if map.len faults == 0 then Pass else Fail)
+pub run-covers : (x y : Option (List ℕ)) (form : Form) (w z : Option (List ℕ)) (count : ℕ) (faults : FaultMap) (role : Role) (rows : List Covered) (gaps : List Gap) (outcome : Outcome)
+    → IfSome x (λ log. IsVerdictOn log role count faults) → IfSome x (AreListsOf rows gaps)
+    → Appends w z (covered_report_on form role (map.entries faults) count rows gaps) → outcome ≡ (if map.len faults == 0 then Pass else Fail)
     → IfSome x (λ log. RunsCoveredOver form log y (Ok outcome) w z)
-run-covers x y form w z count faults role rows outcome judged covered wrote says =
-    for_both x (λ log. IsVerdictOn log role count faults) (λ log. rows ≡ coverage_of log) (λ log. RunsCoveredOver form log y (Ok outcome) w z)
-    (λ log v is. (v.judged, says ∙ outcome-is log role count faults v, subst (Appends w z) (covered-report-is form log role count faults rows v is) wrote)) judged covered
+run-covers x y form w z count faults role rows gaps outcome judged covered wrote says =
+    for_both x (λ log. IsVerdictOn log role count faults) (AreListsOf rows gaps) (λ log. RunsCoveredOver form log y (Ok outcome) w z)
+    (λ log v is. (v.judged, says ∙ outcome-is log role count faults v, subst (Appends w z) (covered-report-is form log role count faults rows gaps v is) wrote)) judged covered
 
 -- one whose report couldn't be written
 covers-partly : (form : Form) (log : List ℕ) (y w z : Option (List ℕ)) (fault : RunFault) → IsJudged log → FailsToReport form w z (covered_report form log) fault → RunsCoveredOver form log y (Err fault) w z
@@ -136,15 +146,15 @@ covers-partly form log y w z (run_faults.Refused refusal) judged failed = absurd
 covers-partly form log y w z run_faults.Write judged failed = (judged, failed)
 covers-partly form log y w z run_faults.Memory judged failed = (judged, failed.1)
 
-pub run-stops-covering : (x y : Option (List ℕ)) (form : Form) (w z : Option (List ℕ)) (count : ℕ) (faults : FaultMap) (role : Role) (rows : List Covered) (fault : RunFault)
-    → IfSome x (λ log. IsVerdictOn log role count faults) → IfSome x (λ log. rows ≡ coverage_of log)
-    → FailsToReport form w z (covered_report_on form role (map.entries faults) count rows) fault
+pub run-stops-covering : (x y : Option (List ℕ)) (form : Form) (w z : Option (List ℕ)) (count : ℕ) (faults : FaultMap) (role : Role) (rows : List Covered) (gaps : List Gap) (fault : RunFault)
+    → IfSome x (λ log. IsVerdictOn log role count faults) → IfSome x (AreListsOf rows gaps)
+    → FailsToReport form w z (covered_report_on form role (map.entries faults) count rows gaps) fault
     → IfSome x (λ log. RunsCoveredOver form log y (Err fault) w z)
-run-stops-covering x y form w z count faults role rows fault judged covered stopped =
-    for_both x (λ log. IsVerdictOn log role count faults) (λ log. rows ≡ coverage_of log) (λ log. RunsCoveredOver form log y (Err fault) w z)
-    (λ log v is. covers-partly form log y w z fault v.judged (subst (λ (t : List ℕ). FailsToReport form w z t fault) (covered-report-is form log role count faults rows v is) stopped)) judged covered
+run-stops-covering x y form w z count faults role rows gaps fault judged covered stopped =
+    for_both x (λ log. IsVerdictOn log role count faults) (AreListsOf rows gaps) (λ log. RunsCoveredOver form log y (Err fault) w z)
+    (λ log v is. covers-partly form log y w z fault v.judged (subst (λ (t : List ℕ). FailsToReport form w z t fault) (covered-report-is form log role count faults rows gaps v is) stopped)) judged covered
 
--- one that had no memory for the rows
+-- one that had no memory for the lists
 pub run-lacks-rows : (x y : Option (List ℕ)) (form : Form) (w : Option (List ℕ)) (count : ℕ) (faults : FaultMap) (role : Role) → IfSome x (λ log. IsVerdictOn log role count faults)
     → IfSome x (λ log. RunsCoveredOver form log y (Err run_faults.Memory) w w)
 run-lacks-rows x y form w count faults role judged =

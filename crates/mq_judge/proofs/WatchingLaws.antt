@@ -87,8 +87,9 @@ pub still-uncounted : (old new : Watching) (received : List Placed) → is_count
 still-uncounted old new received off same = λ on. absurd (let bad : true ≡ false = sym on ∙ same ∙ off in cc)
 
 -- it is known of the watching whatever is counted on a packet's bytes
-pub watched-anew : (old new : Watching) (past : List Seen) → new.watchers ≡ old.watchers → new.tested ≡ old.tested → new.faults ≡ old.faults → new.events ≡ old.events → IsWatching old past → IsWatching new past
-watched-anew old new past w t f e was = record {
+pub watched-anew : (old new : Watching) (past : List Seen) → new.watchers ≡ old.watchers → new.tested ≡ old.tested → new.faults ≡ old.faults → new.events ≡ old.events → new.unjudged ≡ old.unjudged → IsWatching old past → IsWatching new past
+watched-anew old new past w t f e u was = record {
   agree = rw (w, t) was.agree;
   found = record { each = λ k rule. rw (f, t) (was.found.each k rule); count = e ∙ was.found.count };
+  gathered = λ on. rw (u, t) (was.gathered (ap is_counting (sym w) ∙ on));
 }

@@ -21,6 +21,7 @@ use Rattle.mq_trace.specs.Writing.{AppendsBeginning}
 use Rattle.mq_report.specs.Report.{report}
 use Rattle.mq_report.specs.Coverage.{covered_report_on}
 use Rattle.mq_judge.specs.Coverage.{coverage_of}
+use Rattle.mq_judge.specs.Unjudged.{unjudged_of}
 use Rattle.mq_report.specs.Stopping.{IsJudged, IsRefusedAt, default_limit}
 
 -- no statement that is judged is false at any position of the log
@@ -57,12 +58,12 @@ RunsOver form log left (Err run_faults.Memory) old new = IsJudged log × (form �
 
 -- ---- with coverage
 
--- the report on a log that also says how often each statement was put to the test
+-- the report on a log that also says how often each statement was put to the test, and what wasn't judged
 unfoldable pub covered_report : Form → List ℕ → List ℕ
-covered_report form log = covered_report_on form (tested_by log).role (found_in log) (length (events log)) (coverage_of log)
+covered_report form log = covered_report_on form (tested_by log).role (found_in log) (length (events log)) (coverage_of log) (unjudged_of log)
 
--- What a run over this log did that says how often each statement was put to the test: as a run without that, but nothing is written either if there was no memory to
--- list the statements.
+-- What a run over this log did that says how often each statement was put to the test, and what wasn't judged: as a run without that, but nothing is written either if
+-- there was no memory to list the statements, or what wasn't judged.
 abbrev pub RunsCoveredOver : Form → List ℕ → Option (List ℕ) → Result Outcome RunFault → Option (List ℕ) → Option (List ℕ) → Type 0
 RunsCoveredOver form log left (Ok outcome) old new = IsJudged log × (outcome ≡ outcome_of log) × Appends old new (covered_report form log)
 RunsCoveredOver form log left (Err (run_faults.Refused refusal)) old new = IsRefusedAt default_limit log left refusal

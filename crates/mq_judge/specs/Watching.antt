@@ -14,6 +14,7 @@ use Rattle.mq_rules.specs.FaultKeys.{fault_at}
 use Rattle.mq_rules.specs.Faults.{fault_in}
 use Rattle.mq_rules.specs.Under.{Follows, seen}
 use Rattle.mq_books.specs.contracts.watchers.WatchersWatch.TheImpl as watchers
+use Rattle.mq_judge.specs.Gathering.{Gathers}
 use Rattle.mq_judge.specs.declared.watching.Watching.{Watching}
 
 -- The faults are those of these events, the newest first, each with where it was decided; and so many events there are.
@@ -25,10 +26,11 @@ pub record IsFound (w : Watching) (past : List Seen) : Type 0 where
 abbrev pub watchers_weigh : Watching → ℕ
 watchers_weigh w = (watchers.ghosts).weighs w.watchers
 
--- The watchers have taken in these events, and their faults are found.
+-- The watchers have taken in these events, their faults are found, and what isn't judged of them, if places are counted.
 pub record IsWatching (w : Watching) (past : List Seen) : Type 0 where
   pub agree : (watchers.ghosts).agrees w.watchers w.tested (latest_fate w.tested.role past) past
   pub found : IsFound w past
+  pub gathered : is_counting w.watchers ≡ true → Gathers w.unjudged w.tested past
 
 -- The event may follow these: each has its place, connections follow one another, and what happens only on an open connection comes where one is open.
 pub record MayCome (tested : Tested) (e : Seen) (past : List Seen) : Type 0 where

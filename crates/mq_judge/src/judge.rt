@@ -2,6 +2,7 @@
 ghost use Rattle.mq_books.specs.Burden.{burden};
 ghost use Rattle.std.specs.Prelude.{◌≡◌, true, false, cond, ◌≤◌, ◌*◌, ℕ, List, [], nat_lt, length, Some, None, Err, IfErr, IfOk, IfSome, OnOk, if◌then◌else◌};
 ghost use Rattle.mq_judge.specs.Coverage.{places_in, coverage_of};
+ghost use Rattle.mq_judge.specs.Unjudged.{unjudged_of};
 ghost use Rattle.mq_judge.specs.Judging.{is_counting, Knows, Follows, FollowsBy, JudgesPiece, JudgesPieceBy, TakesEvents, AreFaultsOf, Ends, Finishes};
 ghost use Rattle.mq_judge.specs.Watching.{IsWatching, IsTallying, watchers_weigh};
 ghost use Rattle.mq_log.specs.Events.{events};
@@ -13,7 +14,7 @@ ghost use Rattle.mq_trace.specs.Tracing.{IsTracedTo};
 use super::coverage::coverage;
 use super::watching::{End, Judging, Watching};
 use mq_log::Refusal;
-use mq_report::{Covered, DEFAULT_LIMIT, Verdict};
+use mq_report::{Covered, DEFAULT_LIMIT, Gap, Verdict};
 use mq_rules::{Faults, Memory, Role, Rule, Tested};
 use mq_trace::Tracer;
 use std::alloc::Global;
@@ -44,6 +45,8 @@ pub(crate) struct CoveredVerdict {
     pub verdict: Verdict,
     /// How often each statement was put to the test. Nothing, if there was no memory for it.
     pub rows: Option<Vec<Covered>>,
+    /// What wasn't judged. Nothing, if there was no memory for it.
+    pub gaps: Option<Vec<Gap>>,
 }
 
 /// Judges one log.
@@ -210,7 +213,7 @@ impl Judge {
         judge.take_verdict()
     }
 
-    /// The same, and how often each statement that is listed was put to the test.
+    /// The same, how often each statement that is listed was put to the test, and what wasn't judged.
     ///
     /// # Errors
     ///
@@ -219,12 +222,19 @@ impl Judge {
         ensures verdict { (log : List ℕ) → Follows self log → Finishes (λ answer. answer.0.verdict.events) (λ answer. answer.0.verdict.faults) log result }
         ensures role { (log : List ℕ) → Follows self log → IfOk result (λ answer. answer.1 ≡ (tested_by log).role) }
         ensures rows { (log : List ℕ) → is_counting self ≡ true → Follows self log → IfOk result (λ answer. IfSome answer.0.rows (λ rows. rows.items ≡ coverage_of log)) }
+        ensures gaps { (log : List ℕ) → is_counting self ≡ true → Follows self log → IfOk result (λ answer. IfSome answer.0.gaps (λ gaps. gaps.items ≡ unjudged_of log)) }
         ensures for_ever { IfSome self.tracer.refusal (λ refusal. result ≡ Err refusal) }
     {
         let mut judge = self;
         let rows = judge.coverage(alloc);
+        let gaps = judge.gaps(alloc);
         let (verdict, role) = judge.take_verdict()?;
-        Ok((CoveredVerdict { verdict, rows }, role))
+        let covered = CoveredVerdict {
+            verdict,
+            rows,
+            gaps,
+        };
+        Ok((covered, role))
     }
 
     // How often each statement that is listed was put to the test in the log so far, where places
@@ -234,6 +244,17 @@ impl Judge {
     {
         match coverage(alloc, &self.judging.watching) {
             Ok(rows) => Some(rows),
+            Err(Memory) => None,
+        }
+    }
+
+    // What isn't judged of the log so far, where places are counted. Nothing if there is no memory for
+    // it.
+    fn gaps(&self, alloc: Global) -> Option<Vec<Gap>>
+        ensures { (log : List ℕ) → is_counting self.now ≡ true → Follows self.now log → 8 ≤ length log → IfSome result (λ gaps. gaps.items ≡ unjudged_of log) }
+    {
+        match self.judging.watching.gaps(alloc) {
+            Ok(gaps) => Some(gaps),
             Err(Memory) => None,
         }
     }

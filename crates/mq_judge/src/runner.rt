@@ -5,6 +5,7 @@ ghost use Rattle.mq_report.specs.declared.report.RunFault.TheVariants as run_fau
 ghost use Rattle.mq_log.specs.declared.refusal.Refusal.{Refusal as AnyRefusal};
 ghost use Rattle.mq_trace.specs.Feeding.{TakesAtMost};
 ghost use Rattle.mq_judge.specs.Coverage.{coverage_of};
+ghost use Rattle.mq_judge.specs.Unjudged.{unjudged_of};
 ghost use Rattle.mq_judge.specs.Runner.{JudgesOver, RunsOver, RunsCoveredOver};
 ghost use Rattle.mq_judge.specs.Telling.{IsToldOf, IsToldOfRun, IsJudgedFor, Said};
 
@@ -170,11 +171,12 @@ fn judge_telling<R: Read, P: Progress, K: Before>(
 }
 
 /// Judges the log that a reader gives, as `run_watched` does, and says in the report how often each
-/// statement was put to the test.
+/// statement was put to the test, and what wasn't judged.
 ///
 /// # Errors
 ///
-/// As `run_watched`. `Memory` also if there is no memory to list the statements, in each form.
+/// As `run_watched`. `Memory` also if there is no memory to list the statements, or what wasn't
+/// judged, in each form.
 pub fn run_covered<R: Read, W: Write, P: Progress>(
     alloc: Global,
     reader: &mut R,
@@ -189,11 +191,18 @@ pub fn run_covered<R: Read, W: Write, P: Progress>(
     let judged = judge_covered(alloc, reader, progress);
     progress.end();
     let (covered, role) = judged?;
-    let CoveredVerdict { verdict, rows } = covered;
+    let CoveredVerdict {
+        verdict,
+        rows,
+        gaps,
+    } = covered;
     let Some(rows) = rows else {
         return Err(RunFault::Memory);
     };
-    write_covered_report(alloc, &verdict, role, &rows, form, writer)?;
+    let Some(gaps) = gaps else {
+        return Err(RunFault::Memory);
+    };
+    write_covered_report(alloc, &verdict, role, &rows, &gaps, form, writer)?;
     Ok(outcome(&verdict))
 }
 
@@ -205,6 +214,7 @@ fn judge_covered<R: Read, P: Progress>(
 ) -> Result<(CoveredVerdict, Role), Refusal>
     ensures judges { IfSome (R.remaining reader.old) (λ log. JudgesOver (λ v. v.verdict.events) (λ v. v.verdict.faults) log (R.remaining reader.new) result) }
     ensures rows { IfSome (R.remaining reader.old) (λ log. IfOk result (λ answer. IfSome answer.0.rows (λ rows. rows.items ≡ coverage_of log))) }
+    ensures gaps { IfSome (R.remaining reader.old) (λ log. IfOk result (λ answer. IfSome answer.0.gaps (λ gaps. gaps.items ≡ unjudged_of log))) }
     ensures told { IsToldOf (IsJudgedFor result) (R.remaining reader.old) (P.told progress.old) (P.told progress.new) }
 {
     cover_telling::<R, P, Brand>(alloc, reader, progress)
@@ -220,6 +230,7 @@ fn cover_telling<R: Read, P: Progress, K: Before>(
     requires counting { K.counting ≡ true }
     ensures judges { IfSome (R.remaining reader.old) (λ log. JudgesOver (λ v. v.verdict.events) (λ v. v.verdict.faults) log (R.remaining reader.new) result) }
     ensures rows { IfSome (R.remaining reader.old) (λ log. IfOk result (λ answer. IfSome answer.0.rows (λ rows. rows.items ≡ coverage_of log))) }
+    ensures gaps { IfSome (R.remaining reader.old) (λ log. IfOk result (λ answer. IfSome answer.0.gaps (λ gaps. gaps.items ≡ unjudged_of log))) }
     ensures told { IsToldOf (IsJudgedFor result) (R.remaining reader.old) K.told (P.told progress.new) }
 {
     let judge = Judge::counting(alloc, Options::default());

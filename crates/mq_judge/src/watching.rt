@@ -1,5 +1,5 @@
 //! Judging each event as it comes.
-ghost use Rattle.std.specs.Prelude.{◌≡◌, ◌∷◌, ◌+◌, [], ℕ, Bool, true, cond, None, Some, List, length, map, ◌≤◌, ◌*◌, IfSome, OnOk, OnErr};
+ghost use Rattle.std.specs.Prelude.{◌≡◌, ◌∷◌, ◌+◌, [], ℕ, Bool, true, cond, Option, None, Some, List, length, map, ◌≤◌, ◌*◌, IfOk, IfSome, OnOk, OnErr};
 ghost use Rattle.mq_books.specs.Burden.{burden};
 ghost use Rattle.mq_books.specs.Kinds.{is_counting as counts};
 ghost use Rattle.mq_rules.specs.declared.note.Seen.{Seen as TheSeen};
@@ -15,13 +15,20 @@ ghost use Rattle.mq_rules.specs.declared.role.Tested.{Tested as TheTested};
 ghost use Rattle.mq_rules.specs.declared.fate.Fate.TheVariants.{Void};
 ghost use Rattle.mq_judge.specs.Watching.{IsWatching, IsTallying, TakesIn, LeavesOut, CountsNothing, watchers_weigh};
 ghost use Rattle.mq_judge.specs.Coverage.{places_among};
+ghost use Rattle.mq_judge.specs.Unjudged.{unjudged_among};
+ghost use Rattle.mq_judge.specs.Gathering.{Gathers};
+ghost use Rattle.mq_rules.specs.declared.fate.Fate.{Fate as TheFate};
+ghost use Rattle.mq_rules.specs.Connections.{latest_fate};
+ghost use Rattle.mq_rules.specs.Under.{seen as seen_at};
 ghost use Rattle.mq_rules.specs.Notes.{seen as seen_of};
 
+use super::unjudged::Unjudged;
 use mq_books::Watchers;
 use mq_log::{Direction, Event, Header, Item, Place3, Refusal, item_event};
 use mq_packet::{Packet, Publish};
+use mq_report::Gap;
 use mq_rules::{
-    Bare, BareFields, Brisk, ByteTally, Faults, Memory, Note, Rule, Tested, Watch, is_bare,
+    Bare, BareFields, Brisk, ByteTally, Fate, Faults, Memory, Note, Rule, Tested, Watch, is_bare,
 };
 use mq_trace::Sink;
 use std::alloc::Global;
@@ -37,6 +44,8 @@ pub struct Watching {
     watchers: Watchers,
     /// How often the statements on a packet's bytes were put to the test, if places are counted.
     tally: ByteTally,
+    /// What isn't judged, if places are counted.
+    unjudged: Unjudged,
     /// The faults of the events so far.
     pub faults: Faults,
     /// How many events there were.
@@ -57,6 +66,7 @@ impl Watching {
             tested,
             watchers,
             tally: ByteTally::new(),
+            unjudged: Unjudged::new(alloc),
             faults: Faults::new(alloc),
             events: 0,
         }
@@ -85,6 +95,18 @@ impl Watching {
             Some(places) => places,
             None => self.tally.places(rule),
         }
+    }
+
+    /// What isn't judged of the events so far, where places are counted.
+    ///
+    /// # Errors
+    ///
+    /// `Memory` if there is no memory for it, or there was none when an event showed it.
+    pub fn gaps(&self, alloc: Global) -> Result<Vec<Gap>, Memory>
+        ensures { (past : List TheSeen) → counts self.now.watchers ≡ true → IsWatching self.now past → IfOk result (λ gaps. gaps.items ≡ unjudged_among self.now.tested past) }
+    {
+        self.unjudged
+            .gaps(alloc, self.tested, self.watchers.latest_fate())
     }
 
     /// Judges the end that the log's header names, once the header is whole, and before any event.
@@ -128,9 +150,11 @@ impl Watching {
         ensures memory { OnErr result (LeavesOut self.old self.new place note.now) }
         ensures counts { OnOk result (CountsNothing self.old self.new) }
     {
+        let before = self.watchers.latest_fate();
         match self.watchers.step(place, note, &mut self.faults) {
             Ok(()) => {
                 self.events = place.position;
+                gather(&mut self.unjudged, &self.watchers, place, note, before);
                 Ok(())
             }
             Err(Memory) => {
@@ -412,6 +436,22 @@ fn tally_event(tally: &mut ByteTally, counting: bool, place: Place3, event: &Eve
 {
     if counting {
         tally.count_event(place.position, event);
+    }
+}
+
+// Takes in what an event leaves unjudged, if places are counted. Before it this became of the latest
+// connection; the watchers have taken it in.
+fn gather(
+    unjudged: &mut Unjudged,
+    watchers: &Watchers,
+    place: Place3,
+    note: &Note,
+    before: Option<Fate>,
+)
+    ensures { (tested : TheTested) (taken : Option TheFate) (past : List TheSeen) → before ≡ latest_fate tested.role past → ⟦<Watchers as Watch>⟧.agrees watchers.now tested taken (seen_at place note.now ∷ past) → (counts watchers.now ≡ true → Gathers unjudged.old tested past) → counts watchers.now ≡ true → Gathers unjudged.new tested (seen_at place note.now ∷ past) }
+{
+    if watchers.is_counting() {
+        unjudged.take_in(place, note, before, watchers.latest_fate());
     }
 }
 

@@ -64,6 +64,22 @@ static PLACES: [(&str, &str, u32, u32); 53] = [
     ("L3", "sec-4.3.3", 0, 0),
 ];
 
+// A client whose log has no releases receives bytes that no packet begins with, before its CONNACK.
+static GIVEN_UP: &[u8] = b"MQTR\x01\x00\x00\x00\
+    \x01\x00\x00\x00\x00\
+    \x03\x00\x00\x00\x05\x20\xff\xff\xff\xff";
+
+// The lines on what `GIVEN_UP` puts to the test: nothing.
+fn untested_lines(alloc: Global) -> Result<String, Fail> {
+    let mut text = String::new(alloc);
+    for (code, citation, _, _) in PLACES {
+        if !code.starts_with("L") {
+            write!(text, "tested {code} {citation} places 0\n")?;
+        }
+    }
+    Ok(text)
+}
+
 // The lines on what `GOOD` puts to the test, or `FAULTY`.
 fn tested_lines(alloc: Global, is_faulty: bool) -> Result<String, Fail> {
     let mut text = String::new(alloc);
@@ -91,10 +107,32 @@ fn tested_as_json(alloc: Global) -> Result<String, Fail> {
 #[test]
 fn says_what_was_tested_before_a_pass(rt: HostRuntime) -> Result<(), Fail> {
     let mut text = tested_lines(rt.alloc(), false)?;
-    text.push_str("covered 15 of 53 statements\npass 4 events\n")?;
+    text.push_str("covered 15 of 53 statements\nunjudged answers no-rest\npass 4 events\n")?;
     let words = &["mqjudge", "check", "--coverage", "a.log"];
     let mut desk = Desk::of(rt.alloc(), words, GOOD, b"");
     assert!(rt; does(&mut desk, 0, text.as_str(), ""));
+    Ok(())
+}
+
+#[test]
+fn says_what_was_not_judged(rt: HostRuntime) -> Result<(), Fail> {
+    let mut text = untested_lines(rt.alloc())?;
+    text.push_str(
+        "covered 0 of 50 statements\n\
+        unjudged received lost event 2 record 2\n\
+        unjudged session undecided event 1 record 1\n\
+        unjudged answers no-rest\n\
+        unjudged L1 L2 L3 no-releases\n\
+        pass 2 events\n",
+    )?;
+    let words: [&[&str]; 2] = [
+        &["mqjudge", "check", "--coverage", "a.log"],
+        &["mqjudge", "check", "--coverage", "--summary", "a.log"],
+    ];
+    for words in words {
+        let mut desk = Desk::of(rt.alloc(), words, GIVEN_UP, b"");
+        assert!(rt; does(&mut desk, 0, text.as_str(), ""), "{words:?}");
+    }
     Ok(())
 }
 
@@ -105,7 +143,9 @@ fn says_what_was_tested_after_the_faults(rt: HostRuntime) -> Result<(), Fail> {
         "fault 4 W09 sec-2.2.1 decided 4 record 4 offset 5\n",
     )?;
     text.push_str(tested_lines(rt.alloc(), true)?.as_str())?;
-    text.push_str("covered 12 of 53 statements\nfail 1 faults 4 events\n")?;
+    text.push_str(
+        "covered 12 of 53 statements\nunjudged answers no-rest\nfail 1 faults 4 events\n",
+    )?;
     let words = &["mqjudge", "check", "--coverage", "a.log"];
     let mut desk = Desk::of(rt.alloc(), words, FAULTY, b"");
     assert!(rt; does(&mut desk, 1, text.as_str(), ""));
@@ -116,7 +156,9 @@ fn says_what_was_tested_after_the_faults(rt: HostRuntime) -> Result<(), Fail> {
 fn says_what_was_tested_after_a_summary(rt: HostRuntime) -> Result<(), Fail> {
     let mut text = String::from_str(rt.alloc(), "W09 sec-2.2.1 faults 1 first 4 record 4\n")?;
     text.push_str(tested_lines(rt.alloc(), true)?.as_str())?;
-    text.push_str("covered 12 of 53 statements\nfail 1 faults 4 events\n")?;
+    text.push_str(
+        "covered 12 of 53 statements\nunjudged answers no-rest\nfail 1 faults 4 events\n",
+    )?;
     let words = &["mqjudge", "check", "--summary", "--coverage", "a.log"];
     let mut desk = Desk::of(rt.alloc(), words, FAULTY, b"");
     assert!(rt; does(&mut desk, 1, text.as_str(), ""));
@@ -129,7 +171,8 @@ fn says_what_was_tested_as_json(rt: HostRuntime) -> Result<(), Fail> {
     text.push_str(tested_as_json(rt.alloc())?.as_str())?;
     text.push_str(
         ",\"events\":4,\"faults\":[{\"citation\":\"sec-2.2.1\",\"code\":\"W09\",\"decided\":4,\
-        \"offset\":5,\"position\":4,\"record\":4}],\"verdict\":\"fail\"}\n",
+        \"offset\":5,\"position\":4,\"record\":4}],\
+        \"unjudged\":[{\"what\":\"answers\",\"why\":\"no-rest\"}],\"verdict\":\"fail\"}\n",
     )?;
     let words: [&[&str]; 2] = [
         &["mqjudge", "check", "--coverage", "--json", "a.log"],

@@ -6,6 +6,7 @@ use Rattle.mq_judge.specs.declared.telling.Telling.{Telling}
 use Rattle.mq_judge.specs.Judging.{is_counting, Follows}
 use Rattle.mq_judge.proofs.RunnerLaws.{judge-finishes, no-rows, run-stopped}
 use Rattle.mq_judge.specs.Coverage.{coverage_of}
+use Rattle.mq_judge.specs.Unjudged.{unjudged_of}
 use Rattle.mq_trace.proofs.Exports.{whole-taken}
 use Rattle.mq_judge.proofs.TellingLaws.{counting-all, told-nothing, told-all, told-before, judge-fed-all, judge-fed-before}
 use Rattle.mq_judge.proofs.runner.cover_telling.Given as given
@@ -35,6 +36,11 @@ returns-in_err-feed_log-clause-rows g c =
     let p = err_from_is_err_and c.from_residual.result c.from_residual.ensures.1 in
     no-rows _ c.from_residual.result _ _ p.1
 
+pub returns-in_err-feed_log-clause-gaps : goal.returns-in_err-feed_log-clause-gaps
+returns-in_err-feed_log-clause-gaps g c =
+    let p = err_from_is_err_and c.from_residual.result c.from_residual.ensures.1 in
+    no-rows _ c.from_residual.result _ _ p.1
+
 pub returns-clause-judges : goal.returns-clause-judges
 returns-clause-judges g c =
     judge-finishes (λ v. v.verdict.events) (λ v. v.verdict.faults) c.finish_covered.result (judge-fed-all (judge_of g) g.K.Before.told g.K.Before.counting g.P.Progress.told c.in_ok-feed_log.ensures.all)
@@ -51,3 +57,10 @@ returns-clause-rows g c =
     let counts = counting-all (judge_of g) g.K.Before.told g.K.Before.counting g.P.Progress.told took in
     whole-taken _ _ took.log (λ log. IfOk c.finish_covered.result (λ answer. IfSome answer.0.rows (λ rows. rows.items ≡ coverage_of log))) took.consumed took.ended
     (c.finish_covered.ensures.rows took.log (ap is_counting c.into_judge-judge.ensures ∙ counts ∙ c.requires.counting) (subst (λ (judge : Judge). Follows judge took.log) (sym c.into_judge-judge.ensures) took.followed.0))
+
+pub returns-clause-gaps : goal.returns-clause-gaps
+returns-clause-gaps g c =
+    let took = c.in_ok-feed_log.ensures.all in
+    let counts = counting-all (judge_of g) g.K.Before.told g.K.Before.counting g.P.Progress.told took in
+    whole-taken _ _ took.log (λ log. IfOk c.finish_covered.result (λ answer. IfSome answer.0.gaps (λ gaps. gaps.items ≡ unjudged_of log))) took.consumed took.ended
+    (c.finish_covered.ensures.gaps took.log (ap is_counting c.into_judge-judge.ensures ∙ counts ∙ c.requires.counting) (subst (λ (judge : Judge). Follows judge took.log) (sym c.into_judge-judge.ensures) took.followed.0))

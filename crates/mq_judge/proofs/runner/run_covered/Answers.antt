@@ -3,8 +3,10 @@ use Rattle.std.proofs.Common.{◌≡◌, List, None, Ok, Err, subst, sym}
 use Rattle.std.proofs.lemmas.Result.{err_from_is_err_and}
 use Rattle.mq_report.specs.declared.report.RunFault.TheVariants as run_faults
 use Rattle.mq_report.specs.declared.report.coverage.Covered.{Covered}
+use Rattle.mq_report.specs.declared.report.unjudged.Gap.{Gap}
 use Rattle.mq_judge.specs.Coverage.{coverage_of}
-use Rattle.mq_judge.proofs.RunnerLaws.{rows-known, run-covers, run-lacks-rows, run-stops-covering}
+use Rattle.mq_judge.specs.Unjudged.{unjudged_of}
+use Rattle.mq_judge.proofs.RunnerLaws.{lists-known, rows-known, run-covers, run-lacks-rows, run-stops-covering}
 use Rattle.mq_judge.proofs.TellingLaws.{told-refusal, told-verdict}
 use Rattle.mq_judge.proofs.runner.run_covered.Goals as goal
 
@@ -26,8 +28,9 @@ returns-in_default-clause-told g c =
 pub returns-in_err-write_covered_report-clause-runs : goal.returns-in_err-write_covered_report-clause-runs
 returns-in_err-write_covered_report-clause-runs g c =
     let p = err_from_is_err_and c.from_residual-in_err-write_covered_report.result c.from_residual-in_err-write_covered_report.ensures.1 in
-    rw (p.1, p.2) (run-stops-covering _ _ c.args.form _ _ _ _ _ _ _ c.in_ok-covered.ensures.judges (subst (λ (rows : List Covered). IfSome (g.R.Read.remaining c.args.reader.now) (λ log. rows ≡ coverage_of log)) (sym c.deref.ensures.value)
-    (rows-known _ _ _ _ c.in-Some.is c.in_ok-covered.ensures.rows)) c.in_err-write_covered_report.ensures.err)
+    rw (p.1, p.2) (run-stops-covering _ _ c.args.form _ _ _ _ _ _ _ _ c.in_ok-covered.ensures.judges (lists-known _ _ _
+    (subst (λ (rows : List Covered). IfSome (g.R.Read.remaining c.args.reader.now) (λ log. rows ≡ coverage_of log)) (sym c.deref.ensures.value) (rows-known _ _ _ _ c.in-Some.is c.in_ok-covered.ensures.rows))
+    (subst (λ (gaps : List Gap). IfSome (g.R.Read.remaining c.args.reader.now) (λ log. gaps ≡ unjudged_of log)) (sym c.deref-2.ensures.value) (rows-known _ _ _ _ c.in-Some-gaps.is c.in_ok-covered.ensures.gaps))) c.in_err-write_covered_report.ensures.err)
 
 pub returns-in_err-write_covered_report-clause-told : goal.returns-in_err-write_covered_report-clause-told
 returns-in_err-write_covered_report-clause-told g c =
@@ -35,8 +38,9 @@ returns-in_err-write_covered_report-clause-told g c =
     told-verdict _ _ (told c.args.progress.now) (told c.judge_covered-judged.new.progress) (told c.end.new.self) c.end.ensures c.in_ok-covered.ensures.told
 
 pub returns-clause-runs : goal.returns-clause-runs
-returns-clause-runs g c = run-covers _ None c.args.form _ _ _ _ _ _ _ c.in_ok-covered.ensures.judges (subst (λ (rows : List Covered). IfSome (g.R.Read.remaining c.args.reader.now) (λ log. rows ≡ coverage_of log)) (sym c.deref.ensures.value)
-    (rows-known _ _ _ _ c.in-Some.is c.in_ok-covered.ensures.rows)) c.in_ok-write_covered_report.ensures.ok c.outcome.ensures
+returns-clause-runs g c = run-covers _ None c.args.form _ _ _ _ _ _ _ _ c.in_ok-covered.ensures.judges (lists-known _ _ _
+    (subst (λ (rows : List Covered). IfSome (g.R.Read.remaining c.args.reader.now) (λ log. rows ≡ coverage_of log)) (sym c.deref.ensures.value) (rows-known _ _ _ _ c.in-Some.is c.in_ok-covered.ensures.rows))
+    (subst (λ (gaps : List Gap). IfSome (g.R.Read.remaining c.args.reader.now) (λ log. gaps ≡ unjudged_of log)) (sym c.deref-2.ensures.value) (rows-known _ _ _ _ c.in-Some-gaps.is c.in_ok-covered.ensures.gaps))) c.in_ok-write_covered_report.ensures.ok c.outcome.ensures
 
 pub returns-clause-told : goal.returns-clause-told
 returns-clause-told g c =

@@ -3,10 +3,10 @@ use Rattle.mq_judge.proofs.WatchingLaws.{watched-anew}
 use Rattle.mq_judge.proofs.watching.Watching.count_packet.Goals as goal
 
 pub returns-in-Ok-clause-ok : goal.returns-in-Ok-clause-ok
-returns-in-Ok-clause-ok c = λ past may was. c.in-Ok.ensures.ok past may (watched-anew c.args.self.now _ past refl refl refl refl was)
+returns-in-Ok-clause-ok c = λ past may was. c.in-Ok.ensures.ok past may (watched-anew c.args.self.now _ past refl refl refl refl refl was)
 
 pub returns-in-Err-clause-memory : goal.returns-in-Err-clause-memory
-returns-in-Err-clause-memory c = λ past may was. c.in-Err.ensures.memory past may (watched-anew c.args.self.now _ past refl refl refl refl was)
+returns-in-Err-clause-memory c = λ past may was. c.in-Err.ensures.memory past may (watched-anew c.args.self.now _ past refl refl refl refl refl was)
 
 pub returns-in-Ok-clause-tallies : goal.returns-in-Ok-clause-tallies
 returns-in-Ok-clause-tallies c = λ p events is at was on.

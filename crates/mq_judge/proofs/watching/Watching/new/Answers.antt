@@ -3,4 +3,4 @@ use Rattle.mq_judge.proofs.WatchingLaws.{none-found}
 use Rattle.mq_judge.proofs.watching.Watching.new.Goals as goal
 
 pub returns-clause-watches : goal.returns-clause-watches
-returns-clause-watches c = record { agree = c.watch-watchers.ensures.agrees; found = record { each = none-found c.args.tested c.new-2.result c.new-2.ensures; count = refl } }
+returns-clause-watches c = record { agree = c.watch-watchers.ensures.agrees; found = record { each = none-found c.args.tested c.new-3.result c.new-3.ensures; count = refl }; gathered = λ on. c.new-2.ensures c.args.tested }

@@ -1,4 +1,4 @@
-use Rattle.std.proofs.Common.{◌∙◌, add-one, length}
+use Rattle.std.proofs.Common.{◌∙◌, ◌∷◌, add-one, length, sym}
 use Rattle.mq_rules.specs.Connections.{latest_fate}
 use Rattle.mq_rules.specs.Under.{seen}
 use Rattle.mq_judge.proofs.WatchingLaws.{found-before, found-next}
@@ -15,6 +15,10 @@ returns-in-Ok-clause-ok c = λ past may was.
         each = found-next w.tested e past w.faults c.step.new.faults (c.in-Ok.ensures.grows w.tested fate past may.follows may.on_connection was.agree) was.found.each;
         count = may.follows.placed.0 ∙ add-one (length past);
       };
+      gathered =
+          c.gather.ensures w.tested (latest_fate w.tested.role (e ∷ past)) past (c.latest_fate-before.ensures w.tested fate past was.agree)
+          (c.in-Ok.ensures.agrees w.tested fate past may.follows may.on_connection was.agree)
+          (λ on. was.gathered (sym c.in-Ok.ensures.kind ∙ on));
     }
 
 pub returns-in-Err-clause-memory : goal.returns-in-Err-clause-memory
