@@ -130,7 +130,7 @@ def logs(paths: list[str]) -> list[tuple[str, bytes]]:
 
 
 def parted(text: str) -> tuple[list[str], list[str], str]:
-    """A text report's lines on faults, those on what was tested, if it has any, and its last one."""
+    """A text report's lines on faults, those on what was tested and what wasn't judged, if it has any, and its last one."""
     *lines, last = text.splitlines()
     faults = [line for line in lines if line.startswith("fault ")]
     return faults, lines[len(faults) :], last
@@ -149,10 +149,22 @@ def as_json(text: str) -> str:
         items.append(
             f'{{"citation":"{citation}","code":"{code}","decided":{decided},"offset":{offset},"position":{position},"record":{record}}}'
         )
-    rows = [line.split() for line in tested[:-1]]
+    rows = [line.split() for line in tested if line.startswith("tested ")]
     places = ",".join(f'{{"citation":"{citation}","code":"{code}","places":{count}}}' for _, code, citation, _, count in rows)
     coverage = f'"coverage":[{places}],' if tested else ""
-    return f'{{{coverage}"events":{words[-2]},"faults":[{",".join(items)}],"verdict":"{words[0]}"}}\n'
+    gaps = ",".join(gap_as_json(line) for line in tested if line.startswith("unjudged "))
+    unjudged = f'"unjudged":[{gaps}],' if tested else ""
+    return f'{{{coverage}"events":{words[-2]},"faults":[{",".join(items)}],{unjudged}"verdict":"{words[0]}"}}\n'
+
+
+def gap_as_json(line: str) -> str:
+    """The item of JSON for a line on what wasn't judged."""
+    words = line.removeprefix("unjudged ").split()
+    place = ""
+    if "event" in words:
+        *words, _, event, _, record = words
+        place = f'"event":{event},"record":{record},'
+    return f'{{{place}"what":"{" ".join(words[:-1])}","why":"{words[-1]}"}}'
 
 
 def in_short(text: str) -> str:

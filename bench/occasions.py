@@ -10,6 +10,7 @@ direction that is lost only W03.
 """
 from collections.abc import Callable, Iterator
 
+import gaps
 import reference
 from reading import (
     ACKNOWLEDGEMENTS, AUTH, Bad, CLOSE, CONNACK, CONNECT, DISCONNECT, Lost, NOT_ZERO, PINGREQ, PROPERTIES, PUBCOMP, PUBLISH,
@@ -562,21 +563,25 @@ def sum_of(rows: list[str]) -> str:
     return f"covered {sum(not row.endswith(' places 0') for row in rows)} of {len(rows)} statements"
 
 
+NO_REST = "unjudged answers no-rest"
+
+
 def of_publishes(used: int, others: int = 0, pings: int = 0, connections: int = 1) -> list[str]:
     """What a client tests that on each connection sends a CONNECT without properties, so many PUBLISHes of QoS 1 under one identifier,
-    of which none is acknowledged, so many of QoS 0, and so many PINGREQs. By S01 it is each under the identifier but the first."""
+    of which none is acknowledged, so many of QoS 0, and so many PINGREQs. By S01 it is each under the identifier but the first. No REST
+    binds."""
     connects = dict.fromkeys(("W18", "W19", "C02", "C03"), 1)
     packets = dict.fromkeys(("W02", "W03", "W06", "C01"), 1 + used + others + pings)
     texts = dict.fromkeys(("W04", "W05"), 1 + used + others)
     publishes = dict.fromkeys(("W07", "W14", "C18"), used + others)
     counts = connects | packets | texts | publishes | {"W01": 1 + pings, "W08": others, "W09": used, "S01": max(used - 1, 0)}
-    return coverage_of("client", True, {rule: count * connections for rule, count in counts.items()})
+    return [*coverage_of("client", True, {rule: count * connections for rule, count in counts.items()}), NO_REST]
 
 
 def lines(recording: Recording) -> list[str]:
-    """What was tested in a log: nothing if it is refused."""
+    """What was tested in a log, and what wasn't judged: nothing if it is refused."""
     log = log_of(recording)
-    return [] if recording.refusal else coverage(log, all_places(log))
+    return [] if recording.refusal else [*coverage(log, all_places(log)), *gaps.lines(log)]
 
 
 def with_lines(report: str, tested: list[str]) -> str:

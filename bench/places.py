@@ -1,11 +1,12 @@
 #!/usr/bin/env python3
-"""Says of logs at how many positions each statement is put to the test: its places.
+"""Says of logs at how many positions each statement is put to the test, its places, and what isn't judged.
 
-It is a part of the second opinion that reference.py gives, and no part of the program: occasions.py has the statements.
+It is a part of the second opinion that reference.py gives, and no part of the program: occasions.py has the statements, and
+gaps.py what isn't judged.
 
-For each log it prints a line for each statement that can be judged for its end, and how many of these have a place. A
-statement on packets that only the other end sends is left out if it has none. With --self-test it checks worked logs and
-those of the suite, and laws on these and many others.
+For each log it prints a line for each statement that can be judged for its end, how many of these have a place, and a line for
+each thing that isn't judged. A statement on packets that only the other end sends is left out if it has none. With --self-test it
+checks worked logs and those of the suite, and laws on these and many others.
 
 usage: bench/places.py LOG..
        bench/places.py --self-test [--made 200]
@@ -19,6 +20,7 @@ from pathlib import Path
 
 sys.dont_write_bytecode = True  # the repository stays as it is
 import check_rows
+import gaps
 import hostile_logs
 import honest_logs
 import random_logs
@@ -41,6 +43,13 @@ def wrong_worked(worked: list[worked_places.Worked]) -> Iterator[str]:
         found = places(one.log, one.rule)
         if found != one.places:
             yield f"{one.name}: wanted {one.places}, found {found}"
+
+
+def wrong_gaps() -> Iterator[str]:
+    for name, log, wanted in worked_places.worked_gaps():
+        found = gaps.lines(log)
+        if found != wanted:
+            yield f"{name}: wanted {wanted}, found {found}"
 
 
 def wrong_suite(logs: list[tuple[suite.Row, Log]]) -> Iterator[str]:
@@ -102,7 +111,7 @@ def self_test(count: int) -> int:
     begun = time.monotonic()
     worked, laws = [*worked_places.proved(), *worked_places.rows()], Laws()
     logs = [(row, log_of(Recording(row.log))) for row in suite.rows()]
-    wrong = [*wrong_worked(worked), *wrong_suite(logs)]
+    wrong = [*wrong_worked(worked), *wrong_gaps(), *wrong_suite(logs)]
     short = [(row.name, row.log) for row in check_rows.rows() if len(row.log) < SHORT]
     wrong += [f"{name}: {line}" for name, log in [*short, *made(count)] for line in laws.wrong(log)]
     untested = [f"{role} {rule}" for rule, roles in CITATIONS.items() for role in roles if (role, rule) not in laws.tested]

@@ -92,7 +92,10 @@ With what was tested, the last line comes after a line `tested <code> <citation>
 statement on the tested end, in the order of reports: at so many events it was put to the test, kept
 or broken. W15 to W19 are about packets that only a client sends, and W20 about those of a server:
 for the other end they are listed only if they have a place. Then comes
-`covered <m> of <n> statements`: so many of the listed ones have a place.
+`covered <m> of <n> statements`: so many of the listed ones have a place. A line for each thing that
+wasn't judged follows, `unjudged <what> <why>`, with `event <position> record <number>` if it begins
+with one event; the command's page has
+[what they mean](../../docs/COMMANDS.md#what-wasnt-judged).
 
 ## The logs
 

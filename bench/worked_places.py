@@ -100,6 +100,38 @@ B03 | server OPEN <CONNECT >CONNACK <SUBSCRIBE:1 >UNSUBACK:1 >900400020002 >SUBA
 B04 | server OPEN <CONNECT >CONNACK <UNSUBSCRIBE:1 >SUBACK:1 >UNSUBACK:1 >UNSUBACK:1 | 6"""
 
 
+# A log in the same words, and what isn't judged of it: what, why, and the event from which on, if it is one. Each record is an event.
+GAPS = """\
+client OPEN >CONNECT <CONNACK REST CLOSE |
+client OPEN >CONNECT <CONNACK REST CLOSE RELEASE:1 |
+client | answers no-rest
+client OPEN >CONNECT <CONNACK >LOST CLOSE | sent lost 4, answers no-rest
+client OPEN >CONNECT <CONNACK REST <LOST >PINGREQ | received lost 5
+server OPEN <CONNECT >CONNACK REST <LOST >LOST CLOSE | received lost 5, sent lost 6
+client OPEN >CONNECT <LOST CLOSE OPEN >CONNECT <CONNACK REST CLOSE | received lost 3
+client OPEN >CONNECT | session undecided 1, answers no-rest
+client OPEN >CONNECT <CONNACK REST CLOSE OPEN >CONNECT REST | session undecided 6
+client OPEN >CONNECT <CONNACK REST CLOSE OPEN >CONNECT <CONNACK-REFUSED |
+server OPEN <CONNECT >CONNACK REST CLOSE OPEN | session undecided 6
+client OPEN >CONNECT-KEPT <CONNACK REST CLOSE OPEN >CONNECT CLOSE OPEN >RECONNECT <CONNACK-RESUMED CLOSE | session unknown 11
+client OPEN >CONNECT-KEPT <CONNACK REST CLOSE OPEN >RECONNECT CLOSE OPEN >RECONNECT <CONNACK-RESUMED CLOSE |
+client OPEN >CONNECT-KEPT <CONNACK REST CLOSE OPEN >CONNECT CLOSE OPEN >CONNECT <CONNACK CLOSE |
+client OPEN >RECONNECT CLOSE OPEN >CONNECT CLOSE OPEN >RECONNECT <CONNACK-RESUMED REST CLOSE |
+client OPEN >CONNECT-KEPT <CONNACK CLOSE OPEN >CONNECT CLOSE OPEN >RECONNECT <CONNACK-RESUMED REST CLOSE | session unknown 10, answers no-rest
+server OPEN <CONNECT >CONNACK REST <SHARE CLOSE | B01 B02 shared 5
+server OPEN <CONNECT >CONNACK REST <SUBSCRIBE:1 <SHARE <SHARE CLOSE | B01 B02 shared 6
+server OPEN <CONNECT <SHARE CLOSE | B01 B02 shared 3, answers no-rest
+client OPEN >CONNECT <CONNACK REST <SHARE >SHARE CLOSE |
+client OPEN >CONNECT REST <CONNACK | answers no-rest
+client OPEN >CONNECT <CONNACK >DISCONNECT REST CLOSE | answers no-rest
+client OPEN >CONNECT <CONNACK <DISCONNECT REST CLOSE OPEN >CONNECT <CONNACK REST |
+server OPEN <CONNECT >CONNACK >D100 REST CLOSE | answers no-rest
+server OPEN <CONNECT >CONNACK-REFUSED REST CLOSE | answers no-rest
+silent-client OPEN >CONNECT <CONNACK REST | L1 L2 L3 no-releases
+silent-client OPEN >CONNECT <CONNACK <LOST | received lost 4, answers no-rest, L1 L2 L3 no-releases"""
+SHARE = "821000010000" + "0A" + b"$share/g/a".hex() + "00"
+
+
 @dataclass(frozen=True)
 class Worked:
     name: str
@@ -258,6 +290,21 @@ def proved() -> Iterator[Worked]:
     for name, end, rule, events, places in clauses:
         role, releases = ENDS[end]
         yield Worked(f"{name}, {rule}", rule, Log(read(events), role, releases), sorted(read(places)))
+
+
+def worked_gaps() -> Iterator[tuple[str, Log, list[str]]]:
+    """The rows on what isn't judged: each with its lines."""
+    names = check_rows.packets()
+    for line in GAPS.split("\n"):
+        words, wanted = (part.strip() for part in line.split("|"))
+        recording = Recording(check_rows.log_of(words.replace("SHARE", SHARE), names))
+        assert recording.refusal is None, line
+        yield line, Log(recording.events, recording.role, recording.releases), [gap_line(one) for one in wanted.split(", ") if one]
+
+
+def gap_line(words: str) -> str:
+    gap, _, at = words.rpartition(" ")
+    return f"unjudged {gap} event {at} record {at}" if at.isdecimal() else f"unjudged {words}"
 
 
 def rows() -> Iterator[Worked]:
