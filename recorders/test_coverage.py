@@ -32,7 +32,7 @@ STAND_IN = """#!/bin/sh
 case "$1 $2" in
 "check --coverage") test -n "$3" || { echo refused 1 Header at 0; exit 2; }
   said="$3.said"; test -f "$said" || said="$0.said"; sed '$d' < "$said"; exit "$(tail -n 1 "$said")" ;;
-"check "*) sed '/^tested\\|^covered/d;$d' < "$2.said"; exit "$(tail -n 1 "$2.said")" ;;
+"check "*) sed '/^tested\\|^covered\\|^unjudged/d;$d' < "$2.said"; exit "$(tail -n 1 "$2.said")" ;;
 "rules ") printf '%s sec-1 It is so.\\n' 'W01 both' 'W09 both' 'C02 client' 'S01 both' 'E7R server'; exit 0 ;;
 esac
 exit 3
@@ -99,6 +99,23 @@ class Printed(Case):
     def test_all_is_tested(self) -> None:
         self.add("a", CLIENT, *tested(W01=2, S01=1), *PASS)
         self.assertIn("tested: client 2 of 2 statements\n", self.judged(self.logs, "--coverage")[1])
+
+    def test_what_is_not_judged(self) -> None:
+        gaps = ["unjudged sent lost event 14 record 9", "unjudged sent lost event 20 record 15",
+                "unjudged B01 B02 shared event 12 record 13", "unjudged sent unfinished PUBLISH bytes 12 record 20",
+                "unjudged answers no-rest"]
+        self.add("a", CLIENT, *tested(W01=2, S01=1), *gaps, *PASS)
+        self.add("b", CLIENT, *tested(W01=2, S01=1), gaps[-1], *PASS)
+        self.add("c", SERVER, *tested(W01=1), *PASS)
+        _, printed, _ = self.judged(self.logs, "--coverage")
+        self.assertIn("tested: client 2 of 2 statements\nnot judged: client answers no-rest in 2 of 2 logs, sent lost in 1 of"
+                      " 2 logs, B01 B02 shared in 1 of 2 logs\ntested: server 1 of 1 statements\n\n", printed)
+        lines = [json.loads(line) for line in self.judged(self.logs, "--coverage", "--json")[1].splitlines()]
+        place = {"event": 14, "record": 9}
+        self.assertEqual(lines[0]["unjudged"][0], place | {"what": "sent", "why": "lost"})
+        self.assertEqual(lines[1]["unjudged"], [{"what": "answers", "why": "no-rest"}])
+        self.assertNotIn("unjudged", lines[2])
+        self.assertNotIn("unjudged", self.judged(self.logs, "--json")[1])
 
     def test_what_counts_no_places(self) -> None:
         """What is refused, cut or ignored, and what isn't MQTT."""
@@ -301,6 +318,15 @@ class Paged(Case):
         self.assertIn("<li><span class=code>E7R</span> It is so.", page)
         self.assertNotIn("<div class=matrix", self.page())
 
+    def test_what_is_not_judged(self) -> None:
+        gaps = ["unjudged sent lost event 14 record 9", "unjudged B01 B02 shared event 12 record 13", "unjudged answers no-rest"]
+        for name, some in (("a", gaps), ("b", gaps[-1:]), ("c", gaps[-1:])):
+            self.add(name, CLIENT, *tested(W01=2, S01=1), *some, *PASS)
+        page = self.page("--coverage")
+        self.assertEqual([page.count(f'<span class="way">{way}</span>') for way in ("sent lost", "answers no-rest", "no REST")],
+                         [1, 0, 3])
+        self.assertIn("<p class=note>Not judged: client answers no-rest in 3 of 3 logs, sent lost in 1 of 3 logs, ", page)
+
     def test_shades_go_by_the_logarithm(self) -> None:
         counts = (1, 2, 4, 16, 64, 256, 1_024, 4_096, 10**9)
         self.assertEqual([shade(count) for count in counts], [1, 1, 2, 3, 4, 5, 6, SHADES, SHADES])
@@ -370,7 +396,8 @@ class Judged(WithStandIn):
         command = [judge_program(), "check", "--coverage", "--json", str(log)]
         answer = subprocess.run(command, capture_output=True, text=True)
         line = json.loads(self.judged(log, "--coverage", "--json", program=judge_program())[1])
-        self.assertEqual(line["coverage"], json.loads(answer.stdout)["coverage"])
+        wanted = json.loads(answer.stdout)
+        self.assertEqual((line["coverage"], line["unjudged"]), (wanted["coverage"], wanted["unjudged"]))
 
     def test_what_is_written_is_met(self) -> None:
         (self.logs / "a.log").write_bytes(log(record(2, publish("a", 1)), record(4)))

@@ -57,6 +57,7 @@ class OfEnd:
     end: str
     logs: int = 0  # that count
     places: dict[str, int] = field(default_factory=dict)  # over all logs, by the codes in the order of reports
+    unjudged: dict[str, int] = field(default_factory=dict)  # in how many logs, by what isn't judged and why
 
     @property
     def tested(self) -> list[str]:
@@ -75,6 +76,14 @@ class OfEnd:
         never = f"; never: {' '.join(self.never)}" if self.never else ""
         return f"tested: {self.end} {self.amount}{never}"
 
+    @property
+    def gaps(self) -> str:
+        """In how many logs what isn't judged; empty if nothing is to be said."""
+        if not self.unjudged:
+            return ""
+        parts = (f"{gap} in {count} of {counted(self.logs, 'log')}" for gap, count in self.unjudged.items())
+        return f"not judged: {self.end} {', '.join(parts)}"
+
 
 class Coverage:
     """What all logs test, and what they don't though it is required."""
@@ -91,8 +100,9 @@ class Coverage:
 
     @property
     def lines(self) -> list[str]:
-        """A line for each end that has logs which count, and one on those that don't."""
-        return [*(one.line for one in self.ends.values()), *([self.note] if self.note else [])]
+        """A line for each end that has logs which count, another if something wasn't judged, and one on those that don't count."""
+        ends = [line for one in self.ends.values() for line in (one.line, one.gaps) if line]
+        return [*ends, *([self.note] if self.note else [])]
 
     @property
     def note(self) -> str:
@@ -131,7 +141,8 @@ def of_end(end: str, verdicts: list[Verdict]) -> OfEnd:
     sums: Counter[str] = Counter()
     for places in logs:
         sums.update(places)
-    return OfEnd(end, len(logs), {code: sums[code] for code in in_order(logs)})
+    gaps = Counter(gap for verdict in verdicts for gap in verdict.gaps)
+    return OfEnd(end, len(logs), {code: sums[code] for code in in_order(logs)}, dict(gaps.most_common()))
 
 
 def in_order(lists: Iterable[Iterable[str]]) -> list[str]:

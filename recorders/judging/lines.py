@@ -26,6 +26,7 @@ def json_line(verdict: Verdict) -> str:
         found["faults"] = [of_fault(verdict, fault) for fault in verdict.found]
     if verdict.places and not verdict.why_no_places:
         found["coverage"] = [of_places(key, count) for key, count in verdict.places.items()]
+        found["unjudged"] = [gap.data for gap in verdict.unjudged]
     found |= {"ignored": verdict.ignored, "notes": verdict.notes}
     kept = {name: value for name, value in found.items() if name == "faults" or value not in (None, "", [])}
     return json.dumps(kept, ensure_ascii=False)

@@ -48,7 +48,8 @@ def matrix(one: OfEnd, rows: list[Row], sentences: dict[str, str]) -> str:
     lines = "".join(line(row, f'<a href="#l{row.number}">{isolated(row.name)}</a>', one.places, never)
                     for row in rows[:MOST])
     left = f"<p class=note>Rows are those of {number(MOST)} logs, the worst ones first.</p>" if len(rows) > MOST else ""
-    return (f"<h3>{one.end.capitalize()}: {one.amount}</h3>"
+    gaps = f"<p class=note>{escaped(one.gaps[0].upper() + one.gaps[1:])}</p>" if one.gaps else ""
+    return (f"<h3>{one.end.capitalize()}: {one.amount}</h3>{gaps}"
             f'<div class=matrix tabindex=0 role=region aria-label="Logs of a {one.end} by statements"><table>'
             f"<thead><tr><th scope=col>Log{heads}{line(sums, sums.name, one.places, never)}<tbody>{lines}</table></div>"
             f"{left}{untested(one.never, sentences)}")

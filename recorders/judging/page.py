@@ -18,7 +18,7 @@ from judging.markup import attribute, counted, escaped, isolated, number
 from judging.matrix import Row, matrices
 from judging.refusals import refusal_of
 from judging.story import Fault, Story, choose
-from judging.verdict import FAILED, FAULTS, PASSED, REFUSED, TOO_SHORT, WORDS, Verdict
+from judging.verdict import FAILED, FAULTS, NO_REST, PASSED, REFUSED, TOO_SHORT, WORDS, Verdict
 from log_format import time_text
 
 HERE = Path(__file__).resolve().parent
@@ -458,6 +458,7 @@ def cells(entry: Entry, has_section: bool) -> str:
     name = isolated(entry.name)
     words = f'<a href="#l{entry.number}">{name}</a>' if has_section else name
     words += ' <span class="way">no REST</span>' if verdict.silence else ""
+    words += "".join(f' <span class="way">{escaped(gap)}</span>' for gap in verdict.gaps if gap != NO_REST)
     place = "" if has_section else f' id="l{entry.number}"'
     events = number(verdict.events) if verdict.events is not None else ""
     codes = " ".join(sorted({*entry.codes, *entry.ignored}))

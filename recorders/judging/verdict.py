@@ -6,6 +6,7 @@ import sys
 from collections import Counter
 from dataclasses import dataclass, field
 from pathlib import Path
+from typing import Any, NamedTuple
 
 from judging.causes import Evidence, Key, said
 from judging.excerpt import sentence_in, told, with_causes
@@ -25,6 +26,9 @@ FAULT = re.compile(r"fault (\d+) (\S+) (\S+) decided (\d+) record (\d+) offset (
 ENDING = re.compile(r"(?:pass|fail \d+ faults) (\d+) events")
 TESTED = re.compile(r"tested (\w+ \S+) places (\d+)")
 COVERED = re.compile(r"covered \d+ of \d+ statements")
+UNJUDGED = re.compile(r"unjudged (.+) ([a-z-]+?)(?: event (\d+) record (\d+))?")
+
+NO_REST = "answers no-rest"
 
 REFUSED_LINE = re.compile(r"refused (\d+) (\w+) at (\d+)")
 
@@ -56,6 +60,25 @@ def fault_of(found: re.Match[str]) -> Fault:
     return Fault(int(position), code, citation, int(decided), int(record), None if offset == "-" else int(offset))
 
 
+class Gap(NamedTuple):
+    """What of a log wasn't judged, why, and from which event and record on, if it is one event."""
+
+    what: str
+    why: str
+    event: str | None
+    record: str | None
+
+    @property
+    def words(self) -> str:
+        return f"{self.what} {self.why}"
+
+    @property
+    def data(self) -> dict[str, Any]:
+        """It as the program says it in JSON."""
+        place = {} if self.event is None else {"event": int(self.event), "record": int(self.record or 0)}
+        return place | {"what": self.what, "why": self.why}
+
+
 @dataclass
 class Verdict:
     """What the program said of a log: its first lines, the last one, and how often each code came."""
@@ -68,6 +91,7 @@ class Verdict:
     faults: Counter[str] = field(default_factory=Counter)  # of each code with its citation
     positions: dict[str, int] = field(default_factory=dict)  # of each code's first fault
     places: dict[str, int] = field(default_factory=dict)  # of each code with its citation, where they are counted
+    unjudged: list[Gap] = field(default_factory=list)  # what of it wasn't judged, where the program says it
     whole: int | None = None  # bytes that were judged, where the log ends inside a record
     seconds: float = 0.0
     ignored: list[str] = field(default_factory=list)  # what the policy left out of the status, and why
@@ -90,12 +114,16 @@ class Verdict:
     def take(self, line: str, most: int) -> None:
         """Takes in the program's next line. No more than `most` of them are kept, and the last one.
 
-        Those that say how often statements were tested are no part of the report.
+        Those that say how often statements were tested, and what wasn't judged, are no part of the report.
         """
         if tested := TESTED.fullmatch(line):
             self.places[sys.intern(tested[1])] = int(tested[2])
             return
         if COVERED.fullmatch(line):
+            return
+        if line.startswith("unjudged "):
+            if gap := UNJUDGED.fullmatch(line):
+                self.unjudged.append(Gap(*gap.groups()))
             return
         words = line.split()
         if words[:1] == ["fault"] and len(words) > 3:
@@ -107,6 +135,11 @@ class Verdict:
         if len(self.first) < most:
             self.first.append(line)
         self.last, self.count = line, self.count + 1
+
+    @property
+    def gaps(self) -> list[str]:
+        """What wasn't judged, and why, each once."""
+        return [*dict.fromkeys(gap.words for gap in self.unjudged)]
 
     @property
     def events(self) -> int | None:
