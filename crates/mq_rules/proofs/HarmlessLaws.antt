@@ -45,7 +45,7 @@ use Rattle.mq_rules.proofs.WatchLaws.{conn-next, conn-gains}
 
 -- ---- what a harmless packet is not
 
-harmless-ordinary : (role : Role) (most : ℕ) (f : PacketFields) → is_harmless_in role most f ≡ true → is_ordinary_in f ≡ true
+pub harmless-ordinary : (role : Role) (most : ℕ) (f : PacketFields) → is_harmless_in role most f ≡ true → is_ordinary_in f ≡ true
 harmless-ordinary role most (Publish p) t = refl
 harmless-ordinary role most (Puback identifier code) t = refl
 harmless-ordinary role most (Pubrec identifier code) t = refl
@@ -83,7 +83,7 @@ not-auth role most Pingresp t = refl
 not-auth Client most _ t = absurd (cc)
 not-auth Server most _ t = absurd (cc)
 
-was-false : (b : Bool) → not b ≡ true → b ≡ false
+pub was-false : (b : Bool) → not b ≡ true → b ≡ false
 was-false true t = absurd (cc)
 was-false false t = refl
 
@@ -93,7 +93,7 @@ was-none (Some n) t = absurd (cc)
 
 -- ---- what is kept of an end that may go on
 
-goes-on : (role : Role) (s : ConnectionState) (size : ℕ) → nat_lt size (size_bound role s) ≡ true → may_go_on role s ≡ true
+pub goes-on : (role : Role) (s : ConnectionState) (size : ℕ) → nat_lt size (size_bound role s) ≡ true → may_go_on role s ≡ true
 goes-on role s size below = go (may_go_on role s) below
   where
     go : (b : Bool) → nat_lt size (cond b (too_large (size_limit role s)) 0) ≡ true → b ≡ true
@@ -180,12 +180,12 @@ rests-not : (role : Role) (s : ConnectionState) (place : Place3) (faults : Fault
 rests-not role s place faults = judges-none place faults
 
 -- what is known of a harmless packet that is sent
-record Sends (role : Role) (s : ConnectionState) (p : PacketNote) : Type 0 where
-  below : nat_lt p.size (size_bound role s) ≡ true
-  unexplained : (p.has_reason_string || p.has_user_property) ≡ false
-  inside : is_harmless_in role (qos_bound role s) p.fields ≡ true
+pub record Sends (role : Role) (s : ConnectionState) (p : PacketNote) : Type 0 where
+  pub below : nat_lt p.size (size_bound role s) ≡ true
+  pub unexplained : (p.has_reason_string || p.has_user_property) ≡ false
+  pub inside : is_harmless_in role (qos_bound role s) p.fields ≡ true
 
-sends : (role : Role) (s : ConnectionState) (p : PacketNote) → is_harmless (send_bounds role s) (notes.Sent (items.Packet p)) ≡ true → Sends role s p
+pub sends : (role : Role) (s : ConnectionState) (p : PacketNote) → is_harmless (send_bounds role s) (notes.Sent (items.Packet p)) ≡ true → Sends role s p
 sends role s p t =
     let first = both_true (nat_lt p.size (size_bound role s)) (not (p.has_reason_string || p.has_user_property) && is_harmless_in role (qos_bound role s) p.fields) t in
     let second = both_true (not (p.has_reason_string || p.has_user_property)) (is_harmless_in role (qos_bound role s) p.fields) first.1 in
@@ -242,6 +242,21 @@ sets-none role most Pingreq t = refl
 sets-none role most Pingresp t = refl
 sets-none Client most _ t = absurd (cc)
 sets-none Server most _ t = absurd (cc)
+
+-- a harmless packet has no Topic Alias
+pub no-alias : (role : Role) (most : ℕ) (f : PacketFields) → is_harmless_in role most f ≡ true
+    → (option_and_then (λ p. p.topic_alias) (publish_in f) ≡ None) × (option_and_then (λ p. only (length p.topic == 0) p.topic_alias) (publish_in f) ≡ None)
+no-alias role most (Publish p) t =
+    let none = (plain role most p t).alias in
+    (none, ap (only (length p.topic == 0)) none ∙ only-none (length p.topic == 0))
+no-alias role most (Puback identifier code) t = (refl, refl)
+no-alias role most (Pubrec identifier code) t = (refl, refl)
+no-alias role most (Pubrel identifier code) t = (refl, refl)
+no-alias role most (Pubcomp identifier code) t = (refl, refl)
+no-alias role most Pingreq t = (refl, refl)
+no-alias role most Pingresp t = (refl, refl)
+no-alias Client most _ t = absurd (cc)
+no-alias Server most _ t = absurd (cc)
 
 -- no Topic Alias is set
 pub harmless-sets : (bounds : SendBounds) (n : Note) → is_harmless bounds n ≡ true → set_alias n ≡ None

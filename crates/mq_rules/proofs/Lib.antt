@@ -31,6 +31,7 @@ pub mod PropertyLaws
 pub mod NamingLaws
 pub mod IdleLaws
 pub mod HarmlessLaws
+pub mod HarmlessTestsLaws
 pub mod Exports
 pub mod DropLaws
 pub mod PlacesLaws

@@ -10,6 +10,7 @@ use Rattle.mq_rules.specs.declared.rule.Rule.TheVariants.{C01, C02, C03, C04, C0
 use Rattle.mq_rules.specs.declared.note.Note.{Note}
 use Rattle.mq_rules.specs.declared.note.Seen.{Seen}
 use Rattle.mq_rules.specs.declared.conn.state.ConnectionState.{ConnectionState}
+use Rattle.mq_rules.specs.declared.conn.harmless_tests.HarmlessTests.{HarmlessTests}
 use Rattle.mq_rules.specs.Words.{is_some_and, is_id}
 use Rattle.mq_rules.specs.Notes.{is_close, is_rest, is_typed, sent_item, sent_packet, sent_publish, sent_disconnect, sent_connack, type_number_in, sends_type, may_explain, resumed_by}
 use Rattle.mq_rules.specs.Moments.{Moment, newest, note, some}
@@ -103,6 +104,20 @@ tries_C22 role n = is_server role && is_some_and (λ c. c.has_response_informati
 
 abbrev pub tries_C23 : Role → ConnectionState → Note → Bool
 tries_C23 role s n = (is_rest n || is_close n) && has_left role s
+
+-- ---- what a harmless event puts to the test
+
+-- Of such an event only these statements need be asked for.
+abbrev pub harmless_tests : Role → ConnectionState → Note → HarmlessTests
+harmless_tests role s n = record { sent = tries_C01 n; limited = tries_C14 role s n; graded = tries_C17 role s n; published = tries_C18 role n; silent = tries_C21 role s n }
+
+abbrev pub tried_by_harmless : HarmlessTests → Rule → Bool
+tried_by_harmless tests C01 = tests.sent
+tried_by_harmless tests C14 = tests.limited
+tried_by_harmless tests C17 = tests.graded
+tried_by_harmless tests C18 = tests.published
+tried_by_harmless tests C21 = tests.silent
+tried_by_harmless tests _ = false
 
 -- ---- they are those of the definitions
 

@@ -20,6 +20,7 @@ ghost use Rattle.mq_rules.specs.Growing.{Judges, JudgesWithin, GrowsBy, GrowsByW
 ghost use Rattle.mq_rules.specs.Keeping.{Agrees, IsConn, is_among, is_another};
 
 mod harmless;
+mod harmless_tests;
 mod state;
 mod tally;
 mod trying;
@@ -33,6 +34,7 @@ use crate::role::{Role, Tested};
 use crate::rule::Rule;
 use crate::watch::{Brisk, Watch, step_apart};
 pub use harmless::{SendBounds, is_bare_harmless, is_harmless};
+pub use harmless_tests::HarmlessTests;
 use mq_log::Place3;
 pub use state::ConnectionState;
 use std::alloc::Global;

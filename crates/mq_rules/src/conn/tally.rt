@@ -1,12 +1,12 @@
 //! How often C01 to C23 are put to the test, counted in one pass.
-ghost use Rattle.std.specs.Prelude.{Option, ◌≡◌, ◌∷◌, ◌+◌, ◌<◌, ◌&&◌, ◌||◌, [], Bool, true, cond, length, List, Some, None};
+ghost use Rattle.std.specs.Prelude.{Option, ◌≡◌, ◌∷◌, ◌+◌, ◌<◌, ◌&&◌, ◌||◌, [], Bool, true, false, cond, length, List, Some, None, is_some};
 ghost use Rattle.mq_rules.specs.declared.rule.Rule.{Rule as TheRule};
 ghost use Rattle.mq_rules.specs.declared.role.Tested.{Tested as TheTested};
 ghost use Rattle.mq_rules.specs.declared.fate.Fate.{Fate as TheFate};
 ghost use Rattle.mq_rules.specs.declared.fate.Fate.TheVariants.{Void};
 ghost use Rattle.mq_rules.specs.declared.note.Seen.{Seen as TheSeen};
 ghost use Rattle.mq_rules.specs.Connections.{IsOnConnection};
-ghost use Rattle.mq_rules.specs.Notes.{note_in};
+ghost use Rattle.mq_rules.specs.Notes.{note_in, sent_packet};
 ghost use Rattle.mq_rules.specs.Rules.{same_rule};
 ghost use Rattle.mq_rules.specs.Statements.{is_on_past};
 ghost use Rattle.mq_rules.specs.Steps.{turns};
@@ -14,9 +14,12 @@ ghost use Rattle.mq_rules.specs.Under.{seen};
 ghost use Rattle.mq_rules.specs.Occasions.{places};
 ghost use Rattle.mq_rules.specs.Burden.{aliases_sent};
 ghost use Rattle.mq_rules.specs.Weights.{conn_weighs};
-ghost use Rattle.mq_rules.specs.Keeping.{kept, IsConn};
+ghost use Rattle.mq_rules.specs.Keeping.{kept, send_bounds, is_harmless as harmless, IsConn};
+ghost use Rattle.mq_rules.specs.Trying.{harmless_tests};
 
 use super::Conn;
+use super::harmless::{is_bare_harmless, is_harmless};
+use super::harmless_tests::HarmlessTests;
 use super::state::ConnectionState;
 use super::trying::{
     C01, C02, C03, C04, C05, C06, C07, C08, C09, C10, C11, C12, C13, C14, C15, C16, C17, C18, C19,
@@ -48,6 +51,15 @@ pub trait Tally: Drop {
     /// Counts the statements that an event puts to the test, by what is kept of those before it.
     fn count(&mut self, role: Role, state: &ConnectionState, at: Place3, event: NoteRef<'_>)
         ensures { (tested : TheTested) (past : List TheSeen) → role ≡ tested.role → state.now ≡ kept tested.role past → at.position ≡ length past + 1 → counts self.old tested past → counts self.new tested (seen at (note_in event.entry) ∷ past) };
+
+    /// The same of an event that is harmless where the end has its bounds: it puts these to the test.
+    fn count_harmless(&mut self, position: u32, tests: &HarmlessTests)
+        ensures { (tested : TheTested) (past : List TheSeen) (e : TheSeen) → harmless (send_bounds tested.role (kept tested.role past)) e.note ≡ true → tests.now ≡ harmless_tests tested.role (kept tested.role past) e.note → position ≡ length past + 1 → counts self.old tested past → counts self.new tested (e ∷ past) };
+
+    /// The law on such an event that is received: it puts nothing to the test. The call does
+    /// nothing.
+    fn passes(&self)
+        ensures { (tested : TheTested) (past : List TheSeen) (e : TheSeen) → harmless (send_bounds tested.role (kept tested.role past)) e.note ≡ true → is_some (sent_packet e.note) ≡ false → counts self.now tested past → counts self.now tested (e ∷ past) };
 
     /// Whether a statement is one of them.
     fn tests(rule: Rule) -> bool
@@ -99,6 +111,14 @@ impl<T: Tried> Tally for One<T> {
         self.places = places_after(here, self.places, at.position);
     }
 
+    #[inline(always)]
+    fn count_harmless(&mut self, position: u32, tests: &HarmlessTests) {
+        let here = tests.has(T::rule());
+        self.places = places_after(here, self.places, position);
+    }
+
+    fn passes(&self) {}
+
     fn places_of(&self, _: Rule) -> u32 {
         self.places
     }
@@ -121,6 +141,17 @@ impl<A: Tally, B: Tally> Tally for Both<A, B> {
     fn count(&mut self, role: Role, state: &ConnectionState, at: Place3, event: NoteRef<'_>) {
         self.a.count(role, state, at, event);
         self.b.count(role, state, at, event);
+    }
+
+    #[inline(always)]
+    fn count_harmless(&mut self, position: u32, tests: &HarmlessTests) {
+        self.a.count_harmless(position, tests);
+        self.b.count_harmless(position, tests);
+    }
+
+    fn passes(&self) {
+        self.a.passes();
+        self.b.passes();
     }
 
     fn places_of(&self, rule: Rule) -> u32 {
@@ -172,6 +203,29 @@ impl<T: Tally> CountingConn<T> {
     }
 }
 
+// Counts what an event puts to the test, by what is kept before it. Most events are harmless.
+#[inline(always)]
+fn count_event<T: Tally>(
+    places: &mut T,
+    conn: &Conn,
+    is_harmless: bool,
+    at: Place3,
+    event: NoteRef<'_>,
+)
+    ensures { is_harmless ≡ harmless conn.now.bounds (note_in event.entry) → (tested : TheTested) (taken : Option TheFate) (past : List TheSeen) → IsConn conn.now tested taken past → at.position ≡ length past + 1 → T.counts places.old tested past → T.counts places.new tested (seen at (note_in event.entry) ∷ past) }
+{
+    if !is_harmless {
+        places.count(conn.role, &conn.state, at, event);
+        return;
+    }
+    if !event.is_packet_sent() {
+        places.passes();
+        return;
+    }
+    let tests = HarmlessTests::of(conn.role, &conn.state, event);
+    places.count_harmless(at.position, &tests);
+}
+
 impl<T: Tally> Watch for CountingConn<T> {
     ghost agrees = { λ s tested taken past. IsConn s.conn tested taken past × T.counts s.places tested past };
 
@@ -184,9 +238,9 @@ impl<T: Tally> Watch for CountingConn<T> {
     ghost bound = { λ tested taken past. aliases_sent past };
 
     fn step(&mut self, at: Place3, note: &Note, faults: &mut Faults) -> Result<(), Memory> {
+        let harmless = is_harmless(self.conn.bounds, note);
         let event = NoteRef::Kept(note);
-        self.places
-            .count(self.conn.role, &self.conn.state, at, event);
+        count_event(&mut self.places, &self.conn, harmless, at, event);
         self.conn.step(at, note, faults)?;
         Ok(())
     }
@@ -199,9 +253,9 @@ impl<T: Tally> Watch for CountingConn<T> {
 impl<T: Tally> Brisk for CountingConn<T> {
     #[inline(always)]
     fn step_bare(&mut self, at: Place3, bare: Bare<'_>, faults: &mut Faults) -> Result<(), Memory> {
+        let harmless = is_bare_harmless(self.conn.bounds, bare);
         let event = NoteRef::Bare(bare);
-        self.places
-            .count(self.conn.role, &self.conn.state, at, event);
+        count_event(&mut self.places, &self.conn, harmless, at, event);
         self.conn.step_bare(at, bare, faults)?;
         Ok(())
     }

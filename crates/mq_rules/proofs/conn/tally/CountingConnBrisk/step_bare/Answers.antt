@@ -3,7 +3,7 @@ use Rattle.mq_rules.proofs.conn.tally.CountingConnBrisk.step_bare.Goals as goal
 
 pub returns-clause-agrees : goal.returns-clause-agrees
 returns-clause-agrees g c = λ tested taken past follows on was.
-    (c.in_ok-step_bare.ensures.agrees tested taken past follows on was.0, c.count.ensures tested past was.0.same_role was.0.same_state follows.placed.0 was.1)
+    (c.in_ok-step_bare.ensures.agrees tested taken past follows on was.0, c.count_event.ensures c.is_bare_harmless-harmless.ensures tested taken past was.0 follows.placed.0 was.1)
 
 pub returns-clause-grows : goal.returns-clause-grows
 returns-clause-grows g c = λ tested taken past follows on was. c.in_ok-step_bare.ensures.grows tested taken past follows on was.0
