@@ -1,11 +1,13 @@
 //! Watchers that count how often their statements are put to the test.
-ghost use Rattle.std.specs.Prelude.{◌≡◌, ◌∷◌, ◌+◌, ◌<◌, [], Bool, true, cond, List, Option, Some};
+ghost use Rattle.std.specs.Prelude.{◌≡◌, ◌∷◌, ◌+◌, ◌<◌, [], Bool, true, cond, length, List, Option, Some, OnOk, OnErr};
 ghost use Rattle.mq_rules.specs.declared.role.Tested.{Tested as TheTested};
 ghost use Rattle.mq_rules.specs.declared.fate.Fate.{Fate as TheFate};
 ghost use Rattle.mq_rules.specs.declared.fate.Fate.TheVariants.{Void};
 ghost use Rattle.mq_rules.specs.declared.note.Seen.{Seen as TheSeen};
-ghost use Rattle.mq_rules.specs.Notes.{note_in};
-ghost use Rattle.mq_rules.specs.Under.{seen, IsUnder, IsKnown, fate_before, turns_known};
+ghost use Rattle.mq_rules.specs.Connections.{latest_fate};
+ghost use Rattle.mq_rules.specs.Growing.{Gains, GainsWithin};
+ghost use Rattle.mq_rules.specs.Notes.{note_in, note_of_bare};
+ghost use Rattle.mq_rules.specs.Under.{seen, Follows, IsUnder, IsKnown, fate_before, turns_known};
 ghost use Rattle.mq_rules.specs.declared.role.Role.{Role as TheRole};
 ghost use Rattle.mq_rules.specs.declared.rule.Rule.{Rule as TheRule};
 ghost use Rattle.mq_rules.specs.Occasions.{occasion, places_under};
@@ -55,6 +57,29 @@ pub trait Asks: Fated {
 
     /// They are put to the test on sessions.
     ghost on_sessions: { (role : TheRole) (rule : TheRule) → counted rule ≡ true → is_on_sessions (occasion role rule) ≡ true };
+}
+
+/// A watcher that counts a packet without properties and takes it in at once, so that whether the
+/// packet concerns it is asked once.
+pub trait AsksBare: Asks + Brisk {
+    /// Counts the places that turn out with a packet without properties of a connection that has
+    /// this fate, and takes it in.
+    ///
+    /// # Errors
+    ///
+    /// As in `step_bare`.
+    fn count_and_step(
+        &mut self,
+        places: &mut Self::Places,
+        at: Place3,
+        fate: Fate,
+        bare: Bare<'_>,
+        faults: &mut Faults,
+    ) -> Result<(), Memory>
+        ensures agrees { OnOk result ((tested : TheTested) (taken : Option TheFate) (past : List TheSeen) → Follows tested (seen at (note_of_bare bare.entry)) past → Self.takes tested taken (seen at (note_of_bare bare.entry)) past → Self.agrees self.old tested taken past → Self.agrees self.new tested (latest_fate tested.role (seen at (note_of_bare bare.entry) ∷ past)) (seen at (note_of_bare bare.entry) ∷ past)) }
+        ensures grows { OnOk result ((tested : TheTested) (taken : Option TheFate) (past : List TheSeen) → Follows tested (seen at (note_of_bare bare.entry)) past → Self.takes tested taken (seen at (note_of_bare bare.entry)) past → Self.agrees self.old tested taken past → Gains (Self.adds tested (seen at (note_of_bare bare.entry)) past) tested (seen at (note_of_bare bare.entry) ∷ past) (length past + 1) faults.old faults.new) }
+        ensures memory { OnErr result ((tested : TheTested) (taken : Option TheFate) (past : List TheSeen) → Follows tested (seen at (note_of_bare bare.entry)) past → Self.takes tested taken (seen at (note_of_bare bare.entry)) past → Self.agrees self.old tested taken past → GainsWithin (Self.adds tested (seen at (note_of_bare bare.entry)) past) tested (seen at (note_of_bare bare.entry) ∷ past) (length past + 1) faults.old faults.new) }
+        ensures counts { OnOk result ((tested : TheTested) (past : List TheSeen) → IsUnder tested fate at.position (seen at (note_of_bare bare.entry)) past → Self.agrees self.old tested (fate_before tested fate (seen at (note_of_bare bare.entry)) past) past → Self.counts places.old tested (fate_before tested fate (seen at (note_of_bare bare.entry)) past) past → Self.counts places.new tested (Some fate) (seen at (note_of_bare bare.entry) ∷ past)) };
 }
 
 /// A watcher, and how often each of its statements was put to the test.
@@ -149,13 +174,11 @@ impl<W: Asks> Fated for Counting<W> {
     ghost known_adds = { λ tested e past k r. refl };
 }
 
-impl<W: Asks + Brisk> Brisk for Counting<W> {
+impl<W: AsksBare> Brisk for Counting<W> {
     #[inline(always)]
     fn step_bare(&mut self, at: Place3, bare: Bare<'_>, faults: &mut Faults) -> Result<(), Memory> {
-        let event = NoteRef::Bare(bare);
         self.watcher
-            .count(&mut self.places, at, at.position, self.fate, event);
-        self.watcher.step_bare(at, bare, faults)?;
+            .count_and_step(&mut self.places, at, self.fate, bare, faults)?;
         Ok(())
     }
 }
@@ -196,5 +219,23 @@ impl<A: Asks, B: Asks> Asks for Both<A, B> {
             A::places_of(&places.a, rule),
             B::places_of(&places.b, rule),
         )
+    }
+}
+
+impl<A: AsksBare, B: AsksBare> AsksBare for Both<A, B> {
+    #[inline(always)]
+    #[tactic(auto, using(mq_rules::proofs::GainLaws::gains_then, mq_rules::proofs::GainLaws::within_first, mq_rules::proofs::GainLaws::within_second))]
+    fn count_and_step(
+        &mut self,
+        places: &mut Self::Places,
+        at: Place3,
+        fate: Fate,
+        bare: Bare<'_>,
+        faults: &mut Faults,
+    ) -> Result<(), Memory> {
+        match self.a.count_and_step(&mut places.a, at, fate, bare, faults) {
+            Ok(()) => self.b.count_and_step(&mut places.b, at, fate, bare, faults),
+            Err(Memory) => Err(Memory),
+        }
     }
 }

@@ -33,7 +33,7 @@ mod subs_all;
 mod watchers;
 
 pub use asked::Asked;
-pub use counting::{Asks, Counting};
+pub use counting::{Asks, AsksBare, Counting};
 pub use counts::{Counted, Counts, Replies, Subacks, Unsubacks};
 pub use debts::Debts;
 pub use early::Early;

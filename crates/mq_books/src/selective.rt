@@ -10,7 +10,7 @@ ghost use Rattle.mq_rules.specs.Notes.{note_in, note_of_bare};
 ghost use Rattle.mq_rules.specs.Under.{seen, Follows, IsUnder, IsKnown, fate_before, turns_known};
 ghost use Rattle.mq_books.specs.Concerns.{Passes};
 
-use crate::counting::Asks;
+use crate::counting::{Asks, AsksBare};
 use crate::fated::Fated;
 use mq_log::Place3;
 use mq_rules::{Bare, Both, Brisk, Fate, Faults, Memory, Note, NoteRef, Rule, Watch};
@@ -191,6 +191,28 @@ impl<W: Discerning> Asks for Selecting<W> {
 
     fn places_of(places: &W::Places, rule: Rule) -> u32 {
         W::places_of(places, rule)
+    }
+}
+
+impl<W: Discerning + Brisk> AsksBare for Selecting<W> {
+    #[inline(always)]
+    fn count_and_step(
+        &mut self,
+        places: &mut W::Places,
+        at: Place3,
+        fate: Fate,
+        bare: Bare<'_>,
+        faults: &mut Faults,
+    ) -> Result<(), Memory> {
+        if !self.watcher.may_concern_bare(bare) {
+            self.watcher.leaves_out();
+            self.watcher.passes();
+            return Ok(());
+        }
+        let event = NoteRef::Bare(bare);
+        self.watcher.count(places, at, at.position, fate, event);
+        self.watcher.step_bare(at, bare, faults)?;
+        Ok(())
     }
 }
 

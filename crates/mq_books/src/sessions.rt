@@ -4,7 +4,7 @@ ghost use Rattle.mq_rules.specs.declared.fate.Fate.TheVariants.{Void};
 ghost use Rattle.mq_rules.specs.Under.{turns_known};
 ghost use Rattle.mq_books.specs.Grouping.{of_sessions, on_sessions as on_each, by_sessions, sessions_add};
 
-use crate::counting::Asks;
+use crate::counting::{Asks, AsksBare};
 use crate::fated::Fated;
 use crate::inflight::Inflight;
 use crate::messages::Messages;
@@ -169,5 +169,21 @@ impl Asks for Sessions {
 
     fn places_of(places: &Self::Places, rule: Rule) -> u32 {
         <Both<Sending, Both<Exchanges, Delivering>>>::places_of(places, rule)
+    }
+}
+
+impl AsksBare for Sessions {
+    #[inline(always)]
+    fn count_and_step(
+        &mut self,
+        places: &mut Self::Places,
+        at: Place3,
+        fate: Fate,
+        bare: Bare<'_>,
+        faults: &mut Faults,
+    ) -> Result<(), Memory> {
+        self.watchers
+            .count_and_step(places, at, fate, bare, faults)?;
+        Ok(())
     }
 }

@@ -12,20 +12,20 @@ returns-clause-agrees g c = λ tested taken past follows known q.
     let e = seen c.args.at (note_of_bare c.args.bare) in
     let k = knows tested s.fate taken e past follows known q.0 in (
       sym k.after,
-      c.in_ok-step_bare.ensures.agrees tested taken past follows (g.met.W.Fated.known_taken tested taken e past known) q.1,
-      subst (λ (o : Option Fate). g.W.Asks.counts c.count.new.places tested o (e ∷ past)) k.after
-          (c.count.ensures tested past k.under (subst (λ (o : Option Fate). g.W.Watch.agrees s.watcher tested o past) k.before q.1) (subst (λ (o : Option Fate). g.W.Asks.counts s.places tested o past) k.before q.2)),
+      c.in_ok-count_and_step.ensures.agrees tested taken past follows (g.met.W.Fated.known_taken tested taken e past known) q.1,
+      subst (λ (o : Option Fate). g.W.Asks.counts c.count_and_step.new.places tested o (e ∷ past)) k.after
+          (c.in_ok-count_and_step.ensures.counts tested past k.under (subst (λ (o : Option Fate). g.W.Watch.agrees s.watcher tested o past) k.before q.1) (subst (λ (o : Option Fate). g.W.Asks.counts s.places tested o past) k.before q.2)),
     )
 
 pub returns-clause-grows : goal.returns-clause-grows
 returns-clause-grows g c = λ tested taken past follows known q.
     let e = seen c.args.at (note_of_bare c.args.bare) in
-    gains_same (g.W.Watch.adds tested e past) (λ k r. g.W.Fated.judges r && turns_known tested e past k r) tested (e ∷ past) (length past + 1) c.args.faults.now c.step_bare.new.faults (g.met.W.Fated.known_adds tested e past)
-    (c.in_ok-step_bare.ensures.grows tested taken past follows (g.met.W.Fated.known_taken tested taken e past known) q.1)
+    gains_same (g.W.Watch.adds tested e past) (λ k r. g.W.Fated.judges r && turns_known tested e past k r) tested (e ∷ past) (length past + 1) c.args.faults.now c.count_and_step.new.faults (g.met.W.Fated.known_adds tested e past)
+    (c.in_ok-count_and_step.ensures.grows tested taken past follows (g.met.W.Fated.known_taken tested taken e past known) q.1)
 
-pub returns-in_err-step_bare-clause-memory : goal.returns-in_err-step_bare-clause-memory
-returns-in_err-step_bare-clause-memory g c =
+pub returns-in_err-count_and_step-clause-memory : goal.returns-in_err-count_and_step-clause-memory
+returns-in_err-count_and_step-clause-memory g c =
     on_err c.from_residual.result _ (λ tested taken past follows known q.
     let e = seen c.args.at (note_of_bare c.args.bare) in
-    within_same (g.W.Watch.adds tested e past) (λ k r. g.W.Fated.judges r && turns_known tested e past k r) tested (e ∷ past) (length past + 1) c.args.faults.now c.step_bare.new.faults (g.met.W.Fated.known_adds tested e past)
-    (c.in_err-step_bare.ensures.memory tested taken past follows (g.met.W.Fated.known_taken tested taken e past known) q.1))
+    within_same (g.W.Watch.adds tested e past) (λ k r. g.W.Fated.judges r && turns_known tested e past k r) tested (e ∷ past) (length past + 1) c.args.faults.now c.count_and_step.new.faults (g.met.W.Fated.known_adds tested e past)
+    (c.in_err-count_and_step.ensures.memory tested taken past follows (g.met.W.Fated.known_taken tested taken e past known) q.1))
