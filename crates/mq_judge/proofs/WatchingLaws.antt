@@ -1,5 +1,6 @@
 -- What is kept of the events so far, from one event to the next.
-use Rattle.std.proofs.Common.{◌≡◌, true, false, ℕ, ◌+◌, ◌<◌, List, [], ◌∷◌, length, map, Option, Some, None, refl, sym, ap, ◌∙◌, subst, arith}
+use Rattle.std.proofs.Common.{◌≡◌, true, false, ℕ, ◌+◌, ◌<◌, List, [], ◌∷◌, length, map, Option, Some, None, Result, Ok, Err, refl, sym, ap, ◌∙◌, subst, arith}
+use Rattle.std.specs.Prelude.{OnOk}
 use Rattle.std.specs.Option.{option_or}
 use Rattle.std.proofs.lemmas.List.{length-map}
 use Rattle.std.specs.FinMap.{entries, get-empty}
@@ -93,3 +94,8 @@ watched-anew old new past w t f e u was = record {
   found = record { each = λ k rule. rw (f, t) (was.found.each k rule); count = e ∙ was.found.count };
   gathered = λ on. rw (u, t) (was.gathered (ap is_counting (sym w) ∙ on));
 }
+
+-- of a call that ended well
+pub on_ok : {A E : Type 0} (r : Result A E) (P Q : Type 0) → (P → Q) → OnOk r P → OnOk r Q
+on_ok (Ok a) P Q f p = f p
+on_ok (Err e) P Q f p = p

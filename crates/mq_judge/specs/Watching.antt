@@ -1,7 +1,7 @@
 -- What a judge keeps of the events so far.
-use Rattle.std.specs.Prelude.{◌≡◌, ℕ, Bool, true, List, ◌∷◌, length, map}
+use Rattle.std.specs.Prelude.{◌≡◌, ◌+◌, ℕ, Bool, true, List, ◌∷◌, length, map}
 use Rattle.mq_log.specs.declared.place.Place3.{Place3}
-use Rattle.mq_log.specs.Events.{Placed}
+use Rattle.mq_log.specs.Events.{Event, Placed}
 use Rattle.mq_rules.specs.ByteTallies.{CountsBytes}
 use Rattle.mq_rules.specs.Notes.{seen as seen_of}
 use Rattle.mq_books.specs.Kinds.{is_counting}
@@ -54,6 +54,10 @@ IsTallying w received = is_counting w.watchers ≡ true → CountsBytes w.tally 
 -- Nothing was counted on a packet's bytes, and places are counted if they were before.
 abbrev pub CountsNothing : Watching → Watching → Type 0
 CountsNothing old new = (is_counting new.watchers ≡ is_counting old.watchers) × (new.tally ≡ old.tally)
+
+-- The counts of the events before this one, and then those with it.
+abbrev pub Tallies : Watching → Watching → Place3 → Event → Type 0
+Tallies old new place event = (p : Placed) (received : List Placed) → p.event ≡ event → place.position ≡ length received + 1 → IsTallying old received → IsTallying new (p ∷ received)
 
 -- These events were taken in as those of this end, and their places are counted, or aren't.
 abbrev pub IsJudging : Tested → Bool → Watching → List Placed → Type 0

@@ -8,12 +8,13 @@ ghost use Rattle.mq_packet.specs.declared.packet.Packet.TheVariants as packets;
 ghost use Rattle.mq_log.specs.Events.{Placed, packet as packet_item};
 ghost use Rattle.mq_log.specs.Flows.{item_event};
 ghost use Rattle.mq_log.specs.Reception.{event_of, placed_at};
-ghost use Rattle.mq_rules.specs.ByteTallies.{CountsBytes};
+ghost use Rattle.mq_packet.specs.Entries.{Entry};
+ghost use Rattle.mq_rules.specs.ByteTallies.{CountsBytes, IsTriedAs};
 ghost use Rattle.mq_rules.specs.Notes.{tested_as, note_of, note_of_bare};
 ghost use Rattle.mq_rules.specs.Weights.{in_word};
 ghost use Rattle.mq_rules.specs.declared.role.Tested.{Tested as TheTested};
 ghost use Rattle.mq_rules.specs.declared.fate.Fate.TheVariants.{Void};
-ghost use Rattle.mq_judge.specs.Watching.{IsWatching, IsTallying, TakesIn, LeavesOut, CountsNothing, watchers_weigh};
+ghost use Rattle.mq_judge.specs.Watching.{IsWatching, IsTallying, Tallies, TakesIn, LeavesOut, CountsNothing, watchers_weigh};
 ghost use Rattle.mq_judge.specs.Coverage.{places_among};
 ghost use Rattle.mq_judge.specs.Unjudged.{unjudged_among};
 ghost use Rattle.mq_judge.specs.Gathering.{Gathers};
@@ -184,6 +185,44 @@ impl Watching {
         }
     }
 
+    // The same where places are counted. It counts the statements on a packet's bytes too. A call of
+    // its own, so that nothing of it stands where no places are counted.
+    #[inline(never)]
+    fn count_bare(&mut self, at: Place3, bare: Bare<'_>) -> Result<(), Memory>
+        ensures tested { self.new.tested ≡ self.old.tested }
+        ensures ok { OnOk result (TakesIn self.old self.new at (note_of_bare bare.entry)) }
+        ensures memory { OnErr result (LeavesOut self.old self.new at (note_of_bare bare.entry)) }
+        ensures counts { OnOk result (counts self.new.watchers ≡ counts self.old.watchers) }
+        ensures tallies { OnOk result ((entry : Entry) → IsTriedAs bare.entry.size bare.entry.fields entry → Tallies self.old self.new at (item_event bare.entry.direction (packet_item bare.entry.size entry))) }
+    {
+        match self.watchers.step_counted(at, bare, &mut self.faults) {
+            Ok(()) => {
+                self.events = at.position;
+                self.tally.count_bare(at.position, bare);
+                Ok(())
+            }
+            Err(Memory) => {
+                self.faults.drop_decided(at.position);
+                Err(Memory)
+            }
+        }
+    }
+
+    // Takes in a packet without properties, and counts it if places are counted.
+    #[inline(always)]
+    fn receive_bare(&mut self, at: Place3, bare: Bare<'_>) -> Result<(), Memory>
+        ensures tested { self.new.tested ≡ self.old.tested }
+        ensures ok { OnOk result (TakesIn self.old self.new at (note_of_bare bare.entry)) }
+        ensures memory { OnErr result (LeavesOut self.old self.new at (note_of_bare bare.entry)) }
+        ensures counts { OnOk result (counts self.new.watchers ≡ counts self.old.watchers) }
+        ensures tallies { OnOk result ((entry : Entry) → IsTriedAs bare.entry.size bare.entry.fields entry → Tallies self.old self.new at (item_event bare.entry.direction (packet_item bare.entry.size entry))) }
+    {
+        if self.watchers.is_counting() {
+            return self.count_bare(at, bare);
+        }
+        self.take_bare(at, bare)
+    }
+
     // What makes a note that is taken in is a call of its own: a note that a function makes lies in
     // memory on all ways through it.
 
@@ -209,8 +248,9 @@ impl Watching {
         }
     }
 
-    // Makes a note of a packet, and takes it in. It takes the packet by value: one that a call
-    // looks at lies in memory on all ways to it.
+    // Makes a note of a packet, and takes it in. If places are counted, it counts the statements on a
+    // packet's bytes that it puts to the test. It takes the packet by value: one that a call looks at
+    // lies in memory on all ways to it.
     #[inline(never)]
     fn take_packet(
         &mut self,
@@ -222,12 +262,21 @@ impl Watching {
         ensures tested { self.new.tested ≡ self.old.tested }
         ensures ok { OnOk result (TakesIn self.old self.new place (note_of (item_event direction (packet_item size (view packet.entry))))) }
         ensures memory { OnErr result (LeavesOut self.old self.new place (note_of (item_event direction (packet_item size (view packet.entry))))) }
-        ensures counts { OnOk result (CountsNothing self.old self.new) }
+        ensures counts { OnOk result (counts self.new.watchers ≡ counts self.old.watchers) }
+        ensures tallies { OnOk result (Tallies self.old self.new place (item_event direction (packet_item size (view packet.entry)))) }
     {
         let Ok(note) = Note::of_packet(self.alloc, direction, size, &packet) else {
             return Err(Memory);
         };
-        self.take_in(place, &note)
+        match self.take_in(place, &note) {
+            Ok(()) => {
+                let counting = self.watchers.is_counting();
+                let at = place.position;
+                tally_packet(&mut self.tally, counting, at, direction, size, &packet);
+                Ok(())
+            }
+            Err(Memory) => Err(Memory),
+        }
     }
 
     // The same of a PUBLISH.
@@ -242,7 +291,8 @@ impl Watching {
         ensures tested { self.new.tested ≡ self.old.tested }
         ensures ok { OnOk result (TakesIn self.old self.new place (note_of (item_event direction (packet_item size (view (packets.Publish publish.entry)))))) }
         ensures memory { OnErr result (LeavesOut self.old self.new place (note_of (item_event direction (packet_item size (view (packets.Publish publish.entry)))))) }
-        ensures counts { OnOk result (CountsNothing self.old self.new) }
+        ensures counts { OnOk result (counts self.new.watchers ≡ counts self.old.watchers) }
+        ensures tallies { OnOk result (Tallies self.old self.new place (item_event direction (packet_item size (view (packets.Publish publish.entry))))) }
     {
         self.take_packet(place, direction, size, Packet::Publish(publish))
     }
@@ -261,10 +311,11 @@ impl Watching {
         ensures tested { self.new.tested ≡ self.old.tested }
         ensures ok { OnOk result (TakesIn self.old self.new place (note_of (item_event direction (packet_item size (view packet.entry))))) }
         ensures memory { OnErr result (LeavesOut self.old self.new place (note_of (item_event direction (packet_item size (view packet.entry))))) }
-        ensures counts { OnOk result (CountsNothing self.old self.new) }
+        ensures counts { OnOk result (counts self.new.watchers ≡ counts self.old.watchers) }
+        ensures tallies { OnOk result (Tallies self.old self.new place (item_event direction (packet_item size (view packet.entry)))) }
     {
         match BareFields::of_packet(&packet) {
-            Some(fields) => self.take_bare(
+            Some(fields) => self.receive_bare(
                 place,
                 Bare {
                     direction,
@@ -290,7 +341,8 @@ impl Watching {
         ensures tested { self.new.tested ≡ self.old.tested }
         ensures ok { OnOk result (TakesIn self.old self.new place (note_of (item_event direction (packet_item size (view (packets.Publish publish.entry)))))) }
         ensures memory { OnErr result (LeavesOut self.old self.new place (note_of (item_event direction (packet_item size (view (packets.Publish publish.entry)))))) }
-        ensures counts { OnOk result (CountsNothing self.old self.new) }
+        ensures counts { OnOk result (counts self.new.watchers ≡ counts self.old.watchers) }
+        ensures tallies { OnOk result (Tallies self.old self.new place (item_event direction (packet_item size (view (packets.Publish publish.entry))))) }
     {
         if !is_bare(&publish) {
             return self.take_publish(place, direction, size, publish);
@@ -303,119 +355,7 @@ impl Watching {
             publish.duplicate,
             publish.topic,
         );
-        self.take_bare(place, bare)
-    }
-}
-
-// The numbers of a packet that is taken in by them: a PUBLISH without properties, what acknowledges
-// one without, or a ping.
-#[inline(always)]
-#[tactic(auto, unfolding(mq_rules::specs::Notes::note_of_bare))]
-fn bare_of<'a>(direction: Direction, size: u32, packet: &Packet<'a>) -> Option<Bare<'a>>
-    ensures { IfSome result (λ bare. note_of_bare bare ≡ note_of (item_event direction (packet_item size (view packet.now)))) }
-{
-    match packet {
-        Packet::Publish(publish) => bare_of_publish(direction, size, publish),
-        _ => match BareFields::of_packet(packet) {
-            Some(fields) => Some(Bare {
-                direction,
-                size,
-                fields,
-            }),
-            None => None,
-        },
-    }
-}
-
-// The same of a PUBLISH.
-#[inline(always)]
-fn bare_of_publish<'a>(direction: Direction, size: u32, publish: &Publish<'a>) -> Option<Bare<'a>>
-    ensures { IfSome result (λ bare. note_of_bare bare ≡ note_of (item_event direction (packet_item size (view (packets.Publish publish.now))))) }
-{
-    if !is_bare(publish) {
-        return None;
-    }
-    let bare = Bare::of_publish(
-        direction,
-        size,
-        publish.identifier,
-        publish.qos,
-        publish.duplicate,
-        publish.topic,
-    );
-    Some(bare)
-}
-
-/// Where places are counted.
-impl Watching {
-    // Takes in the next event, a packet without properties, by its numbers.
-    //
-    // Errors: As in `take_in`.
-    #[inline(always)]
-    fn take_counted(&mut self, at: Place3, bare: Bare<'_>) -> Result<(), Memory>
-        ensures tested { self.new.tested ≡ self.old.tested }
-        ensures ok { OnOk result (TakesIn self.old self.new at (note_of_bare bare.entry)) }
-        ensures memory { OnErr result (LeavesOut self.old self.new at (note_of_bare bare.entry)) }
-        ensures counts { OnOk result (CountsNothing self.old self.new) }
-    {
-        match self.watchers.step_counted(at, bare, &mut self.faults) {
-            Ok(()) => {
-                self.events = at.position;
-                Ok(())
-            }
-            Err(Memory) => {
-                self.faults.drop_decided(at.position);
-                Err(Memory)
-            }
-        }
-    }
-
-    // Takes in the next event, a packet.
-    //
-    // Errors: As in `take_in`.
-    #[inline(always)]
-    fn receive_counted(
-        &mut self,
-        at: Place3,
-        direction: Direction,
-        size: u32,
-        packet: Packet<'_>,
-    ) -> Result<(), Memory>
-        ensures tested { self.new.tested ≡ self.old.tested }
-        ensures ok { OnOk result (TakesIn self.old self.new at (note_of (item_event direction (packet_item size (view packet.entry))))) }
-        ensures memory { OnErr result (LeavesOut self.old self.new at (note_of (item_event direction (packet_item size (view packet.entry))))) }
-        ensures counts { OnOk result (CountsNothing self.old self.new) }
-    {
-        match bare_of(direction, size, &packet) {
-            Some(bare) => self.take_counted(at, bare),
-            None => self.take_packet(at, direction, size, packet),
-        }
-    }
-
-    // Takes in the next event, a packet, and counts the statements on a packet's bytes that it puts
-    // to the test. A call of its own, so that nothing of it stands where no places are counted.
-    //
-    // Errors: As in `take_in`.
-    #[inline(never)]
-    fn count_packet(
-        &mut self,
-        place: Place3,
-        direction: Direction,
-        size: u32,
-        packet: Packet<'_>,
-    ) -> Result<(), Memory>
-        ensures tested { self.new.tested ≡ self.old.tested }
-        ensures ok { OnOk result (TakesIn self.old self.new place (note_of (item_event direction (packet_item size (view packet.entry))))) }
-        ensures memory { OnErr result (LeavesOut self.old self.new place (note_of (item_event direction (packet_item size (view packet.entry))))) }
-        ensures counts { OnOk result (counts self.new.watchers ≡ counts self.old.watchers) }
-        ensures tallies { OnOk result ((p : Placed) (events : List Placed) → p.event ≡ item_event direction (packet_item size (view packet.entry)) → place.position ≡ length events + 1 → IsTallying self.old events → IsTallying self.new (p ∷ events)) }
-    {
-        self.tally
-            .count_packet(place.position, direction, size, &packet);
-        match self.receive_counted(place, direction, size, packet) {
-            Ok(()) => Ok(()),
-            Err(Memory) => Err(Memory),
-        }
+        self.receive_bare(place, bare)
     }
 }
 
@@ -436,6 +376,22 @@ fn tally_event(tally: &mut ByteTally, counting: bool, place: Place3, event: &Eve
 {
     if counting {
         tally.count_event(place.position, event);
+    }
+}
+
+// The same of a packet of this size, which went this way.
+fn tally_packet(
+    tally: &mut ByteTally,
+    counting: bool,
+    position: u32,
+    direction: Direction,
+    size: u32,
+    packet: &Packet<'_>,
+)
+    ensures { (tested : TheTested) (p : Placed) (events : List Placed) → p.event ≡ item_event direction (packet_item size (view packet.now)) → position ≡ length events + 1 → (counting ≡ true → CountsBytes tally.old tested events) → counting ≡ true → CountsBytes tally.new tested (p ∷ events) }
+{
+    if counting {
+        tally.count_packet(position, direction, size, packet);
     }
 }
 
@@ -524,12 +480,6 @@ impl<K: End> Sink for Judging<K> {
         size: u32,
         packet: Packet<'_>,
     ) -> Result<(), Refusal> {
-        if self.watching.is_counting() {
-            return match self.watching.count_packet(place, direction, size, packet) {
-                Ok(()) => Ok(()),
-                Err(Memory) => Err(Refusal::Memory(0)),
-            };
-        }
         match self.watching.receive_packet(place, direction, size, packet) {
             Ok(()) => Ok(()),
             Err(Memory) => Err(Refusal::Memory(0)),
@@ -544,13 +494,6 @@ impl<K: End> Sink for Judging<K> {
         size: u32,
         publish: Publish<'_>,
     ) -> Result<(), Refusal> {
-        if self.watching.is_counting() {
-            let packet = Packet::Publish(publish);
-            return match self.watching.count_packet(place, direction, size, packet) {
-                Ok(()) => Ok(()),
-                Err(Memory) => Err(Refusal::Memory(0)),
-            };
-        }
         match self
             .watching
             .receive_publish(place, direction, size, publish)

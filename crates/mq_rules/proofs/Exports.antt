@@ -16,6 +16,7 @@ pub use Rattle.mq_rules.proofs.ListingLaws.{entries-listed, listed-ascends, list
 pub use Rattle.mq_rules.proofs.OnOpenLaws.{has_item, on_open-connected, on_open-fold}
 pub use Rattle.mq_rules.proofs.OpenLaws.{on_connections}
 pub use Rattle.mq_rules.proofs.OrderLaws.{orderly}
+pub use Rattle.mq_rules.proofs.PartsLaws.{publish_tried}
 pub use Rattle.mq_rules.proofs.PassedLaws.{earlier_over, passed-none, passed-opens, passed-stays, passed_over-back, passed_over-is}
 pub use Rattle.mq_rules.proofs.PlacesLaws.{applies-nowhere, applies-step, count-most, from-zero, places-most, places-once, places-past, places-start, places-step, places-unbound}
 pub use Rattle.mq_rules.proofs.PlainLaws.{beginning, grows-next, newest-first, within-next}

@@ -1,20 +1,23 @@
 -- What a packet without properties puts to the test of the rules on bytes, by its parts.
-use Rattle.std.proofs.Common.{◌≡◌, ℕ, Bool, true, false, ◌||◌, [], refl, ap, ◌∙◌}
+use Rattle.std.proofs.Common.{◌≡◌, ℕ, Bool, true, false, ◌||◌, [], is_some, nat_lt, refl}
 use Rattle.mq_props.specs.Listed.{Listed}
 use Rattle.mq_packet.specs.declared.rule.PacketRule.{PacketRule}
 use Rattle.mq_packet.specs.declared.rule.PacketRule.TheVariants.{W01, W04, W05, W10, W11, W12, W14}
 use Rattle.mq_packet.specs.declared.packet.AcknowledgementKind.{AcknowledgementKind}
 use Rattle.mq_packet.specs.declared.packet.AcknowledgementKind.TheVariants as kinds
 use Rattle.mq_packet.specs.Entries.{PublishFields, publish, acknowledgement, pingreq, pingresp}
-use Rattle.mq_packet.specs.Tries.{tries, is_named}
+use Rattle.mq_packet.specs.Tries.{tries, is_named, is_at_most_once}
 use Rattle.mq_rules.specs.declared.byte_tally.Parts.{Parts}
-use Rattle.mq_rules.specs.ByteTallies.{parts_try, publish_parts, acknowledgement_parts, ping_parts}
+use Rattle.mq_rules.specs.ByteTallies.{parts_try, other_parts}
 
 or_false : (b : Bool) → b ≡ (b || false)
 or_false true = refl
 or_false false = refl
 
 -- a PUBLISH
+abbrev publish_parts : PublishFields → Parts
+publish_parts p = record { publish = true; named = is_named p; at_most_once = is_at_most_once p.qos; identified = is_some p.identifier; coded = false }
+
 publish_tries : (rule : PacketRule) (size : ℕ) (p : PublishFields) → p.properties.items ≡ [] → parts_try (publish_parts p) rule ≡ tries rule size (publish p)
 unfolding tries
 publish_tries W04 size p none = rw none (or_false (is_named p))
@@ -25,11 +28,11 @@ publish_tries W12 size p none = rw none refl
 publish_tries W14 size p none = rw none (or_false (is_named p))
 publish_tries _ size p none = refl
 
-pub publish-parts : (parts : Parts) (size : ℕ) (p : PublishFields) → p.properties.items ≡ [] → parts ≡ publish_parts p → (rule : PacketRule) → parts_try parts rule ≡ tries rule size (publish p)
-publish-parts parts size p none is = λ rule. ap (λ (q : Parts). parts_try q rule) is ∙ publish_tries rule size p none
+pub publish_tried : (size : ℕ) (p : PublishFields) → p.properties.items ≡ [] → (rule : PacketRule) → parts_try (publish_parts p) rule ≡ tries rule size (publish p)
+publish_tried size p none = λ rule. publish_tries rule size p none
 
 -- what acknowledges one
-acknowledgement_tries : (kind : AcknowledgementKind) (rule : PacketRule) (size identifier code : ℕ) (properties : Listed) → properties.items ≡ [] → parts_try (acknowledgement_parts size) rule ≡ tries rule size (acknowledgement kind identifier code properties)
+acknowledgement_tries : (kind : AcknowledgementKind) (rule : PacketRule) (size identifier code : ℕ) (properties : Listed) → properties.items ≡ [] → parts_try (other_parts true (nat_lt 4 size)) rule ≡ tries rule size (acknowledgement kind identifier code properties)
 unfolding tries
 acknowledgement_tries kinds.Puback W04 size identifier code properties none = rw none refl
 acknowledgement_tries kinds.Puback W05 size identifier code properties none = rw none refl
@@ -56,22 +59,22 @@ acknowledgement_tries kinds.Pubcomp W11 size identifier code properties none = r
 acknowledgement_tries kinds.Pubcomp W12 size identifier code properties none = rw none refl
 acknowledgement_tries kinds.Pubcomp _ size identifier code properties none = refl
 
-pub acknowledgement-parts : (kind : AcknowledgementKind) (parts : Parts) (size identifier code : ℕ) (properties : Listed) → properties.items ≡ [] → parts ≡ acknowledgement_parts size → (rule : PacketRule) → parts_try parts rule ≡ tries rule size (acknowledgement kind identifier code properties)
-acknowledgement-parts kind parts size identifier code properties none is = λ rule. ap (λ (q : Parts). parts_try q rule) is ∙ acknowledgement_tries kind rule size identifier code properties none
+pub acknowledgement_tried : (kind : AcknowledgementKind) (size identifier code : ℕ) (properties : Listed) → properties.items ≡ [] → (rule : PacketRule) → parts_try (other_parts true (nat_lt 4 size)) rule ≡ tries rule size (acknowledgement kind identifier code properties)
+acknowledgement_tried kind size identifier code properties none = λ rule. acknowledgement_tries kind rule size identifier code properties none
 
 -- a ping
-pingreq_tries : (rule : PacketRule) (size : ℕ) → parts_try ping_parts rule ≡ tries rule size pingreq
+pingreq_tries : (rule : PacketRule) (size : ℕ) → parts_try (other_parts false false) rule ≡ tries rule size pingreq
 unfolding tries
 pingreq_tries W01 size = refl
 pingreq_tries _ size = refl
 
-pingresp_tries : (rule : PacketRule) (size : ℕ) → parts_try ping_parts rule ≡ tries rule size pingresp
+pingresp_tries : (rule : PacketRule) (size : ℕ) → parts_try (other_parts false false) rule ≡ tries rule size pingresp
 unfolding tries
 pingresp_tries W01 size = refl
 pingresp_tries _ size = refl
 
-pub pingreq-parts : (parts : Parts) (size : ℕ) → parts ≡ ping_parts → (rule : PacketRule) → parts_try parts rule ≡ tries rule size pingreq
-pingreq-parts parts size is = λ rule. ap (λ (q : Parts). parts_try q rule) is ∙ pingreq_tries rule size
+pub pingreq_tried : (size : ℕ) (rule : PacketRule) → parts_try (other_parts false false) rule ≡ tries rule size pingreq
+pingreq_tried size rule = pingreq_tries rule size
 
-pub pingresp-parts : (parts : Parts) (size : ℕ) → parts ≡ ping_parts → (rule : PacketRule) → parts_try parts rule ≡ tries rule size pingresp
-pingresp-parts parts size is = λ rule. ap (λ (q : Parts). parts_try q rule) is ∙ pingresp_tries rule size
+pub pingresp_tried : (size : ℕ) (rule : PacketRule) → parts_try (other_parts false false) rule ≡ tries rule size pingresp
+pingresp_tried size rule = pingresp_tries rule size

@@ -4,6 +4,8 @@ ghost use Rattle.mq_packet.specs.Reading.{view};
 ghost use Rattle.mq_log.specs.Events.{packet as packet_item};
 ghost use Rattle.mq_log.specs.Flows.{item_event};
 ghost use Rattle.mq_log.specs.declared.kind.Direction.{Direction as TheDirection};
+ghost use Rattle.mq_rules.specs.ByteTallies.{IsTriedAs};
+ghost use Rattle.mq_rules.specs.declared.bare.BareFields.TheVariants as bares;
 ghost use Rattle.mq_rules.specs.declared.packet_note.PacketFields.TheVariants as fields_of;
 ghost use Rattle.mq_rules.specs.Notes.{is_acknowledged, fields_type, publish_in, bare_fields, bare_note, bare_publish_note, note_of, kept_topic, is_sent_direction, note_of_bare};
 
@@ -136,8 +138,10 @@ impl BareFields<'_> {
     /// The fields of a packet, if it acknowledges a PUBLISH and has no properties, or is a PINGREQ or
     /// PINGRESP.
     #[inline(always)]
+    #[tactic(auto, using(crate::proofs::PartsLaws::acknowledgement_tried, crate::proofs::PartsLaws::pingreq_tried, crate::proofs::PartsLaws::pingresp_tried))]
     pub fn of_packet(packet: &Packet<'_>) -> Option<BareFields<'static>>
-        ensures { IfSome result (λ fields. (direction : TheDirection) (size : ℕ) → bare_note direction size (bare_fields direction fields) ≡ note_of (item_event direction (packet_item size (view packet.now)))) }
+        ensures note { IfSome result (λ fields. (direction : TheDirection) (size : ℕ) → bare_note direction size (bare_fields direction fields) ≡ note_of (item_event direction (packet_item size (view packet.now)))) }
+        ensures tried { IfSome result (λ fields. (size : ℕ) → IsTriedAs size fields (view packet.now)) }
     {
         match packet {
             Packet::Puback(packet) => match nonempty(&packet.properties) {
@@ -234,7 +238,8 @@ impl<'a> Bare<'a> {
         topic: &'a str,
     ) -> Bare<'a>
         requires { length topic.now ≤ 30 }
-        ensures { note_of_bare result ≡ bare_note direction size (fields_of.Publish (bare_publish_note direction identifier qos duplicate topic.now)) }
+        ensures note { note_of_bare result ≡ bare_note direction size (fields_of.Publish (bare_publish_note direction identifier qos duplicate topic.now)) }
+        ensures exact { result ≡ record { direction = direction; size = size; fields = bares.Publish identifier qos duplicate topic.entry } }
     {
         let fields = BareFields::Publish {
             identifier,

@@ -1,20 +1,25 @@
 //! How often W01 to W21 are put to the test, counted in one pass.
-ghost use Rattle.std.specs.Prelude.{◌≡◌, ◌∷◌, ◌+◌, ◌<◌, [], Bool, cond, length, List, IfSome};
+ghost use Rattle.std.specs.Prelude.{◌≡◌, ◌==◌, ◌&&◌, ◌||◌, not, ◌∷◌, ◌+◌, ◌<◌, [], ℕ, Bool, true, cond, length, List};
 ghost use Rattle.mq_packet.specs.declared.rule.PacketRule.{PacketRule as ThePacketRule};
 ghost use Rattle.mq_packet.specs.Reading.{view, publish_view};
-ghost use Rattle.mq_packet.specs.Tries.{tries};
+ghost use Rattle.mq_packet.specs.Entries.{Entry, publish as publish_entry};
+ghost use Rattle.mq_props.specs.Having as having;
+ghost use Rattle.mq_props.specs.Having.{any_property};
+ghost use Rattle.mq_props.specs.Identifiers.{response_topic};
+ghost use Rattle.mq_packet.specs.Tries.{tries, is_at_most_once as at_most_once};
 ghost use Rattle.mq_log.specs.Events.{Placed, packet as packet_item};
 ghost use Rattle.mq_log.specs.Flows.{item_event};
 ghost use Rattle.mq_log.specs.Reception.{event_of, item_of};
 ghost use Rattle.mq_rules.specs.declared.role.Tested.{Tested as TheTested};
-ghost use Rattle.mq_rules.specs.ByteTallies.{CountsBytes, count_of, tried_in, parts_try, ping_parts, acknowledgement_parts, publish_parts};
+ghost use Rattle.mq_rules.specs.ByteTallies.{CountsBytes, IsTriedAs, count_of, tried_in, parts_try, other_parts, bare_parts};
 ghost use Rattle.mq_rules.specs.Trials.{places_bytes, tried_by};
 
+use crate::bare::{Bare, BareFields};
 use crate::conn::places_after;
-use crate::conversion::nonempty;
 use crate::rule::Rule;
 use mq_log::{Direction, Event, Item};
-use mq_packet::{Acknowledgement, Packet, PacketRule, Publish, Qos};
+use mq_packet::{Packet, PacketRule, Publish, Qos};
+use mq_props::Props;
 
 // What of a packet without properties puts rules on bytes to the test: it is a PUBLISH,
 // acknowledges one, or is a ping.
@@ -33,97 +38,78 @@ struct Parts {
 }
 
 impl Parts {
-    // Whether one of them puts the rule to the test.
+    // Those of what isn't a PUBLISH.
     #[inline(always)]
-    fn tries(&self, rule: PacketRule) -> bool
-        ensures { result ≡ parts_try self.now rule }
-    {
-        match rule {
-            PacketRule::W01 => !self.publish,
-            PacketRule::W02 | PacketRule::W03 | PacketRule::W06 => true,
-            PacketRule::W04 | PacketRule::W05 | PacketRule::W14 => self.named,
-            PacketRule::W07 => self.publish,
-            PacketRule::W08 => self.at_most_once,
-            PacketRule::W09 => self.identified,
-            PacketRule::W13 => self.coded,
-            PacketRule::W21 => self.publish && !self.named,
-            PacketRule::W10
-            | PacketRule::W11
-            | PacketRule::W12
-            | PacketRule::W15
-            | PacketRule::W16
-            | PacketRule::W17
-            | PacketRule::W18
-            | PacketRule::W19
-            | PacketRule::W20 => false,
-        }
-    }
-
-    // Those of a ping.
-    #[inline(always)]
-    fn of_ping() -> Parts
-        ensures { result ≡ ping_parts }
+    fn of_other(identified: bool, coded: bool) -> Parts
+        ensures { result ≡ other_parts identified coded }
     {
         Parts {
             publish: false,
             named: false,
             at_most_once: false,
-            identified: false,
-            coded: false,
+            identified,
+            coded,
         }
     }
 
-    // Those of what acknowledges a PUBLISH, if it has no properties.
+    // Those of a packet of this size, by its numbers.
     #[inline(always)]
-    fn of_acknowledgement(size: u32, packet: &Acknowledgement<'_>) -> Option<Parts>
-        ensures { IfSome result (λ parts. (packet.now.properties.items ≡ []) × (parts ≡ acknowledgement_parts size)) }
+    fn of_bare(size: u32, fields: BareFields<'_>) -> Parts
+        ensures { result ≡ bare_parts size fields.entry }
     {
-        match nonempty(&packet.properties) {
-            Some(_) => None,
-            None => Some(Parts {
-                publish: false,
-                named: false,
-                at_most_once: false,
-                identified: true,
-                coded: 4 < size,
-            }),
-        }
-    }
-
-    // Those of a PUBLISH, if it has no properties.
-    #[inline(always)]
-    fn of_publish(publish: &Publish<'_>) -> Option<Parts>
-        ensures { IfSome result (λ parts. (publish.now.properties.items ≡ []) × (parts ≡ publish_parts (publish_view publish.now))) }
-    {
-        match nonempty(&publish.properties) {
-            Some(_) => None,
-            None => Some(Parts {
+        match fields {
+            BareFields::Publish {
+                identifier,
+                qos,
+                topic,
+                ..
+            } => Parts {
                 publish: true,
-                named: !publish.topic.is_empty(),
-                at_most_once: matches!(publish.qos, Qos::AtMostOnce),
-                identified: publish.identifier.is_some(),
+                named: !topic.is_empty(),
+                at_most_once: is_at_most_once(qos),
+                identified: identifier.is_some(),
                 coded: false,
-            }),
+            },
+            BareFields::Puback { .. } => Parts::of_other(true, 4 < size),
+            BareFields::Pubrec { .. } => Parts::of_other(true, 4 < size),
+            BareFields::Pubrel { .. } => Parts::of_other(true, 4 < size),
+            BareFields::Pubcomp { .. } => Parts::of_other(true, 4 < size),
+            BareFields::Pingreq => Parts::of_other(false, false),
+            BareFields::Pingresp => Parts::of_other(false, false),
         }
     }
+}
 
-    // Those of a packet of this size, if it has no properties, and is a PUBLISH, acknowledges one or
-    // is a ping.
-    #[inline(always)]
-    fn of_packet(size: u32, packet: &Packet<'_>) -> Option<Parts>
-        ensures { IfSome result (λ parts. (rule : ThePacketRule) → parts_try parts rule ≡ tries rule size (view packet.now)) }
-    {
-        match packet {
-            Packet::Publish(publish) => Parts::of_publish(publish),
-            Packet::Puback(packet) => Parts::of_acknowledgement(size, packet),
-            Packet::Pubrec(packet) => Parts::of_acknowledgement(size, packet),
-            Packet::Pubrel(packet) => Parts::of_acknowledgement(size, packet),
-            Packet::Pubcomp(packet) => Parts::of_acknowledgement(size, packet),
-            Packet::Pingreq => Some(Parts::of_ping()),
-            Packet::Pingresp => Some(Parts::of_ping()),
-            _ => None,
-        }
-    }
+// Whether a list has a text, where that isn't known to be beside the point.
+#[inline(always)]
+fn has_text_unless(known: bool, list: &Props<'_>) -> bool
+    ensures { result ≡ (not known && any_property having.has_text list.now.items) }
+{
+    !known && list.has_text()
+}
+
+// Whether a list has a Response Topic, likewise.
+#[inline(always)]
+fn has_topic_unless(known: bool, list: &Props<'_>) -> bool
+    ensures { result ≡ (not known && any_property (λ id. id == response_topic) list.now.items) }
+{
+    !known && list.has_response_topic()
+}
+
+// Whether a list has a property, which may be known.
+#[inline(always)]
+fn is_nonempty(known: bool, list: &Props<'_>) -> bool
+    ensures { result ≡ (known || any_property (λ id. true) list.now.items) }
+{
+    known || list.has_any()
+}
+
+// Whether the QoS is 0.
+#[inline(always)]
+fn is_at_most_once(qos: Qos) -> bool
+    ensures { result ≡ at_most_once qos }
+{
+    matches!(qos, Qos::AtMostOnce)
 }
 
 // What the tested end sent, and puts rules on bytes to the test.
@@ -131,8 +117,6 @@ impl Parts {
 enum Trial<'p, 'a> {
     // A packet of this size in bytes.
     Sized(u32, &'p Packet<'a>),
-    // A packet that has these parts, and no properties.
-    Plain(Parts),
     // Bytes that break this rule.
     Broken(PacketRule),
 }
@@ -145,7 +129,6 @@ impl Trial<'_, '_> {
     {
         match self {
             Trial::Sized(size, packet) => packet.tries(*size, rule),
-            Trial::Plain(parts) => parts.tries(rule),
             Trial::Broken(broken) => rule == *broken,
         }
     }
@@ -160,8 +143,17 @@ impl Trial<'_, '_> {
 }
 
 /// How often each of the statements on a packet's bytes was put to the test.
+///
+/// Most packets have no properties, and few of their parts differ from one to the next. So of these,
+/// and of each PUBLISH, the parts are counted, and a rule that a part puts to the test has also the
+/// places of that part.
 #[derive(Drop)]
 pub struct ByteTally {
+    // PUBLISHes, other packets without properties, and PUBLISHes with a Topic Name.
+    publishes: u32,
+    others: u32,
+    named: u32,
+    // What else puts each rule to the test.
     w01: u32,
     w02: u32,
     w03: u32,
@@ -191,6 +183,9 @@ impl ByteTally {
         ensures { (tested : TheTested) → CountsBytes result tested [] }
     {
         ByteTally {
+            publishes: 0,
+            others: 0,
+            named: 0,
             w01: 0,
             w02: 0,
             w03: 0,
@@ -243,27 +238,67 @@ impl ByteTally {
         self.w21 = trial.counted(PacketRule::W21, self.w21, position);
     }
 
+    // Counts the rules that a PUBLISH puts to the test: by its parts, and by its properties.
+    #[inline(never)]
+    #[tactic(auto, unfolding(mq_packet::specs::Tries::tries), using(crate::proofs::ByteTallyLaws::no_part, crate::proofs::ByteTallyLaws::one_part, crate::proofs::ByteTallyLaws::two_parts, crate::proofs::ByteTallyLaws::other_part, crate::proofs::ByteTallyLaws::any_single))]
+    fn count_publish(&mut self, position: u32, publish: &Publish<'_>)
+        ensures { (size : ℕ) (rule : ThePacketRule) → count_of self.old rule < position → count_of self.new rule ≡ cond (tries rule size (publish_entry (publish_view publish.now))) 1 0 + count_of self.old rule }
+    {
+        let list = &publish.properties;
+        let named = !publish.topic.is_empty();
+        let single = list.has_single();
+        let texted = has_text_unless(named, list);
+        self.publishes = places_after(true, self.publishes, position);
+        self.named = places_after(named, self.named, position);
+        self.w04 = places_after(texted, self.w04, position);
+        self.w05 = places_after(texted, self.w05, position);
+        self.w08 = places_after(is_at_most_once(publish.qos), self.w08, position);
+        self.w09 = places_after(publish.identifier.is_some(), self.w09, position);
+        self.w10 = places_after(is_nonempty(single, list), self.w10, position);
+        self.w11 = places_after(single, self.w11, position);
+        self.w12 = places_after(list.has_range(), self.w12, position);
+        self.w14 = places_after(has_topic_unless(named, list), self.w14, position);
+        self.w21 = places_after(!named, self.w21, position);
+    }
+
     // Counts the rules that a packet of this size puts to the test, each by a look at the packet.
     #[inline(never)]
     fn count_sized(&mut self, position: u32, size: u32, packet: &Packet<'_>)
         ensures { (rule : ThePacketRule) → count_of self.old rule < position → count_of self.new rule ≡ cond (tries rule size (view packet.now)) 1 0 + count_of self.old rule }
     {
-        self.count(position, Trial::Sized(size, packet));
+        match packet {
+            Packet::Publish(publish) => self.count_publish(position, publish),
+            _ => self.count(position, Trial::Sized(size, packet)),
+        }
     }
 
-    // Counts the rules that a packet of this size puts to the test.
+    // Counts the parts of a packet without properties.
     #[inline(always)]
-    fn count_tried(&mut self, position: u32, size: u32, packet: &Packet<'_>)
-        ensures { (rule : ThePacketRule) → count_of self.old rule < position → count_of self.new rule ≡ cond (tries rule size (view packet.now)) 1 0 + count_of self.old rule }
+    #[tactic(auto, using(crate::proofs::ByteTallyLaws::no_part, crate::proofs::ByteTallyLaws::one_part, crate::proofs::ByteTallyLaws::two_parts))]
+    fn count_parts(&mut self, position: u32, parts: Parts)
+        ensures { (rule : ThePacketRule) → count_of self.old rule < position → count_of self.new rule ≡ cond (parts_try parts rule) 1 0 + count_of self.old rule }
     {
-        match Parts::of_packet(size, packet) {
-            Some(parts) => self.count(position, Trial::Plain(parts)),
-            None => self.count_sized(position, size, packet),
+        self.publishes = places_after(parts.publish, self.publishes, position);
+        self.others = places_after(!parts.publish, self.others, position);
+        self.named = places_after(parts.named, self.named, position);
+        self.w08 = places_after(parts.at_most_once, self.w08, position);
+        self.w09 = places_after(parts.identified, self.w09, position);
+        self.w13 = places_after(parts.coded, self.w13, position);
+        self.w21 = places_after(parts.publish && !parts.named, self.w21, position);
+    }
+
+    /// Counts the statements that a packet without properties puts to the test, by its numbers.
+    #[inline(always)]
+    pub fn count_bare(&mut self, position: u32, bare: Bare<'_>)
+        ensures { (tested : TheTested) (p : Placed) (entry : Entry) (events : List Placed) → p.event ≡ item_event bare.entry.direction (packet_item bare.entry.size entry) → IsTriedAs bare.entry.size bare.entry.fields entry → position ≡ length events + 1 → CountsBytes self.old tested events → CountsBytes self.new tested (p ∷ events) }
+    {
+        match bare.direction {
+            Direction::Sent => self.count_parts(position, Parts::of_bare(bare.size, bare.fields)),
+            Direction::Recv => {}
         }
     }
 
     /// Counts the statements that a packet of `size` bytes puts to the test, which went this way.
-    #[inline(always)]
     pub fn count_packet(
         &mut self,
         position: u32,
@@ -274,7 +309,7 @@ impl ByteTally {
         ensures { (tested : TheTested) (p : Placed) (events : List Placed) → p.event ≡ item_event direction (packet_item size (view packet.now)) → position ≡ length events + 1 → CountsBytes self.old tested events → CountsBytes self.new tested (p ∷ events) }
     {
         match direction {
-            Direction::Sent => self.count_tried(position, size, packet),
+            Direction::Sent => self.count_sized(position, size, packet),
             Direction::Recv => {}
         }
     }
@@ -312,28 +347,64 @@ impl ByteTally {
         ensures { (tested : TheTested) (events : List Placed) → CountsBytes self.now tested events → result ≡ places_bytes tested events rule }
     {
         match rule {
-            Rule::W01 => self.w01,
-            Rule::W02 => self.w02,
-            Rule::W03 => self.w03,
-            Rule::W04 => self.w04,
-            Rule::W05 => self.w05,
-            Rule::W06 => self.w06,
-            Rule::W07 => self.w07,
-            Rule::W08 => self.w08,
-            Rule::W09 => self.w09,
-            Rule::W10 => self.w10,
-            Rule::W11 => self.w11,
-            Rule::W12 => self.w12,
-            Rule::W13 => self.w13,
-            Rule::W14 => self.w14,
-            Rule::W15 => self.w15,
-            Rule::W16 => self.w16,
-            Rule::W17 => self.w17,
-            Rule::W18 => self.w18,
-            Rule::W19 => self.w19,
-            Rule::W20 => self.w20,
-            Rule::W21 => self.w21,
+            Rule::W01 => self.count_of(PacketRule::W01),
+            Rule::W02 => self.count_of(PacketRule::W02),
+            Rule::W03 => self.count_of(PacketRule::W03),
+            Rule::W04 => self.count_of(PacketRule::W04),
+            Rule::W05 => self.count_of(PacketRule::W05),
+            Rule::W06 => self.count_of(PacketRule::W06),
+            Rule::W07 => self.count_of(PacketRule::W07),
+            Rule::W08 => self.count_of(PacketRule::W08),
+            Rule::W09 => self.count_of(PacketRule::W09),
+            Rule::W10 => self.count_of(PacketRule::W10),
+            Rule::W11 => self.count_of(PacketRule::W11),
+            Rule::W12 => self.count_of(PacketRule::W12),
+            Rule::W13 => self.count_of(PacketRule::W13),
+            Rule::W14 => self.count_of(PacketRule::W14),
+            Rule::W15 => self.count_of(PacketRule::W15),
+            Rule::W16 => self.count_of(PacketRule::W16),
+            Rule::W17 => self.count_of(PacketRule::W17),
+            Rule::W18 => self.count_of(PacketRule::W18),
+            Rule::W19 => self.count_of(PacketRule::W19),
+            Rule::W20 => self.count_of(PacketRule::W20),
+            Rule::W21 => self.count_of(PacketRule::W21),
             _ => 0,
         }
+    }
+
+    // The count of a rule, which is below 2^32.
+    fn count_of(&self, rule: PacketRule) -> u32
+        ensures { count_of self.now rule < 4294967296 → result ≡ count_of self.now rule }
+    {
+        match rule {
+            PacketRule::W01 => self.w01.saturating_add(self.others),
+            PacketRule::W02 => self.w02.saturating_add(self.whole()),
+            PacketRule::W03 => self.w03.saturating_add(self.whole()),
+            PacketRule::W04 => self.w04.saturating_add(self.named),
+            PacketRule::W05 => self.w05.saturating_add(self.named),
+            PacketRule::W06 => self.w06.saturating_add(self.whole()),
+            PacketRule::W07 => self.w07.saturating_add(self.publishes),
+            PacketRule::W08 => self.w08,
+            PacketRule::W09 => self.w09,
+            PacketRule::W10 => self.w10,
+            PacketRule::W11 => self.w11,
+            PacketRule::W12 => self.w12,
+            PacketRule::W13 => self.w13,
+            PacketRule::W14 => self.w14.saturating_add(self.named),
+            PacketRule::W15 => self.w15,
+            PacketRule::W16 => self.w16,
+            PacketRule::W17 => self.w17,
+            PacketRule::W18 => self.w18,
+            PacketRule::W19 => self.w19,
+            PacketRule::W20 => self.w20,
+            PacketRule::W21 => self.w21,
+        }
+    }
+
+    // How many packets were counted by their parts; the greatest number if that is less.
+    fn whole(&self) -> u32
+        ensures { self.now.publishes + self.now.others < 4294967296 → result ≡ self.now.publishes + self.now.others }
+    {
+        self.publishes.saturating_add(self.others)
     }
 }

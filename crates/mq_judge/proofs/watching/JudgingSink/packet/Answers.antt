@@ -4,7 +4,7 @@ use Rattle.mq_log.specs.Events.{packet}
 use Rattle.mq_log.specs.Flows.{item_event}
 use Rattle.mq_log.specs.Reception.{packet_event_at}
 use Rattle.mq_rules.specs.Notes.{note_of}
-use Rattle.mq_judge.proofs.WatchingLaws.{found-still, next-place, still-uncounted, watched-next}
+use Rattle.mq_judge.proofs.WatchingLaws.{found-still, next-place, watched-next}
 use Rattle.mq_judge.proofs.watching.JudgingSink.packet.Goals as goal
 
 pub returns-in-Ok-clause-receives : goal.returns-in-Ok-clause-receives
@@ -12,31 +12,14 @@ returns-in-Ok-clause-receives g c = λ earlier was are.
     let p = packet_event_at c.args.place c.args.direction c.args.packet in
     let event = λ (size : ℕ). item_event c.args.direction (packet size (view c.args.packet)) in
     let next =
-    watched-next g.K.End.tested p earlier c.args.self.now.watching c.count_packet.new.self (note_of (event c.args.size)) (ap (λ size. note_of (event size)) c.requires) are (was.0, was.1)
-    c.count_packet.ensures.tested c.in-Ok.ensures.ok in
+    watched-next g.K.End.tested p earlier c.args.self.now.watching c.receive_packet.new.self (note_of (event c.args.size)) (ap (λ size. note_of (event size)) c.requires) are (was.0, was.1)
+    c.receive_packet.ensures.tested c.in-Ok.ensures.ok in
     (next.0, next.1, c.in-Ok.ensures.counts ∙ was.2, c.in-Ok.ensures.tallies p earlier (sym (ap event c.requires)) (next-place p earlier are) was.3)
 
 pub returns-in-Err-clause-refused : goal.returns-in-Err-clause-refused
 returns-in-Err-clause-refused g c = λ earlier was are.
     let p = packet_event_at c.args.place c.args.direction c.args.packet in
     let event = λ (size : ℕ). item_event c.args.direction (packet size (view c.args.packet)) in
-    let still = found-still g.K.End.tested p earlier c.args.self.now.watching c.count_packet.new.self (note_of (event c.args.size)) (ap (λ size. note_of (event size)) c.requires) are (was.0, was.1)
-    c.count_packet.ensures.tested c.in-Err.ensures.memory in
-    (refl, still.0, still.1)
-
-pub returns-in-Ok-receive_packet-clause-receives : goal.returns-in-Ok-receive_packet-clause-receives
-returns-in-Ok-receive_packet-clause-receives g c = λ earlier was are.
-    let p = packet_event_at c.args.place c.args.direction c.args.packet in
-    let n = note_of (item_event c.args.direction (packet c.args.size (view c.args.packet))) in
-    let next =
-    watched-next g.K.End.tested p earlier c.args.self.now.watching c.receive_packet.new.self n (ap (λ size. note_of (item_event c.args.direction (packet size (view c.args.packet)))) c.requires) are (was.0, was.1)
-    c.receive_packet.ensures.tested c.in-Ok-receive_packet.ensures.ok in
-    (next.0, next.1, c.in-Ok-receive_packet.ensures.counts.0 ∙ was.2, still-uncounted c.args.self.now.watching c.receive_packet.new.self _ (sym c.is_counting.ensures ∙ c.if-is_counting.false) c.in-Ok-receive_packet.ensures.counts.0)
-
-pub returns-in-Err-receive_packet-clause-refused : goal.returns-in-Err-receive_packet-clause-refused
-returns-in-Err-receive_packet-clause-refused g c = λ earlier was are.
-    let p = packet_event_at c.args.place c.args.direction c.args.packet in
-    let n = note_of (item_event c.args.direction (packet c.args.size (view c.args.packet))) in
-    let still = found-still g.K.End.tested p earlier c.args.self.now.watching c.receive_packet.new.self n (ap (λ size. note_of (item_event c.args.direction (packet size (view c.args.packet)))) c.requires) are (was.0, was.1)
-    c.receive_packet.ensures.tested c.in-Err-receive_packet.ensures.memory in
+    let still = found-still g.K.End.tested p earlier c.args.self.now.watching c.receive_packet.new.self (note_of (event c.args.size)) (ap (λ size. note_of (event size)) c.requires) are (was.0, was.1)
+    c.receive_packet.ensures.tested c.in-Err.ensures.memory in
     (refl, still.0, still.1)

@@ -1,4 +1,4 @@
-use Rattle.std.proofs.Common.{ap, ◌∙◌}
+use Rattle.std.proofs.Common.{ap, arith, ◌∙◌}
 use Rattle.mq_log.specs.Reception.{event_of, item_of}
 use Rattle.mq_rules.specs.Trials.{item_sent, tried_by}
 use Rattle.mq_rules.specs.Words.{is_some_and}
@@ -7,7 +7,7 @@ use Rattle.mq_rules.proofs.byte_tally.ByteTally.count_event.Goals as goal
 
 pub returns-in-Sent : goal.returns-in-Sent
 returns-in-Sent c = λ tested p events is.
-    counts-next _ _ (λ rule. tried_by rule (item_of c.in-Sent.item)) _ tested p events
+    counts-next _ _ (λ rule. tried_by rule (item_of c.in-Sent.item)) _ tested p events (omega (arith, c.ranges.position.fits))
     (λ rule. ap (λ e. is_some_and (tried_by rule) (item_sent e)) (is ∙ ap event_of c.in-Sent.is))
     c.count_sent.ensures
 

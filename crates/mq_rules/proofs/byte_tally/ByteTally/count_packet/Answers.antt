@@ -1,4 +1,4 @@
-use Rattle.std.proofs.Common.{ap, ◌∙◌}
+use Rattle.std.proofs.Common.{ap, arith, ◌∙◌}
 use Rattle.mq_packet.specs.Reading.{view}
 use Rattle.mq_packet.specs.Tries.{tries}
 use Rattle.mq_log.specs.Events.{packet}
@@ -10,9 +10,9 @@ use Rattle.mq_rules.proofs.byte_tally.ByteTally.count_packet.Goals as goal
 
 pub returns-in-Sent : goal.returns-in-Sent
 returns-in-Sent c = λ tested p events is.
-    counts-next _ _ (λ rule. tries rule c.args.size (view c.args.packet.now)) _ tested p events
+    counts-next _ _ (λ rule. tries rule c.args.size (view c.args.packet.now)) _ tested p events (omega (arith, c.ranges.position.fits))
     (λ rule. ap (λ e. is_some_and (tried_by rule) (item_sent e)) (is ∙ ap (λ d. item_event d (packet c.args.size (view c.args.packet.now))) c.in-Sent.is))
-    c.count_tried.ensures
+    c.count_sized.ensures
 
 pub returns-in-Recv : goal.returns-in-Recv
 returns-in-Recv c = λ tested p events is at.

@@ -8,4 +8,4 @@ use Rattle.mq_trail.proofs.following.Following.receive_packet.Goals as goal
 pub returns-in-Some : goal.returns-in-Some
 unfolding note_of_bare
 returns-in-Some g c =
-    subst (λ (n : Note). OnOk c.take_bare.result (TakesIn g.W.Watch.agrees c.args.self.now.watcher c.take_bare.new.self.watcher c.args.place n)) (c.in-Some.ensures c.args.direction c.args.size) c.take_bare.ensures
+    subst (λ (n : Note). OnOk c.take_bare.result (TakesIn g.W.Watch.agrees c.args.self.now.watcher c.take_bare.new.self.watcher c.args.place n)) (c.in-Some.ensures.note c.args.direction c.args.size) c.take_bare.ensures

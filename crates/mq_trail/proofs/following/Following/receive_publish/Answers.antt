@@ -9,5 +9,5 @@ use Rattle.mq_trail.proofs.following.Following.receive_publish.Goals as goal
 pub returns : goal.returns
 returns g c =
     subst (λ (n : Note). OnOk c.take_bare.result (TakesIn g.W.Watch.agrees c.args.self.now.watcher c.take_bare.new.self.watcher c.args.place n))
-    (c.of_publish-bare.ensures ∙ bare_publish c.args.direction c.args.size (publish_view c.args.publish) (c.is_bare.ensures.none c.if-not-is_bare.false) (c.is_bare.ensures.unretained c.if-not-is_bare.false))
+    (c.of_publish-bare.ensures.note ∙ bare_publish c.args.direction c.args.size (publish_view c.args.publish) (c.is_bare.ensures.none c.if-not-is_bare.false) (c.is_bare.ensures.unretained c.if-not-is_bare.false))
     c.take_bare.ensures

@@ -4,7 +4,7 @@ use Rattle.mq_rules.specs.Notes.{note_of_bare}
 use Rattle.mq_rules.specs.Under.{seen}
 use Rattle.mq_judge.proofs.GatheringLaws.{gathered-bare}
 use Rattle.mq_judge.proofs.WatchingLaws.{found-before, found-next}
-use Rattle.mq_judge.proofs.watching.Watching.take_counted.Goals as goal
+use Rattle.mq_judge.proofs.watching.Watching.count_bare.Goals as goal
 
 pub returns-in-Ok-clause-ok : goal.returns-in-Ok-clause-ok
 returns-in-Ok-clause-ok c = λ past may was.
@@ -30,3 +30,6 @@ returns-in-Err-clause-memory c = λ past may was.
           c.drop_decided.ensures was.found.each;
       count = was.found.count;
     }
+
+pub returns-in-Ok-clause-tallies : goal.returns-in-Ok-clause-tallies
+returns-in-Ok-clause-tallies c = λ entry tried p received is at was on. c.count_bare.ensures c.args.self.now.tested p entry received is tried at (was (sym c.in-Ok.ensures.kind ∙ on))
