@@ -52,7 +52,7 @@ use mq_rules::{
 };
 use resends::{
     Bounds, Resent, bounded_after, bounds_after, excused_by_itself, excused_now, passed_since,
-    resent_still, settle, settles_now, take_confirmed,
+    resent_still, settles_now, take_confirmed,
 };
 use std::alloc::Global;
 
@@ -427,16 +427,7 @@ impl Fated for Inflight {
         let settles = settles_now(fate, known, self.ended, &self.unanswered, event);
         let single = excused_by_itself(self.fate, self.bounds, self.opened, self.bounded);
         let excused = excused_now(self.peer, self.in_flight, single);
-        self.again = settle(
-            settles,
-            self.again,
-            &self.entries,
-            &self.confirmed,
-            self.opened,
-            excused,
-            decided,
-            faults,
-        )?;
+        self.again = self.settle(settles, excused, decided, faults)?;
         self.take_in(at, fate, known, note)?;
         Ok(())
     }

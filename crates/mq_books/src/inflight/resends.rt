@@ -10,6 +10,7 @@ ghost use Rattle.mq_books.specs.Resending as resending;
 ghost use Rattle.mq_books.specs.declared.inflight.resends.Excused.{Excused as TheExcused};
 ghost use Rattle.mq_books.specs.Resending.{by_itself, bounded_next, entire, due_next, told_under, blamed_due, blamed_under, told, excuses, settles, bounds_next, confirmed_next, confirms_untouched, IsResent};
 
+use super::Inflight;
 use super::entry::Entry;
 use crate::quota::RECEIVE_MAXIMUM;
 use indexmap::{IndexMap, IndexSet};
@@ -426,30 +427,43 @@ fn settle_confirmed(
     })
 }
 
-/// Adds the faults of what is due, if it is to be settled.
-#[tactic(auto, using(crate::proofs::BlameLaws::keeps_same))]
-pub fn settle(
-    rests: bool,
-    resent: Resent,
-    entries: &IndexMap<u16, Entry>,
-    confirmed: &IndexSet<u16>,
-    opened: u32,
-    excused: Excused,
-    decided: u32,
-    faults: &mut Faults,
-) -> Result<Resent, Memory>
-    ensures ok { OnOk result (faults.new ≡ told rests resent excused opened decided (values entries.now) (get nat_eq entries.now) confirmed.now.keys faults.old) }
-    ensures resent { IsResent opened (resending.apart excused) (get nat_eq entries.now) (contains nat_eq confirmed.now) resent → IfOk result (IsResent opened (resending.apart excused) (get nat_eq entries.now) (contains nat_eq confirmed.now)) }
-    ensures memory { OnErr result (Keeps faults.old faults.new) }
-    ensures partial { OnErr result (Keeps faults.new (told rests resent excused opened decided (values entries.now) (get nat_eq entries.now) confirmed.now.keys faults.old)) }
-{
-    if !rests {
-        return Ok(resent);
+impl Inflight {
+    /// Adds the faults of what is due, if it is to be settled.
+    #[tactic(auto, using(crate::proofs::BlameLaws::keeps_same))]
+    pub(super) fn settle(
+        &self,
+        settles: bool,
+        excused: Excused,
+        decided: u32,
+        faults: &mut Faults,
+    ) -> Result<Resent, Memory>
+        ensures ok { OnOk result (faults.new ≡ told settles self.now.again excused self.now.opened decided (values self.now.entries) (get nat_eq self.now.entries) self.now.confirmed.keys faults.old) }
+        ensures resent { IsResent self.now.opened (resending.apart excused) (get nat_eq self.now.entries) (contains nat_eq self.now.confirmed) self.now.again → IfOk result (IsResent self.now.opened (resending.apart excused) (get nat_eq self.now.entries) (contains nat_eq self.now.confirmed)) }
+        ensures memory { OnErr result (Keeps faults.old faults.new) }
+        ensures partial { OnErr result (Keeps faults.new (told settles self.now.again excused self.now.opened decided (values self.now.entries) (get nat_eq self.now.entries) self.now.confirmed.keys faults.old)) }
+    {
+        if !settles {
+            return Ok(self.again);
+        }
+        if excused.all {
+            return settle_confirmed(
+                self.again,
+                &self.entries,
+                &self.confirmed,
+                self.opened,
+                decided,
+                faults,
+            );
+        }
+        settle_all(
+            self.again,
+            &self.entries,
+            self.opened,
+            excused.apart(),
+            decided,
+            faults,
+        )
     }
-    if excused.all {
-        return settle_confirmed(resent, entries, confirmed, opened, decided, faults);
-    }
-    settle_all(resent, entries, opened, excused.apart(), decided, faults)
 }
 
 /// Whether this is a REST that settles what a resumed session owes: nothing that was sent on the
