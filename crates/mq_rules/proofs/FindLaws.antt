@@ -19,7 +19,7 @@ use Rattle.mq_rules.specs.Words.{is_id}
 use Rattle.mq_rules.specs.Moments.{Moment, newest, note, moment, some}
 use Rattle.mq_rules.specs.Connections.{connection}
 use Rattle.mq_rules.specs.Pasts.{set_alias, is_sent_disconnect, is_sent_refusal, breaks_C01, breaks_C02, breaks_C03, breaks_C04, breaks_C05, breaks_C06, breaks_C07, breaks_C08, breaks_C09, breaks_C10, breaks_C11, breaks_C12, breaks_C13, breaks_C14, breaks_C15, breaks_C16, breaks_C17, breaks_C18, breaks_C19, breaks_C20, breaks_C21, breaks_C22, breaks_C23}
-use Rattle.mq_rules.specs.Rules.{same_rule, binds, found_line, lines, line_of}
+use Rattle.mq_rules.specs.Rules.{same_rule, binds, found_line, is_further, lines, line_of}
 use Rattle.mq_rules.specs.Statements.{Statement, on_bytes, on_past, in_session, at_release, at_rest, statement, is_by_past, is_on_past}
 use Rattle.mq_rules.specs.Steps.{shows, turns}
 use Rattle.mq_rules.specs.Growing.{at_place, Judges, JudgesWithin, news, GrowsBy, GrowsByWithin}
@@ -31,15 +31,15 @@ use Rattle.mq_rules.proofs.ConnLaws.{kept-next, is_alias_set-next}
 use Rattle.mq_rules.proofs.GrowLaws.{nothing_at, judges-same, within-same}
 
 -- the same of a known statement, so that it computes
-pick : Bool → Bool → Bool → Bool
+unfoldable pub pick : Bool → Bool → Bool → Bool
 pick true b v = b || v
 pick false b v = v
 
-picked : List (Rule × Bool) → Rule → Bool
+unfoldable pub picked : List (Rule × Bool) → Rule → Bool
 picked [] rule = false
 picked (v ∷ vs) rule = pick (same_rule rule v.0) v.1 (picked vs rule)
 
-among-picked : (vs : List (Rule × Bool)) (rule : Rule) → is_among vs rule ≡ picked vs rule
+pub among-picked : (vs : List (Rule × Bool)) (rule : Rule) → is_among vs rule ≡ picked vs rule
 unfolding picked pick
 among-picked [] rule = refl
 among-picked (v ∷ vs) rule = go v.1 (same_rule rule v.0) ∙ ap (pick (same_rule rule v.0) v.1) (among-picked vs rule)
@@ -70,18 +70,18 @@ found-found_by role s aliases n rule = λ i.
     || (among-picked (rest_verdicts role s (is_rest n)) rule i || false)))))
 
 -- what a statement on the past of a connection says of a moment; the others say nothing
-past_says : Statement → Moment → Bool
+unfoldable pub past_says : Statement → Moment → Bool
 past_says (on_bytes rule) m = false
 past_says (on_past breaks) m = breaks m
 past_says (in_session breaks) m = false
 past_says (at_release breaks) m = false
 past_says (at_rest test) m = false
 
-abbrev pub client : Bool → Tested
-client releases = record { role = Client; releases = releases }
+abbrev pub client : Bool → Bool → Tested
+client releases further = record { role = Client; releases = releases; further = further }
 
-abbrev pub server : Bool → Tested
-server releases = record { role = Server; releases = releases }
+abbrev pub server : Bool → Bool → Tested
+server releases further = record { role = Server; releases = releases; further = further }
 
 last : (b : Bool) → ((b || false) || false) ≡ (b && true)
 last true = refl
@@ -98,102 +98,104 @@ some-or p q (m ∷ ms) = go (p m) (q m) (some p ms) (some q ms) ∙ ap (λ b. (p
     go false false c d = refl
 
 -- for a client, statement by statement; of those that aren't listed both sides are false
-client-finds : (releases : Bool) (e : Seen) (past : List Seen) (rule : Rule)
-    → found_by Client (kept Client past) (is_alias_set past) e.note rule ≡ (past_says (statement Client rule) (newest e past) && binds rule (client releases))
+client-finds : (releases further : Bool) (e : Seen) (past : List Seen) (rule : Rule)
+    → found_by Client (kept Client past) (is_alias_set past) e.note rule ≡ ((not (is_further rule) && past_says (statement Client rule) (newest e past)) && binds rule (client releases further))
 unfolding found_by picked pick past_says kept is_alias_set found_line lines line_of breaks_C01 breaks_C02 breaks_C03 breaks_C11 breaks_C13 breaks_C14 breaks_C15 breaks_C16 breaks_C17 breaks_C18 breaks_C20 breaks_C23 breaks_C04 breaks_C05 breaks_C06 breaks_C07 breaks_C08 breaks_C09 breaks_C10 breaks_C12 breaks_C19 breaks_C21 breaks_C22
-client-finds releases e past C01 = last (breaks_C01 Client (newest e past))
-client-finds releases e past C02 = last (breaks_C02 (newest e past))
-client-finds releases e past C03 = last (breaks_C03 (newest e past))
-client-finds releases e past C04 = sym (and_false (breaks_C04 (newest e past)))
-client-finds releases e past C05 = sym (and_false (breaks_C05 (newest e past)))
-client-finds releases e past C06 = sym (and_false (breaks_C06 (newest e past)))
-client-finds releases e past C07 = sym (and_false (breaks_C07 (newest e past)))
-client-finds releases e past C08 = sym (and_false (breaks_C08 (newest e past)))
-client-finds releases e past C09 = sym (and_false (breaks_C09 (newest e past)))
-client-finds releases e past C10 = sym (and_false (breaks_C10 (newest e past)))
-client-finds releases e past C11 = last (breaks_C11 (newest e past))
-client-finds releases e past C12 = sym (and_false (breaks_C12 (newest e past)))
-client-finds releases e past C13 = last (breaks_C13 (newest e past))
-client-finds releases e past C14 = last (breaks_C14 Client (newest e past))
-client-finds releases e past C15 = last (breaks_C15 Client (newest e past))
-client-finds releases e past C16 = last (breaks_C16 (newest e past))
-client-finds releases e past C17 = last (breaks_C17 (newest e past))
-client-finds releases e past C18 = last (breaks_C18 (newest e past))
-client-finds releases e past C19 = sym (and_false (breaks_C19 (newest e past)))
-client-finds releases e past C20 = last (breaks_C20 (newest e past))
-client-finds releases e past C21 = sym (and_false (breaks_C21 (newest e past)))
-client-finds releases e past C22 = sym (and_false (breaks_C22 (newest e past)))
-client-finds releases e past C23 = last (breaks_C23 Client (newest e past))
-client-finds releases e past _ = refl
+client-finds releases further e past C01 = last (breaks_C01 Client (newest e past))
+client-finds releases further e past C02 = last (breaks_C02 (newest e past))
+client-finds releases further e past C03 = last (breaks_C03 (newest e past))
+client-finds releases further e past C04 = sym (and_false (breaks_C04 (newest e past)))
+client-finds releases further e past C05 = sym (and_false (breaks_C05 (newest e past)))
+client-finds releases further e past C06 = sym (and_false (breaks_C06 (newest e past)))
+client-finds releases further e past C07 = sym (and_false (breaks_C07 (newest e past)))
+client-finds releases further e past C08 = sym (and_false (breaks_C08 (newest e past)))
+client-finds releases further e past C09 = sym (and_false (breaks_C09 (newest e past)))
+client-finds releases further e past C10 = sym (and_false (breaks_C10 (newest e past)))
+client-finds releases further e past C11 = last (breaks_C11 (newest e past))
+client-finds releases further e past C12 = sym (and_false (breaks_C12 (newest e past)))
+client-finds releases further e past C13 = last (breaks_C13 (newest e past))
+client-finds releases further e past C14 = last (breaks_C14 Client (newest e past))
+client-finds releases further e past C15 = last (breaks_C15 Client (newest e past))
+client-finds releases further e past C16 = last (breaks_C16 (newest e past))
+client-finds releases further e past C17 = last (breaks_C17 (newest e past))
+client-finds releases further e past C18 = last (breaks_C18 (newest e past))
+client-finds releases further e past C19 = sym (and_false (breaks_C19 (newest e past)))
+client-finds releases further e past C20 = last (breaks_C20 (newest e past))
+client-finds releases further e past C21 = sym (and_false (breaks_C21 (newest e past)))
+client-finds releases further e past C22 = sym (and_false (breaks_C22 (newest e past)))
+client-finds releases further e past C23 = last (breaks_C23 Client (newest e past))
+client-finds releases further e past _ = refl
 
-server-finds : (releases : Bool) (e : Seen) (past : List Seen) (rule : Rule)
-    → found_by Server (kept Server past) (is_alias_set past) e.note rule ≡ (past_says (statement Server rule) (newest e past) && binds rule (server releases))
+server-finds : (releases further : Bool) (e : Seen) (past : List Seen) (rule : Rule)
+    → found_by Server (kept Server past) (is_alias_set past) e.note rule ≡ ((not (is_further rule) && past_says (statement Server rule) (newest e past)) && binds rule (server releases further))
 unfolding found_by picked pick past_says kept is_alias_set found_line lines line_of breaks_C01 breaks_C02 breaks_C03 breaks_C11 breaks_C13 breaks_C14 breaks_C15 breaks_C16 breaks_C17 breaks_C18 breaks_C20 breaks_C23 breaks_C04 breaks_C05 breaks_C06 breaks_C07 breaks_C08 breaks_C09 breaks_C10 breaks_C12 breaks_C19 breaks_C21 breaks_C22
-server-finds releases e past C01 = last (breaks_C01 Server (newest e past))
-server-finds releases e past C02 = sym (and_false (breaks_C02 (newest e past)))
-server-finds releases e past C03 = sym (and_false (breaks_C03 (newest e past)))
-server-finds releases e past C04 = last (breaks_C04 (newest e past))
-server-finds releases e past C05 = last (breaks_C05 (newest e past))
-server-finds releases e past C06 = last (breaks_C06 (newest e past))
-server-finds releases e past C07 = last (breaks_C07 (newest e past))
-server-finds releases e past C08 = last (breaks_C08 (newest e past))
-server-finds releases e past C09 = last (breaks_C09 (newest e past))
-server-finds releases e past C10 = last (breaks_C10 (newest e past))
-server-finds releases e past C11 = last (breaks_C11 (newest e past))
-server-finds releases e past C12 = last (breaks_C12 (newest e past))
-server-finds releases e past C13 = sym (and_false (breaks_C13 (newest e past)))
-server-finds releases e past C14 = last (breaks_C14 Server (newest e past))
-server-finds releases e past C15 = last (breaks_C15 Server (newest e past))
-server-finds releases e past C16 = last (breaks_C16 (newest e past))
-server-finds releases e past C17 = sym (and_false (breaks_C17 (newest e past)))
-server-finds releases e past C18 = sym (and_false (breaks_C18 (newest e past)))
-server-finds releases e past C19 = last (breaks_C19 (newest e past))
-server-finds releases e past C20 = sym (and_false (breaks_C20 (newest e past)))
-server-finds releases e past C21 = last (breaks_C21 (newest e past))
-server-finds releases e past C22 = last (breaks_C22 (newest e past))
-server-finds releases e past C23 =
+server-finds releases further e past C01 = last (breaks_C01 Server (newest e past))
+server-finds releases further e past C02 = sym (and_false (breaks_C02 (newest e past)))
+server-finds releases further e past C03 = sym (and_false (breaks_C03 (newest e past)))
+server-finds releases further e past C04 = last (breaks_C04 (newest e past))
+server-finds releases further e past C05 = last (breaks_C05 (newest e past))
+server-finds releases further e past C06 = last (breaks_C06 (newest e past))
+server-finds releases further e past C07 = last (breaks_C07 (newest e past))
+server-finds releases further e past C08 = last (breaks_C08 (newest e past))
+server-finds releases further e past C09 = last (breaks_C09 (newest e past))
+server-finds releases further e past C10 = last (breaks_C10 (newest e past))
+server-finds releases further e past C11 = last (breaks_C11 (newest e past))
+server-finds releases further e past C12 = last (breaks_C12 (newest e past))
+server-finds releases further e past C13 = sym (and_false (breaks_C13 (newest e past)))
+server-finds releases further e past C14 = last (breaks_C14 Server (newest e past))
+server-finds releases further e past C15 = last (breaks_C15 Server (newest e past))
+server-finds releases further e past C16 = last (breaks_C16 (newest e past))
+server-finds releases further e past C17 = sym (and_false (breaks_C17 (newest e past)))
+server-finds releases further e past C18 = sym (and_false (breaks_C18 (newest e past)))
+server-finds releases further e past C19 = last (breaks_C19 (newest e past))
+server-finds releases further e past C20 = sym (and_false (breaks_C20 (newest e past)))
+server-finds releases further e past C21 = last (breaks_C21 (newest e past))
+server-finds releases further e past C22 = last (breaks_C22 (newest e past))
+server-finds releases further e past C23 =
     ap (λ b. (is_rest e.note && b) || false || false) (some-or (λ m. is_sent_disconnect (note m)) (λ m. is_sent_refusal (note m)) (connection past))
     ∙ last (breaks_C23 Server (newest e past))
-server-finds releases e past _ = refl
+server-finds releases further e past _ = refl
 
 -- ---- faults
 
--- what a statement on the past says at the newest moment is what turns out to fail there
-found_news : (s : Statement) (binds_it found : Bool) (role : Role) (e : Seen) (past : List Seen) (k : ℕ) → e.place.position ≡ length past + 1 → found ≡ (past_says s (newest e past) && binds_it)
+-- what a statement on the past says at the newest moment is what turns out to fail there, if it is the watcher's own
+pub found_news : (s : Statement) (own binds_it found : Bool) (role : Role) (e : Seen) (past : List Seen) (k : ℕ) → e.place.position ≡ length past + 1 → found ≡ ((own && past_says s (newest e past)) && binds_it)
     → at_place e.place k found
-    ≡ cond {A = Option Fault} (is_by_past s && (binds_it && shows role s e past k)) (Some (record { decided = length past + 1; record_no = record_of (moment (e ∷ past) k); offset = offset_of s (moment (e ∷ past) k) })) None
+    ≡ cond {A = Option Fault} ((is_by_past s && own) && (binds_it && shows role s e past k)) (Some (record { decided = length past + 1; record_no = record_of (moment (e ∷ past) k); offset = offset_of s (moment (e ∷ past) k) })) None
 unfolding past_says
-found_news (on_bytes rule) b found role e past k placed is = ap (at_place e.place k) is ∙ nothing_at e.place k
-found_news (in_session breaks) b found role e past k placed is = ap (at_place e.place k) is ∙ nothing_at e.place k
-found_news (at_release breaks) b found role e past k placed is = ap (at_place e.place k) is ∙ nothing_at e.place k
-found_news (at_rest test) b found role e past k placed is = ap (at_place e.place k) is ∙ nothing_at e.place k
-found_news (on_past breaks) b found role e past k placed is =
+found_news (on_bytes rule) own b found role e past k placed is = ap (at_place e.place k) (is ∙ ap (λ t. t && b) (and_false own)) ∙ nothing_at e.place k
+found_news (in_session breaks) own b found role e past k placed is = ap (at_place e.place k) (is ∙ ap (λ t. t && b) (and_false own)) ∙ nothing_at e.place k
+found_news (at_release breaks) own b found role e past k placed is = ap (at_place e.place k) (is ∙ ap (λ t. t && b) (and_false own)) ∙ nothing_at e.place k
+found_news (at_rest test) own b found role e past k placed is = ap (at_place e.place k) (is ∙ ap (λ t. t && b) (and_false own)) ∙ nothing_at e.place k
+found_news (on_past breaks) own b found role e past k placed is =
     ap (at_place e.place k) is
-    ∙ ap (λ n. cond {A = Option Fault} ((k == n) && (breaks (newest e past) && b)) (Some (record { decided = n; record_no = e.place.record_no; offset = None })) None) placed
-    ∙ go (k == length past + 1) b (breaks (newest e past))
+    ∙ ap (λ n. cond {A = Option Fault} ((k == n) && ((own && breaks (newest e past)) && b)) (Some (record { decided = n; record_no = e.place.record_no; offset = None })) None) placed
+    ∙ go own (k == length past + 1) b (breaks (newest e past))
   where
-    go : (t b w : Bool) → cond {A = Option Fault} (t && (w && b)) (Some (record { decided = length past + 1; record_no = e.place.record_no; offset = None })) None
-        ≡ cond {A = Option Fault} (b && (t && w)) (Some (record { decided = length past + 1; record_no = record_of (cond t (Some (newest e past)) (moment past k)); offset = None })) None
-    go true true true = refl
-    go true true false = refl
-    go true false true = refl
-    go true false false = refl
-    go false true w = refl
-    go false false w = refl
+    go : (own t b w : Bool) → cond {A = Option Fault} (t && ((own && w) && b)) (Some (record { decided = length past + 1; record_no = e.place.record_no; offset = None })) None
+        ≡ cond {A = Option Fault} (own && (b && (t && w))) (Some (record { decided = length past + 1; record_no = record_of (cond t (Some (newest e past)) (moment past k)); offset = None })) None
+    go true true true true = refl
+    go true true true false = refl
+    go true true false true = refl
+    go true true false false = refl
+    go true false true w = refl
+    go true false false w = refl
+    go false true b w = refl
+    go false false b w = refl
 
 -- by what is kept, exactly the statements on the past that are false at an event are found there
 finds : (tested : Tested) (e : Seen) (past : List Seen) (rule : Rule)
-    → is_found tested.role (kept tested.role past) (is_alias_set past) e.note rule ≡ (past_says (statement tested.role rule) (newest e past) && binds rule tested)
-finds tested e past rule = found-found_by tested.role (kept tested.role past) (is_alias_set past) e.note rule ∙ go tested.role tested.releases
+    → is_found tested.role (kept tested.role past) (is_alias_set past) e.note rule ≡ ((not (is_further rule) && past_says (statement tested.role rule) (newest e past)) && binds rule tested)
+finds tested e past rule = found-found_by tested.role (kept tested.role past) (is_alias_set past) e.note rule ∙ go tested.role tested.releases tested.further
   where
-    go : (role : Role) (releases : Bool) → found_by role (kept role past) (is_alias_set past) e.note rule ≡ (past_says (statement role rule) (newest e past) && binds rule (record { role = role; releases = releases }))
-    go Client releases = client-finds releases e past rule
-    go Server releases = server-finds releases e past rule
+    go : (role : Role) (releases further : Bool) → found_by role (kept role past) (is_alias_set past) e.note rule ≡ ((not (is_further rule) && past_says (statement role rule) (newest e past)) && binds rule (record { role = role; releases = releases; further = further }))
+    go Client releases further = client-finds releases further e past rule
+    go Server releases further = server-finds releases further e past rule
 
 pub at_place-news : (tested : Tested) (e : Seen) (past : List Seen) (k : ℕ) (rule : Rule) → e.place.position ≡ length past + 1
     → at_place e.place k (is_found tested.role (kept tested.role past) (is_alias_set past) e.note rule) ≡ news (is_on_past tested) tested e past k rule
 unfolding turns
-at_place-news tested e past k rule placed = found_news (statement tested.role rule) (binds rule tested) (is_found tested.role (kept tested.role past) (is_alias_set past) e.note rule) tested.role e past k placed (finds tested e past rule)
+at_place-news tested e past k rule placed = found_news (statement tested.role rule) (not (is_further rule)) (binds rule tested) (is_found tested.role (kept tested.role past) (is_alias_set past) e.note rule) tested.role e past k placed (finds tested e past rule)
 
 -- the faults of an event that was judged, in full or in part
 pub grows-judged : (tested : Tested) (e : Seen) (past : List Seen) (old new : FaultMap) → e.place.position ≡ length past + 1

@@ -23,11 +23,11 @@ use Rattle.mq_rules.specs.Notes.{is_close, is_rest, sent_packet, sent_publish, s
 use Rattle.mq_rules.specs.Moments.{Moment, newest}
 use Rattle.mq_rules.specs.Pasts.{accepts_so, says_session_present, used_alias, applies_C01, applies_C02, applies_C03, applies_C04, applies_C05, applies_C06, applies_C07, applies_C08, applies_C09, applies_C10, applies_C11, applies_C12, applies_C13, applies_C14, applies_C15, applies_C16, applies_C17, applies_C18, applies_C19, applies_C20, applies_C21, applies_C22, applies_C23}
 use Rattle.mq_rules.specs.Rules.{binds}
-use Rattle.mq_rules.specs.Statements.{Statement, on_past, is_by_past}
+use Rattle.mq_rules.specs.Statements.{on_past}
 use Rattle.mq_rules.specs.Occasions.{occasion, places}
 use Rattle.mq_rules.specs.Keeping.{kept, may_go_on, may_look, has_left, size_bound, qos_bound, send_bounds, is_ordinary_in, is_harmless_in, is_harmless, IsConn}
 use Rattle.mq_rules.specs.Trying as trying
-use Rattle.mq_rules.specs.Trying.{Tries, sends_some, has_no_session, harmless_tests, tried_by_harmless}
+use Rattle.mq_rules.specs.Trying.{Tries, sends_some, has_no_session, harmless_tests, tried_by_harmless, is_tallied}
 use Rattle.mq_rules.proofs.BoolLaws.{both_true, and_false}
 use Rattle.mq_rules.proofs.IdleLaws.{no-connack, no-disconnect, not-connect, not-connack}
 use Rattle.mq_rules.proofs.HarmlessLaws.{goes-on, harmless-ordinary, no-alias, sends, was-false}
@@ -170,49 +170,45 @@ found-places : (rule : Rule) (test : Role → Moment → Bool) (found : Role →
     → (tested : Tested) (e : Seen) (past : List Seen) (here : Bool) → found tested.role (kept tested.role past) e.note ≡ here → places tested (e ∷ past) rule ≡ cond here 1 0 + places tested past rule
 found-places rule test found says finds tested e past here is =
     places-past tested rule (test tested.role) e past (says tested.role)
-    ∙ ap (λ b. cond b 1 0 + places tested past rule) (finds tested.role tested.releases e past ∙ is)
+    ∙ ap (λ b. cond b 1 0 + places tested past rule) (finds tested.role tested.releases tested.further e past ∙ is)
 
-abbrev by_past : Option Statement → Bool
-by_past None = false
-by_past (Some s) = is_by_past s
-
-harmless-places : (rule : Rule) (tested : Tested) (e : Seen) (past : List Seen) → by_past (occasion tested.role rule) ≡ true → Harmless tested.role (kept tested.role past) e.note
+harmless-places : (rule : Rule) (tested : Tested) (e : Seen) (past : List Seen) → is_tallied rule ≡ true → Harmless tested.role (kept tested.role past) e.note
     → places tested (e ∷ past) rule ≡ cond (tried_by_harmless (harmless_tests tested.role (kept tested.role past) e.note) rule) 1 0 + places tested past rule
-harmless-places C01 tested e past on is = found-places C01 (λ role. applies_C01) (λ role s n. trying.tries_C01 n) (λ role. refl) trying.C01_tried tested e past _ refl
-harmless-places C02 tested e past on is = found-places C02 (λ role. applies_C02) trying.tries_C02 (λ role. refl) trying.C02_tried tested e past false (not-C02 tested.role (kept tested.role past) e.note is)
-harmless-places C03 tested e past on is = found-places C03 (λ role. applies_C03) (λ role s n. trying.tries_C03 role n) (λ role. refl) trying.C03_tried tested e past false (not-C03 tested.role (kept tested.role past) e.note is)
-harmless-places C04 tested e past on is = found-places C04 (λ role. applies_C04) (λ role s n. trying.tries_C04 role n) (λ role. refl) trying.C04_tried tested e past false (not-C04 tested.role (kept tested.role past) e.note is)
-harmless-places C05 tested e past on is = found-places C05 (λ role. applies_C05) trying.tries_C05 (λ role. refl) trying.C05_tried tested e past false (not-C05 tested.role (kept tested.role past) e.note is)
-harmless-places C06 tested e past on is = found-places C06 (λ role. applies_C06) (λ role s n. trying.tries_C04 role n) (λ role. refl) trying.C06_tried tested e past false (not-C04 tested.role (kept tested.role past) e.note is)
-harmless-places C07 tested e past on is = found-places C07 (λ role. applies_C07) trying.tries_C07 (λ role. refl) trying.C07_tried tested e past false (not-C07 tested.role (kept tested.role past) e.note is)
-harmless-places C08 tested e past on is = found-places C08 (λ role. applies_C08) trying.tries_C08 (λ role. refl) trying.C08_tried tested e past false (not-C08 tested.role (kept tested.role past) e.note is)
-harmless-places C09 tested e past on is = found-places C09 (λ role. applies_C09) (λ role s n. trying.tries_C09 role n) (λ role. refl) trying.C09_tried tested e past false (not-C09 tested.role (kept tested.role past) e.note is)
-harmless-places C10 tested e past on is = found-places C10 (λ role. applies_C10) trying.tries_C10 (λ role. refl) trying.C10_tried tested e past false (not-C10 tested.role (kept tested.role past) e.note is)
-harmless-places C11 tested e past on is = found-places C11 (λ role. applies_C11) (λ role s n. trying.tries_C11 s n) (λ role. refl) trying.C11_tried tested e past false (not-C11 tested.role (kept tested.role past) e.note is)
-harmless-places C12 tested e past on is = found-places C12 (λ role. applies_C12) trying.tries_C12 (λ role. refl) trying.C12_tried tested e past false (not-C12 tested.role (kept tested.role past) e.note is)
-harmless-places C13 tested e past on is = found-places C13 (λ role. applies_C13) trying.tries_C13 (λ role. refl) trying.C13_tried tested e past false (not-C13 tested.role (kept tested.role past) e.note is)
-harmless-places C14 tested e past on is = found-places C14 applies_C14 trying.tries_C14 (λ role. refl) trying.C14_tried tested e past _ refl
-harmless-places C15 tested e past on is = found-places C15 applies_C15 trying.tries_C15 (λ role. refl) trying.C15_tried tested e past false (not-C15 tested.role (kept tested.role past) e.note is)
-harmless-places C16 tested e past on is = found-places C16 (λ role. applies_C16) (λ role s n. trying.tries_C16 n) (λ role. refl) trying.C16_tried tested e past false (not-C16 tested.role (kept tested.role past) e.note is)
-harmless-places C17 tested e past on is = found-places C17 (λ role. applies_C17) trying.tries_C17 (λ role. refl) trying.C17_tried tested e past _ refl
-harmless-places C18 tested e past on is = found-places C18 (λ role. applies_C18) (λ role s n. trying.tries_C18 role n) (λ role. refl) trying.C18_tried tested e past _ refl
-harmless-places C19 tested e past on is = found-places C19 (λ role. applies_C19) (λ role s n. trying.tries_C19 role n) (λ role. refl) trying.C19_tried tested e past false (not-C19 tested.role (kept tested.role past) e.note is)
-harmless-places C20 tested e past on is = found-places C20 (λ role. applies_C20) (λ role s n. trying.tries_C20 role n) (λ role. refl) trying.C20_tried tested e past false (not-C20 tested.role (kept tested.role past) e.note is)
-harmless-places C21 tested e past on is = found-places C21 (λ role. applies_C21) trying.tries_C21 (λ role. refl) trying.C21_tried tested e past _ refl
-harmless-places C22 tested e past on is = found-places C22 (λ role. applies_C22) (λ role s n. trying.tries_C22 role n) (λ role. refl) trying.C22_tried tested e past false (not-C22 tested.role (kept tested.role past) e.note is)
-harmless-places C23 tested e past on is = found-places C23 applies_C23 trying.tries_C23 (λ role. refl) trying.C23_tried tested e past false (not-C23 tested.role (kept tested.role past) e.note is)
-harmless-places _ tested e past on is = absurd (cc)
+harmless-places C01 tested e past one is = found-places C01 (λ role. applies_C01) (λ role s n. trying.tries_C01 n) (λ role. refl) trying.C01_tried tested e past _ refl
+harmless-places C02 tested e past one is = found-places C02 (λ role. applies_C02) trying.tries_C02 (λ role. refl) trying.C02_tried tested e past false (not-C02 tested.role (kept tested.role past) e.note is)
+harmless-places C03 tested e past one is = found-places C03 (λ role. applies_C03) (λ role s n. trying.tries_C03 role n) (λ role. refl) trying.C03_tried tested e past false (not-C03 tested.role (kept tested.role past) e.note is)
+harmless-places C04 tested e past one is = found-places C04 (λ role. applies_C04) (λ role s n. trying.tries_C04 role n) (λ role. refl) trying.C04_tried tested e past false (not-C04 tested.role (kept tested.role past) e.note is)
+harmless-places C05 tested e past one is = found-places C05 (λ role. applies_C05) trying.tries_C05 (λ role. refl) trying.C05_tried tested e past false (not-C05 tested.role (kept tested.role past) e.note is)
+harmless-places C06 tested e past one is = found-places C06 (λ role. applies_C06) (λ role s n. trying.tries_C04 role n) (λ role. refl) trying.C06_tried tested e past false (not-C04 tested.role (kept tested.role past) e.note is)
+harmless-places C07 tested e past one is = found-places C07 (λ role. applies_C07) trying.tries_C07 (λ role. refl) trying.C07_tried tested e past false (not-C07 tested.role (kept tested.role past) e.note is)
+harmless-places C08 tested e past one is = found-places C08 (λ role. applies_C08) trying.tries_C08 (λ role. refl) trying.C08_tried tested e past false (not-C08 tested.role (kept tested.role past) e.note is)
+harmless-places C09 tested e past one is = found-places C09 (λ role. applies_C09) (λ role s n. trying.tries_C09 role n) (λ role. refl) trying.C09_tried tested e past false (not-C09 tested.role (kept tested.role past) e.note is)
+harmless-places C10 tested e past one is = found-places C10 (λ role. applies_C10) trying.tries_C10 (λ role. refl) trying.C10_tried tested e past false (not-C10 tested.role (kept tested.role past) e.note is)
+harmless-places C11 tested e past one is = found-places C11 (λ role. applies_C11) (λ role s n. trying.tries_C11 s n) (λ role. refl) trying.C11_tried tested e past false (not-C11 tested.role (kept tested.role past) e.note is)
+harmless-places C12 tested e past one is = found-places C12 (λ role. applies_C12) trying.tries_C12 (λ role. refl) trying.C12_tried tested e past false (not-C12 tested.role (kept tested.role past) e.note is)
+harmless-places C13 tested e past one is = found-places C13 (λ role. applies_C13) trying.tries_C13 (λ role. refl) trying.C13_tried tested e past false (not-C13 tested.role (kept tested.role past) e.note is)
+harmless-places C14 tested e past one is = found-places C14 applies_C14 trying.tries_C14 (λ role. refl) trying.C14_tried tested e past _ refl
+harmless-places C15 tested e past one is = found-places C15 applies_C15 trying.tries_C15 (λ role. refl) trying.C15_tried tested e past false (not-C15 tested.role (kept tested.role past) e.note is)
+harmless-places C16 tested e past one is = found-places C16 (λ role. applies_C16) (λ role s n. trying.tries_C16 n) (λ role. refl) trying.C16_tried tested e past false (not-C16 tested.role (kept tested.role past) e.note is)
+harmless-places C17 tested e past one is = found-places C17 (λ role. applies_C17) trying.tries_C17 (λ role. refl) trying.C17_tried tested e past _ refl
+harmless-places C18 tested e past one is = found-places C18 (λ role. applies_C18) (λ role s n. trying.tries_C18 role n) (λ role. refl) trying.C18_tried tested e past _ refl
+harmless-places C19 tested e past one is = found-places C19 (λ role. applies_C19) (λ role s n. trying.tries_C19 role n) (λ role. refl) trying.C19_tried tested e past false (not-C19 tested.role (kept tested.role past) e.note is)
+harmless-places C20 tested e past one is = found-places C20 (λ role. applies_C20) (λ role s n. trying.tries_C20 role n) (λ role. refl) trying.C20_tried tested e past false (not-C20 tested.role (kept tested.role past) e.note is)
+harmless-places C21 tested e past one is = found-places C21 (λ role. applies_C21) trying.tries_C21 (λ role. refl) trying.C21_tried tested e past _ refl
+harmless-places C22 tested e past one is = found-places C22 (λ role. applies_C22) (λ role s n. trying.tries_C22 role n) (λ role. refl) trying.C22_tried tested e past false (not-C22 tested.role (kept tested.role past) e.note is)
+harmless-places C23 tested e past one is = found-places C23 applies_C23 trying.tries_C23 (λ role. refl) trying.C23_tried tested e past false (not-C23 tested.role (kept tested.role past) e.note is)
+harmless-places _ tested e past one is = absurd (cc)
 
 -- one harmless event more
-pub tally-harmless : (rule : Rule) (test : Role → Moment → Bool) → ((role : Role) → occasion role rule ≡ Some (on_past (test role))) → (tested : Tested) (e : Seen) (past : List Seen) (tests : HarmlessTests) (here : Bool) (old new at : ℕ)
+pub tally-harmless : (rule : Rule) → is_tallied rule ≡ true → (tested : Tested) (e : Seen) (past : List Seen) (tests : HarmlessTests) (here : Bool) (old new at : ℕ)
     → is_harmless (send_bounds tested.role (kept tested.role past)) e.note ≡ true → tests ≡ harmless_tests tested.role (kept tested.role past) e.note → here ≡ tried_by_harmless tests rule
     → at ≡ length past + 1 → old ≡ places tested past rule → (old < at → new ≡ cond here 1 0 + old) → new ≡ places tested (e ∷ past) rule
-tally-harmless rule test says tested e past tests here old new at harmless are is placed was more =
+tally-harmless rule one tested e past tests here old new at harmless are is placed was more =
     let most = places-most tested past rule in
     more (omega arith)
     ∙ ap (λ n. cond here 1 0 + n) was
     ∙ ap (λ b. cond b 1 0 + places tested past rule) (is ∙ ap (λ t. tried_by_harmless t rule) are)
-    ∙ sym (harmless-places rule tested e past (ap by_past (says tested.role)) (known tested.role (kept tested.role past) e.note harmless))
+    ∙ sym (harmless-places rule tested e past one (known tested.role (kept tested.role past) e.note harmless))
 
 -- nothing that is received is put to the test
 none-received : (role : Role) (s : ConnectionState) (n : Note) (rule : Rule) → is_harmless (send_bounds role s) n ≡ true → is_some (sent_packet n) ≡ false → tried_by_harmless (harmless_tests role s n) rule ≡ false
@@ -229,13 +225,13 @@ none-received role s _ rule t none = absurd (cc)
 none_more : (n : ℕ) → n ≡ 0 + n
 none_more n = omega arith
 
-pub tally_passes : (rule : Rule) (test : Role → Moment → Bool) → ((role : Role) → occasion role rule ≡ Some (on_past (test role))) → (tested : Tested) (e : Seen) (past : List Seen) (n : ℕ)
+pub tally_passes : (rule : Rule) → is_tallied rule ≡ true → (tested : Tested) (e : Seen) (past : List Seen) (n : ℕ)
     → is_harmless (send_bounds tested.role (kept tested.role past)) e.note ≡ true → is_some (sent_packet e.note) ≡ false → n ≡ places tested past rule → n ≡ places tested (e ∷ past) rule
-tally_passes rule test says tested e past n harmless none was =
+tally_passes rule one tested e past n harmless none was =
     was
     ∙ none_more (places tested past rule)
     ∙ ap (λ b. cond b 1 0 + places tested past rule) (sym (none-received tested.role (kept tested.role past) e.note rule harmless none))
-    ∙ sym (harmless-places rule tested e past (ap by_past (says tested.role)) (known tested.role (kept tested.role past) e.note harmless))
+    ∙ sym (harmless-places rule tested e past one (known tested.role (kept tested.role past) e.note harmless))
 
 -- what is harmless by the bounds of a watcher
 pub harmless-here : (conn : Conn) (tested : Tested) (taken : Option Fate) (past : List Seen) (n : Note) → IsConn conn tested taken past → is_harmless conn.bounds n ≡ true → is_harmless (send_bounds tested.role (kept tested.role past)) n ≡ true

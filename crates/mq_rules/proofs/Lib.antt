@@ -5,6 +5,7 @@ pub mod BoolLaws
 pub mod StepLaws
 pub mod DecidedLaws
 pub mod LateLaws
+mod MannersLaws
 pub mod FindLaws
 pub mod GrowLaws
 pub mod JudgeLaws

@@ -7,6 +7,7 @@ use Rattle.std.specs.Char.{to_ascii_lowercase}
 use Rattle.std.specs.Str.{str_eq_ignore_ascii_case}
 use Rattle.mq_rules.specs.declared.rule.Rule.{Rule}
 use Rattle.mq_rules.specs.declared.table.Ends.{Ends}
+use Rattle.mq_rules.specs.declared.table.Judged.{Judged}
 use Rattle.mq_rules.specs.declared.rule.Rule.TheVariants.{W01}
 use Rattle.mq_rules.specs.Naming.{coded_line, coded_rule, sentence_of}
 use Rattle.mq_rules.specs.Rules.{StatementLine, all_rules, code_of, found_line, line_of, line_view, lines, lines_of}
@@ -15,7 +16,7 @@ cond-map : {A B : Type 0} (view : A → B) (b : Bool) (x : A) (o : Option A) (q 
 cond-map view true x o q h = refl
 cond-map view false x o q h = h
 
-pub find-coded : (code : List ℕ) (rows : List (Rule × Bor (List ℕ) × Ends × Bor (List ℕ) × Bor (List ℕ) × Bool))
+pub find-coded : (code : List ℕ) (rows : List (Rule × Bor (List ℕ) × Ends × Bor (List ℕ) × Bor (List ℕ) × Judged))
     → option_map line_view (find (λ row. str_eq_ignore_ascii_case row.1.now code) rows) ≡ find (λ (line : StatementLine). str_eq_ignore_ascii_case line.code code) (lines_of rows)
 find-coded code [] = refl
 find-coded code (row ∷ rows) = cond-map line_view (str_eq_ignore_ascii_case row.1.now code) row (find (λ r. str_eq_ignore_ascii_case r.1.now code) rows)

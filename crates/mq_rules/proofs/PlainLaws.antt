@@ -109,16 +109,16 @@ is_bound (in_session breaks) b = true
 is_bound (at_release breaks) b = true
 is_bound (at_rest test) b = true
 
-bound_for : (role : Role) (releases : Bool) (rule : Rule) → is_bound (statement role rule) (binds rule (record { role = role; releases = releases })) ≡ true
+bound_for : (role : Role) (releases further : Bool) (rule : Rule) → is_bound (statement role rule) (binds rule (record { role = role; releases = releases; further = further })) ≡ true
 unfolding is_bound found_line lines line_of
-bound_for Client releases W01 = refl
-bound_for Client releases _ = refl
-bound_for Server releases W01 = refl
-bound_for Server releases _ = refl
+bound_for Client releases further W01 = refl
+bound_for Client releases further _ = refl
+bound_for Server releases further W01 = refl
+bound_for Server releases further _ = refl
 
 pub bound : (tested : Tested) (rule : Rule) (bytes : PacketRule) → statement tested.role rule ≡ on_bytes bytes → binds rule tested ≡ true
 unfolding is_bound
-bound tested rule bytes is = ap (λ s. is_bound s (binds rule tested)) (sym is) ∙ bound_for tested.role tested.releases rule
+bound tested rule bytes is = ap (λ s. is_bound s (binds rule tested)) (sym is) ∙ bound_for tested.role tested.releases tested.further rule
 
 same_self : (bytes : PacketRule) → sameb packet_rules bytes bytes ≡ true
 same_self packets.W01 = refl

@@ -14,16 +14,17 @@ use Rattle.mq_rules.specs.declared.role.Role.{Role}
 use Rattle.mq_rules.specs.declared.role.Role.TheVariants.{Client, Server}
 use Rattle.mq_rules.specs.declared.rule.Rule.{Rule}
 use Rattle.mq_rules.specs.declared.table.Ends.{Ends}
+use Rattle.mq_rules.specs.declared.table.Judged.{Judged}
 use Rattle.mq_rules.specs.declared.rule.Rule.TheVariants.{W01}
-use Rattle.mq_rules.specs.Bindings.{is_among, on_releases, only_client, only_server}
+use Rattle.mq_rules.specs.Bindings.{is_among, on_releases, on_request, only_client, only_server}
 use Rattle.mq_rules.specs.Naming.{citation_of}
-use Rattle.mq_rules.specs.Rules.{StatementLine, line_view, lines_of, lines, line_of, found_line, binds_end, cites, all_rules, rule_cmp, same_rule}
+use Rattle.mq_rules.specs.Rules.{StatementLine, line_view, lines_of, lines, line_of, found_line, binds_end, cites, all_rules, is_further, needs_releases, rule_cmp, same_rule}
 
 cond-map : {A B : Type 0} (view : A → B) (b : Bool) (x : A) (o : Option A) (q : Option B) → option_map view o ≡ q → option_map view (cond b (Some x) o) ≡ cond b (Some (view x)) q
 cond-map view true x o q h = refl
 cond-map view false x o q h = h
 
-pub find-view : (rule : Rule) (rows : List (Rule × Bor (List ℕ) × Ends × Bor (List ℕ) × Bor (List ℕ) × Bool))
+pub find-view : (rule : Rule) (rows : List (Rule × Bor (List ℕ) × Ends × Bor (List ℕ) × Bor (List ℕ) × Judged))
     → option_map line_view (find (λ row. same_rule row.0 rule) rows) ≡ find (λ (line : StatementLine). same_rule line.rule rule) (lines_of rows)
 find-view rule [] = refl
 find-view rule (row ∷ rows) = cond-map line_view (same_rule row.0 rule) row (find (λ r. same_rule r.0 rule) rows) (find (λ (l : StatementLine). same_rule l.rule rule) (lines_of rows)) (find-view rule rows)
@@ -125,7 +126,12 @@ pub ends_cited : (rule : Rule) (role : Role) → not (length (citation_of rule r
 ends_cited rule Client = cited_for_client rule
 ends_cited rule Server = cited_for_server rule
 
-pub releases_needed : (rule : Rule) → (line_of rule).needs_releases ≡ is_among rule on_releases
+pub releases_needed : (rule : Rule) → needs_releases rule ≡ is_among rule on_releases
 unfolding line_of found_line lines
 releases_needed W01 = refl
 releases_needed _ = refl
+
+pub further_on_request : (rule : Rule) → is_further rule ≡ is_among rule on_request
+unfolding line_of found_line lines
+further_on_request W01 = refl
+further_on_request _ = refl

@@ -1,5 +1,5 @@
 -- How often the statements on the past of a connection are put to the test, by what is kept of it.
-use Rattle.std.proofs.Common.{◌≡◌, ℕ, ◌+◌, ◌<◌, ◌==◌, arith, Bool, true, cond, ◌||◌, not, List, [], ◌∷◌, length, Some, refl, ap, sym, ◌∙◌}
+use Rattle.std.proofs.Common.{◌≡◌, ℕ, ◌+◌, ◌<◌, ◌==◌, arith, Bool, true, cond, ◌&&◌, ◌||◌, not, List, [], ◌∷◌, length, Some, refl, ap, sym, ◌∙◌}
 use denote.Enum.Bare.{same_true}
 use Rattle.mq_packet.specs.Canonical.{type_number}
 use Rattle.mq_rules.specs.contracts.rule.Rule.{the_type}
@@ -14,7 +14,7 @@ use Rattle.mq_rules.specs.declared.packet_note.PacketFields.TheVariants.{Connect
 use Rattle.mq_rules.specs.declared.conn.state.ConnectionState.{ConnectionState}
 use Rattle.mq_rules.specs.Notes.{fields_type}
 use Rattle.mq_rules.specs.Moments.{Moment}
-use Rattle.mq_rules.specs.Rules.{same_rule}
+use Rattle.mq_rules.specs.Rules.{found_line, is_further, line_of, lines, same_rule}
 use Rattle.mq_rules.specs.Statements.{on_past, is_by_past, statement}
 use Rattle.mq_rules.specs.Occasions.{occasion, places}
 use Rattle.mq_rules.specs.Keeping.{kept}
@@ -38,7 +38,7 @@ tally-next rule test found says finds tested role s e past here old new at end s
     more (omega arith)
     ∙ ap (λ n. cond here 1 0 + n) was
     ∙ ap (λ b. cond b 1 0 + places tested past rule)
-    (is ∙ ap (λ r. found r s e.note) end ∙ ap (λ t. found tested.role t e.note) state ∙ sym (finds tested.role tested.releases e past))
+    (is ∙ ap (λ r. found r s e.note) end ∙ ap (λ t. found tested.role t e.note) state ∙ sym (finds tested.role tested.releases tested.further e past))
     ∙ sym (places-past tested rule (test tested.role) e past (says tested.role))
 
 -- a packet has a type from 1 to 15
@@ -60,6 +60,7 @@ has_type (Disconnect d) = refl
 has_type Auth = refl
 
 -- C01 to C23 are the statements on the past of a connection
-pub is_whole : (role : Role) (rule : Rule) → is_by_past (statement role rule) ≡ ((((same_rule rule C01 || same_rule rule C02) || (same_rule rule C03 || same_rule rule C04)) || ((same_rule rule C05 || same_rule rule C06) || (same_rule rule C07 || same_rule rule C08))) || ((((same_rule rule C09 || same_rule rule C10) || (same_rule rule C11 || same_rule rule C12)) || ((same_rule rule C13 || same_rule rule C14) || (same_rule rule C15 || same_rule rule C16))) || (((same_rule rule C17 || same_rule rule C18) || (same_rule rule C19 || same_rule rule C20)) || ((same_rule rule C21 || same_rule rule C22) || same_rule rule C23))))
+pub is_whole : (role : Role) (rule : Rule) → (is_by_past (statement role rule) && not (is_further rule)) ≡ ((((same_rule rule C01 || same_rule rule C02) || (same_rule rule C03 || same_rule rule C04)) || ((same_rule rule C05 || same_rule rule C06) || (same_rule rule C07 || same_rule rule C08))) || ((((same_rule rule C09 || same_rule rule C10) || (same_rule rule C11 || same_rule rule C12)) || ((same_rule rule C13 || same_rule rule C14) || (same_rule rule C15 || same_rule rule C16))) || (((same_rule rule C17 || same_rule rule C18) || (same_rule rule C19 || same_rule rule C20)) || ((same_rule rule C21 || same_rule rule C22) || same_rule rule C23))))
+unfolding line_of found_line lines
 is_whole role W01 = refl
 is_whole role _ = refl

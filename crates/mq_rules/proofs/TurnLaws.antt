@@ -202,5 +202,5 @@ turned_for role limit bytes unrefused = (along (λ log. refused limit log ≡ No
     nothing : IsFree fresh
     nothing opens lt = refl
 
-pub turned : (limit : ℕ) (bytes : List ℕ) → refused limit bytes ≡ None → IsInTurn (tested_by bytes).role (seen_in bytes)
-turned limit bytes = turned_for (tested_by bytes).role limit bytes
+pub turned : (limit : ℕ) (bytes : List ℕ) → refused limit bytes ≡ None → IsInTurn (tested_by false bytes).role (seen_in bytes)
+turned limit bytes = turned_for (tested_by false bytes).role limit bytes

@@ -5,6 +5,7 @@ pub mod Notes
 pub mod Moments
 pub mod Connections
 pub mod Pasts
+pub mod FurtherPasts
 pub mod Identifiers
 pub mod Passing
 pub mod Exchanges
@@ -27,6 +28,7 @@ pub mod Burden
 pub mod Weights
 pub mod Keeping
 pub mod Trying
+pub mod Manners
 pub mod Worked
 pub mod Counter
 pub mod FirstRests

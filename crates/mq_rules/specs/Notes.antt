@@ -14,7 +14,7 @@ use Rattle.mq_packet.specs.declared.packet.PacketType.TheVariants as types
 use Rattle.mq_packet.specs.Canonical.{type_number}
 use Rattle.mq_packet.specs.declared.rule.PacketRule.TheVariants as packet_rules
 use Rattle.mq_packet.specs.declared.fault.BodyFault.{BodyFault}
-use Rattle.mq_packet.specs.Entries.{Entry, AskedFilter, ConnectFields, PublishFields, connect, connack, publish, acknowledgement, request, answer, pingreq, pingresp, disconnect, auth}
+use Rattle.mq_packet.specs.Entries.{Entry, AskedFilter, ConnectFields, PublishFields, WillFields, connect, connack, publish, acknowledgement, request, answer, pingreq, pingresp, disconnect, auth}
 use Rattle.mq_log.specs.declared.header.Header.{Header}
 use Rattle.mq_log.specs.declared.kind.Direction.{Direction}
 use Rattle.mq_log.specs.declared.kind.Direction.TheVariants as directions
@@ -34,6 +34,7 @@ use Rattle.mq_rules.specs.declared.note.Seen.{Seen}
 use Rattle.mq_rules.specs.declared.packet_note.PacketNote.{PacketNote}
 use Rattle.mq_rules.specs.declared.packet_note.PacketFields.{PacketFields}
 use Rattle.mq_rules.specs.declared.packet_note.PacketFields.TheVariants.{Connect, Connack, Publish, Puback, Pubrec, Pubrel, Pubcomp, Subscribe, Suback, Unsubscribe, Unsuback, Pingreq, Pingresp, Disconnect, Auth}
+use Rattle.mq_rules.specs.declared.packet_note.WillNote.{WillNote}
 use Rattle.mq_rules.specs.declared.packet_note.ConnectNote.{ConnectNote}
 use Rattle.mq_rules.specs.declared.packet_note.ConnackNote.{ConnackNote}
 use Rattle.mq_rules.specs.declared.packet_note.PublishNote.{PublishNote}
@@ -48,11 +49,12 @@ use Rattle.mq_rules.specs.Words.{only, is_some_and, is_id}
 
 -- ---- the end that a log's header names
 
-abbrev pub tested_as : Header → Tested
-tested_as header = record { role = if header.server then Server else Client; releases = header.releases }
+-- the flag says whether the further statements are judged too
+abbrev pub tested_as : Bool → Header → Tested
+tested_as further header = record { role = if header.server then Server else Client; releases = header.releases; further = further }
 
-abbrev pub tested_by : List ℕ → Tested
-tested_by log = tested_as (header_by log)
+abbrev pub tested_by : Bool → List ℕ → Tested
+tested_by further log = tested_as further (header_by log)
 
 -- ---- the note of an event
 
@@ -71,6 +73,10 @@ is_acknowledged quality.AtMostOnce = false
 is_acknowledged quality.AtLeastOnce = true
 is_acknowledged quality.ExactlyOnce = true
 
+-- of a Will (MQTT 5.0, section 3.1.2.5)
+abbrev pub will_note : WillFields → WillNote
+will_note w = record { qos = w.qos; retain = w.retain }
+
 -- of a CONNECT (MQTT 5.0, section 3.1)
 abbrev pub connect_note : ConnectFields → ConnectNote
 connect_note c = record {
@@ -82,6 +88,8 @@ connect_note c = record {
   receive_maximum = first_two_bytes 33 c.properties.items;
   topic_alias_maximum = first_two_bytes 34 c.properties.items;
   maximum_packet_size = first_four_bytes 39 c.properties.items;
+  will = option_map will_note c.will;
+  has_authentication_method = is_some (first_text 21 c.properties.items);
 }
 
 -- of a CONNACK (MQTT 5.0, section 3.2)
@@ -97,6 +105,7 @@ connack_note session_present code properties = record {
   maximum_packet_size = first_four_bytes 39 properties;
   has_assigned_identifier = is_some (first_text 18 properties);
   has_response_information = is_some (first_text 26 properties);
+  has_authentication_method = is_some (first_text 21 properties);
 }
 
 -- of a PUBLISH (MQTT 5.0, section 3.3); RETAIN is noted at a QoS above 0 alone
@@ -378,6 +387,10 @@ abbrev pub disconnect_in : PacketFields → Option DisconnectNote
 disconnect_in (Disconnect d) = Some d
 disconnect_in _ = None
 
+abbrev pub is_auth : PacketFields → Bool
+is_auth Auth = true
+is_auth _ = false
+
 abbrev pub sent_publish : Note → Option PublishNote
 sent_publish note = option_and_then publish_in (sent_fields note)
 
@@ -389,6 +402,9 @@ sent_disconnect note = option_and_then disconnect_in (sent_fields note)
 
 abbrev pub sent_connack : Note → Option ConnackNote
 sent_connack note = option_and_then connack_in (sent_fields note)
+
+abbrev pub sends_auth : Note → Bool
+sends_auth note = is_some_and is_auth (sent_fields note)
 
 -- the client's CONNECT and DISCONNECT, and the server's CONNACK: one from the wrong end doesn't count
 abbrev pub connect_of : Role → Note → Option ConnectNote

@@ -12,17 +12,19 @@ use Rattle.mq_rules.specs.contracts.rule.Rule.{the_type}
 use Rattle.mq_rules.specs.contracts.rule.RuleOrd.TheImpl as rule_ord
 use Rattle.mq_rules.specs.declared.table.Ends.{Ends}
 use Rattle.mq_rules.specs.declared.table.Ends.TheVariants.{OnlyClient, OnlyServer, Both}
+use Rattle.mq_rules.specs.declared.table.Judged.{Judged}
+use Rattle.mq_rules.specs.declared.table.Judged.TheVariants.{Always, WithReleases, OnRequest}
 use Rattle.mq_rules.specs.declared.table.TheConstants.{TABLE}
 
--- A line of the table: a statement, its code, the ends that it binds, its citation for a client and for a server, and whether it is judged only if the log
--- records releases. A citation is empty for an end that the statement doesn't bind.
+-- A line of the table: a statement, its code, the ends that it binds, its citation for a client and for a server, and when it is judged. A citation is empty for an end
+-- that the statement doesn't bind.
 pub record StatementLine : Type 0 where
   pub rule : Rule
   pub code : List ℕ
   pub ends : Ends
   pub client : List ℕ
   pub server : List ℕ
-  pub needs_releases : Bool
+  pub judged : Judged
 
 -- whether two statements are the same
 abbrev pub same_rule : Rule → Rule → Bool
@@ -33,15 +35,15 @@ abbrev pub rule_cmp : Rule → Rule → Ordering
 rule_cmp = (rule_ord.ghosts).cmp
 
 -- a line as the source has it
-abbrev pub line_view : Rule × Bor (List ℕ) × Ends × Bor (List ℕ) × Bor (List ℕ) × Bool → StatementLine
-line_view row = record { rule = row.0; code = row.1.now; ends = row.2; client = row.3.now; server = row.4.now; needs_releases = row.5 }
+abbrev pub line_view : Rule × Bor (List ℕ) × Ends × Bor (List ℕ) × Bor (List ℕ) × Judged → StatementLine
+line_view row = record { rule = row.0; code = row.1.now; ends = row.2; client = row.3.now; server = row.4.now; judged = row.5 }
 
-abbrev pub lines_of : List (Rule × Bor (List ℕ) × Ends × Bor (List ℕ) × Bor (List ℕ) × Bool) → List StatementLine
+abbrev pub lines_of : List (Rule × Bor (List ℕ) × Ends × Bor (List ℕ) × Bor (List ℕ) × Judged) → List StatementLine
 lines_of rows = map line_view rows
 
 -- the lines of the table, in the order of reports
 unfoldable pub lines : List StatementLine
-lines = map (λ row. record { rule = row.0; code = row.1.now; ends = row.2; client = row.3.now; server = row.4.now; needs_releases = row.5 }) TABLE
+lines = map (λ row. record { rule = row.0; code = row.1.now; ends = row.2; client = row.3.now; server = row.4.now; judged = row.5 }) TABLE
 
 -- the statements, in the order of reports
 abbrev pub all_rules : List Rule
@@ -52,7 +54,7 @@ unfoldable pub found_line : Rule → Option StatementLine
 found_line rule = find (λ line. same_rule line.rule rule) lines
 
 unfoldable pub line_of : Rule → StatementLine
-line_of rule = unwrap_or (found_line rule) (record { rule = rule; code = []; ends = Both; client = []; server = []; needs_releases = false })
+line_of rule = unwrap_or (found_line rule) (record { rule = rule; code = []; ends = Both; client = []; server = []; judged = Always })
 
 -- a statement's code
 abbrev pub code_of : Rule → List ℕ
@@ -75,6 +77,28 @@ includes Both role = true
 abbrev pub binds_end : Rule → Role → Bool
 binds_end rule role = includes (line_of rule).ends role
 
--- Whether a statement is judged for the tested end: it binds that end, and if it needs releases the log records them.
+-- Whether a statement that is judged so is judged of this end: always; if the log records releases; or if the further statements are asked for.
+abbrev pub is_met : Judged → Tested → Bool
+is_met Always tested = true
+is_met WithReleases tested = tested.releases
+is_met OnRequest tested = tested.further
+
+-- Whether a statement is judged for the tested end: it binds that end, and what it is judged for is met.
 abbrev pub binds : Rule → Tested → Bool
-binds rule tested = binds_end rule tested.role && (not (line_of rule).needs_releases || tested.releases)
+binds rule tested = binds_end rule tested.role && is_met (line_of rule).judged tested
+
+-- a statement is judged only if the log records releases
+abbrev pub is_with_releases : Judged → Bool
+is_with_releases WithReleases = true
+is_with_releases _ = false
+
+abbrev pub needs_releases : Rule → Bool
+needs_releases rule = is_with_releases (line_of rule).judged
+
+-- a statement is a further one, which is judged only if it is asked for
+abbrev pub is_on_request : Judged → Bool
+is_on_request OnRequest = true
+is_on_request _ = false
+
+abbrev pub is_further : Rule → Bool
+is_further rule = is_on_request (line_of rule).judged

@@ -105,6 +105,33 @@ tries_C22 role n = is_server role && is_some_and (λ c. c.has_response_informati
 abbrev pub tries_C23 : Role → ConnectionState → Note → Bool
 tries_C23 role s n = (is_rest n || is_close n) && has_left role s
 
+-- one of C01 to C23, which are counted so
+abbrev pub is_tallied : Rule → Bool
+is_tallied C01 = true
+is_tallied C02 = true
+is_tallied C03 = true
+is_tallied C04 = true
+is_tallied C05 = true
+is_tallied C06 = true
+is_tallied C07 = true
+is_tallied C08 = true
+is_tallied C09 = true
+is_tallied C10 = true
+is_tallied C11 = true
+is_tallied C12 = true
+is_tallied C13 = true
+is_tallied C14 = true
+is_tallied C15 = true
+is_tallied C16 = true
+is_tallied C17 = true
+is_tallied C18 = true
+is_tallied C19 = true
+is_tallied C20 = true
+is_tallied C21 = true
+is_tallied C22 = true
+is_tallied C23 = true
+is_tallied _ = false
+
 -- ---- what a harmless event puts to the test
 
 -- Of such an event only these statements need be asked for.
@@ -123,117 +150,117 @@ tried_by_harmless tests _ = false
 
 -- The statement binds the end and is put to the test at the next event just where what is kept says so.
 abbrev pub Tries : Rule → (Role → Moment → Bool) → (Role → ConnectionState → Note → Bool) → Type 0
-Tries rule test found = (role : Role) (releases : Bool) (e : Seen) (past : List Seen) → (binds rule (record { role = role; releases = releases }) && test role (newest e past)) ≡ found role (kept role past) e.note
+Tries rule test found = (role : Role) (releases further : Bool) (e : Seen) (past : List Seen) → (binds rule (record { role = role; releases = releases; further = further }) && test role (newest e past)) ≡ found role (kept role past) e.note
 
 pub C01_tried : Tries C01 (λ role. applies_C01) (λ role s n. tries_C01 n)
 unfolding kept applies_C01 line_of found_line lines
-C01_tried Client releases e past = refl
-C01_tried Server releases e past = refl
+C01_tried Client releases further e past = refl
+C01_tried Server releases further e past = refl
 
 pub C02_tried : Tries C02 (λ role. applies_C02) tries_C02
 unfolding kept applies_C02 line_of found_line lines
-C02_tried Client releases e past = refl
-C02_tried Server releases e past = refl
+C02_tried Client releases further e past = refl
+C02_tried Server releases further e past = refl
 
 pub C03_tried : Tries C03 (λ role. applies_C03) (λ role s n. tries_C03 role n)
 unfolding kept applies_C03 line_of found_line lines
-C03_tried Client releases e past = refl
-C03_tried Server releases e past = refl
+C03_tried Client releases further e past = refl
+C03_tried Server releases further e past = refl
 
 pub C04_tried : Tries C04 (λ role. applies_C04) (λ role s n. tries_C04 role n)
 unfolding kept applies_C04 line_of found_line lines
-C04_tried Client releases e past = refl
-C04_tried Server releases e past = refl
+C04_tried Client releases further e past = refl
+C04_tried Server releases further e past = refl
 
 pub C05_tried : Tries C05 (λ role. applies_C05) tries_C05
 unfolding kept applies_C05 line_of found_line lines
-C05_tried Client releases e past = refl
-C05_tried Server releases e past = refl
+C05_tried Client releases further e past = refl
+C05_tried Server releases further e past = refl
 
 pub C06_tried : Tries C06 (λ role. applies_C06) (λ role s n. tries_C04 role n)
 unfolding kept applies_C06 line_of found_line lines
-C06_tried Client releases e past = refl
-C06_tried Server releases e past = refl
+C06_tried Client releases further e past = refl
+C06_tried Server releases further e past = refl
 
 pub C07_tried : Tries C07 (λ role. applies_C07) tries_C07
 unfolding kept applies_C07 line_of found_line lines
-C07_tried Client releases e past = refl
-C07_tried Server releases e past = refl
+C07_tried Client releases further e past = refl
+C07_tried Server releases further e past = refl
 
 pub C08_tried : Tries C08 (λ role. applies_C08) tries_C08
 unfolding kept applies_C08 line_of found_line lines
-C08_tried Client releases e past = refl
-C08_tried Server releases e past = refl
+C08_tried Client releases further e past = refl
+C08_tried Server releases further e past = refl
 
 pub C09_tried : Tries C09 (λ role. applies_C09) (λ role s n. tries_C09 role n)
 unfolding kept applies_C09 line_of found_line lines
-C09_tried Client releases e past = refl
-C09_tried Server releases e past = refl
+C09_tried Client releases further e past = refl
+C09_tried Server releases further e past = refl
 
 pub C10_tried : Tries C10 (λ role. applies_C10) tries_C10
 unfolding kept applies_C10 line_of found_line lines
-C10_tried Client releases e past = refl
-C10_tried Server releases e past = refl
+C10_tried Client releases further e past = refl
+C10_tried Server releases further e past = refl
 
 pub C11_tried : Tries C11 (λ role. applies_C11) (λ role s n. tries_C11 s n)
 unfolding kept applies_C11 line_of found_line lines
-C11_tried Client releases e past = refl
-C11_tried Server releases e past = refl
+C11_tried Client releases further e past = refl
+C11_tried Server releases further e past = refl
 
 pub C12_tried : Tries C12 (λ role. applies_C12) tries_C12
 unfolding kept applies_C12 line_of found_line lines
-C12_tried Client releases e past = refl
-C12_tried Server releases e past = refl
+C12_tried Client releases further e past = refl
+C12_tried Server releases further e past = refl
 
 pub C13_tried : Tries C13 (λ role. applies_C13) tries_C13
 unfolding kept applies_C13 line_of found_line lines
-C13_tried Client releases e past = refl
-C13_tried Server releases e past = refl
+C13_tried Client releases further e past = refl
+C13_tried Server releases further e past = refl
 
 pub C14_tried : Tries C14 applies_C14 tries_C14
 unfolding kept applies_C14 line_of found_line lines
-C14_tried Client releases e past = refl
-C14_tried Server releases e past = refl
+C14_tried Client releases further e past = refl
+C14_tried Server releases further e past = refl
 
 pub C15_tried : Tries C15 applies_C15 tries_C15
 unfolding kept applies_C15 line_of found_line lines
-C15_tried Client releases e past = refl
-C15_tried Server releases e past = refl
+C15_tried Client releases further e past = refl
+C15_tried Server releases further e past = refl
 
 pub C16_tried : Tries C16 (λ role. applies_C16) (λ role s n. tries_C16 n)
 unfolding kept applies_C16 line_of found_line lines
-C16_tried Client releases e past = refl
-C16_tried Server releases e past = refl
+C16_tried Client releases further e past = refl
+C16_tried Server releases further e past = refl
 
 pub C17_tried : Tries C17 (λ role. applies_C17) tries_C17
 unfolding kept applies_C17 line_of found_line lines
-C17_tried Client releases e past = refl
-C17_tried Server releases e past = refl
+C17_tried Client releases further e past = refl
+C17_tried Server releases further e past = refl
 
 pub C18_tried : Tries C18 (λ role. applies_C18) (λ role s n. tries_C18 role n)
 unfolding kept applies_C18 line_of found_line lines
-C18_tried Client releases e past = refl
-C18_tried Server releases e past = refl
+C18_tried Client releases further e past = refl
+C18_tried Server releases further e past = refl
 
 pub C19_tried : Tries C19 (λ role. applies_C19) (λ role s n. tries_C19 role n)
 unfolding kept applies_C19 line_of found_line lines
-C19_tried Client releases e past = refl
-C19_tried Server releases e past = refl
+C19_tried Client releases further e past = refl
+C19_tried Server releases further e past = refl
 
 pub C20_tried : Tries C20 (λ role. applies_C20) (λ role s n. tries_C20 role n)
 unfolding kept applies_C20 line_of found_line lines
-C20_tried Client releases e past = refl
-C20_tried Server releases e past = refl
+C20_tried Client releases further e past = refl
+C20_tried Server releases further e past = refl
 
 pub C21_tried : Tries C21 (λ role. applies_C21) tries_C21
 unfolding kept applies_C21 line_of found_line lines
-C21_tried Client releases e past = refl
-C21_tried Server releases e past = refl
+C21_tried Client releases further e past = refl
+C21_tried Server releases further e past = refl
 
 pub C22_tried : Tries C22 (λ role. applies_C22) (λ role s n. tries_C22 role n)
 unfolding kept applies_C22 line_of found_line lines
-C22_tried Client releases e past = refl
-C22_tried Server releases e past = refl
+C22_tried Client releases further e past = refl
+C22_tried Server releases further e past = refl
 
 -- one of the two passes at some moment
 some_either : (p q : Moment → Bool) (ms : List Moment) → some (λ m. p m || q m) ms ≡ (some p ms || some q ms)
@@ -248,5 +275,5 @@ some_either p q (m ∷ ms) = ap (λ b. (p m || q m) || b) (some_either p q ms) �
 
 pub C23_tried : Tries C23 applies_C23 tries_C23
 unfolding kept applies_C23 line_of found_line lines
-C23_tried Client releases e past = refl
-C23_tried Server releases e past = ap (λ b. (is_rest e.note || is_close e.note) && b) (some_either (λ m. is_sent_disconnect (note m)) (λ m. is_sent_refusal (note m)) (connection past))
+C23_tried Client releases further e past = refl
+C23_tried Server releases further e past = ap (λ b. (is_rest e.note || is_close e.note) && b) (some_either (λ m. is_sent_disconnect (note m)) (λ m. is_sent_refusal (note m)) (connection past))

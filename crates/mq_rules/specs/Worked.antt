@@ -1,5 +1,6 @@
 -- Words for short logs, whose faults are computed from the definitions.
 use Rattle.std.specs.Prelude.{ℕ, ◌+◌, Bool, true, false, cond, List, [], ◌∷◌, length, Option, Some, None}
+use Rattle.mq_packet.specs.declared.packet.Qos.{Qos}
 use Rattle.mq_packet.specs.declared.packet.Qos.TheVariants as quality
 use Rattle.mq_packet.specs.declared.rule.PacketRule.{PacketRule}
 use Rattle.mq_rules.specs.declared.role.Role.TheVariants.{Client, Server}
@@ -20,14 +21,14 @@ use Rattle.mq_rules.specs.Occasions.{applies}
 
 -- each end, with releases recorded
 abbrev pub client : Tested
-client = record { role = Client; releases = true }
+client = record { role = Client; releases = true; further = false }
 
 abbrev pub server : Tested
-server = record { role = Server; releases = true }
+server = record { role = Server; releases = true; further = false }
 
 -- a client whose releases aren't recorded
 abbrev pub client_unrecorded : Tested
-client_unrecorded = record { role = Client; releases = false }
+client_unrecorded = record { role = Client; releases = false; further = false }
 
 -- a log with these events after it, each in a record of its own
 abbrev pub with_events : List Seen → List Note → List Seen
@@ -96,11 +97,18 @@ sends_lost = notes.Sent items.Lost
 abbrev pub gets_lost : Note
 gets_lost = notes.Recv items.Lost
 
+-- the same ends, where the further statements are asked for
+abbrev pub client_asked : Tested
+client_asked = record { role = Client; releases = true; further = true }
+
+abbrev pub server_asked : Tested
+server_asked = record { role = Server; releases = true; further = true }
+
 -- ---- packets
 
 -- with this Clean Start and Session Expiry Interval, and a Client Identifier
 abbrev pub connect_with : Bool → Option ℕ → ConnectNote
-connect_with clean expiry = record { clean_start = clean; is_unnamed = false; session_expiry = expiry; request_problem_information = None; request_response_information = None; receive_maximum = None; topic_alias_maximum = None; maximum_packet_size = None }
+connect_with clean expiry = record { clean_start = clean; is_unnamed = false; session_expiry = expiry; request_problem_information = None; request_response_information = None; receive_maximum = None; topic_alias_maximum = None; maximum_packet_size = None; will = None; has_authentication_method = false }
 
 -- a session that is begun and kept for a minute; one that is asked for again; one that ends with its connection
 abbrev pub lasting : PacketFields
@@ -114,19 +122,26 @@ fleeting = Connect (connect_with true None)
 
 -- of a client without an identifier
 abbrev pub unnamed : PacketFields
-unnamed = Connect (record { clean_start = true; is_unnamed = true; session_expiry = None; request_problem_information = None; request_response_information = None; receive_maximum = None; topic_alias_maximum = None; maximum_packet_size = None })
+unnamed = Connect (record { clean_start = true; is_unnamed = true; session_expiry = None; request_problem_information = None; request_response_information = None; receive_maximum = None; topic_alias_maximum = None; maximum_packet_size = None; will = None; has_authentication_method = false })
 
 -- of a client that asks for these: Request Problem Information, Request Response Information, Receive Maximum, Topic Alias Maximum, Maximum Packet Size
 abbrev pub asking : Option ℕ → Option ℕ → Option ℕ → Option ℕ → Option ℕ → PacketFields
-asking problem response receive aliases size = Connect (record { clean_start = true; is_unnamed = false; session_expiry = Some 60; request_problem_information = problem; request_response_information = response; receive_maximum = receive; topic_alias_maximum = aliases; maximum_packet_size = size })
+asking problem response receive aliases size = Connect (record { clean_start = true; is_unnamed = false; session_expiry = Some 60; request_problem_information = problem; request_response_information = response; receive_maximum = receive; topic_alias_maximum = aliases; maximum_packet_size = size; will = None; has_authentication_method = false })
 
 -- of one that asks for its session again, with this Maximum Packet Size
 abbrev pub asking_again : Option ℕ → PacketFields
-asking_again size = Connect (record { clean_start = false; is_unnamed = false; session_expiry = Some 60; request_problem_information = None; request_response_information = None; receive_maximum = None; topic_alias_maximum = None; maximum_packet_size = size })
+asking_again size = Connect (record { clean_start = false; is_unnamed = false; session_expiry = Some 60; request_problem_information = None; request_response_information = None; receive_maximum = None; topic_alias_maximum = None; maximum_packet_size = size; will = None; has_authentication_method = false })
+
+-- of a client with this Will, and one with an Authentication Method
+abbrev pub with_will : Qos → Bool → PacketFields
+with_will qos retain = Connect (record { clean_start = true; is_unnamed = false; session_expiry = Some 60; request_problem_information = None; request_response_information = None; receive_maximum = None; topic_alias_maximum = None; maximum_packet_size = None; will = Some (record { qos = qos; retain = retain }); has_authentication_method = false })
+
+abbrev pub with_method : PacketFields
+with_method = Connect (record { clean_start = true; is_unnamed = false; session_expiry = Some 60; request_problem_information = None; request_response_information = None; receive_maximum = None; topic_alias_maximum = None; maximum_packet_size = None; will = None; has_authentication_method = true })
 
 -- with Session Present or not, and this Reason Code
 abbrev pub connack_with : Bool → ℕ → PacketFields
-connack_with present code = Connack (record { session_present = present; code = code; session_expiry = None; receive_maximum = None; topic_alias_maximum = None; maximum_qos = None; retain_available = None; maximum_packet_size = None; has_assigned_identifier = false; has_response_information = false })
+connack_with present code = Connack (record { session_present = present; code = code; session_expiry = None; receive_maximum = None; topic_alias_maximum = None; maximum_qos = None; retain_available = None; maximum_packet_size = None; has_assigned_identifier = false; has_response_information = false; has_authentication_method = false })
 
 abbrev pub accepting : PacketFields
 accepting = connack_with false 0
@@ -140,18 +155,25 @@ refusing = connack_with false 135
 
 -- with these: Session Present, Receive Maximum, Topic Alias Maximum, Maximum QoS, Maximum Packet Size
 abbrev pub limiting : Bool → Option ℕ → Option ℕ → Option ℕ → Option ℕ → PacketFields
-limiting present receive aliases qos size = Connack (record { session_present = present; code = 0; session_expiry = None; receive_maximum = receive; topic_alias_maximum = aliases; maximum_qos = qos; retain_available = None; maximum_packet_size = size; has_assigned_identifier = false; has_response_information = false })
+limiting present receive aliases qos size = Connack (record { session_present = present; code = 0; session_expiry = None; receive_maximum = receive; topic_alias_maximum = aliases; maximum_qos = qos; retain_available = None; maximum_packet_size = size; has_assigned_identifier = false; has_response_information = false; has_authentication_method = false })
 
 -- with Session Present, and this Retain Available
 abbrev pub retaining : Option ℕ → PacketFields
-retaining available = Connack (record { session_present = true; code = 0; session_expiry = None; receive_maximum = None; topic_alias_maximum = None; maximum_qos = None; retain_available = available; maximum_packet_size = None; has_assigned_identifier = false; has_response_information = false })
+retaining available = Connack (record { session_present = true; code = 0; session_expiry = None; receive_maximum = None; topic_alias_maximum = None; maximum_qos = None; retain_available = available; maximum_packet_size = None; has_assigned_identifier = false; has_response_information = false; has_authentication_method = false })
 
 -- with an Assigned Client Identifier, and with Response Information
 abbrev pub assigning : PacketFields
-assigning = Connack (record { session_present = false; code = 0; session_expiry = None; receive_maximum = None; topic_alias_maximum = None; maximum_qos = None; retain_available = None; maximum_packet_size = None; has_assigned_identifier = true; has_response_information = false })
+assigning = Connack (record { session_present = false; code = 0; session_expiry = None; receive_maximum = None; topic_alias_maximum = None; maximum_qos = None; retain_available = None; maximum_packet_size = None; has_assigned_identifier = true; has_response_information = false; has_authentication_method = false })
 
 abbrev pub informing : PacketFields
-informing = Connack (record { session_present = false; code = 0; session_expiry = None; receive_maximum = None; topic_alias_maximum = None; maximum_qos = None; retain_available = None; maximum_packet_size = None; has_assigned_identifier = false; has_response_information = true })
+informing = Connack (record { session_present = false; code = 0; session_expiry = None; receive_maximum = None; topic_alias_maximum = None; maximum_qos = None; retain_available = None; maximum_packet_size = None; has_assigned_identifier = false; has_response_information = true; has_authentication_method = false })
+
+-- with this Reason Code, Maximum QoS and Retain Available; and with an Authentication Method
+abbrev pub announcing : ℕ → Option ℕ → Option ℕ → PacketFields
+announcing code qos retain = Connack (record { session_present = false; code = code; session_expiry = None; receive_maximum = None; topic_alias_maximum = None; maximum_qos = qos; retain_available = retain; maximum_packet_size = None; has_assigned_identifier = false; has_response_information = false; has_authentication_method = false })
+
+abbrev pub naming_method : PacketFields
+naming_method = Connack (record { session_present = false; code = 0; session_expiry = None; receive_maximum = None; topic_alias_maximum = None; maximum_qos = None; retain_available = None; maximum_packet_size = None; has_assigned_identifier = false; has_response_information = false; has_authentication_method = true })
 
 -- a DISCONNECT with this Session Expiry Interval
 abbrev pub leaving : Option ℕ → PacketFields

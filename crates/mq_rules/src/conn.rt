@@ -41,7 +41,8 @@ use std::alloc::Global;
 use std::collections::BTreeSet;
 pub use tally::{ConnTally, CountingConn, One, Tally, conn_places, places_after};
 pub use trying::Tried;
-use verdicts::{Verdict, breaks_c19};
+pub(crate) use verdicts::Verdict;
+use verdicts::breaks_c19;
 
 /// Watches C01 to C23, the statements on the past of a connection. It takes in each event of a log
 /// in which nothing is sent or received between two connections.
@@ -393,7 +394,11 @@ fn used_alias(publish: &PublishNote) -> Option<u16>
 
 // Adds a fault for each of these statements that is false. At most events none is.
 #[inline(always)]
-fn judge_each(place: Place3, verdicts: &[Verdict], faults: &mut Faults) -> Result<(), Memory>
+pub(crate) fn judge_each(
+    place: Place3,
+    verdicts: &[Verdict],
+    faults: &mut Faults,
+) -> Result<(), Memory>
     ensures ok { OnOk result (Judges (is_among verdicts.now) place faults.old faults.new) }
     ensures memory { OnErr result (JudgesWithin (is_among verdicts.now) place faults.old faults.new) }
 {

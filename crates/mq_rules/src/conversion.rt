@@ -7,24 +7,24 @@
 ghost use Rattle.std.specs.Prelude.{◌≡◌, ◌&&◌, ◌<◌, ◌≤◌, [], true, is_some, length, slice_index, option_map, unwrap_or, IfOk, OnErr};
 ghost use Rattle.mq_props.specs.First.{first_two_bytes, first_four_bytes, first_varint, first_text, first_pair};
 ghost use Rattle.mq_packet.specs.declared.packet.RequestKind.TheVariants as requests;
-ghost use Rattle.mq_packet.specs.Reading.{view, connect_view, publish_view};
+ghost use Rattle.mq_packet.specs.Reading.{view, connect_view, publish_view, will_view};
 ghost use Rattle.mq_packet.specs.Sizes.{size_with, remaining_length};
 ghost use Rattle.mq_packet.specs.Entries.{publish as publish_entry};
 ghost use Rattle.mq_log.specs.Events.{packet, packet as packet_item};
 ghost use Rattle.mq_log.specs.Flows.{item_event};
 ghost use Rattle.mq_log.specs.Reception.{item_of, event_of};
 ghost use Rattle.mq_rules.specs.declared.packet_note.PacketFields.TheVariants as fields;
-ghost use Rattle.mq_rules.specs.Notes.{only_list, is_sent_direction, is_acknowledged, begins_acknowledged, cuts_acknowledged, connect_note, connack_note, publish_note, disconnect_note, packet_fields, properties_of, packet_note, item_note, note_of, request_fields, answer_fields, keeps_text, item_keeps_text, note_keeps_text};
+ghost use Rattle.mq_rules.specs.Notes.{only_list, is_sent_direction, is_acknowledged, begins_acknowledged, cuts_acknowledged, will_note, connect_note, connack_note, publish_note, disconnect_note, packet_fields, properties_of, packet_note, item_note, note_of, request_fields, answer_fields, keeps_text, item_keeps_text, note_keeps_text};
 
 use crate::faults::Memory;
 use crate::note::{ItemNote, Note};
 use crate::packet_note::{
-    ConnackNote, ConnectNote, DisconnectNote, PacketFields, PacketNote, PublishNote,
+    ConnackNote, ConnectNote, DisconnectNote, PacketFields, PacketNote, PublishNote, WillNote,
 };
 use crate::text::{CodeList, FilterList, Text};
 use mq_log::{Direction, Event, Item};
 use mq_packet::{
-    Answer, Codes, Connack, Connect, Filters, Packet, Publish, Qos, ReasonPacket, Request,
+    Answer, Codes, Connack, Connect, Filters, Packet, Publish, Qos, ReasonPacket, Request, Will,
 };
 use mq_props::Props;
 use std::alloc::Global;
@@ -113,6 +113,21 @@ fn has_subscription_identifier(list: Option<&Props<'_>>) -> bool
     }
 }
 
+impl WillNote {
+    // What the statements look at in this Will, if there is one.
+    fn of(will: Option<&Will<'_>>) -> Option<WillNote>
+        ensures { result ≡ option_map will_note (option_map will_view (option_map (λ will. will.now) will.entry)) }
+    {
+        match will {
+            Some(will) => Some(WillNote {
+                qos: will.qos,
+                retain: will.retain,
+            }),
+            None => None,
+        }
+    }
+}
+
 impl ConnectNote {
     /// What the statements look at in this CONNECT.
     pub fn of(connect: &Connect<'_>) -> ConnectNote
@@ -128,6 +143,8 @@ impl ConnectNote {
             receive_maximum: properties.get_receive_maximum(),
             topic_alias_maximum: properties.get_topic_alias_maximum(),
             maximum_packet_size: properties.get_maximum_packet_size(),
+            will: WillNote::of(connect.will.as_ref()),
+            has_authentication_method: is_text(properties.get_authentication_method()),
         }
     }
 }
@@ -149,6 +166,7 @@ impl ConnackNote {
             maximum_packet_size: properties.get_maximum_packet_size(),
             has_assigned_identifier: is_text(properties.get_assigned_client_identifier()),
             has_response_information: is_text(properties.get_response_information()),
+            has_authentication_method: is_text(properties.get_authentication_method()),
         }
     }
 }

@@ -156,7 +156,7 @@ impl Faults {
         };
         let last = FaultKey {
             position,
-            rule: Rule::B04,
+            rule: Rule::A02,
         };
         self.found.range(first..=last)
     }

@@ -17,6 +17,7 @@ mod fate;
 mod fault;
 mod faults;
 mod history;
+mod manners;
 mod naming;
 mod note;
 mod note_copy;
@@ -42,12 +43,13 @@ pub use fate::Fate;
 pub use fault::Fault;
 pub use faults::{FaultKey, Faults, Memory};
 pub use history::History;
+pub use manners::{CountingManners, Manners};
 pub use naming::each_statement_is_named;
 pub use note::{ItemNote, Note, Seen};
 pub use note_ref::NoteRef;
 pub use one_pass::plain_connections;
 pub use packet_note::{
-    ConnackNote, ConnectNote, DisconnectNote, PacketFields, PacketNote, PublishNote,
+    ConnackNote, ConnectNote, DisconnectNote, PacketFields, PacketNote, PublishNote, WillNote,
 };
 pub use plain::{plain_c, plain_w};
 pub use qos::qos_number;

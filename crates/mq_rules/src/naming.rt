@@ -124,6 +124,10 @@ impl Rule {
             Rule::B02 => "A PUBLISH from the server isn't at a QoS above what was granted.",
             Rule::B03 => "A SUBACK has a Reason Code for each filter.",
             Rule::B04 => "An UNSUBACK has a Reason Code for each filter.",
+            Rule::F05 => "A Will QoS above the announced Maximum QoS is refused.",
+            Rule::F06 => "A Will with Will Retain 1 is refused where Retain Available is 0.",
+            Rule::A02 =>
+                "Without an Authentication Method in CONNECT there is no enhanced authentication.",
         }
     }
 

@@ -17,6 +17,15 @@ const NO_MATCH: u8 = 0x10;
 /// The Reason Code Success (MQTT 5.0, section 2.4).
 const SUCCESS: u8 = 0x00;
 
+/// What the statements look at in a Will (MQTT 5.0, section 3.1.2.5).
+#[derive(Clone, Copy, Debug, PartialEq, Eq)]
+pub struct WillNote {
+    /// The Will QoS.
+    pub qos: Qos,
+    /// The Will Retain flag.
+    pub retain: bool,
+}
+
 /// What the statements look at in a CONNECT (MQTT 5.0, section 3.1).
 #[derive(Clone, Copy, Debug, PartialEq, Eq)]
 pub struct ConnectNote {
@@ -36,6 +45,10 @@ pub struct ConnectNote {
     pub topic_alias_maximum: Option<u16>,
     /// The Maximum Packet Size, in bytes; not 0.
     pub maximum_packet_size: Option<u32>,
+    /// The Will, if there is one.
+    pub will: Option<WillNote>,
+    /// Whether it has an Authentication Method.
+    pub has_authentication_method: bool,
 }
 
 /// What the statements look at in a CONNACK (MQTT 5.0, section 3.2).
@@ -61,6 +74,8 @@ pub struct ConnackNote {
     pub has_assigned_identifier: bool,
     /// Whether it has Response Information.
     pub has_response_information: bool,
+    /// Whether it has an Authentication Method.
+    pub has_authentication_method: bool,
 }
 
 /// What the statements look at in a PUBLISH (MQTT 5.0, section 3.3).

@@ -13,19 +13,21 @@ pub enum Role {
     Server,
 }
 
-/// The tested end, as the log's header names it.
+/// The tested end, as the log's header names it, and which statements are judged.
 #[derive(Clone, Copy, Debug, PartialEq, Eq)]
 pub struct Tested {
     /// Which end it is.
     pub role: Role,
     /// Whether the log records the releases of QoS 2 messages.
     pub releases: bool,
+    /// Whether the further statements are judged too, beside those that always are.
+    pub further: bool,
 }
 
 impl Tested {
-    /// The end that a log's header names.
-    pub fn of(header: Header) -> Tested
-        ensures { result ≡ tested_as header }
+    /// The end that a log's header names, judged by the further statements too or not.
+    pub fn of(header: Header, further: bool) -> Tested
+        ensures { result ≡ tested_as further header }
     {
         let role = if header.server {
             Role::Server
@@ -35,6 +37,7 @@ impl Tested {
         Tested {
             role,
             releases: header.releases,
+            further,
         }
     }
 }

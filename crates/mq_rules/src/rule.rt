@@ -173,6 +173,13 @@ pub enum Rule {
     B03,
     /// An UNSUBACK has a Reason Code for each filter (MQTT 5.0, section 3.11.3).
     B04,
+    /// A Will QoS above the announced Maximum QoS is refused (MQTT 5.0, section 3.2.2.3.4).
+    F05,
+    /// A Will with Will Retain 1 is refused where Retain Available is 0 (MQTT 5.0, section 3.2.2.3.5).
+    F06,
+    /// Without an Authentication Method in CONNECT there is no enhanced authentication (MQTT 5.0,
+    /// section 4.12).
+    A02,
 }
 
 impl Rule {

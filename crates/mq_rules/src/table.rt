@@ -2,12 +2,13 @@
 ghost use Rattle.std.specs.Prelude.{◌≡◌, option_map};
 ghost use Rattle.std.specs.List.{find};
 ghost use Rattle.mq_rules.specs.Naming.{citation_of};
-ghost use Rattle.mq_rules.specs.Rules.{all_rules, found_line, line_view, lines_of, same_rule, code_of, cites, includes, line_of, binds, binds_end};
+ghost use Rattle.mq_rules.specs.Rules.{all_rules, found_line, line_view, lines_of, same_rule, code_of, cites, includes, is_met, is_further, line_of, binds, binds_end};
 
 use crate::role::{Role, Tested};
 use crate::rule::Rule;
 use crate::rule::Rule::*;
 use crate::table::Ends::*;
+use crate::table::Judged::*;
 
 /// The ends that a statement binds.
 #[derive(Clone, Copy, Debug)]
@@ -20,112 +21,139 @@ pub enum Ends {
     Both,
 }
 
+/// When a statement is judged for an end that it binds.
+#[derive(Clone, Copy, Debug)]
+pub enum Judged {
+    /// Always.
+    Always,
+    /// If the log records the releases of QoS 2 messages.
+    WithReleases,
+    /// If the further statements are asked for.
+    OnRequest,
+}
+
 /// A statement, its code, the ends that it binds, its citation of MQTT 5.0 for a client and for a
-/// server (empty for an end that it doesn't bind), and whether it is judged only if the log records
-/// releases.
-pub type Row = (Rule, &'static str, Ends, &'static str, &'static str, bool);
+/// server (empty for an end that it doesn't bind), and when it is judged.
+pub type Row = (Rule, &'static str, Ends, &'static str, &'static str, Judged);
 
 /// Each statement's row, in the order of reports.
-pub const TABLE: [Row; 74] = [
-    (W01, "W01", Both, "MQTT-2.1.3-1", "MQTT-2.1.3-1", false),
-    (W02, "W02", Both, "sec-2.1.2", "sec-2.1.2", false),
-    (W03, "W03", Both, "MQTT-1.5.5-1", "MQTT-1.5.5-1", false),
-    (W04, "W04", Both, "MQTT-1.5.4-1", "MQTT-1.5.4-1", false),
-    (W05, "W05", Both, "MQTT-1.5.4-2", "MQTT-1.5.4-2", false),
-    (W06, "W06", Both, "sec-2.1.4", "sec-2.1.4", false),
-    (W07, "W07", Both, "MQTT-3.3.1-4", "MQTT-3.3.1-4", false),
-    (W08, "W08", Both, "MQTT-3.3.1-2", "MQTT-3.3.1-2", false),
-    (W09, "W09", Both, "sec-2.2.1", "sec-2.2.1", false),
-    (W10, "W10", Both, "sec-2.2.2.2", "sec-2.2.2.2", false),
-    (W11, "W11", Both, "sec-2.2.2.2", "sec-2.2.2.2", false),
-    (W12, "W12", Both, "sec-2.2.2.2", "sec-2.2.2.2", false),
-    (W13, "W13", Both, "sec-2.4", "sec-2.4", false),
-    (W14, "W14", Both, "sec-3.3.2", "sec-3.3.2", false),
-    (W15, "W15", Both, "sec-4.7", "sec-4.7", false),
+pub const TABLE: [Row; 77] = [
+    (W01, "W01", Both, "MQTT-2.1.3-1", "MQTT-2.1.3-1", Always),
+    (W02, "W02", Both, "sec-2.1.2", "sec-2.1.2", Always),
+    (W03, "W03", Both, "MQTT-1.5.5-1", "MQTT-1.5.5-1", Always),
+    (W04, "W04", Both, "MQTT-1.5.4-1", "MQTT-1.5.4-1", Always),
+    (W05, "W05", Both, "MQTT-1.5.4-2", "MQTT-1.5.4-2", Always),
+    (W06, "W06", Both, "sec-2.1.4", "sec-2.1.4", Always),
+    (W07, "W07", Both, "MQTT-3.3.1-4", "MQTT-3.3.1-4", Always),
+    (W08, "W08", Both, "MQTT-3.3.1-2", "MQTT-3.3.1-2", Always),
+    (W09, "W09", Both, "sec-2.2.1", "sec-2.2.1", Always),
+    (W10, "W10", Both, "sec-2.2.2.2", "sec-2.2.2.2", Always),
+    (W11, "W11", Both, "sec-2.2.2.2", "sec-2.2.2.2", Always),
+    (W12, "W12", Both, "sec-2.2.2.2", "sec-2.2.2.2", Always),
+    (W13, "W13", Both, "sec-2.4", "sec-2.4", Always),
+    (W14, "W14", Both, "sec-3.3.2", "sec-3.3.2", Always),
+    (W15, "W15", Both, "sec-4.7", "sec-4.7", Always),
     (
         W16,
         "W16",
         Both,
         "MQTT-3.8.3-2,MQTT-3.10.3-2",
         "MQTT-3.8.3-2,MQTT-3.10.3-2",
-        false,
+        Always,
     ),
-    (W17, "W17", Both, "sec-3.8.3", "sec-3.8.3", false),
-    (W18, "W18", Both, "sec-3.1.2", "sec-3.1.2", false),
-    (W19, "W19", Both, "sec-3.1.2", "sec-3.1.2", false),
-    (W20, "W20", Both, "MQTT-3.2.2-1", "MQTT-3.2.2-1", false),
-    (W21, "W21", Both, "sec-3.3.2", "sec-3.3.2", false),
-    (C01, "C01", Both, "sec-2.1.2", "sec-2.1.2", false),
-    (C02, "C02", OnlyClient, "MQTT-3.1.0-1", "", false),
-    (C03, "C03", OnlyClient, "sec-3.1", "", false),
-    (C04, "C04", OnlyServer, "", "sec-3.2", false),
-    (C05, "C05", OnlyServer, "", "MQTT-3.2.0-1", false),
-    (C06, "C06", OnlyServer, "", "MQTT-3.2.0-2", false),
-    (C07, "C07", OnlyServer, "", "MQTT-3.2.2-2", false),
-    (C08, "C08", OnlyServer, "", "MQTT-3.2.2-3", false),
-    (C09, "C09", OnlyServer, "", "MQTT-3.2.2-6", false),
-    (C10, "C10", OnlyServer, "", "MQTT-3.2.2-16", false),
-    (C11, "C11", Both, "MQTT-3.14.4-1", "MQTT-3.14.4-1", false),
-    (C12, "C12", OnlyServer, "", "MQTT-3.2.2-7", false),
-    (C13, "C13", OnlyClient, "MQTT-3.2.2-4", "", false),
-    (C14, "C14", Both, "MQTT-3.2.2-15", "MQTT-3.1.2-24", false),
-    (C15, "C15", Both, "MQTT-3.2.2-17", "MQTT-3.1.2-26", false),
-    (C16, "C16", Both, "sec-3.3.2", "sec-3.3.2", false),
-    (C17, "C17", OnlyClient, "MQTT-3.2.2-11", "", false),
-    (C18, "C18", OnlyClient, "MQTT-3.3.4-6", "", false),
-    (C19, "C19", OnlyServer, "", "MQTT-3.14.2-2", false),
-    (C20, "C20", OnlyClient, "sec-3.14.2", "", false),
-    (C21, "C21", OnlyServer, "", "MQTT-3.1.2-29", false),
-    (C22, "C22", OnlyServer, "", "MQTT-3.1.2-28", false),
+    (W17, "W17", Both, "sec-3.8.3", "sec-3.8.3", Always),
+    (W18, "W18", Both, "sec-3.1.2", "sec-3.1.2", Always),
+    (W19, "W19", Both, "sec-3.1.2", "sec-3.1.2", Always),
+    (W20, "W20", Both, "MQTT-3.2.2-1", "MQTT-3.2.2-1", Always),
+    (W21, "W21", Both, "sec-3.3.2", "sec-3.3.2", Always),
+    (C01, "C01", Both, "sec-2.1.2", "sec-2.1.2", Always),
+    (C02, "C02", OnlyClient, "MQTT-3.1.0-1", "", Always),
+    (C03, "C03", OnlyClient, "sec-3.1", "", Always),
+    (C04, "C04", OnlyServer, "", "sec-3.2", Always),
+    (C05, "C05", OnlyServer, "", "MQTT-3.2.0-1", Always),
+    (C06, "C06", OnlyServer, "", "MQTT-3.2.0-2", Always),
+    (C07, "C07", OnlyServer, "", "MQTT-3.2.2-2", Always),
+    (C08, "C08", OnlyServer, "", "MQTT-3.2.2-3", Always),
+    (C09, "C09", OnlyServer, "", "MQTT-3.2.2-6", Always),
+    (C10, "C10", OnlyServer, "", "MQTT-3.2.2-16", Always),
+    (C11, "C11", Both, "MQTT-3.14.4-1", "MQTT-3.14.4-1", Always),
+    (C12, "C12", OnlyServer, "", "MQTT-3.2.2-7", Always),
+    (C13, "C13", OnlyClient, "MQTT-3.2.2-4", "", Always),
+    (C14, "C14", Both, "MQTT-3.2.2-15", "MQTT-3.1.2-24", Always),
+    (C15, "C15", Both, "MQTT-3.2.2-17", "MQTT-3.1.2-26", Always),
+    (C16, "C16", Both, "sec-3.3.2", "sec-3.3.2", Always),
+    (C17, "C17", OnlyClient, "MQTT-3.2.2-11", "", Always),
+    (C18, "C18", OnlyClient, "MQTT-3.3.4-6", "", Always),
+    (C19, "C19", OnlyServer, "", "MQTT-3.14.2-2", Always),
+    (C20, "C20", OnlyClient, "sec-3.14.2", "", Always),
+    (C21, "C21", OnlyServer, "", "MQTT-3.1.2-29", Always),
+    (C22, "C22", OnlyServer, "", "MQTT-3.1.2-28", Always),
     (
         C23,
         "C23",
         Both,
         "MQTT-3.14.4-2",
         "MQTT-3.14.4-2,MQTT-3.2.2-7",
-        false,
+        Always,
     ),
-    (S01, "S01", Both, "MQTT-2.2.1-3", "MQTT-2.2.1-4", false),
+    (S01, "S01", Both, "MQTT-2.2.1-3", "MQTT-2.2.1-4", Always),
     (
         S02,
         "S02",
         Both,
         "MQTT-4.3.2-2,MQTT-4.3.3-2",
         "MQTT-4.3.2-2,MQTT-4.3.3-2",
-        false,
+        Always,
     ),
-    (S03, "S03", Both, "MQTT-4.4.0-1", "MQTT-4.4.0-1", false),
-    (S04, "S04", Both, "MQTT-4.3.3-6", "MQTT-4.3.3-6", false),
-    (S05, "S05", OnlyClient, "MQTT-4.6.0-1", "", false),
-    (S06, "S06", Both, "MQTT-4.4.0-1", "MQTT-4.4.0-1", false),
-    (S07, "S07", Both, "MQTT-4.9.0-2", "MQTT-4.9.0-2", false),
-    (E1A, "E1A", Both, "MQTT-2.2.1-5", "MQTT-2.2.1-5", false),
-    (E1R, "E1R", Both, "MQTT-4.3.2-4", "MQTT-4.3.2-4", false),
-    (E1O, "E1O", OnlyClient, "MQTT-4.6.0-2", "", false),
-    (E2A, "E2A", Both, "MQTT-2.2.1-5", "MQTT-2.2.1-5", false),
-    (E2R, "E2R", Both, "MQTT-4.3.3-8", "MQTT-4.3.3-8", false),
-    (E2O, "E2O", OnlyClient, "MQTT-4.6.0-3", "", false),
-    (E3A, "E3A", Both, "MQTT-2.2.1-5", "MQTT-2.2.1-5", false),
-    (E3R, "E3R", Both, "MQTT-4.3.3-4", "MQTT-4.3.3-4", false),
-    (E3O, "E3O", OnlyClient, "MQTT-4.6.0-4", "", false),
-    (E4A, "E4A", Both, "MQTT-2.2.1-5", "MQTT-2.2.1-5", false),
-    (E4R, "E4R", Both, "MQTT-4.3.3-11", "MQTT-4.3.3-11", false),
-    (E5A, "E5A", OnlyServer, "", "MQTT-2.2.1-6", false),
-    (E5R, "E5R", OnlyServer, "", "MQTT-3.8.4-1", false),
-    (E6A, "E6A", OnlyServer, "", "MQTT-2.2.1-6", false),
-    (E6R, "E6R", OnlyServer, "", "MQTT-3.10.4-4", false),
-    (E7R, "E7R", OnlyServer, "", "MQTT-3.12.4-1", false),
-    (L1, "L1", Both, "sec-4.3.3", "sec-4.3.3", true),
-    (L2, "L2", Both, "MQTT-4.3.3-10", "MQTT-4.3.3-10", true),
-    (L3, "L3", Both, "sec-4.3.3", "sec-4.3.3", true),
-    (B01, "B01", OnlyServer, "", "MQTT-3.3.2-3", false),
-    (B02, "B02", OnlyServer, "", "MQTT-3.8.4-8", false),
-    (B03, "B03", OnlyServer, "", "MQTT-3.8.4-6", false),
-    (B04, "B04", OnlyServer, "", "sec-3.11.3", false),
+    (S03, "S03", Both, "MQTT-4.4.0-1", "MQTT-4.4.0-1", Always),
+    (S04, "S04", Both, "MQTT-4.3.3-6", "MQTT-4.3.3-6", Always),
+    (S05, "S05", OnlyClient, "MQTT-4.6.0-1", "", Always),
+    (S06, "S06", Both, "MQTT-4.4.0-1", "MQTT-4.4.0-1", Always),
+    (S07, "S07", Both, "MQTT-4.9.0-2", "MQTT-4.9.0-2", Always),
+    (E1A, "E1A", Both, "MQTT-2.2.1-5", "MQTT-2.2.1-5", Always),
+    (E1R, "E1R", Both, "MQTT-4.3.2-4", "MQTT-4.3.2-4", Always),
+    (E1O, "E1O", OnlyClient, "MQTT-4.6.0-2", "", Always),
+    (E2A, "E2A", Both, "MQTT-2.2.1-5", "MQTT-2.2.1-5", Always),
+    (E2R, "E2R", Both, "MQTT-4.3.3-8", "MQTT-4.3.3-8", Always),
+    (E2O, "E2O", OnlyClient, "MQTT-4.6.0-3", "", Always),
+    (E3A, "E3A", Both, "MQTT-2.2.1-5", "MQTT-2.2.1-5", Always),
+    (E3R, "E3R", Both, "MQTT-4.3.3-4", "MQTT-4.3.3-4", Always),
+    (E3O, "E3O", OnlyClient, "MQTT-4.6.0-4", "", Always),
+    (E4A, "E4A", Both, "MQTT-2.2.1-5", "MQTT-2.2.1-5", Always),
+    (E4R, "E4R", Both, "MQTT-4.3.3-11", "MQTT-4.3.3-11", Always),
+    (E5A, "E5A", OnlyServer, "", "MQTT-2.2.1-6", Always),
+    (E5R, "E5R", OnlyServer, "", "MQTT-3.8.4-1", Always),
+    (E6A, "E6A", OnlyServer, "", "MQTT-2.2.1-6", Always),
+    (E6R, "E6R", OnlyServer, "", "MQTT-3.10.4-4", Always),
+    (E7R, "E7R", OnlyServer, "", "MQTT-3.12.4-1", Always),
+    (L1, "L1", Both, "sec-4.3.3", "sec-4.3.3", WithReleases),
+    (
+        L2,
+        "L2",
+        Both,
+        "MQTT-4.3.3-10",
+        "MQTT-4.3.3-10",
+        WithReleases,
+    ),
+    (L3, "L3", Both, "sec-4.3.3", "sec-4.3.3", WithReleases),
+    (B01, "B01", OnlyServer, "", "MQTT-3.3.2-3", Always),
+    (B02, "B02", OnlyServer, "", "MQTT-3.8.4-8", Always),
+    (B03, "B03", OnlyServer, "", "MQTT-3.8.4-6", Always),
+    (B04, "B04", OnlyServer, "", "sec-3.11.3", Always),
+    (F05, "F05", OnlyServer, "", "MQTT-3.2.2-12", OnRequest),
+    (F06, "F06", OnlyServer, "", "MQTT-3.2.2-13", OnRequest),
+    (
+        A02,
+        "A02",
+        Both,
+        "MQTT-4.12.0-7",
+        "MQTT-4.12.0-6",
+        OnRequest,
+    ),
 ];
 
 /// The statements, in the order of reports.
-const RULES: [Rule; 74] = [
+const RULES: [Rule; 77] = [
     Rule::W01,
     Rule::W02,
     Rule::W03,
@@ -200,6 +228,9 @@ const RULES: [Rule; 74] = [
     Rule::B02,
     Rule::B03,
     Rule::B04,
+    Rule::F05,
+    Rule::F06,
+    Rule::A02,
 ];
 
 // The row of a statement among these, if it has one.
@@ -254,6 +285,19 @@ impl Ends {
     }
 }
 
+impl Judged {
+    // Whether a statement that is judged so is judged of this end.
+    fn is_met(self, tested: Tested) -> bool
+        ensures { result ≡ is_met self tested }
+    {
+        match self {
+            Judged::Always => true,
+            Judged::WithReleases => tested.releases,
+            Judged::OnRequest => tested.further,
+        }
+    }
+}
+
 impl Rule {
     /// All statements, in the order of reports.
     #[tactic(auto, unfolding(crate::specs::Rules::lines))]
@@ -296,22 +340,29 @@ impl Rule {
         }
     }
 
-    /// Whether the statement is judged only if the log records the releases of QoS 2 messages.
+    // When the statement is judged.
     #[tactic(auto, unfolding(crate::specs::Rules::line_of))]
-    pub fn needs_releases(self) -> bool
-        ensures { result ≡ (line_of self).needs_releases }
+    fn judged(self) -> Judged
+        ensures { result ≡ (line_of self).judged }
     {
         match find_row(self) {
-            Some((_, _, _, _, _, needs_releases)) => needs_releases,
-            None => false,
+            Some((_, _, _, _, _, judged)) => judged,
+            None => Always,
         }
     }
 
-    /// Whether the statement is judged for this end: it binds the end, and if it needs releases the
-    /// log records them.
+    /// Whether the statement is a further one, which is judged only if it is asked for.
+    pub fn is_further(self) -> bool
+        ensures { result ≡ is_further self }
+    {
+        matches!(self.judged(), OnRequest)
+    }
+
+    /// Whether the statement is judged for this end: it binds the end; if it needs releases the log
+    /// records them; and if it is a further one it is asked for.
     pub fn is_judged(self, tested: Tested) -> bool
         ensures { result ≡ binds self tested }
     {
-        self.binds(tested.role) && (!self.needs_releases() || tested.releases)
+        self.binds(tested.role) && self.judged().is_met(tested)
     }
 }

@@ -15,17 +15,21 @@ use Rattle.mq_rules.specs.declared.role.Role.TheVariants.{Client, Server}
 use Rattle.mq_rules.specs.declared.role.Tested.{Tested}
 use Rattle.mq_rules.specs.declared.fate.Fate.{Fate}
 use Rattle.mq_rules.specs.declared.rule.Rule.{Rule}
-use Rattle.mq_rules.specs.declared.rule.Rule.TheVariants.{W01, W02, W03, W04, W05, W06, W07, W08, W09, W10, W11, W12, W13, W14, W15, W16, W17, W18, W19, W20, W21, C01, C02, C03, C04, C05, C06, C07, C08, C09, C10, C11, C12, C13, C14, C15, C16, C17, C18, C19, C20, C21, C22, C23, S01, S02, S03, S04, S05, S06, S07, E1A, E1R, E1O, E2A, E2R, E2O, E3A, E3R, E3O, E4A, E4R, E5A, E5R, E6A, E6R, E7R, L1, L2, L3, B01, B02, B03, B04}
+use Rattle.mq_rules.specs.declared.rule.Rule.TheVariants.{W01, W02, W03, W04, W05, W06, W07, W08, W09, W10, W11, W12, W13, W14, W15, W16, W17, W18, W19, W20, W21, C01, C02, C03, C04, C05, C06, C07, C08, C09, C10, C11, C12, C13, C14, C15, C16, C17, C18, C19, C20, C21, C22, C23, S01, S02, S03, S04, S05, S06, S07, E1A, E1R, E1O, E2A, E2R, E2O, E3A, E3R, E3O, E4A, E4R, E5A, E5R, E6A, E6R, E7R, L1, L2, L3, B01, B02, B03, B04, F05, F06, A02}
 use Rattle.mq_rules.specs.declared.note.Note.{Note}
 use Rattle.mq_rules.specs.declared.note.ItemNote.{ItemNote}
 use Rattle.mq_rules.specs.declared.note.Seen.{Seen}
 use Rattle.mq_rules.specs.declared.packet_note.PacketNote.{PacketNote}
 use Rattle.mq_rules.specs.declared.packet_note.PublishNote.{PublishNote}
+use Rattle.mq_rules.specs.declared.packet_note.ConnectNote.{ConnectNote}
+use Rattle.mq_rules.specs.declared.packet_note.ConnackNote.{ConnackNote}
+use Rattle.mq_rules.specs.declared.packet_note.WillNote.{WillNote}
 use Rattle.mq_rules.specs.Words.{is_some_and, is_id}
-use Rattle.mq_rules.specs.Notes.{is_close, is_rest, sent_packet, sent_publish, sent_disconnect, sent_connack, sent_item, is_of_type, foreign_types, type_number_in, sends_type, receives_type, may_explain, resumed_by, is_acknowledged, qos_number, opener_of, resend_of, sent_as, pubrel_in, subscribe_in, suback_in, unsubscribe_in, unsuback_in, received_as, success_pubcomp_in, released_id, sent_grant, sent_unsuback, received_subscription, received_unsubscription, is_received_pingreq, is_sent_pingresp}
+use Rattle.mq_rules.specs.Notes.{is_close, is_rest, sent_packet, sent_publish, sent_disconnect, sent_connack, sent_item, is_of_type, foreign_types, type_number_in, sends_type, receives_type, may_explain, resumed_by, is_acknowledged, qos_number, opener_of, resend_of, sent_as, pubrel_in, subscribe_in, suback_in, unsubscribe_in, unsuback_in, received_as, success_pubcomp_in, released_id, sent_grant, sent_unsuback, received_subscription, received_unsubscription, is_received_pingreq, is_sent_pingresp, sends_auth}
 use Rattle.mq_rules.specs.Moments.{Moment, note, moments, is_same, is_after, some, since, those, count, some_stretch}
 use Rattle.mq_rules.specs.Connections.{begun, number, connection, fate, is_binding, latest_fate, resumed, session}
 use Rattle.mq_rules.specs.Pasts.{sends_typed, sends_or_closes, came_before, is_sent_disconnect, is_sent_refusal, says_session_present, accepts_so, connect_before, connack_before, is_alive, peer_maximum_packet_size, peer_topic_alias_maximum, peer_receive_maximum, knows_peer, set_alias, used_alias, is_last_sent, breaks_C01, breaks_C02, breaks_C03, breaks_C04, breaks_C05, breaks_C06, breaks_C07, breaks_C08, breaks_C09, breaks_C10, breaks_C11, breaks_C12, breaks_C13, breaks_C14, breaks_C15, breaks_C16, breaks_C17, breaks_C18, breaks_C19, breaks_C20, breaks_C21, breaks_C22, breaks_C23, applies_C01, applies_C02, applies_C03, applies_C04, applies_C05, applies_C06, applies_C07, applies_C08, applies_C09, applies_C10, applies_C11, applies_C12, applies_C13, applies_C14, applies_C15, applies_C16, applies_C17, applies_C18, applies_C19, applies_C20, applies_C21, applies_C22, applies_C23}
+use Rattle.mq_rules.specs.FurtherPasts.{breaks_F05, breaks_F06, breaks_A02, applies_F05, applies_F06, applies_A02, lacks_method, will_in}
 use Rattle.mq_rules.specs.Identifiers.{opens_id, closes_id, delivers, session_before, is_open_at, latest_opener, awaits_suback, awaits_unsuback, may_be_discarded, is_busy_at, takes_some, is_any_busy_at, taken_by, was_sent_on_void, was_sent_before_session, was_cut_off, opens_exactly_once, sends_pubrel, comes_after, is_delivery, is_closer, counts, passes, is_waiting, came_on, was_open, was_sent_again, is_excused, breaks_S01, breaks_S02, breaks_S03, breaks_S04, breaks_S05, breaks_S07, shows_S06, applies_S01, applies_S02, applies_S03, applies_S04, applies_S05, applies_S06, applies_S07}
 use Rattle.mq_rules.specs.Exchanges.{Exchange, publish_puback, publish_pubrec, pubrec_pubrel, pubrel_pubcomp, subscribe_suback, unsubscribe_unsuback, answers, causes, first_unanswered, is_other_unanswered, breaks_A, breaks_O, shows_R, breaks_E7R, applies_A, applies_O, applies_R, applies_E7R}
 use Rattle.mq_rules.specs.Releases.{brings, releases_message, ends, first_brought, may_lapse, breaks_L1, breaks_L2, breaks_L3, applies_L1, applies_L2, applies_L3}
@@ -33,7 +37,7 @@ use Rattle.mq_rules.specs.Subscriptions.{Standing, standing_at, topic_of, asks_t
 use Rattle.mq_rules.specs.Rules.{binds}
 use Rattle.mq_rules.specs.Statements.{statement, is_by_bytes, is_on_bytes, is_so, fails}
 use Rattle.mq_rules.specs.Occasions.{occasion, occurs, applies}
-use Rattle.mq_rules.proofs.Exports.{among-some, and_true, both_true, or_left, or_right, session-members, some-among, those-among}
+use Rattle.mq_rules.proofs.Exports.{among-some, and_false, and_true, both_true, or_left, or_right, session-members, some-among, those-among}
 use Rattle.mq_rules_laws.proofs.WiderLaws.{is_there, wider-there, passing-id, first_true, wider-some, since-some, since-fewer, count-some, wider-stretch, wider-past, wider-session, wider-knowing, wider-knowing_resumed, wider-placed, wider-rest}
 
 -- ---- the past of a connection
@@ -205,6 +209,56 @@ unfolding breaks_C23 applies_C23
 C23-applies role k h =
     let a = both_true (is_rest (note k)) (came_before (is_last_sent role) k) h in
     and_true (is_rest (note k) || is_close (note k)) (came_before (is_last_sent role) k) (or_left (is_rest (note k)) (is_close (note k)) a.0) a.1
+
+-- ---- further statements on the past of a connection
+
+pub F05-applies : (k : Moment) → breaks_F05 k ≡ true → applies_F05 k ≡ true
+unfolding breaks_F05 applies_F05
+F05-applies k h = go (sent_connack (note k)) (will_in (connect_before Server k)) h
+  where
+    go : (connack : Option ConnackNote) (will : Option WillNote)
+        → is_some_and (λ c. (c.code == 0) && is_some_and (λ w. is_some_and (λ most. nat_lt most (qos_number w.qos)) c.maximum_qos) will) connack ≡ true
+        → (is_some_and (λ c. is_some c.maximum_qos || (c.code == 155)) connack && is_some will) ≡ true
+    go None will h = absurd (cc)
+    go (Some c) None h = absurd (let none : ((c.code == 0) && false) ≡ false = and_false (c.code == 0) in cc)
+    go (Some c) (Some w) h =
+        and_true (is_some c.maximum_qos || (c.code == 155)) true
+        (or_left (is_some c.maximum_qos) (c.code == 155) (bounded c.maximum_qos (both_true (c.code == 0) (is_some_and (λ most. nat_lt most (qos_number w.qos)) c.maximum_qos) h).1)) refl
+      where
+        bounded : (o : Option ℕ) → is_some_and (λ most. nat_lt most (qos_number w.qos)) o ≡ true → is_some o ≡ true
+        bounded None t = absurd (cc)
+        bounded (Some most) t = refl
+
+pub F06-applies : (k : Moment) → breaks_F06 k ≡ true → applies_F06 k ≡ true
+unfolding breaks_F06 applies_F06
+F06-applies k h =
+    let a = both_true (is_some_and (λ c. (c.code == 0) && is_id 0 c.retain_available) (sent_connack (note k))) (is_some_and (λ w. w.retain) (will_in (connect_before Server k))) h in
+    and_true (is_some_and (λ c. is_id 0 c.retain_available || (c.code == 154)) (sent_connack (note k))) (is_some (will_in (connect_before Server k)))
+    (wider-there (λ c. (c.code == 0) && is_id 0 c.retain_available) (λ c. is_id 0 c.retain_available || (c.code == 154))
+    (λ c t. or_left (is_id 0 c.retain_available) (c.code == 154) (both_true (c.code == 0) (is_id 0 c.retain_available) t).1) (sent_connack (note k)) a.0)
+    (there (will_in (connect_before Server k)) a.1)
+  where
+    there : (will : Option WillNote) → is_some_and (λ w. w.retain) will ≡ true → is_some will ≡ true
+    there None t = absurd (cc)
+    there (Some w) t = refl
+
+-- a CONNECT without a method is there
+lacking-there : (connect : Option ConnectNote) → lacks_method connect ≡ true → is_some connect ≡ true
+lacking-there None t = absurd (cc)
+lacking-there (Some c) t = refl
+
+pub A02-applies : (role : Role) (k : Moment) → breaks_A02 role k ≡ true → applies_A02 role k ≡ true
+unfolding breaks_A02 applies_A02
+A02-applies Client k h =
+    let a = both_true (sends_auth (note k)) (lacks_method (connect_before Client k)) h in
+    and_true (sends_auth (note k)) (is_some (connect_before Client k)) a.0 (lacking-there (connect_before Client k) a.1)
+A02-applies Server k h = go (sends_auth (note k)) (sent_connack (note k)) (connect_before Server k) h
+  where
+    go : (auth : Bool) (connack : Option ConnackNote) (connect : Option ConnectNote) → ((auth || is_some_and (λ c. c.has_authentication_method) connack) && lacks_method connect) ≡ true
+        → ((auth && is_some connect) || (is_some connack && lacks_method connect)) ≡ true
+    go true connack connect h = or_left (is_some connect) (is_some connack && lacks_method connect) (lacking-there connect h)
+    go false None connect h = absurd (cc)
+    go false (Some c) connect h = (both_true c.has_authentication_method (lacks_method connect) h).1
 
 -- ---- identifiers
 
@@ -542,6 +596,9 @@ line-applies role B01 fates log k h by_bytes = wider-session role fates (breaks_
 line-applies role B02 fates log k h by_bytes = wider-session role fates (breaks_B02 role) (applies_B02 role) (B02-applies role) log k h
 line-applies role B03 fates log k h by_bytes = wider-session role fates (λ f. breaks_B03) (λ f. applies_B03) (λ f. B03-applies) log k h
 line-applies role B04 fates log k h by_bytes = wider-session role fates (λ f. breaks_B04) (λ f. applies_B04) (λ f. B04-applies) log k h
+line-applies role F05 fates log k h by_bytes = wider-past role fates breaks_F05 applies_F05 F05-applies log k h
+line-applies role F06 fates log k h by_bytes = wider-past role fates breaks_F06 applies_F06 F06-applies log k h
+line-applies role A02 fates log k h by_bytes = wider-past role fates (breaks_A02 role) (applies_A02 role) (A02-applies role) log k h
 
 -- what fails is put to the test
 pub fails-applies : (tested : Tested) (log : List Seen) (k : ℕ) (rule : Rule) → is_on_bytes tested rule ≡ false → fails tested log k rule ≡ true → applies tested log k rule ≡ true

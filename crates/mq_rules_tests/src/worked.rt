@@ -2,11 +2,12 @@
 //! log that breaks it, with all positions where it does, and the nearest one that keeps it. Last,
 //! for each family an end that a statement doesn't bind.
 ghost use Rattle.std.specs.Prelude.{◌≡◌, ◌∷◌, [], true, false, Some, None};
+ghost use Rattle.mq_packet.specs.declared.packet.Qos.TheVariants as quality;
 ghost use Rattle.mq_packet.specs.declared.rule.PacketRule.TheVariants as packets;
-ghost use Rattle.mq_rules.specs.declared.rule.Rule.TheVariants.{W01, W02, W03, W04, W05, W06, W07, W08, W09, W10, W11, W12, W13, W14, W15, W16, W17, W18, W19, W20, W21, C01, C02, C03, C04, C05, C06, C07, C08, C09, C10, C11, C12, C13, C14, C15, C16, C17, C18, C19, C20, C21, C22, C23, S01, S02, S03, S04, S05, S06, S07, E1A, E1R, E1O, E2A, E2R, E2O, E3A, E3R, E3O, E4A, E4R, E5A, E5R, E6A, E6R, E7R, L1, L2, L3, B01, B02, B03, B04};
+ghost use Rattle.mq_rules.specs.declared.rule.Rule.TheVariants.{W01, W02, W03, W04, W05, W06, W07, W08, W09, W10, W11, W12, W13, W14, W15, W16, W17, W18, W19, W20, W21, C01, C02, C03, C04, C05, C06, C07, C08, C09, C10, C11, C12, C13, C14, C15, C16, C17, C18, C19, C20, C21, C22, C23, S01, S02, S03, S04, S05, S06, S07, E1A, E1R, E1O, E2A, E2R, E2O, E3A, E3R, E3O, E4A, E4R, E5A, E5R, E6A, E6R, E7R, L1, L2, L3, B01, B02, B03, B04, F05, F06, A02};
 ghost use Rattle.mq_rules.specs.declared.note.Note.TheVariants.{Open, Rest, Release};
 ghost use Rattle.mq_rules.specs.declared.packet_note.PacketFields.TheVariants.{Puback, Pubrec, Pubrel, Pubcomp, Suback, Unsubscribe, Unsuback, Pingreq, Pingresp, Auth};
-ghost use Rattle.mq_rules.specs.Worked.{client, client_unrecorded, server, failing, Close, Cut, sends, gets, sends_sized, sends_explained, sends_bad, gets_bad, sends_lost, gets_lost, lasting, again, fleeting, unnamed, asking, connack_with, accepting, resuming, refusing, limiting, retaining, assigning, informing, leaving, at_most_once, once, exactly, retained_once, retained_exactly, expiring, aliased, subscribed, asks_a, asks_b, asking_again};
+ghost use Rattle.mq_rules.specs.Worked.{client, client_unrecorded, server, failing, Close, Cut, sends, gets, sends_sized, sends_explained, sends_bad, gets_bad, sends_lost, gets_lost, lasting, again, fleeting, unnamed, asking, connack_with, accepting, resuming, refusing, limiting, retaining, assigning, informing, leaving, at_most_once, once, exactly, retained_once, retained_exactly, expiring, aliased, subscribed, asks_a, asks_b, asking_again, client_asked, server_asked, with_will, with_method, announcing, naming_method};
 
 /// Bytes of a client that break a rule, and those that it receives (W01 to W21).
 pub fn bytes_of_a_client()
@@ -370,4 +371,22 @@ pub fn unbound_ends()
     ensures client_answers { failing client E5A (Open ∷ sends lasting ∷ gets accepting ∷ sends (Suback 1 []) ∷ []) ≡ [] }
     ensures unrecorded_completes { failing client_unrecorded L3 (Open ∷ sends lasting ∷ gets accepting ∷ gets (exactly false 1) ∷ gets (Pubrel 1 0) ∷ sends (Pubcomp 1 0) ∷ []) ≡ [] }
     ensures client_publishes { failing client B01 (Open ∷ sends lasting ∷ gets accepting ∷ sends at_most_once ∷ []) ≡ [] }
+{}
+
+/// What a server accepts in a CONNECT (F05 and F06), and enhanced authentication (A02).
+pub fn further_statements()
+    ensures will_qos_breaks { failing server_asked F05 (Open ∷ gets (with_will quality.ExactlyOnce false) ∷ sends (announcing 0 (Some 1) None) ∷ []) ≡ 3 ∷ [] }
+    ensures will_qos_keeps { failing server_asked F05 (Open ∷ gets (with_will quality.AtLeastOnce false) ∷ sends (announcing 0 (Some 1) None) ∷ []) ≡ [] }
+    ensures will_qos_keeps_refused { failing server_asked F05 (Open ∷ gets (with_will quality.ExactlyOnce false) ∷ sends (announcing 155 (Some 1) None) ∷ []) ≡ [] }
+    ensures will_qos_keeps_unasked { failing server F05 (Open ∷ gets (with_will quality.ExactlyOnce false) ∷ sends (announcing 0 (Some 1) None) ∷ []) ≡ [] }
+    ensures will_retain_breaks { failing server_asked F06 (Open ∷ gets (with_will quality.AtMostOnce true) ∷ sends (announcing 0 None (Some 0)) ∷ []) ≡ 3 ∷ [] }
+    ensures will_retain_keeps { failing server_asked F06 (Open ∷ gets (with_will quality.AtMostOnce false) ∷ sends (announcing 0 None (Some 0)) ∷ []) ≡ [] }
+    ensures will_retain_keeps_available { failing server_asked F06 (Open ∷ gets (with_will quality.AtMostOnce true) ∷ sends (announcing 0 None (Some 1)) ∷ []) ≡ [] }
+    ensures will_retain_keeps_refused { failing server_asked F06 (Open ∷ gets (with_will quality.AtMostOnce true) ∷ sends (announcing 154 None (Some 0)) ∷ []) ≡ [] }
+    ensures method_breaks_client { failing client_asked A02 (Open ∷ sends lasting ∷ gets accepting ∷ sends Auth ∷ []) ≡ 4 ∷ [] }
+    ensures method_keeps_client { failing client_asked A02 (Open ∷ sends with_method ∷ sends Auth ∷ []) ≡ [] }
+    ensures method_keeps_before { failing client_asked A02 (Open ∷ sends Auth ∷ sends lasting ∷ []) ≡ [] }
+    ensures method_breaks_server { failing server_asked A02 (Open ∷ gets lasting ∷ sends naming_method ∷ []) ≡ 3 ∷ [] }
+    ensures method_breaks_auth { failing server_asked A02 (Open ∷ gets lasting ∷ sends Auth ∷ []) ≡ 3 ∷ [] }
+    ensures method_keeps_server { failing server_asked A02 (Open ∷ gets with_method ∷ sends naming_method ∷ []) ≡ [] }
 {}

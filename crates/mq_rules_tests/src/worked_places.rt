@@ -3,10 +3,11 @@
 //! narrow, the nearest log in which it isn't. Last, where nothing is judged.
 ghost use Rattle.std.specs.Prelude.{◌≡◌, ◌∷◌, [], true, false, Some, None};
 ghost use Rattle.mq_packet.specs.declared.rule.PacketRule.TheVariants as packets;
-ghost use Rattle.mq_rules.specs.declared.rule.Rule.TheVariants.{C01, C02, C03, C04, C05, C06, C07, C08, C09, C10, C11, C12, C13, C14, C15, C16, C17, C18, C19, C20, C21, C22, C23, S01, S02, S03, S04, S05, S06, S07, E1A, E1R, E1O, E2A, E2R, E2O, E3A, E3R, E3O, E4A, E4R, E5A, E5R, E6A, E6R, E7R, L1, L2, L3, B01, B02, B03, B04};
+ghost use Rattle.mq_packet.specs.declared.packet.Qos.TheVariants as quality;
+ghost use Rattle.mq_rules.specs.declared.rule.Rule.TheVariants.{C01, C02, C03, C04, C05, C06, C07, C08, C09, C10, C11, C12, C13, C14, C15, C16, C17, C18, C19, C20, C21, C22, C23, S01, S02, S03, S04, S05, S06, S07, E1A, E1R, E1O, E2A, E2R, E2O, E3A, E3R, E3O, E4A, E4R, E5A, E5R, E6A, E6R, E7R, L1, L2, L3, B01, B02, B03, B04, F05, F06, A02};
 ghost use Rattle.mq_rules.specs.declared.note.Note.TheVariants.{Open, Rest, Release};
 ghost use Rattle.mq_rules.specs.declared.packet_note.PacketFields.TheVariants.{Puback, Pubrec, Pubrel, Pubcomp, Suback, Unsubscribe, Unsuback, Pingreq, Pingresp, Auth};
-ghost use Rattle.mq_rules.specs.Worked.{client, client_unrecorded, server, applying, Close, Cut, sends, gets, sends_sized, sends_bad, sends_lost, lasting, again, unnamed, asking, accepting, resuming, refusing, limiting, retaining, assigning, informing, leaving, at_most_once, once, exactly, retained_once, expiring, aliased, asks_a, asks_shared};
+ghost use Rattle.mq_rules.specs.Worked.{client, client_unrecorded, server, applying, Close, Cut, sends, gets, sends_sized, sends_bad, sends_lost, lasting, again, unnamed, asking, accepting, resuming, refusing, limiting, retaining, assigning, informing, leaving, at_most_once, once, exactly, retained_once, expiring, aliased, asks_a, asks_shared, client_asked, server_asked, with_will, with_method, announcing, naming_method};
 
 /// What begins a connection (C01 to C06).
 pub fn places_of_beginnings()
@@ -166,4 +167,17 @@ pub fn places_of_nothing()
     ensures undecided { applying client E1A (Open ∷ sends lasting ∷ sends (Puback 1 0) ∷ []) ≡ [] }
     ensures refused { applying client E1A (Open ∷ sends lasting ∷ sends (Puback 1 0) ∷ gets refusing ∷ []) ≡ [] }
     ensures unknown { applying server E1A (Open ∷ gets lasting ∷ sends accepting ∷ Close ∷ Open ∷ gets lasting ∷ Close ∷ Open ∷ gets again ∷ sends resuming ∷ gets (once false 1) ∷ sends (Puback 1 0) ∷ []) ≡ [] }
+{}
+
+/// What a server accepts in a CONNECT (F05 and F06), and enhanced authentication (A02).
+pub fn places_of_further_statements()
+    ensures will_qos { applying server_asked F05 (Open ∷ gets (with_will quality.AtLeastOnce false) ∷ sends (announcing 0 (Some 1) None) ∷ []) ≡ 3 ∷ [] }
+    ensures will_qos_refused { applying server_asked F05 (Open ∷ gets (with_will quality.ExactlyOnce false) ∷ sends (announcing 155 None None) ∷ []) ≡ 3 ∷ [] }
+    ensures no_will { applying server_asked F05 (Open ∷ gets lasting ∷ sends (announcing 0 (Some 1) None) ∷ []) ≡ [] }
+    ensures will_retain { applying server_asked F06 (Open ∷ gets (with_will quality.AtMostOnce false) ∷ sends (announcing 0 None (Some 0)) ∷ []) ≡ 3 ∷ [] }
+    ensures will_retain_available { applying server_asked F06 (Open ∷ gets (with_will quality.AtMostOnce true) ∷ sends (announcing 0 None (Some 1)) ∷ []) ≡ [] }
+    ensures method { applying server_asked A02 (Open ∷ gets lasting ∷ sends accepting ∷ []) ≡ 3 ∷ [] }
+    ensures method_named { applying server_asked A02 (Open ∷ gets with_method ∷ sends naming_method ∷ []) ≡ [] }
+    ensures method_auth { applying client_asked A02 (Open ∷ sends with_method ∷ sends Auth ∷ []) ≡ 3 ∷ [] }
+    ensures unasked { applying server A02 (Open ∷ gets lasting ∷ sends accepting ∷ []) ≡ [] }
 {}

@@ -1,6 +1,6 @@
 //! Which of C01 to C23 an event puts to the test, by what is kept of its connection: one type for
 //! each statement.
-ghost use Rattle.std.specs.Prelude.{◌≡◌, ◌==◌, ◌&&◌, ◌||◌, not, Bool, is_some, refl, Some};
+ghost use Rattle.std.specs.Prelude.{◌≡◌, ◌==◌, ◌&&◌, ◌||◌, not, Bool, true, is_some, refl, Some};
 ghost use Rattle.mq_rules.specs.declared.role.Role.{Role as TheRole};
 ghost use Rattle.mq_rules.specs.declared.rule.Rule.{Rule as TheRule};
 ghost use Rattle.mq_rules.specs.declared.rule.Rule.TheVariants as rules;
@@ -13,7 +13,7 @@ ghost use Rattle.mq_rules.specs.Pasts as pasts;
 ghost use Rattle.mq_rules.specs.Statements.{on_past};
 ghost use Rattle.mq_rules.specs.Occasions.{occasion};
 ghost use Rattle.mq_rules.specs.Trying as trying;
-ghost use Rattle.mq_rules.specs.Trying.{Tries};
+ghost use Rattle.mq_rules.specs.Trying.{Tries, is_tallied};
 
 mod agreed;
 
@@ -44,6 +44,8 @@ pub trait Tried {
 
     /// The table of occasions says so.
     ghost says: { (role : TheRole) → occasion role rule ≡ Some (on_past (test role)) };
+    /// It is one of C01 to C23.
+    ghost tallied: { is_tallied rule ≡ true };
     /// What is kept decides it.
     ghost finds: { Tries rule test found };
 }
@@ -179,6 +181,8 @@ impl Tried for C01 {
 
     ghost says = { λ role. refl };
 
+    ghost tallied = { refl };
+
     ghost finds = { trying.C01_tried };
 }
 
@@ -203,6 +207,8 @@ impl Tried for C02 {
     }
 
     ghost says = { λ role. refl };
+
+    ghost tallied = { refl };
 
     ghost finds = { trying.C02_tried };
 }
@@ -229,6 +235,8 @@ impl Tried for C03 {
 
     ghost says = { λ role. refl };
 
+    ghost tallied = { refl };
+
     ghost finds = { trying.C03_tried };
 }
 
@@ -253,6 +261,8 @@ impl Tried for C04 {
     }
 
     ghost says = { λ role. refl };
+
+    ghost tallied = { refl };
 
     ghost finds = { trying.C04_tried };
 }
@@ -281,6 +291,8 @@ impl Tried for C05 {
 
     ghost says = { λ role. refl };
 
+    ghost tallied = { refl };
+
     ghost finds = { trying.C05_tried };
 }
 
@@ -305,6 +317,8 @@ impl Tried for C06 {
     }
 
     ghost says = { λ role. refl };
+
+    ghost tallied = { refl };
 
     ghost finds = { trying.C06_tried };
 }
@@ -331,6 +345,8 @@ impl Tried for C07 {
 
     ghost says = { λ role. refl };
 
+    ghost tallied = { refl };
+
     ghost finds = { trying.C07_tried };
 }
 
@@ -355,6 +371,8 @@ impl Tried for C08 {
     }
 
     ghost says = { λ role. refl };
+
+    ghost tallied = { refl };
 
     ghost finds = { trying.C08_tried };
 }
@@ -381,6 +399,8 @@ impl Tried for C09 {
 
     ghost says = { λ role. refl };
 
+    ghost tallied = { refl };
+
     ghost finds = { trying.C09_tried };
 }
 
@@ -405,6 +425,8 @@ impl Tried for C10 {
     }
 
     ghost says = { λ role. refl };
+
+    ghost tallied = { refl };
 
     ghost finds = { trying.C10_tried };
 }
@@ -431,6 +453,8 @@ impl Tried for C11 {
 
     ghost says = { λ role. refl };
 
+    ghost tallied = { refl };
+
     ghost finds = { trying.C11_tried };
 }
 
@@ -455,6 +479,8 @@ impl Tried for C12 {
     }
 
     ghost says = { λ role. refl };
+
+    ghost tallied = { refl };
 
     ghost finds = { trying.C12_tried };
 }
@@ -481,6 +507,8 @@ impl Tried for C13 {
     }
 
     ghost says = { λ role. refl };
+
+    ghost tallied = { refl };
 
     ghost finds = { trying.C13_tried };
 }

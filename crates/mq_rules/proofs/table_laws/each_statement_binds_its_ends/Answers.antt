@@ -1,4 +1,4 @@
-use Rattle.mq_rules.proofs.TableLaws.{client_bound, server_bound, ends_cited, releases_needed}
+use Rattle.mq_rules.proofs.TableLaws.{client_bound, server_bound, ends_cited, releases_needed, further_on_request}
 use Rattle.mq_rules.proofs.table_laws.each_statement_binds_its_ends.Goals as goal
 
 pub returns-clause-client : goal.returns-clause-client
@@ -12,3 +12,6 @@ returns-clause-cited c = ends_cited
 
 pub returns-clause-released : goal.returns-clause-released
 returns-clause-released c = releases_needed
+
+pub returns-clause-further : goal.returns-clause-further
+returns-clause-further c = further_on_request

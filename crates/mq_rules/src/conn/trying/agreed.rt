@@ -148,6 +148,8 @@ impl Tried for C14 {
 
     ghost says = { λ role. refl };
 
+    ghost tallied = { refl };
+
     ghost finds = { trying.C14_tried };
 }
 
@@ -172,6 +174,8 @@ impl Tried for C15 {
     }
 
     ghost says = { λ role. refl };
+
+    ghost tallied = { refl };
 
     ghost finds = { trying.C15_tried };
 }
@@ -198,6 +202,8 @@ impl Tried for C16 {
 
     ghost says = { λ role. refl };
 
+    ghost tallied = { refl };
+
     ghost finds = { trying.C16_tried };
 }
 
@@ -222,6 +228,8 @@ impl Tried for C17 {
     }
 
     ghost says = { λ role. refl };
+
+    ghost tallied = { refl };
 
     ghost finds = { trying.C17_tried };
 }
@@ -248,6 +256,8 @@ impl Tried for C18 {
 
     ghost says = { λ role. refl };
 
+    ghost tallied = { refl };
+
     ghost finds = { trying.C18_tried };
 }
 
@@ -273,6 +283,8 @@ impl Tried for C19 {
 
     ghost says = { λ role. refl };
 
+    ghost tallied = { refl };
+
     ghost finds = { trying.C19_tried };
 }
 
@@ -297,6 +309,8 @@ impl Tried for C20 {
     }
 
     ghost says = { λ role. refl };
+
+    ghost tallied = { refl };
 
     ghost finds = { trying.C20_tried };
 }
@@ -324,6 +338,8 @@ impl Tried for C21 {
 
     ghost says = { λ role. refl };
 
+    ghost tallied = { refl };
+
     ghost finds = { trying.C21_tried };
 }
 
@@ -349,6 +365,8 @@ impl Tried for C22 {
 
     ghost says = { λ role. refl };
 
+    ghost tallied = { refl };
+
     ghost finds = { trying.C22_tried };
 }
 
@@ -373,6 +391,8 @@ impl Tried for C23 {
     }
 
     ghost says = { λ role. refl };
+
+    ghost tallied = { refl };
 
     ghost finds = { trying.C23_tried };
 }
