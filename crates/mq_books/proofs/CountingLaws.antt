@@ -79,7 +79,7 @@ pings-places tested kept taken f at e past here old new p under was is more =
         ∙ ap (λ n. pinged tested.role f (at == e.place.position) (some ends_binding (connection past)) e.note n) p.asked
         ∙ ap (λ t. is_server tested.role && (accepts f && ((is_rest e.note && ((at == e.place.position) && (accepts f && not (some ends_binding (connection past))))) && t))) (sym (some-count pings (connection past)))
         ∙ ap (λ t. is_server tested.role && (accepts f && (t && some pings (connection past)))) (sym (binding-under tested f at e past under))
-        ∙ ap (λ t. t && (accepts f && (is_binding tested.role (newest e past) && some pings (connection past)))) (sym (binds-E7R tested.role tested.releases))
+        ∙ ap (λ t. t && (accepts f && (is_binding tested.role (newest e past) && some pings (connection past)))) (sym (binds-E7R tested.role tested.releases tested.further))
 
 -- ---- S07
 
@@ -104,4 +104,4 @@ quota-places tested kept taken f at e past here old new q under was is more =
         ∙ ap (λ n. accepts f && (is_some (delivery_of e.note) && (may_count tested.role (peer_room tested.role past) && nat_le n (flying + 1)))) (sym (room-kept tested.role e past))
         ∙ ap (λ c. accepts f && (is_some (delivery_of e.note) && (c && nat_le (peer_receive_maximum tested.role (newest e past)) (flying + 1)))) (sym (counts-kept tested.role e past))
         ∙ ap (λ b. accepts f && b) (sym (S07-tried tested.role (newest e past)))
-        ∙ ap (λ b. b && (accepts f && applies_S07 tested.role (newest e past))) (sym (binds-S07 tested.role tested.releases))
+        ∙ ap (λ b. b && (accepts f && applies_S07 tested.role (newest e past))) (sym (binds-S07 tested.role tested.releases tested.further))

@@ -29,10 +29,10 @@ use Rattle.mq_books.specs.Standings.{Waits, IsStanding, any_kept, topic_kept, ju
 use Rattle.mq_books.proofs.JudgeLaws.{session-turns_with, gains_judged}
 use Rattle.mq_books.proofs.StandingLaws.{standing-kept, standing-named}
 
-pub binds-B02 : (role : Role) (releases : Bool) → binds B02 (record { role = role; releases = releases }) ≡ binds B01 (record { role = role; releases = releases })
+pub binds-B02 : (role : Role) (releases further : Bool) → binds B02 (record { role = role; releases = releases; further = further }) ≡ binds B01 (record { role = role; releases = releases; further = further })
 unfolding line_of found_line lines
-binds-B02 Client releases = refl
-binds-B02 Server releases = refl
+binds-B02 Client releases further = refl
+binds-B02 Server releases further = refl
 
 no_offset-B01 : (tested : Tested) (m : Option Moment) → offset_of (statement tested.role B01) m ≡ None
 no_offset-B01 tested m = refl
@@ -110,7 +110,7 @@ B02-gains tested fate f settled waiting sharing topics at e past m bound b under
     (λ p. is_above settled waiting p.qos) under.follows.on_connections.0 s
     (λ same p topic. ap (λ b. b && not (list_any (λ s. matches s.filter topic && nat_le (qos_number p.qos) s.ceiling) (standing_at tested.role f (newest e past)))) (standing-named tested fate settled waiting sharing topics (Some f) e past (λ filter. matches filter topic) same)
     ∙ ap (λ b. any_kept (λ s. matches s.filter topic) settled waiting && not b) (standing-kept tested fate settled waiting sharing topics (Some f) e past (λ filter. matches filter topic) (qos_number p.qos) same)))
-    ∙ ap (λ t. is_next past k && (t && (accepts f && delivers_so e.note sharing topics (λ p. is_above settled waiting p.qos)))) (binds-B02 tested.role tested.releases ∙ sym judged)
+    ∙ ap (λ t. is_next past k && (t && (accepts f && delivers_so e.note sharing topics (λ p. is_above settled waiting p.qos)))) (binds-B02 tested.role tested.releases tested.further ∙ sym judged)
     ∙ ap (λ t. is_next past k && t) (sym is))
 
 -- both, one after the other; and the first alone, where memory ran out at the second

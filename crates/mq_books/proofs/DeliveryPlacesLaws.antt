@@ -34,7 +34,7 @@ unfolding applies_B02
 B02-places tested fate f settled waiting sharing topics at e past bound here old new under s judged was is more =
     counted-session tested B02 (applies_B02 tested.role) refl f at e past here old new under was
     (is
-    ∙ ap (λ b. b && (accepts f && delivers_so e.note sharing topics (λ p topic. is_acknowledged p.qos))) (judged ∙ sym (binds-B02 tested.role tested.releases))
+    ∙ ap (λ b. b && (accepts f && delivers_so e.note sharing topics (λ p topic. is_acknowledged p.qos))) (judged ∙ sym (binds-B02 tested.role tested.releases tested.further))
     ∙ ap (λ t. binds B02 tested && (accepts f && t)) (sym (delivered tested fate f settled waiting sharing topics e past (λ p topic. is_acknowledged p.qos) (λ p topic. is_acknowledged p.qos) under.follows.on_connections.0 s (λ same p topic. refl)))) more
 
 -- what is counted of the two is what is asked of one of them

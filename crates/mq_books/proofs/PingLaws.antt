@@ -50,10 +50,10 @@ binding-under tested f at e past under = go (is_rest e.note) refl
         ap (λ b. b && not (some ends_binding (connection past))) (decided (latest_fate tested.role past) refl now)
         ∙ and-last (at == e.place.position) (accepts f) (not (some ends_binding (connection past)))
 
-pub binds-E7R : (role : Role) (releases : Bool) → binds E7R (record { role = role; releases = releases }) ≡ is_server role
+pub binds-E7R : (role : Role) (releases further : Bool) → binds E7R (record { role = role; releases = releases; further = further }) ≡ is_server role
 unfolding line_of found_line lines
-binds-E7R Client releases = refl
-binds-E7R Server releases = refl
+binds-E7R Client releases further = refl
+binds-E7R Server releases further = refl
 
 no_offset-E7R : (tested : Tested) (m : Option Moment) → offset_of (statement tested.role E7R) m ≡ None
 no_offset-E7R tested m = refl
@@ -95,7 +95,7 @@ pub E7R-turns : (tested : Tested) (f : Fate) (at : ℕ) (e : Seen) (past : List 
 unfolding breaks_E7R
 E7R-turns tested f at e past k under =
     session-turns_with tested E7R (λ f. breaks_E7R tested.role) refl f e past k
-    ∙ ap (λ b. is_next past k && (b && (accepts f && breaks_E7R tested.role (newest e past)))) (binds-E7R tested.role tested.releases)
+    ∙ ap (λ b. is_next past k && (b && (accepts f && breaks_E7R tested.role (newest e past)))) (binds-E7R tested.role tested.releases tested.further)
     ∙ ap (λ b. is_next past k && (is_server tested.role && (accepts f && (b && nat_lt (count (λ m. is_sent_pingresp (note m)) (connection past)) (count (λ m. is_received_pingreq (note m)) (connection past)))))) (binding-under tested f at e past under)
 
 -- an event that is no REST shows none

@@ -34,10 +34,10 @@ use Rattle.mq_rules.specs.Growing.{Gains}
 use Rattle.mq_books.specs.Quotas.{connect_room, connack_room, announced, peer_room, may_count, flown, exceeds, judged_by, IsQuota}
 use Rattle.mq_books.proofs.JudgeLaws.{session-turns_with, gains_judged}
 
-pub binds-S07 : (role : Role) (releases : Bool) → binds S07 (record { role = role; releases = releases }) ≡ true
+pub binds-S07 : (role : Role) (releases further : Bool) → binds S07 (record { role = role; releases = releases; further = further }) ≡ true
 unfolding line_of found_line lines
-binds-S07 Client releases = refl
-binds-S07 Server releases = refl
+binds-S07 Client releases further = refl
+binds-S07 Server releases further = refl
 
 no_offset-S07 : (tested : Tested) (m : Option Moment) → offset_of (statement tested.role S07) m ≡ None
 no_offset-S07 tested m = refl
@@ -135,7 +135,7 @@ pub S07-turns : (tested : Tested) (f : Fate) (e : Seen) (past : List Seen) (k : 
     → turns_with tested f e past k S07 ≡ (is_next past k && exceeds f e.note tested.role (peer_room tested.role past) (in_flight (those (counts tested.role) (connection past))))
 S07-turns tested f e past k =
     session-turns_with tested S07 (λ f. breaks_S07 tested.role) refl f e past k
-    ∙ ap (λ b. is_next past k && (b && (accepts f && breaks_S07 tested.role (newest e past)))) (binds-S07 tested.role tested.releases)
+    ∙ ap (λ b. is_next past k && (b && (accepts f && breaks_S07 tested.role (newest e past)))) (binds-S07 tested.role tested.releases tested.further)
     ∙ ap (λ b. is_next past k && (accepts f && b)) (S07-before tested.role (newest e past))
     ∙ ap (λ c. is_next past k && (accepts f && (is_some (delivery_of e.note) && (c && nat_le (peer_receive_maximum tested.role (newest e past)) (in_flight (those (counts tested.role) (connection past))))))) (counts-kept tested.role e past)
     ∙ ap (λ n. is_next past k && (accepts f && (is_some (delivery_of e.note) && (may_count tested.role (peer_room tested.role past) && nat_le n (in_flight (those (counts tested.role) (connection past))))))) (room-kept tested.role e past)

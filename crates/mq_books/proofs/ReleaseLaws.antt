@@ -32,20 +32,20 @@ use Rattle.mq_books.proofs.JudgeLaws.{session-turns_with, release-turns_with, ga
 
 -- ---- the statements
 
-pub binds-L1 : (role : Role) (releases : Bool) → binds L1 (record { role = role; releases = releases }) ≡ releases
+pub binds-L1 : (role : Role) (releases further : Bool) → binds L1 (record { role = role; releases = releases; further = further }) ≡ releases
 unfolding line_of found_line lines
-binds-L1 Client releases = refl
-binds-L1 Server releases = refl
+binds-L1 Client releases further = refl
+binds-L1 Server releases further = refl
 
-pub binds-L2 : (role : Role) (releases : Bool) → binds L2 (record { role = role; releases = releases }) ≡ releases
+pub binds-L2 : (role : Role) (releases further : Bool) → binds L2 (record { role = role; releases = releases; further = further }) ≡ releases
 unfolding line_of found_line lines
-binds-L2 Client releases = refl
-binds-L2 Server releases = refl
+binds-L2 Client releases further = refl
+binds-L2 Server releases further = refl
 
-pub binds-L3 : (role : Role) (releases : Bool) → binds L3 (record { role = role; releases = releases }) ≡ releases
+pub binds-L3 : (role : Role) (releases further : Bool) → binds L3 (record { role = role; releases = releases; further = further }) ≡ releases
 unfolding line_of found_line lines
-binds-L3 Client releases = refl
-binds-L3 Server releases = refl
+binds-L3 Client releases further = refl
+binds-L3 Server releases further = refl
 
 no_offset-L1 : (tested : Tested) (m : Option Moment) → offset_of (statement tested.role L1) m ≡ None
 no_offset-L1 tested m = refl
@@ -329,7 +329,7 @@ L1-turns : (tested : Tested) (role : Role) (releases : Bool) (fate f : Fate) (an
 unfolding breaks_L1
 L1-turns tested role releases fate f any brought released due at e past under r k =
     release-turns_with tested L1 (where_placed tested.role (breaks_L1 tested.role)) refl f e past k
-    ∙ ap (λ b. is_next past k && (b && (breaks_L1 tested.role f (newest e past) && is_placed_release tested.role f (newest e past)))) (binds-L1 tested.role tested.releases ∙ sym r.same_releases)
+    ∙ ap (λ b. is_next past k && (b && (breaks_L1 tested.role f (newest e past) && is_placed_release tested.role f (newest e past)))) (binds-L1 tested.role tested.releases tested.further ∙ sym r.same_releases)
     ∙ ap (λ b. is_next past k && b) (and-apart releases (breaks_L1 tested.role f (newest e past)) (is_placed_release tested.role f (newest e past)))
     ∙ ap (λ b. is_next past k && b) (placed-in (releases && breaks_L1 tested.role f (newest e past)) (releases && is_unreceived e.note brought) (is_placed_release tested.role f (newest e past)) (is_placed f (at == e.place.position))
     (ap (λ b. releases && b) (sym (same-found tested f e past (λ i. not (brought i)) (λ i ms. not (since (brings i) (ends i) ms)) (released_id e.note) (λ h. (open-unseen e.note h).1) (λ i. ap not (r.brought_are i)))))
@@ -342,7 +342,7 @@ L2-turns : (tested : Tested) (role : Role) (releases : Bool) (fate f : Fate) (an
 unfolding breaks_L2
 L2-turns tested role releases fate f any brought released due at e past under r k =
     release-turns_with tested L2 (where_placed tested.role (breaks_L2 tested.role)) refl f e past k
-    ∙ ap (λ b. is_next past k && (b && (breaks_L2 tested.role f (newest e past) && is_placed_release tested.role f (newest e past)))) (binds-L2 tested.role tested.releases ∙ sym r.same_releases)
+    ∙ ap (λ b. is_next past k && (b && (breaks_L2 tested.role f (newest e past) && is_placed_release tested.role f (newest e past)))) (binds-L2 tested.role tested.releases tested.further ∙ sym r.same_releases)
     ∙ ap (λ b. is_next past k && b) (and-apart releases (breaks_L2 tested.role f (newest e past)) (is_placed_release tested.role f (newest e past)))
     ∙ ap (λ b. is_next past k && b) (placed-in (releases && breaks_L2 tested.role f (newest e past)) (releases && is_repeated e.note released) (is_placed_release tested.role f (newest e past)) (is_placed f (at == e.place.position))
     (ap (λ b. releases && b) (sym (same-found tested f e past released (λ i ms. since (releases_message i) (ends i) ms) (released_id e.note) (λ h. (open-unseen e.note h).1) r.released_are)))
@@ -361,7 +361,7 @@ L3-turns : (tested : Tested) (role : Role) (releases : Bool) (fate f : Fate) (an
 unfolding breaks_L3
 L3-turns tested role releases fate f any brought released due e past r k =
     session-turns_with tested L3 (breaks_L3 tested.role) refl f e past k
-    ∙ ap (λ b. is_next past k && (b && (accepts f && breaks_L3 tested.role f (newest e past)))) (binds-L3 tested.role tested.releases ∙ sym r.same_releases)
+    ∙ ap (λ b. is_next past k && (b && (accepts f && breaks_L3 tested.role f (newest e past)))) (binds-L3 tested.role tested.releases tested.further ∙ sym r.same_releases)
     ∙ ap (λ b. is_next past k && (releases && (accepts f && b))) (sym (same-found tested f e past (λ i. not (released i) && due i)
     (λ i ms. is_some_and (λ first. not (since (releases_message i) (ends i) ms) && not (expires (note first) || not (since (is_same first) (is_unmatched i) ms))) (earliest_since (brings i) (ends i) ms))
     (sent_as success_pubcomp_in e.note) (λ h. (open-unseen e.note h).2)

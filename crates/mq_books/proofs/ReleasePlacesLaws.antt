@@ -52,14 +52,14 @@ pub L1-places : (tested : Tested) (releases : Bool) (f : Fate) (at : ℕ) (e : S
     → (old < e.place.position → new ≡ cond here 1 0 + old) → new ≡ places_under tested (Some f) (e ∷ past) L1
 unfolding applies_L1
 L1-places tested releases f at e past here old new same under was is more =
-    release-places tested L1 applies_L1 refl releases (binds-L1 tested.role tested.releases ∙ sym same) f at e past here old new refl under was is more
+    release-places tested L1 applies_L1 refl releases (binds-L1 tested.role tested.releases tested.further ∙ sym same) f at e past here old new refl under was is more
 
 pub L2-places : (tested : Tested) (releases : Bool) (f : Fate) (at : ℕ) (e : Seen) (past : List Seen) (here : Bool) (old new : ℕ) → releases ≡ tested.releases → IsUnder tested f at e past
     → old ≡ places_under tested (fate_before tested f e past) past L2 → here ≡ ((releases && is_some (released_id e.note)) && is_placed f (at == e.place.position))
     → (old < e.place.position → new ≡ cond here 1 0 + old) → new ≡ places_under tested (Some f) (e ∷ past) L2
 unfolding applies_L2
 L2-places tested releases f at e past here old new same under was is more =
-    release-places tested L2 applies_L2 refl releases (binds-L2 tested.role tested.releases ∙ sym same) f at e past here old new refl under was is more
+    release-places tested L2 applies_L2 refl releases (binds-L2 tested.role tested.releases tested.further ∙ sym same) f at e past here old new refl under was is more
 
 -- an exchange is completed whose message needs a RELEASE
 pub L3-places : (tested : Tested) (role : Role) (releases : Bool) (fate f : Fate) (any : Bool) (brought released due : ℕ → Bool) (at : ℕ) (e : Seen) (past : List Seen) (here : Bool) (old new : ℕ)
@@ -71,7 +71,7 @@ L3-places tested role releases fate f any brought released due at e past here ol
     counted-session tested L3 (applies_L3 tested.role) refl f at e past here old new under was
     (is
     ∙ ap (λ b. releases && (accepts f && b)) (same-found tested f e past due needs_release (sent_as success_pubcomp_in e.note) (λ h. (open-unseen e.note h).2) r.due_are)
-    ∙ ap (λ b. b && (accepts f && applies_L3 tested.role f (newest e past))) (r.same_releases ∙ sym (binds-L3 tested.role tested.releases))) more
+    ∙ ap (λ b. b && (accepts f && applies_L3 tested.role f (newest e past))) (r.same_releases ∙ sym (binds-L3 tested.role tested.releases tested.further))) more
 
 -- what is counted of the three is what is asked of one of them
 pub release-picked : (tested : Tested) (taken : Option Fate) (past : List Seen) (released completed : ℕ) (rule : Rule) → released ≡ places_under tested taken past L1 → released ≡ places_under tested taken past L2

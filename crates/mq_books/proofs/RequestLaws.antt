@@ -21,11 +21,11 @@ use Rattle.mq_rules.proofs.Exports.{and_false, gains_nothing, places-under-start
 use Rattle.mq_books.specs.Grouping.{of_requests, by_requests, requests_add}
 use Rattle.mq_books.specs.Requesting.{binds_requests, CountsIfBound}
 
-unbound : (role : Role) (releases : Bool) (r : Rule) → binds_requests role ≡ false → (of_requests r && binds r (record { role = role; releases = releases })) ≡ false
+unbound : (role : Role) (releases further : Bool) (r : Rule) → binds_requests role ≡ false → (of_requests r && binds r (record { role = role; releases = releases; further = further })) ≡ false
 unfolding line_of found_line lines
-unbound Client releases W01 h = refl
-unbound Client releases _ h = refl
-unbound Server releases r h = absurd (cc)
+unbound Client releases further W01 h = refl
+unbound Client releases further _ h = refl
+unbound Server releases further r h = absurd (cc)
 
 first_two : (a b c : Bool) → (a && b) ≡ false → (a && (b && c)) ≡ false
 first_two false b c h = refl
@@ -33,7 +33,7 @@ first_two true b c h = ap (λ t. t && c) h
 
 turns-none : (tested : Tested) → binds_requests tested.role ≡ false → (f : Fate) (e : Seen) (past : List Seen) (k : ℕ) (r : Rule) → (of_requests r && turns_with tested f e past k r) ≡ false
 unfolding turns_with
-turns-none tested h f e past k r = first_two (of_requests r) (binds r tested) (shows_with tested.role f (statement tested.role r) e past k) (unbound tested.role tested.releases r h)
+turns-none tested h f e past k r = first_two (of_requests r) (binds r tested) (shows_with tested.role f (statement tested.role r) e past k) (unbound tested.role tested.releases tested.further r h)
 
 known-none : (tested : Tested) → binds_requests tested.role ≡ false → (e : Seen) (past : List Seen) (k : ℕ) (r : Rule) → (of_requests r && turns_known tested e past k r) ≡ false
 known-none tested h e past k r = go (latest_fate tested.role (e ∷ past))
@@ -73,5 +73,5 @@ requests-counted tested taken past r n was judged each = go (binds_requests test
     go : (b : Bool) → binds_requests tested.role ≡ b → n ≡ places_under tested taken past r
     go true on = each taken past (was.bound on) judged
     go false off =
-        let out : binds r tested ≡ false = sym (ap (λ b. b && binds r tested) judged) ∙ unbound tested.role tested.releases r off in
+        let out : binds r tested ≡ false = sym (ap (λ b. b && binds r tested) judged) ∙ unbound tested.role tested.releases tested.further r off in
         each (Some Void) [] (was.unbound off) judged ∙ places-under-start tested (Some Void) r ∙ sym (unbound-under tested taken past r out)

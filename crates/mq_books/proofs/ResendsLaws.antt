@@ -49,10 +49,10 @@ use Rattle.mq_books.proofs.DueLaws.{owes, due-owes, owes-due}
 use Rattle.mq_books.proofs.PlacesLaws.{IsDueAt, value-due, key-due, places_under, under-due, listed-due, blamed_due-is, blamed_under-is}
 use Rattle.mq_books.proofs.AgainLaws.{due-listed}
 
-pub binds-S06 : (role : Role) (releases : Bool) → binds S06 (record { role = role; releases = releases }) ≡ true
+pub binds-S06 : (role : Role) (releases further : Bool) → binds S06 (record { role = role; releases = releases; further = further }) ≡ true
 unfolding line_of found_line lines
-binds-S06 Client releases = refl
-binds-S06 Server releases = refl
+binds-S06 Client releases further = refl
+binds-S06 Server releases further = refl
 
 -- ---- excuses
 
@@ -136,7 +136,7 @@ binding-fate tested f at e past under h =
 
 S06-turns : (tested : Tested) (f : Fate) (e : Seen) (past : List Seen) (k : ℕ) → turns_with tested f e past k S06 ≡ (is_binding tested.role (newest e past) && is_some_and (shows_S06 tested.role (newest e past)) (moment past k))
 unfolding turns_with
-S06-turns tested f e past k = ap (λ b. b && (is_binding tested.role (newest e past) && is_some_and (shows_S06 tested.role (newest e past)) (moment past k))) (binds-S06 tested.role tested.releases)
+S06-turns tested f e past k = ap (λ b. b && (is_binding tested.role (newest e past) && is_some_and (shows_S06 tested.role (newest e past)) (moment past k))) (binds-S06 tested.role tested.releases tested.further)
 
 shows-owes : (role : Role) (e : Seen) (past : List Seen) (m : Moment)
     → shows_S06 role (newest e past) m ≡ (not (is_waiting (newest e past)) && owes role (latest_fate role past) (is_used_up role (newest e past)) (refuses_retained role (newest e past)) past m)

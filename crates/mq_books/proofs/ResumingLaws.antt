@@ -71,7 +71,7 @@ adds-stood : (tested : Tested) (s : Inflight) (f : Fate) (at : ℕ) (e : Seen) (
     → settling ≡ (settles f (at == e.place.position) s.ended e.note && (index_set_len s.unanswered == 0)) → (m : Moment) → Among m (moments past) → adds_place tested e past (position m) S06 ≡ (settling && stood tested.role past m)
 unfolding adds_place applies_S06
 adds-stood tested s f at e past settling under u settling_is m among =
-    ap (λ b. b && (is_binding tested.role t && is_some_and (applies_S06 tested.role t) (moment past (position m)))) (binds-S06 tested.role tested.releases)
+    ap (λ b. b && (is_binding tested.role t && is_some_and (applies_S06 tested.role t) (moment past (position m)))) (binds-S06 tested.role tested.releases tested.further)
     ∙ ap (λ o. is_binding tested.role t && is_some_and (applies_S06 tested.role t) o) (among-moment m past among)
     ∙ go (is_binding tested.role t) refl (resumes f) refl
   where

@@ -267,88 +267,88 @@ pings-unconcerned (notes.Recv items.Lost) h = absurd (cc)
 
 -- ---- the send quota, for each role
 
-quota-sent-publish : (role : Role) (releases : Bool) (size : ℕ) (a b : Bool) (p : PublishNote) (q : Qos) → is_acknowledged q ≡ false → concerns_quota (record { role = role; releases = releases }) (sent size a b (at_qos p q)) ≡ false
-quota-sent-publish roles.Client releases size a b p quality.AtMostOnce h = refl
-quota-sent-publish roles.Server releases size a b p quality.AtMostOnce h = refl
-quota-sent-publish role releases size a b p quality.AtLeastOnce h = absurd (cc)
-quota-sent-publish role releases size a b p quality.ExactlyOnce h = absurd (cc)
+quota-sent-publish : (role : Role) (releases further : Bool) (size : ℕ) (a b : Bool) (p : PublishNote) (q : Qos) → is_acknowledged q ≡ false → concerns_quota (record { role = role; releases = releases; further = further }) (sent size a b (at_qos p q)) ≡ false
+quota-sent-publish roles.Client releases further size a b p quality.AtMostOnce h = refl
+quota-sent-publish roles.Server releases further size a b p quality.AtMostOnce h = refl
+quota-sent-publish role releases further size a b p quality.AtLeastOnce h = absurd (cc)
+quota-sent-publish role releases further size a b p quality.ExactlyOnce h = absurd (cc)
 
-quota-sent : (role : Role) (releases : Bool) (size : ℕ) (a b : Bool) (fields : PacketFields) → takes_quota fields ≡ false → concerns_quota (record { role = role; releases = releases }) (sent size a b fields) ≡ false
-quota-sent roles.Client releases size a b (Connect note) h = refl
-quota-sent roles.Server releases size a b (Connect note) h = refl
-quota-sent roles.Client releases size a b (Connack note) h = refl
-quota-sent roles.Server releases size a b (Connack note) h = refl
-quota-sent role releases size a b (Publish p) h = quota-sent-publish role releases size a b p p.qos h
-quota-sent roles.Client releases size a b (Puback i c) h = refl
-quota-sent roles.Server releases size a b (Puback i c) h = refl
-quota-sent roles.Client releases size a b (Pubrec i c) h = refl
-quota-sent roles.Server releases size a b (Pubrec i c) h = refl
-quota-sent roles.Client releases size a b (Pubrel i c) h = refl
-quota-sent roles.Server releases size a b (Pubrel i c) h = refl
-quota-sent roles.Client releases size a b (Pubcomp i c) h = refl
-quota-sent roles.Server releases size a b (Pubcomp i c) h = refl
-quota-sent roles.Client releases size a b (Subscribe i fs) h = refl
-quota-sent roles.Server releases size a b (Subscribe i fs) h = refl
-quota-sent roles.Client releases size a b (Suback i cs) h = refl
-quota-sent roles.Server releases size a b (Suback i cs) h = refl
-quota-sent roles.Client releases size a b (Unsubscribe i c) h = refl
-quota-sent roles.Server releases size a b (Unsubscribe i c) h = refl
-quota-sent roles.Client releases size a b (Unsuback i c) h = refl
-quota-sent roles.Server releases size a b (Unsuback i c) h = refl
-quota-sent roles.Client releases size a b Pingreq h = refl
-quota-sent roles.Server releases size a b Pingreq h = refl
-quota-sent roles.Client releases size a b Pingresp h = refl
-quota-sent roles.Server releases size a b Pingresp h = refl
-quota-sent roles.Client releases size a b (Disconnect note) h = refl
-quota-sent roles.Server releases size a b (Disconnect note) h = refl
-quota-sent roles.Client releases size a b Auth h = refl
-quota-sent roles.Server releases size a b Auth h = refl
+quota-sent : (role : Role) (releases further : Bool) (size : ℕ) (a b : Bool) (fields : PacketFields) → takes_quota fields ≡ false → concerns_quota (record { role = role; releases = releases; further = further }) (sent size a b fields) ≡ false
+quota-sent roles.Client releases further size a b (Connect note) h = refl
+quota-sent roles.Server releases further size a b (Connect note) h = refl
+quota-sent roles.Client releases further size a b (Connack note) h = refl
+quota-sent roles.Server releases further size a b (Connack note) h = refl
+quota-sent role releases further size a b (Publish p) h = quota-sent-publish role releases further size a b p p.qos h
+quota-sent roles.Client releases further size a b (Puback i c) h = refl
+quota-sent roles.Server releases further size a b (Puback i c) h = refl
+quota-sent roles.Client releases further size a b (Pubrec i c) h = refl
+quota-sent roles.Server releases further size a b (Pubrec i c) h = refl
+quota-sent roles.Client releases further size a b (Pubrel i c) h = refl
+quota-sent roles.Server releases further size a b (Pubrel i c) h = refl
+quota-sent roles.Client releases further size a b (Pubcomp i c) h = refl
+quota-sent roles.Server releases further size a b (Pubcomp i c) h = refl
+quota-sent roles.Client releases further size a b (Subscribe i fs) h = refl
+quota-sent roles.Server releases further size a b (Subscribe i fs) h = refl
+quota-sent roles.Client releases further size a b (Suback i cs) h = refl
+quota-sent roles.Server releases further size a b (Suback i cs) h = refl
+quota-sent roles.Client releases further size a b (Unsubscribe i c) h = refl
+quota-sent roles.Server releases further size a b (Unsubscribe i c) h = refl
+quota-sent roles.Client releases further size a b (Unsuback i c) h = refl
+quota-sent roles.Server releases further size a b (Unsuback i c) h = refl
+quota-sent roles.Client releases further size a b Pingreq h = refl
+quota-sent roles.Server releases further size a b Pingreq h = refl
+quota-sent roles.Client releases further size a b Pingresp h = refl
+quota-sent roles.Server releases further size a b Pingresp h = refl
+quota-sent roles.Client releases further size a b (Disconnect note) h = refl
+quota-sent roles.Server releases further size a b (Disconnect note) h = refl
+quota-sent roles.Client releases further size a b Auth h = refl
+quota-sent roles.Server releases further size a b Auth h = refl
 
-quota-received : (role : Role) (releases : Bool) (size : ℕ) (a b : Bool) (fields : PacketFields) → gives_quota fields ≡ false → concerns_quota (record { role = role; releases = releases }) (received size a b fields) ≡ false
-quota-received role releases size a b (Connect note) h = absurd (cc)
-quota-received role releases size a b (Connack note) h = absurd (cc)
-quota-received roles.Client releases size a b (Publish p) h = refl
-quota-received roles.Server releases size a b (Publish p) h = refl
-quota-received role releases size a b (Puback i c) h = absurd (cc)
-quota-received role releases size a b (Pubrec i c) h = absurd (cc)
-quota-received roles.Client releases size a b (Pubrel i c) h = refl
-quota-received roles.Server releases size a b (Pubrel i c) h = refl
-quota-received role releases size a b (Pubcomp i c) h = absurd (cc)
-quota-received roles.Client releases size a b (Subscribe i fs) h = refl
-quota-received roles.Server releases size a b (Subscribe i fs) h = refl
-quota-received roles.Client releases size a b (Suback i cs) h = refl
-quota-received roles.Server releases size a b (Suback i cs) h = refl
-quota-received roles.Client releases size a b (Unsubscribe i c) h = refl
-quota-received roles.Server releases size a b (Unsubscribe i c) h = refl
-quota-received roles.Client releases size a b (Unsuback i c) h = refl
-quota-received roles.Server releases size a b (Unsuback i c) h = refl
-quota-received roles.Client releases size a b Pingreq h = refl
-quota-received roles.Server releases size a b Pingreq h = refl
-quota-received roles.Client releases size a b Pingresp h = refl
-quota-received roles.Server releases size a b Pingresp h = refl
-quota-received roles.Client releases size a b (Disconnect note) h = refl
-quota-received roles.Server releases size a b (Disconnect note) h = refl
-quota-received roles.Client releases size a b Auth h = refl
-quota-received roles.Server releases size a b Auth h = refl
+quota-received : (role : Role) (releases further : Bool) (size : ℕ) (a b : Bool) (fields : PacketFields) → gives_quota fields ≡ false → concerns_quota (record { role = role; releases = releases; further = further }) (received size a b fields) ≡ false
+quota-received role releases further size a b (Connect note) h = absurd (cc)
+quota-received role releases further size a b (Connack note) h = absurd (cc)
+quota-received roles.Client releases further size a b (Publish p) h = refl
+quota-received roles.Server releases further size a b (Publish p) h = refl
+quota-received role releases further size a b (Puback i c) h = absurd (cc)
+quota-received role releases further size a b (Pubrec i c) h = absurd (cc)
+quota-received roles.Client releases further size a b (Pubrel i c) h = refl
+quota-received roles.Server releases further size a b (Pubrel i c) h = refl
+quota-received role releases further size a b (Pubcomp i c) h = absurd (cc)
+quota-received roles.Client releases further size a b (Subscribe i fs) h = refl
+quota-received roles.Server releases further size a b (Subscribe i fs) h = refl
+quota-received roles.Client releases further size a b (Suback i cs) h = refl
+quota-received roles.Server releases further size a b (Suback i cs) h = refl
+quota-received roles.Client releases further size a b (Unsubscribe i c) h = refl
+quota-received roles.Server releases further size a b (Unsubscribe i c) h = refl
+quota-received roles.Client releases further size a b (Unsuback i c) h = refl
+quota-received roles.Server releases further size a b (Unsuback i c) h = refl
+quota-received roles.Client releases further size a b Pingreq h = refl
+quota-received roles.Server releases further size a b Pingreq h = refl
+quota-received roles.Client releases further size a b Pingresp h = refl
+quota-received roles.Server releases further size a b Pingresp h = refl
+quota-received roles.Client releases further size a b (Disconnect note) h = refl
+quota-received roles.Server releases further size a b (Disconnect note) h = refl
+quota-received roles.Client releases further size a b Auth h = refl
+quota-received roles.Server releases further size a b Auth h = refl
 
-pub quota-unconcerned : (role : Role) (releases : Bool) (n : Note) → may_concern_quota n ≡ false → concerns_quota (record { role = role; releases = releases }) n ≡ false
-quota-unconcerned role releases notes.Open h = absurd (cc)
-quota-unconcerned roles.Client releases (notes.Close cuts) h = refl
-quota-unconcerned roles.Server releases (notes.Close cuts) h = refl
-quota-unconcerned roles.Client releases notes.Rest h = refl
-quota-unconcerned roles.Server releases notes.Rest h = refl
-quota-unconcerned roles.Client releases (notes.Release i) h = refl
-quota-unconcerned roles.Server releases (notes.Release i) h = refl
-quota-unconcerned role releases (notes.Sent (items.Packet p)) h = quota-sent role releases p.size p.has_reason_string p.has_user_property p.fields h
-quota-unconcerned roles.Client releases (notes.Sent (items.Bad first rule at)) h = refl
-quota-unconcerned roles.Server releases (notes.Sent (items.Bad first rule at)) h = refl
-quota-unconcerned roles.Client releases (notes.Sent items.Lost) h = refl
-quota-unconcerned roles.Server releases (notes.Sent items.Lost) h = refl
-quota-unconcerned role releases (notes.Recv (items.Packet p)) h = quota-received role releases p.size p.has_reason_string p.has_user_property p.fields h
-quota-unconcerned roles.Client releases (notes.Recv (items.Bad first rule at)) h = refl
-quota-unconcerned roles.Server releases (notes.Recv (items.Bad first rule at)) h = refl
-quota-unconcerned roles.Client releases (notes.Recv items.Lost) h = refl
-quota-unconcerned roles.Server releases (notes.Recv items.Lost) h = refl
+pub quota-unconcerned : (role : Role) (releases further : Bool) (n : Note) → may_concern_quota n ≡ false → concerns_quota (record { role = role; releases = releases; further = further }) n ≡ false
+quota-unconcerned role releases further notes.Open h = absurd (cc)
+quota-unconcerned roles.Client releases further (notes.Close cuts) h = refl
+quota-unconcerned roles.Server releases further (notes.Close cuts) h = refl
+quota-unconcerned roles.Client releases further notes.Rest h = refl
+quota-unconcerned roles.Server releases further notes.Rest h = refl
+quota-unconcerned roles.Client releases further (notes.Release i) h = refl
+quota-unconcerned roles.Server releases further (notes.Release i) h = refl
+quota-unconcerned role releases further (notes.Sent (items.Packet p)) h = quota-sent role releases further p.size p.has_reason_string p.has_user_property p.fields h
+quota-unconcerned roles.Client releases further (notes.Sent (items.Bad first rule at)) h = refl
+quota-unconcerned roles.Server releases further (notes.Sent (items.Bad first rule at)) h = refl
+quota-unconcerned roles.Client releases further (notes.Sent items.Lost) h = refl
+quota-unconcerned roles.Server releases further (notes.Sent items.Lost) h = refl
+quota-unconcerned role releases further (notes.Recv (items.Packet p)) h = quota-received role releases further p.size p.has_reason_string p.has_user_property p.fields h
+quota-unconcerned roles.Client releases further (notes.Recv (items.Bad first rule at)) h = refl
+quota-unconcerned roles.Server releases further (notes.Recv (items.Bad first rule at)) h = refl
+quota-unconcerned roles.Client releases further (notes.Recv items.Lost) h = refl
+quota-unconcerned roles.Server releases further (notes.Recv items.Lost) h = refl
 
 -- ---- Packet Identifiers in use, for each role
 
@@ -357,75 +357,75 @@ unnamed : (d : Bool) → (is_some (only {A = ℕ} (not d) None) || is_some (only
 unnamed true = refl
 unnamed false = refl
 
-identifiers-sent-publish : (role : Role) (releases : Bool) (size : ℕ) (a b : Bool) (p : PublishNote) (q : Qos) → is_acknowledged q ≡ false → concerns_flight (record { role = role; releases = releases }) (sent size a b (at_qos p q)) ≡ false
-identifiers-sent-publish roles.Client releases size a b p quality.AtMostOnce h = ap (λ t. (t || false) || false) (unnamed p.duplicate)
-identifiers-sent-publish roles.Server releases size a b p quality.AtMostOnce h = ap (λ t. (t || false) || false) (unnamed p.duplicate)
-identifiers-sent-publish role releases size a b p quality.AtLeastOnce h = absurd (cc)
-identifiers-sent-publish role releases size a b p quality.ExactlyOnce h = absurd (cc)
+identifiers-sent-publish : (role : Role) (releases further : Bool) (size : ℕ) (a b : Bool) (p : PublishNote) (q : Qos) → is_acknowledged q ≡ false → concerns_flight (record { role = role; releases = releases; further = further }) (sent size a b (at_qos p q)) ≡ false
+identifiers-sent-publish roles.Client releases further size a b p quality.AtMostOnce h = ap (λ t. (t || false) || false) (unnamed p.duplicate)
+identifiers-sent-publish roles.Server releases further size a b p quality.AtMostOnce h = ap (λ t. (t || false) || false) (unnamed p.duplicate)
+identifiers-sent-publish role releases further size a b p quality.AtLeastOnce h = absurd (cc)
+identifiers-sent-publish role releases further size a b p quality.ExactlyOnce h = absurd (cc)
 
-identifiers-sent : (role : Role) (releases : Bool) (size : ℕ) (a b : Bool) (fields : PacketFields) → uses_identifier fields ≡ false → concerns_flight (record { role = role; releases = releases }) (sent size a b fields) ≡ false
-identifiers-sent roles.Client releases size a b (Connect note) h = refl
-identifiers-sent roles.Server releases size a b (Connect note) h = refl
-identifiers-sent roles.Client releases size a b (Connack note) h = refl
-identifiers-sent roles.Server releases size a b (Connack note) h = refl
-identifiers-sent role releases size a b (Publish p) h = identifiers-sent-publish role releases size a b p p.qos h
-identifiers-sent roles.Client releases size a b (Puback i c) h = refl
-identifiers-sent roles.Server releases size a b (Puback i c) h = refl
-identifiers-sent roles.Client releases size a b (Pubrec i c) h = refl
-identifiers-sent roles.Server releases size a b (Pubrec i c) h = refl
-identifiers-sent role releases size a b (Pubrel i c) h = absurd (cc)
-identifiers-sent roles.Client releases size a b (Pubcomp i c) h = refl
-identifiers-sent roles.Server releases size a b (Pubcomp i c) h = refl
-identifiers-sent role releases size a b (Subscribe i fs) h = absurd (cc)
-identifiers-sent roles.Client releases size a b (Suback i cs) h = refl
-identifiers-sent roles.Server releases size a b (Suback i cs) h = refl
-identifiers-sent role releases size a b (Unsubscribe i c) h = absurd (cc)
-identifiers-sent roles.Client releases size a b (Unsuback i c) h = refl
-identifiers-sent roles.Server releases size a b (Unsuback i c) h = refl
-identifiers-sent roles.Client releases size a b Pingreq h = refl
-identifiers-sent roles.Server releases size a b Pingreq h = refl
-identifiers-sent roles.Client releases size a b Pingresp h = refl
-identifiers-sent roles.Server releases size a b Pingresp h = refl
-identifiers-sent role releases size a b (Disconnect note) h = absurd (cc)
-identifiers-sent roles.Client releases size a b Auth h = refl
-identifiers-sent roles.Server releases size a b Auth h = refl
+identifiers-sent : (role : Role) (releases further : Bool) (size : ℕ) (a b : Bool) (fields : PacketFields) → uses_identifier fields ≡ false → concerns_flight (record { role = role; releases = releases; further = further }) (sent size a b fields) ≡ false
+identifiers-sent roles.Client releases further size a b (Connect note) h = refl
+identifiers-sent roles.Server releases further size a b (Connect note) h = refl
+identifiers-sent roles.Client releases further size a b (Connack note) h = refl
+identifiers-sent roles.Server releases further size a b (Connack note) h = refl
+identifiers-sent role releases further size a b (Publish p) h = identifiers-sent-publish role releases further size a b p p.qos h
+identifiers-sent roles.Client releases further size a b (Puback i c) h = refl
+identifiers-sent roles.Server releases further size a b (Puback i c) h = refl
+identifiers-sent roles.Client releases further size a b (Pubrec i c) h = refl
+identifiers-sent roles.Server releases further size a b (Pubrec i c) h = refl
+identifiers-sent role releases further size a b (Pubrel i c) h = absurd (cc)
+identifiers-sent roles.Client releases further size a b (Pubcomp i c) h = refl
+identifiers-sent roles.Server releases further size a b (Pubcomp i c) h = refl
+identifiers-sent role releases further size a b (Subscribe i fs) h = absurd (cc)
+identifiers-sent roles.Client releases further size a b (Suback i cs) h = refl
+identifiers-sent roles.Server releases further size a b (Suback i cs) h = refl
+identifiers-sent role releases further size a b (Unsubscribe i c) h = absurd (cc)
+identifiers-sent roles.Client releases further size a b (Unsuback i c) h = refl
+identifiers-sent roles.Server releases further size a b (Unsuback i c) h = refl
+identifiers-sent roles.Client releases further size a b Pingreq h = refl
+identifiers-sent roles.Server releases further size a b Pingreq h = refl
+identifiers-sent roles.Client releases further size a b Pingresp h = refl
+identifiers-sent roles.Server releases further size a b Pingresp h = refl
+identifiers-sent role releases further size a b (Disconnect note) h = absurd (cc)
+identifiers-sent roles.Client releases further size a b Auth h = refl
+identifiers-sent roles.Server releases further size a b Auth h = refl
 
-identifiers-received : (role : Role) (releases : Bool) (size : ℕ) (a b : Bool) (fields : PacketFields) → frees_identifier fields ≡ false → concerns_flight (record { role = role; releases = releases }) (received size a b fields) ≡ false
-identifiers-received role releases size a b (Connect note) h = absurd (cc)
-identifiers-received role releases size a b (Connack note) h = absurd (cc)
-identifiers-received roles.Client releases size a b (Publish p) h = refl
-identifiers-received roles.Server releases size a b (Publish p) h = refl
-identifiers-received role releases size a b (Puback i c) h = absurd (cc)
-identifiers-received role releases size a b (Pubrec i c) h = absurd (cc)
-identifiers-received roles.Client releases size a b (Pubrel i c) h = refl
-identifiers-received roles.Server releases size a b (Pubrel i c) h = refl
-identifiers-received role releases size a b (Pubcomp i c) h = absurd (cc)
-identifiers-received roles.Client releases size a b (Subscribe i fs) h = refl
-identifiers-received roles.Server releases size a b (Subscribe i fs) h = refl
-identifiers-received role releases size a b (Suback i cs) h = absurd (cc)
-identifiers-received roles.Client releases size a b (Unsubscribe i c) h = refl
-identifiers-received roles.Server releases size a b (Unsubscribe i c) h = refl
-identifiers-received role releases size a b (Unsuback i c) h = absurd (cc)
-identifiers-received roles.Client releases size a b Pingreq h = refl
-identifiers-received roles.Server releases size a b Pingreq h = refl
-identifiers-received roles.Client releases size a b Pingresp h = refl
-identifiers-received roles.Server releases size a b Pingresp h = refl
-identifiers-received role releases size a b (Disconnect note) h = absurd (cc)
-identifiers-received roles.Client releases size a b Auth h = refl
-identifiers-received roles.Server releases size a b Auth h = refl
+identifiers-received : (role : Role) (releases further : Bool) (size : ℕ) (a b : Bool) (fields : PacketFields) → frees_identifier fields ≡ false → concerns_flight (record { role = role; releases = releases; further = further }) (received size a b fields) ≡ false
+identifiers-received role releases further size a b (Connect note) h = absurd (cc)
+identifiers-received role releases further size a b (Connack note) h = absurd (cc)
+identifiers-received roles.Client releases further size a b (Publish p) h = refl
+identifiers-received roles.Server releases further size a b (Publish p) h = refl
+identifiers-received role releases further size a b (Puback i c) h = absurd (cc)
+identifiers-received role releases further size a b (Pubrec i c) h = absurd (cc)
+identifiers-received roles.Client releases further size a b (Pubrel i c) h = refl
+identifiers-received roles.Server releases further size a b (Pubrel i c) h = refl
+identifiers-received role releases further size a b (Pubcomp i c) h = absurd (cc)
+identifiers-received roles.Client releases further size a b (Subscribe i fs) h = refl
+identifiers-received roles.Server releases further size a b (Subscribe i fs) h = refl
+identifiers-received role releases further size a b (Suback i cs) h = absurd (cc)
+identifiers-received roles.Client releases further size a b (Unsubscribe i c) h = refl
+identifiers-received roles.Server releases further size a b (Unsubscribe i c) h = refl
+identifiers-received role releases further size a b (Unsuback i c) h = absurd (cc)
+identifiers-received roles.Client releases further size a b Pingreq h = refl
+identifiers-received roles.Server releases further size a b Pingreq h = refl
+identifiers-received roles.Client releases further size a b Pingresp h = refl
+identifiers-received roles.Server releases further size a b Pingresp h = refl
+identifiers-received role releases further size a b (Disconnect note) h = absurd (cc)
+identifiers-received roles.Client releases further size a b Auth h = refl
+identifiers-received roles.Server releases further size a b Auth h = refl
 
-pub identifiers-unconcerned : (role : Role) (releases : Bool) (n : Note) → may_concern_identifiers n ≡ false → concerns_flight (record { role = role; releases = releases }) n ≡ false
-identifiers-unconcerned role releases notes.Open h = absurd (cc)
-identifiers-unconcerned role releases (notes.Close cuts) h = absurd (cc)
-identifiers-unconcerned role releases notes.Rest h = absurd (cc)
-identifiers-unconcerned roles.Client releases (notes.Release i) h = refl
-identifiers-unconcerned roles.Server releases (notes.Release i) h = refl
-identifiers-unconcerned role releases (notes.Sent (items.Packet p)) h = identifiers-sent role releases p.size p.has_reason_string p.has_user_property p.fields h
-identifiers-unconcerned role releases (notes.Sent (items.Bad first rule at)) h = absurd (cc)
-identifiers-unconcerned role releases (notes.Sent items.Lost) h = absurd (cc)
-identifiers-unconcerned role releases (notes.Recv (items.Packet p)) h = identifiers-received role releases p.size p.has_reason_string p.has_user_property p.fields h
-identifiers-unconcerned role releases (notes.Recv (items.Bad first rule at)) h = absurd (cc)
-identifiers-unconcerned role releases (notes.Recv items.Lost) h = absurd (cc)
+pub identifiers-unconcerned : (role : Role) (releases further : Bool) (n : Note) → may_concern_identifiers n ≡ false → concerns_flight (record { role = role; releases = releases; further = further }) n ≡ false
+identifiers-unconcerned role releases further notes.Open h = absurd (cc)
+identifiers-unconcerned role releases further (notes.Close cuts) h = absurd (cc)
+identifiers-unconcerned role releases further notes.Rest h = absurd (cc)
+identifiers-unconcerned roles.Client releases further (notes.Release i) h = refl
+identifiers-unconcerned roles.Server releases further (notes.Release i) h = refl
+identifiers-unconcerned role releases further (notes.Sent (items.Packet p)) h = identifiers-sent role releases further p.size p.has_reason_string p.has_user_property p.fields h
+identifiers-unconcerned role releases further (notes.Sent (items.Bad first rule at)) h = absurd (cc)
+identifiers-unconcerned role releases further (notes.Sent items.Lost) h = absurd (cc)
+identifiers-unconcerned role releases further (notes.Recv (items.Packet p)) h = identifiers-received role releases further p.size p.has_reason_string p.has_user_property p.fields h
+identifiers-unconcerned role releases further (notes.Recv (items.Bad first rule at)) h = absurd (cc)
+identifiers-unconcerned role releases further (notes.Recv items.Lost) h = absurd (cc)
 
 -- ---- subscriptions
 

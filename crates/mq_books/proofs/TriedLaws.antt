@@ -236,7 +236,7 @@ pub S01-places : (tested : Tested) (s : Inflight) (f : Fate) (at : ℕ) (e : See
     → (old < e.place.position → new ≡ cond here 1 0 + old) → new ≡ places_under tested (Some f) (e ∷ past) S01
 unfolding applies_S01
 S01-places tested s f at e past here old new under u was is more =
-    known-places tested S01 (applies_S01 tested.role) is_unasked refl (binds-S01 tested.role tested.releases) f at e past here (is_some (taken_by tested.role e.note) && any_used s f) old new under
+    known-places tested S01 (applies_S01 tested.role) is_unasked refl (binds-S01 tested.role tested.releases tested.further) f at e past here (is_some (taken_by tested.role e.note) && any_used s f) old new under
     (λ t. taken-needs tested.role e.note (both_true (is_some (taken_by tested.role e.note)) (any_used s f) (both_true (accepts f) (is_some (taken_by tested.role e.note) && any_used s f) t).1).0)
     (where-sent f e.note (is_some (taken_by tested.role e.note) && any_used s f) (is_some (taken_by tested.role e.note) && is_any_busy_at tested.role f (newest e past))
     (λ h. let none = taken-none tested.role e.note h in ap (λ o. is_some o && any_used s f) none ∙ sym (ap (λ o. is_some o && is_any_busy_at tested.role f (newest e past)) none))
@@ -248,7 +248,7 @@ pub S02-places : (tested : Tested) (s : Inflight) (f : Fate) (at : ℕ) (e : See
     → (old < e.place.position → new ≡ cond here 1 0 + old) → new ≡ places_under tested (Some f) (e ∷ past) S02
 unfolding applies_S02
 S02-places tested s f at e past here old new under u was is more =
-    known-places tested S02 (applies_S02 tested.role) surprises refl (binds-S02 tested.role tested.releases) f at e past here (is_some (resend_of e.note) && not cut) old new under
+    known-places tested S02 (applies_S02 tested.role) surprises refl (binds-S02 tested.role tested.releases tested.further) f at e past here (is_some (resend_of e.note) && not cut) old new under
     (λ t. resend-needs e.note (both_true (is_some (resend_of e.note)) (not cut) (both_true (accepts f) (is_some (resend_of e.note) && not cut) t).1).0)
     (where-sent f e.note (is_some (resend_of e.note) && not cut) (is_some (resend_of e.note) && not (was_cut_off tested.role f (newest e past)))
     (λ h. let none = resend-none e.note h in ap (λ o. is_some o && not cut) none ∙ sym (ap (λ o. is_some o && not (was_cut_off tested.role f (newest e past))) none))
@@ -269,7 +269,7 @@ pub S03-places : (tested : Tested) (f : Fate) (at : ℕ) (e : Seen) (past : List
     → (old < e.place.position → new ≡ cond here 1 0 + old) → new ≡ places_under tested (Some f) (e ∷ past) S03
 unfolding applies_S03
 S03-places tested f at e past here old new under was is more =
-    counted-session tested S03 (λ f. applies_S03) refl f at e past here old new under was (is ∙ ap (λ b. b && (accepts f && is_some (resend_of e.note))) (sym (binds-S03 tested.role tested.releases))) more
+    counted-session tested S03 (λ f. applies_S03) refl f at e past here old new under was (is ∙ ap (λ b. b && (accepts f && is_some (resend_of e.note))) (sym (binds-S03 tested.role tested.releases tested.further))) more
 
 pub S04-places : (tested : Tested) (s : Inflight) (f : Fate) (at : ℕ) (e : Seen) (past : List Seen) (here : Bool) (old new : ℕ) → IsUnder tested f at e past → IsUsing s tested (fate_before tested f e past) past
     → old ≡ places_under tested (fate_before tested f e past) past S04 → here ≡ tries_released s f e.note
@@ -282,7 +282,7 @@ S04-places tested s f at e past here old new under u was is more =
     (λ h. let none = ap (λ o. option_or o (sent_as pubrel_in e.note)) (resend-none e.note h) ∙ sent-none pubrel_in e.note h in ap (is_some_and (past_pubrel (get nat_eq s.entries))) none ∙ sym (ap (is_some_and past_it) none))
     (λ item accepted. same_some (past_pubrel (get nat_eq s.entries)) past_it again (λ i.
     ap (is_some_and (λ (o : Entry). o.exactly_once && o.released)) ((now s tested f e past (item-closed e.note item) u).entries_are i) ∙ past_pubrel-is tested.role i (session tested.role (Some f) past) (session-descend tested.role (Some f) past)))
-    ∙ ap (λ b. b && (accepts f && is_some_and past_it again)) (sym (binds-S04 tested.role tested.releases))) more
+    ∙ ap (λ b. b && (accepts f && is_some_and past_it again)) (sym (binds-S04 tested.role tested.releases tested.further))) more
   where
     again : Option ℕ
     again = option_or (resend_of e.note) (sent_as pubrel_in e.note)

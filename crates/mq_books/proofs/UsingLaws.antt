@@ -46,25 +46,25 @@ use Rattle.mq_books.specs.Knowing.{excused, all_excused}
 
 -- ---- whom the statements bind
 
-pub binds-S01 : (role : Role) (releases : Bool) → binds S01 (record { role = role; releases = releases }) ≡ true
+pub binds-S01 : (role : Role) (releases further : Bool) → binds S01 (record { role = role; releases = releases; further = further }) ≡ true
 unfolding line_of found_line lines
-binds-S01 Client releases = refl
-binds-S01 Server releases = refl
+binds-S01 Client releases further = refl
+binds-S01 Server releases further = refl
 
-pub binds-S02 : (role : Role) (releases : Bool) → binds S02 (record { role = role; releases = releases }) ≡ true
+pub binds-S02 : (role : Role) (releases further : Bool) → binds S02 (record { role = role; releases = releases; further = further }) ≡ true
 unfolding line_of found_line lines
-binds-S02 Client releases = refl
-binds-S02 Server releases = refl
+binds-S02 Client releases further = refl
+binds-S02 Server releases further = refl
 
-pub binds-S03 : (role : Role) (releases : Bool) → binds S03 (record { role = role; releases = releases }) ≡ true
+pub binds-S03 : (role : Role) (releases further : Bool) → binds S03 (record { role = role; releases = releases; further = further }) ≡ true
 unfolding line_of found_line lines
-binds-S03 Client releases = refl
-binds-S03 Server releases = refl
+binds-S03 Client releases further = refl
+binds-S03 Server releases further = refl
 
-pub binds-S04 : (role : Role) (releases : Bool) → binds S04 (record { role = role; releases = releases }) ≡ true
+pub binds-S04 : (role : Role) (releases further : Bool) → binds S04 (record { role = role; releases = releases; further = further }) ≡ true
 unfolding line_of found_line lines
-binds-S04 Client releases = refl
-binds-S04 Server releases = refl
+binds-S04 Client releases further = refl
+binds-S04 Server releases further = refl
 
 -- ---- what is neither sent nor received is no packet
 
@@ -283,7 +283,7 @@ S01-turns : (tested : Tested) (s : Inflight) (f : Fate) (at : ℕ) (e : Seen) (p
 unfolding breaks_S01
 S01-turns tested s f at e past under on u k =
     session-turns_with tested S01 (knowing_resumed tested.role (breaks_S01 tested.role)) refl f e past k
-    ∙ ap (λ b. is_next past k && (b && (accepts f && (breaks_S01 tested.role f (newest e past) && not (couldnt_know_resumed tested.role f (newest e past)))))) (binds-S01 tested.role tested.releases)
+    ∙ ap (λ b. is_next past k && (b && (accepts f && (breaks_S01 tested.role f (newest e past) && not (couldnt_know_resumed tested.role f (newest e past)))))) (binds-S01 tested.role tested.releases tested.further)
     ∙ ap (λ b. is_next past k && b) (and-apart (accepts f) (breaks_S01 tested.role f (newest e past)) (not (couldnt_know_resumed tested.role f (newest e past))))
     ∙ ap (λ b. is_next past k && (b && not (couldnt_know_resumed tested.role f (newest e past)))) (sym (go (accepts f) refl (has_item e.note) refl))
     ∙ ap (λ r. is_next past k && ((accepts f && is_some_and busy (taken_by r e.note)) && not (couldnt_know_resumed tested.role f (newest e past)))) (sym u.same_role)
@@ -345,7 +345,7 @@ S02-turns : (tested : Tested) (s : Inflight) (f : Fate) (at : ℕ) (e : Seen) (p
     → (k : ℕ) → turns_with tested f e past k S02 ≡ (is_next past k && excused (surprises f) (at == e.place.position) (breaks s f e.note).unopened)
 unfolding breaks_S02
 S02-turns tested s f at e past under u =
-    known-resend-turns tested S02 (breaks_S02 tested.role) refl (binds-S02 tested.role tested.releases) f at e past (λ i. not (is_open_at tested.role f i (newest e past) || (was_sent_on_void tested.role i (newest e past) || (was_sent_before_session tested.role f i (newest e past) || was_cut_off tested.role f (newest e past)))))
+    known-resend-turns tested S02 (breaks_S02 tested.role) refl (binds-S02 tested.role tested.releases tested.further) f at e past (λ i. not (is_open_at tested.role f i (newest e past) || (was_sent_on_void tested.role i (newest e past) || (was_sent_before_session tested.role f i (newest e past) || was_cut_off tested.role f (newest e past)))))
     (unopened (get nat_eq s.entries) (contains nat_eq s.void) (may_resend s.earlier f)) under refl
     (λ item accepted i.
     let n = now s tested f e past (item-closed e.note item) u in
@@ -357,13 +357,13 @@ S02-turns tested s f at e past under u =
 S03-turns : (tested : Tested) (s : Inflight) (f : Fate) (e : Seen) (past : List Seen) → IsOnConnection e past → IsUsing s tested (fate_before tested f e past) past → (k : ℕ) → turns_with tested f e past k S03 ≡ (is_next past k && (breaks s f e.note).twice)
 unfolding breaks_S03
 S03-turns tested s f e past on u =
-    resend-turns tested S03 (λ f. breaks_S03) refl true (binds-S03 tested.role tested.releases) f e past (λ i. since (delivers i) (closes_id i) (connection past)) (delivering s) refl
+    resend-turns tested S03 (λ f. breaks_S03) refl true (binds-S03 tested.role tested.releases tested.further) f e past (λ i. since (delivers i) (closes_id i) (connection past)) (delivering s) refl
     (λ item accepted i. let open_now = on (item-needs e.note item) in u.delivering_are open_now i ∙ waits-connected delivery_of closer_of i past open_now)
 
 S04-turns : (tested : Tested) (s : Inflight) (f : Fate) (e : Seen) (past : List Seen) → IsUsing s tested (fate_before tested f e past) past → (k : ℕ) → turns_with tested f e past k S04 ≡ (is_next past k && (breaks s f e.note).past_pubrel)
 unfolding breaks_S04
 S04-turns tested s f e past u =
-    resend-turns tested S04 (breaks_S04 tested.role) refl true (binds-S04 tested.role tested.releases) f e past
+    resend-turns tested S04 (breaks_S04 tested.role) refl true (binds-S04 tested.role tested.releases tested.further) f e past
     (λ i. is_open_at tested.role f i (newest e past) && (is_some_and (opens_exactly_once i) (latest_opener tested.role f i (newest e past)) && since (sends_pubrel i) (opens_id i) (session tested.role (Some f) past)))
     (past_pubrel (get nat_eq s.entries)) refl
     (λ item accepted i. ap (is_some_and (λ (o : Entry). o.exactly_once && o.released)) ((now s tested f e past (item-closed e.note item) u).entries_are i) ∙ past_pubrel-is tested.role i (session tested.role (Some f) past) (session-descend tested.role (Some f) past))

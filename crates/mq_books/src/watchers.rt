@@ -23,7 +23,7 @@ use mq_rules::{Bare, Brisk, Fate, Faults, Memory, Note, Rule, Tested, Watch, ste
 pub use plain::PlainWatchers;
 use std::alloc::Global;
 
-/// Watches all 74 statements.
+/// Watches all statements.
 #[derive(Drop)]
 pub enum Watchers {
     /// It finds their faults.

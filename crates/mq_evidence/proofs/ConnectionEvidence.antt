@@ -7,7 +7,7 @@ use Rattle.mq_rules.specs.declared.role.Role.TheVariants.{Client, Server}
 use Rattle.mq_rules.specs.declared.role.Tested.{Tested}
 use Rattle.mq_rules.specs.declared.fate.Fate.{Fate}
 use Rattle.mq_rules.specs.declared.rule.Rule.{Rule}
-use Rattle.mq_rules.specs.declared.rule.Rule.TheVariants.{C03, C06, C07, C08, C10, C11, C12, C13, C14, C15, C16, C17, C20, C21, C22, C23}
+use Rattle.mq_rules.specs.declared.rule.Rule.TheVariants.{C03, C06, C07, C08, C10, C11, C12, C13, C14, C15, C16, C17, C20, C21, C22, C23, F05, F06, A02}
 use Rattle.mq_rules.specs.declared.note.Seen.{Seen}
 use Rattle.mq_rules.specs.Moments.{Moment, moment}
 use Rattle.mq_rules.specs.Connections.{number, fate}
@@ -26,6 +26,7 @@ client-past C16 h f t k = refl
 client-past C17 h f t k = refl
 client-past C20 h f t k = refl
 client-past C23 h f t k = refl
+client-past A02 h f t k = refl
 client-past _ h f t k = absurd (cc)
 
 server-past : (r : Rule) → is_of_server r ≡ true → (f : Option Fate) (t : Option Moment) (k : Moment) → found (reason Server r) f t k ≡ found (reason Server r) None None k
@@ -41,6 +42,9 @@ server-past C16 h f t k = refl
 server-past C21 h f t k = refl
 server-past C22 h f t k = refl
 server-past C23 h f t k = refl
+server-past F05 h f t k = refl
+server-past F06 h f t k = refl
+server-past A02 h f t k = refl
 server-past _ h f t k = absurd (cc)
 
 past-alone : (role : Role) (r : Rule) → is_on_connection role r ≡ true → (f : Option Fate) (t : Option Moment) (k : Moment) → found (reason role r) f t k ≡ found (reason role r) None None k

@@ -4,7 +4,7 @@ use Rattle.mq_rules.specs.declared.role.Role.{Role}
 use Rattle.mq_rules.specs.declared.role.Role.TheVariants.{Client, Server}
 use Rattle.mq_rules.specs.declared.role.Tested.{Tested}
 use Rattle.mq_rules.specs.declared.rule.Rule.{Rule}
-use Rattle.mq_rules.specs.declared.rule.Rule.TheVariants.{C03, C06, C07, C08, C10, C11, C12, C13, C14, C15, C16, C17, C20, C21, C22, C23}
+use Rattle.mq_rules.specs.declared.rule.Rule.TheVariants.{C03, C06, C07, C08, C10, C11, C12, C13, C14, C15, C16, C17, C20, C21, C22, C23, F05, F06, A02}
 use Rattle.mq_rules.specs.declared.note.Note.{Note}
 use Rattle.mq_rules.specs.declared.note.Seen.{Seen}
 use Rattle.mq_rules.specs.FaultKeys.{FaultMap, fault_at}
@@ -35,6 +35,7 @@ is_of_client C16 = true
 is_of_client C17 = true
 is_of_client C20 = true
 is_of_client C23 = true
+is_of_client A02 = true
 is_of_client _ = false
 
 -- those that bind a server
@@ -51,6 +52,9 @@ is_of_server C16 = true
 is_of_server C21 = true
 is_of_server C22 = true
 is_of_server C23 = true
+is_of_server F05 = true
+is_of_server F06 = true
+is_of_server A02 = true
 is_of_server _ = false
 
 abbrev pub is_on_connection : Role → Rule → Bool

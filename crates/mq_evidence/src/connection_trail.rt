@@ -85,6 +85,7 @@ impl ConnectionTrail {
             Rule::C17 => Some(handshake.qos(note)),
             Rule::C20 => Some(handshake.expiry(note)),
             Rule::C23 => Some(handshake.last()),
+            Rule::A02 => Some(handshake.connect()),
             _ => None,
         }
     }
@@ -107,6 +108,9 @@ impl ConnectionTrail {
             Rule::C21 => Some(handshake.connect()),
             Rule::C22 => Some(handshake.connect()),
             Rule::C23 => Some(handshake.last()),
+            Rule::F05 => Some(handshake.connect()),
+            Rule::F06 => Some(handshake.connect()),
+            Rule::A02 => Some(handshake.connect()),
             _ => None,
         }
     }

@@ -234,52 +234,52 @@ untaken Client n u = u.taken
 untaken Server n u = u.opener
 
 -- of a PUBLISH of QoS 0 only a server is asked
-only-servers-B01 : (role : Role) (releases : Bool) → binds B01 (record { role = role; releases = releases }) ≡ true → is_client role ≡ false
+only-servers-B01 : (role : Role) (releases further : Bool) → binds B01 (record { role = role; releases = releases; further = further }) ≡ true → is_client role ≡ false
 unfolding found_line lines line_of
-only-servers-B01 Client releases h = absurd (cc)
-only-servers-B01 Server releases h = refl
+only-servers-B01 Client releases further h = absurd (cc)
+only-servers-B01 Server releases further h = refl
 
-only-servers-B02 : (role : Role) (releases : Bool) → binds B02 (record { role = role; releases = releases }) ≡ true → is_client role ≡ false
+only-servers-B02 : (role : Role) (releases further : Bool) → binds B02 (record { role = role; releases = releases; further = further }) ≡ true → is_client role ≡ false
 unfolding found_line lines line_of
-only-servers-B02 Client releases h = absurd (cc)
-only-servers-B02 Server releases h = refl
+only-servers-B02 Client releases further h = absurd (cc)
+only-servers-B02 Server releases further h = refl
 
-never : (role : Role) (releases : Bool) (rule : Rule) (e : Seen) (past : List Seen) → is_plain_rule rule ≡ true → IsIdle role e past
-    → IsNever (binds rule (record { role = role; releases = releases })) (statement role rule) (newest e past)
+never : (role : Role) (releases further : Bool) (rule : Rule) (e : Seen) (past : List Seen) → is_plain_rule rule ≡ true → IsIdle role e past
+    → IsNever (binds rule (record { role = role; releases = releases; further = further })) (statement role rule) (newest e past)
 unfolding breaks_S01 breaks_S02 breaks_S03 breaks_S04 breaks_S05 breaks_S07 breaks_A breaks_O breaks_L1 breaks_L2 breaks_L3 breaks_B01 breaks_B02 breaks_B03 breaks_B04 shows_R shows_S06
-never role releases S01 e past chosen idle = λ bound f. and-first _ _ (none-passes _ _ (untaken role e.note idle.unspoken))
-never role releases S02 e past chosen idle = λ bound f. and-first _ _ (none-passes _ _ idle.unspoken.resend)
-never role releases S03 e past chosen idle = λ bound f. none-passes _ _ idle.unspoken.resend
-never role releases S04 e past chosen idle = λ bound f. none-passes _ _ idle.unspoken.resend
-never role releases S05 e past chosen idle = λ bound f. none-passes _ _ idle.unspoken.resend
-never role releases S06 e past chosen idle = λ k unasks.
+never role releases further S01 e past chosen idle = λ bound f. and-first _ _ (none-passes _ _ (untaken role e.note idle.unspoken))
+never role releases further S02 e past chosen idle = λ bound f. and-first _ _ (none-passes _ _ idle.unspoken.resend)
+never role releases further S03 e past chosen idle = λ bound f. none-passes _ _ idle.unspoken.resend
+never role releases further S04 e past chosen idle = λ bound f. none-passes _ _ idle.unspoken.resend
+never role releases further S05 e past chosen idle = λ bound f. none-passes _ _ idle.unspoken.resend
+never role releases further S06 e past chosen idle = λ k unasks.
     ap (λ b. resumed (latest_fate role past) && (not (is_waiting (newest e past)) && b)) (none-passes _ _ (unasking (note k) unasks).opener)
     ∙ ap (λ b. resumed (latest_fate role past) && b) (and_false (not (is_waiting (newest e past)))) ∙ and_false (resumed (latest_fate role past))
-never role releases S07 e past chosen idle = λ bound f. and-first _ _ (ap is_some idle.unspoken.delivery)
-never role releases E1A e past chosen idle = λ bound f. and-first _ _ (none-passes _ _ idle.unspoken.puback)
-never role releases E1R e past chosen idle = λ k unasks. none-passes _ _ (unasking (note k) unasks).once
-never role releases E1O e past chosen idle = λ bound f. none-passes _ _ idle.unspoken.puback
-never role releases E2A e past chosen idle = λ bound f. and-first _ _ (none-passes _ _ idle.unspoken.pubrec)
-never role releases E2R e past chosen idle = λ k unasks. none-passes _ _ (unasking (note k) unasks).exactly
-never role releases E2O e past chosen idle = λ bound f. none-passes _ _ idle.unspoken.pubrec
-never role releases E3A e past chosen idle = λ bound f. and-first _ _ (none-passes _ _ idle.unspoken.pubrel)
-never role releases E3R e past chosen idle = λ k unasks. none-passes _ _ (unasking (note k) unasks).pubrec
-never role releases E3O e past chosen idle = λ bound f. none-passes _ _ idle.unspoken.pubrel
-never role releases E4A e past chosen idle = λ bound f. none-passes _ _ idle.unspoken.pubcomp
-never role releases E4R e past chosen idle = λ k unasks. none-passes _ _ (unasking (note k) unasks).pubrel
-never role releases E5A e past chosen idle = λ bound f. none-passes _ _ idle.unspoken.suback
-never role releases E5R e past chosen idle = λ k unasks. none-passes _ _ (unasking (note k) unasks).subscribe
-never role releases E6A e past chosen idle = λ bound f. none-passes _ _ idle.unspoken.unsuback
-never role releases E6R e past chosen idle = λ k unasks. none-passes _ _ (unasking (note k) unasks).unsubscribe
-never role releases E7R e past chosen idle = λ bound f. idle.unpinged
-never role releases L1 e past chosen idle = λ bound f. and-first _ _ (none-passes _ _ idle.unreleased)
-never role releases L2 e past chosen idle = λ bound f. and-first _ _ (none-passes _ _ idle.unreleased)
-never role releases L3 e past chosen idle = λ bound f. none-passes _ _ idle.unspoken.success
-never role releases B01 e past chosen idle = λ bound f. none-passes _ _ (idle.unspoken.publish (only-servers-B01 role releases bound))
-never role releases B02 e past chosen idle = λ bound f. none-passes _ _ (idle.unspoken.publish (only-servers-B02 role releases bound))
-never role releases B03 e past chosen idle = λ bound f. none-passes _ _ idle.unspoken.grant
-never role releases B04 e past chosen idle = λ bound f. none-passes _ _ idle.unspoken.count
-never role releases _ e past chosen idle = absurd (cc)
+never role releases further S07 e past chosen idle = λ bound f. and-first _ _ (ap is_some idle.unspoken.delivery)
+never role releases further E1A e past chosen idle = λ bound f. and-first _ _ (none-passes _ _ idle.unspoken.puback)
+never role releases further E1R e past chosen idle = λ k unasks. none-passes _ _ (unasking (note k) unasks).once
+never role releases further E1O e past chosen idle = λ bound f. none-passes _ _ idle.unspoken.puback
+never role releases further E2A e past chosen idle = λ bound f. and-first _ _ (none-passes _ _ idle.unspoken.pubrec)
+never role releases further E2R e past chosen idle = λ k unasks. none-passes _ _ (unasking (note k) unasks).exactly
+never role releases further E2O e past chosen idle = λ bound f. none-passes _ _ idle.unspoken.pubrec
+never role releases further E3A e past chosen idle = λ bound f. and-first _ _ (none-passes _ _ idle.unspoken.pubrel)
+never role releases further E3R e past chosen idle = λ k unasks. none-passes _ _ (unasking (note k) unasks).pubrec
+never role releases further E3O e past chosen idle = λ bound f. none-passes _ _ idle.unspoken.pubrel
+never role releases further E4A e past chosen idle = λ bound f. none-passes _ _ idle.unspoken.pubcomp
+never role releases further E4R e past chosen idle = λ k unasks. none-passes _ _ (unasking (note k) unasks).pubrel
+never role releases further E5A e past chosen idle = λ bound f. none-passes _ _ idle.unspoken.suback
+never role releases further E5R e past chosen idle = λ k unasks. none-passes _ _ (unasking (note k) unasks).subscribe
+never role releases further E6A e past chosen idle = λ bound f. none-passes _ _ idle.unspoken.unsuback
+never role releases further E6R e past chosen idle = λ k unasks. none-passes _ _ (unasking (note k) unasks).unsubscribe
+never role releases further E7R e past chosen idle = λ bound f. idle.unpinged
+never role releases further L1 e past chosen idle = λ bound f. and-first _ _ (none-passes _ _ idle.unreleased)
+never role releases further L2 e past chosen idle = λ bound f. and-first _ _ (none-passes _ _ idle.unreleased)
+never role releases further L3 e past chosen idle = λ bound f. none-passes _ _ idle.unspoken.success
+never role releases further B01 e past chosen idle = λ bound f. none-passes _ _ (idle.unspoken.publish (only-servers-B01 role releases further bound))
+never role releases further B02 e past chosen idle = λ bound f. none-passes _ _ (idle.unspoken.publish (only-servers-B02 role releases further bound))
+never role releases further B03 e past chosen idle = λ bound f. none-passes _ _ idle.unspoken.grant
+never role releases further B04 e past chosen idle = λ bound f. none-passes _ _ idle.unspoken.count
+never role releases further _ e past chosen idle = absurd (cc)
 
 -- ---- with a quiet event
 
@@ -334,7 +334,7 @@ quiet-idle role e past quiet = record {
 silent : (tested : Tested) (f : Fate) (e : Seen) (past : List Seen) (k : ℕ) (rule : Rule) → is_plain_rule rule ≡ true → is_quiet tested.role e.note ≡ true → turns_with tested f e past k rule ≡ false
 silent tested f e past k rule chosen quiet =
     never-turns tested rule (statement tested.role rule) f e past k refl (inl (unbinding tested.role e past (quiet-rest tested.role e.note quiet)))
-    (never tested.role tested.releases rule e past chosen (quiet-idle tested.role e past quiet))
+    (never tested.role tested.releases tested.further rule e past chosen (quiet-idle tested.role e past quiet))
 
 -- ---- with a REST before which nothing asks
 
@@ -370,7 +370,7 @@ resting-release _ h = absurd (cc)
 resting : (tested : Tested) (f : Fate) (e : Seen) (past : List Seen) (k : ℕ) (rule : Rule) → is_plain_rule rule ≡ true → is_rest e.note ≡ true → some_asks past ≡ false → turns_with tested f e past k rule ≡ false
 resting tested f e past k rule chosen rest unasked =
     never-turns tested rule (statement tested.role rule) f e past k refl (inr unasked)
-    (never tested.role tested.releases rule e past chosen
+    (never tested.role tested.releases tested.further rule e past chosen
     (record { unspoken = resting-sent tested.role e.note rest; unreleased = resting-release e.note rest; unpinged = unpinged tested.role e past unasked }))
 
 one-of : (a b : Bool) → a ≡ true → (a || b) ≡ true

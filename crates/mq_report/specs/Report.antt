@@ -114,9 +114,10 @@ report_on forms.Text role faults events = text_report role faults events
 report_on forms.Json role faults events = json_report role faults events
 report_on forms.Summary role faults events = summary_report role faults events
 
--- the report on a log
-unfoldable pub report : Form → List ℕ → List ℕ
-report form log = report_on form (tested_by log).role (listed_faults (is_judged (tested_by log)) (tested_by log) (seen_in log)) (length (events log))
+-- the report on a log, on the further statements too or not
+unfoldable pub report : Bool → Form → List ℕ → List ℕ
+report further form log =
+    report_on form (tested_by further log).role (listed_faults (is_judged (tested_by further log)) (tested_by further log) (seen_in log)) (length (events log))
 
 -- the line of words for a log that is refused
 abbrev pub refused_line : Refusal → List ℕ

@@ -164,16 +164,24 @@ exact_flag true false h = absurd (cc)
 exact_flag false true h = absurd (cc)
 exact_flag false false h = refl
 
-own_end : (role : Role) (releases : Bool) → same_end (record { role = role; releases = releases }) (record { role = role; releases = releases }) ≡ true
-own_end Client true = refl
-own_end Client false = refl
-own_end Server true = refl
-own_end Server false = refl
+own_flag : (a : Bool) → same_flag a a ≡ true
+own_flag true = refl
+own_flag false = refl
+
+own_role : (a : Role) → same_role a a ≡ true
+own_role Client = refl
+own_role Server = refl
+
+own_end : (a : Tested) → same_end a a ≡ true
+own_end a = rw (own_role a.role, own_flag a.releases, own_flag a.further) refl
 
 pub exact_end : (a b : Tested) → same_end a b ≡ true → a ≡ b
 exact_end a b h =
-    let both : (same_role a.role b.role ≡ true) × (same_flag a.releases b.releases ≡ true) = both_true (same_role a.role b.role) (same_flag a.releases b.releases) h in
-    ap₂ (λ r f. record { role = r; releases = f }) (exact_role a.role b.role both.0) (exact_flag a.releases b.releases both.1)
+    let both : (same_role a.role b.role ≡ true) × ((same_flag a.releases b.releases && same_flag a.further b.further) ≡ true) =
+    both_true (same_role a.role b.role) (same_flag a.releases b.releases && same_flag a.further b.further) h in
+    let flags : (same_flag a.releases b.releases ≡ true) × (same_flag a.further b.further ≡ true) = both_true (same_flag a.releases b.releases) (same_flag a.further b.further) both.1 in
+    ap₂ (λ r f. record { role = r; releases = f; further = a.further }) (exact_role a.role b.role both.0) (exact_flag a.releases b.releases flags.0)
+    ∙ ap (λ f. record { role = b.role; releases = b.releases; further = f }) (exact_flag a.further b.further flags.1)
 
 pub other_end : (a b : Tested) → same_end a b ≡ false → a ≡ b → ⊥
-other_end a b h e = absurd (let bad : true ≡ false = sym (own_end a.role a.releases) ∙ ap (same_end a) e ∙ h in cc)
+other_end a b h e = absurd (let bad : true ≡ false = sym (own_end a) ∙ ap (same_end a) e ∙ h in cc)

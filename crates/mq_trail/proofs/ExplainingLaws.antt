@@ -111,14 +111,14 @@ same-verdict tested named count events faults found past has end counts same = r
 -- the log was read to its end
 pub explained : {W : Type 0} (agrees : W → Tested → Option Fate → List Seen → Type 0) (tested named : Tested) (count : ℕ) (faults : List (FaultKey × Fault)) (reading : W)
     (remaining left : Option (List ℕ)) (result : Result (Vec Evidence Global) Unexplained)
-    → IfSome remaining (λ log. IsJudged log × (named ≡ tested_by log) × HasFollowed agrees tested reading (seen_in log))
+    → IfSome remaining (λ log. IsJudged log × (named ≡ tested_by tested.further log) × HasFollowed agrees tested reading (seen_in log))
     → ((taken : Option Fate) (past : List Seen) → agrees reading tested taken past → AnswersFor tested named count faults past result)
     → IfSome remaining (λ log. ExplainsOver tested count faults log left result)
 explained agrees tested named count faults reading None left result over answers = tt
 explained agrees tested named count faults reading (Some log) left result over answers =
     go result (subst (λ (n : Tested). AnswersFor tested n count faults (seen_in log) result) over.1 (answers (latest_fate tested.role (seen_in log)) (seen_in log) over.2))
   where
-    go : (r : Result (Vec Evidence Global) Unexplained) → AnswersFor tested (tested_by log) count faults (seen_in log) r → ExplainsOver tested count faults log left r
+    go : (r : Result (Vec Evidence Global) Unexplained) → AnswersFor tested (tested_by tested.further log) count faults (seen_in log) r → ExplainsOver tested count faults log left r
     go (Ok reasons) h = (over.0, h.0, h.1)
     go (Err (why.Refused refusal)) h = absurd h
     go (Err why.Changed) h = (over.0, h)

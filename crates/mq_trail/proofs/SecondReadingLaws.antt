@@ -66,12 +66,12 @@ module _ {F S : Type 0} (tracer : F → Traced) (agrees : S → List Placed → 
   unrefused f log traced within default = subst (λ l. refused l log ≡ None) (within ∙ default) traced.keeps.unrefused
 
   -- all was taken in, and the log isn't cut short
-  pub fed-whole : {first : ℕ} {x y : Option (List ℕ)} {f : F} {s : S} (named : Tested) → FedAll Limit FollowsBoth first x y f s → first ≡ default_limit
-      → ((log : List ℕ) → IsTracedTo (tracer f) log → EndsAs log (Ok named)) → IfSome x (λ log. IsJudged log × (named ≡ tested_by log) × agrees s (events log))
-  fed-whole {first} {x} {y} {f} {s} named took default whole =
+  pub fed-whole : {first : ℕ} {x y : Option (List ℕ)} {f : F} {s : S} (further : Bool) (named : Tested) → FedAll Limit FollowsBoth first x y f s → first ≡ default_limit
+      → ((log : List ℕ) → IsTracedTo (tracer f) log → EndsAs further log (Ok named)) → IfSome x (λ log. IsJudged log × (named ≡ tested_by further log) × agrees s (events log))
+  fed-whole {first} {x} {y} {f} {s} further named took default whole =
       let log = took.log in
-      let ends : (is_cut_short log ≡ false) × (named ≡ tested_by log) = whole log took.followed.0 in
-      whole-taken x y log (λ l. IsJudged l × (named ≡ tested_by l) × agrees s (events l)) took.consumed took.ended (
+      let ends : (is_cut_short log ≡ false) × (named ≡ tested_by further log) = whole log took.followed.0 in
+      whole-taken x y log (λ l. IsJudged l × (named ≡ tested_by further l) × agrees s (events l)) took.consumed took.ended (
         record { unrefused = unrefused f log took.followed.0 took.within default; whole = ends.0 },
         ends.1,
         took.followed.1,

@@ -17,7 +17,7 @@ use Rattle.mq_rules.specs.declared.fault.Fault.{Fault}
 use Rattle.mq_rules.specs.declared.faults.FaultKey.{FaultKey}
 use Rattle.mq_rules.specs.declared.note.Seen.{Seen}
 use Rattle.mq_rules.specs.declared.rule.Rule.{Rule}
-use Rattle.mq_rules.specs.declared.rule.Rule.TheVariants.{W01, W02, W03, W04, W05, W06, W07, W08, W09, W10, W11, W12, W13, W14, W15, W16, W17, W18, W19, W20, W21, C01, C02, C03, C04, C05, C06, C07, C08, C09, C10, C11, C12, C13, C14, C15, C16, C17, C18, C19, C20, C21, C22, C23, E1R, E2R, E3R, E4R, E5R, E6R, S06}
+use Rattle.mq_rules.specs.declared.rule.Rule.TheVariants.{W01, W02, W03, W04, W05, W06, W07, W08, W09, W10, W11, W12, W13, W14, W15, W16, W17, W18, W19, W20, W21, C01, C02, C03, C04, C05, C06, C07, C08, C09, C10, C11, C12, C13, C14, C15, C16, C17, C18, C19, C20, C21, C22, C23, F05, F06, A02, E1R, E2R, E3R, E4R, E5R, E6R, S06}
 use Rattle.mq_rules.specs.FaultKeys.{FaultMap, fault_at, key_cmp}
 use Rattle.mq_rules.specs.Rules.{binds, found_line, line_of, lines, same_rule}
 use Rattle.mq_rules.specs.Moments.{Moment, position, newest, moment}
@@ -36,70 +36,76 @@ use Rattle.mq_trail.specs.Sources.{is_silent}
 
 -- ---- nothing is to blame
 
-itself : (role : Role) (releases : Bool) (r : Rule) → binds r (record { role = role; releases = releases }) ≡ true → is_on_connection role r ≡ false → is_found r ≡ false → is_silent r ≡ false → same_rule r S06 ≡ false
+itself : (role : Role) (releases further : Bool) (r : Rule) → binds r (record { role = role; releases = releases; further = further }) ≡ true → is_on_connection role r ≡ false → is_found r ≡ false → is_silent r ≡ false → same_rule r S06 ≡ false
     → reason role r ≡ by_itself
 unfolding line_of found_line lines
-itself role releases W01 bound on found silent resumed = refl
-itself role releases W02 bound on found silent resumed = refl
-itself role releases W03 bound on found silent resumed = refl
-itself role releases W04 bound on found silent resumed = refl
-itself role releases W05 bound on found silent resumed = refl
-itself role releases W06 bound on found silent resumed = refl
-itself role releases W07 bound on found silent resumed = refl
-itself role releases W08 bound on found silent resumed = refl
-itself role releases W09 bound on found silent resumed = refl
-itself role releases W10 bound on found silent resumed = refl
-itself role releases W11 bound on found silent resumed = refl
-itself role releases W12 bound on found silent resumed = refl
-itself role releases W13 bound on found silent resumed = refl
-itself role releases W14 bound on found silent resumed = refl
-itself role releases W15 bound on found silent resumed = refl
-itself role releases W16 bound on found silent resumed = refl
-itself role releases W17 bound on found silent resumed = refl
-itself role releases W18 bound on found silent resumed = refl
-itself role releases W19 bound on found silent resumed = refl
-itself role releases W20 bound on found silent resumed = refl
-itself role releases W21 bound on found silent resumed = refl
-itself role releases C01 bound on found silent resumed = refl
-itself role releases C02 bound on found silent resumed = refl
-itself role releases C04 bound on found silent resumed = refl
-itself role releases C05 bound on found silent resumed = refl
-itself role releases C09 bound on found silent resumed = refl
-itself role releases C18 bound on found silent resumed = refl
-itself role releases C19 bound on found silent resumed = refl
-itself Client releases C03 bound on found silent resumed = absurd (cc)
-itself Server releases C03 bound on found silent resumed = absurd (cc)
-itself Client releases C06 bound on found silent resumed = absurd (cc)
-itself Server releases C06 bound on found silent resumed = absurd (cc)
-itself Client releases C07 bound on found silent resumed = absurd (cc)
-itself Server releases C07 bound on found silent resumed = absurd (cc)
-itself Client releases C08 bound on found silent resumed = absurd (cc)
-itself Server releases C08 bound on found silent resumed = absurd (cc)
-itself Client releases C10 bound on found silent resumed = absurd (cc)
-itself Server releases C10 bound on found silent resumed = absurd (cc)
-itself Client releases C11 bound on found silent resumed = absurd (cc)
-itself Server releases C11 bound on found silent resumed = absurd (cc)
-itself Client releases C12 bound on found silent resumed = absurd (cc)
-itself Server releases C12 bound on found silent resumed = absurd (cc)
-itself Client releases C13 bound on found silent resumed = absurd (cc)
-itself Server releases C13 bound on found silent resumed = absurd (cc)
-itself Client releases C14 bound on found silent resumed = absurd (cc)
-itself Server releases C14 bound on found silent resumed = absurd (cc)
-itself Client releases C15 bound on found silent resumed = absurd (cc)
-itself Server releases C15 bound on found silent resumed = absurd (cc)
-itself Client releases C16 bound on found silent resumed = absurd (cc)
-itself Server releases C16 bound on found silent resumed = absurd (cc)
-itself Client releases C17 bound on found silent resumed = absurd (cc)
-itself Server releases C17 bound on found silent resumed = absurd (cc)
-itself Client releases C20 bound on found silent resumed = absurd (cc)
-itself Server releases C20 bound on found silent resumed = absurd (cc)
-itself Client releases C21 bound on found silent resumed = absurd (cc)
-itself Server releases C21 bound on found silent resumed = absurd (cc)
-itself Client releases C22 bound on found silent resumed = absurd (cc)
-itself Server releases C22 bound on found silent resumed = absurd (cc)
-itself Client releases C23 bound on found silent resumed = absurd (cc)
-itself Server releases C23 bound on found silent resumed = absurd (cc)
-itself role releases _ bound on found silent resumed = absurd (cc)
+itself role releases further W01 bound on found silent resumed = refl
+itself role releases further W02 bound on found silent resumed = refl
+itself role releases further W03 bound on found silent resumed = refl
+itself role releases further W04 bound on found silent resumed = refl
+itself role releases further W05 bound on found silent resumed = refl
+itself role releases further W06 bound on found silent resumed = refl
+itself role releases further W07 bound on found silent resumed = refl
+itself role releases further W08 bound on found silent resumed = refl
+itself role releases further W09 bound on found silent resumed = refl
+itself role releases further W10 bound on found silent resumed = refl
+itself role releases further W11 bound on found silent resumed = refl
+itself role releases further W12 bound on found silent resumed = refl
+itself role releases further W13 bound on found silent resumed = refl
+itself role releases further W14 bound on found silent resumed = refl
+itself role releases further W15 bound on found silent resumed = refl
+itself role releases further W16 bound on found silent resumed = refl
+itself role releases further W17 bound on found silent resumed = refl
+itself role releases further W18 bound on found silent resumed = refl
+itself role releases further W19 bound on found silent resumed = refl
+itself role releases further W20 bound on found silent resumed = refl
+itself role releases further W21 bound on found silent resumed = refl
+itself role releases further C01 bound on found silent resumed = refl
+itself role releases further C02 bound on found silent resumed = refl
+itself role releases further C04 bound on found silent resumed = refl
+itself role releases further C05 bound on found silent resumed = refl
+itself role releases further C09 bound on found silent resumed = refl
+itself role releases further C18 bound on found silent resumed = refl
+itself role releases further C19 bound on found silent resumed = refl
+itself Client releases further C03 bound on found silent resumed = absurd (cc)
+itself Server releases further C03 bound on found silent resumed = absurd (cc)
+itself Client releases further C06 bound on found silent resumed = absurd (cc)
+itself Server releases further C06 bound on found silent resumed = absurd (cc)
+itself Client releases further C07 bound on found silent resumed = absurd (cc)
+itself Server releases further C07 bound on found silent resumed = absurd (cc)
+itself Client releases further C08 bound on found silent resumed = absurd (cc)
+itself Server releases further C08 bound on found silent resumed = absurd (cc)
+itself Client releases further C10 bound on found silent resumed = absurd (cc)
+itself Server releases further C10 bound on found silent resumed = absurd (cc)
+itself Client releases further C11 bound on found silent resumed = absurd (cc)
+itself Server releases further C11 bound on found silent resumed = absurd (cc)
+itself Client releases further C12 bound on found silent resumed = absurd (cc)
+itself Server releases further C12 bound on found silent resumed = absurd (cc)
+itself Client releases further C13 bound on found silent resumed = absurd (cc)
+itself Server releases further C13 bound on found silent resumed = absurd (cc)
+itself Client releases further C14 bound on found silent resumed = absurd (cc)
+itself Server releases further C14 bound on found silent resumed = absurd (cc)
+itself Client releases further C15 bound on found silent resumed = absurd (cc)
+itself Server releases further C15 bound on found silent resumed = absurd (cc)
+itself Client releases further C16 bound on found silent resumed = absurd (cc)
+itself Server releases further C16 bound on found silent resumed = absurd (cc)
+itself Client releases further C17 bound on found silent resumed = absurd (cc)
+itself Server releases further C17 bound on found silent resumed = absurd (cc)
+itself Client releases further C20 bound on found silent resumed = absurd (cc)
+itself Server releases further C20 bound on found silent resumed = absurd (cc)
+itself Client releases further C21 bound on found silent resumed = absurd (cc)
+itself Server releases further C21 bound on found silent resumed = absurd (cc)
+itself Client releases further C22 bound on found silent resumed = absurd (cc)
+itself Server releases further C22 bound on found silent resumed = absurd (cc)
+itself Client releases further C23 bound on found silent resumed = absurd (cc)
+itself Server releases further C23 bound on found silent resumed = absurd (cc)
+itself Client releases further F05 bound on found silent resumed = absurd (cc)
+itself Server releases further F05 bound on found silent resumed = absurd (cc)
+itself Client releases further F06 bound on found silent resumed = absurd (cc)
+itself Server releases further F06 bound on found silent resumed = absurd (cc)
+itself Client releases further A02 bound on found silent resumed = absurd (cc)
+itself Server releases further A02 bound on found silent resumed = absurd (cc)
+itself role releases further _ bound on found silent resumed = absurd (cc)
 
 silence : (role : Role) (r : Rule) → is_silent r ≡ true → reason role r ≡ by_silence
 silence role E1R h = refl
@@ -149,7 +155,7 @@ pub evidence-itself : (tested : Tested) (log : List Seen) (k : ℕ) (r : Rule) �
     → nothing ≡ evidence tested log k r
 unfolding fails
 evidence-itself tested log k r failing on finds silent resumed =
-    sym (whole tested log k r by_itself failing (itself tested.role tested.releases r (both_true (binds r tested) _ failing).0 on finds silent resumed) ∙ go (moment log k))
+    sym (whole tested log k r by_itself failing (itself tested.role tested.releases tested.further r (both_true (binds r tested) _ failing).0 on finds silent resumed) ∙ go (moment log k))
   where
     go : (o : Option Moment) → unwrap_or (option_map (λ m. found by_itself (fate tested.role (number m) log) (option_and_then (moment log) (decided tested log k r)) m) o) nothing ≡ nothing
     go None = refl

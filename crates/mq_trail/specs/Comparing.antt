@@ -36,4 +36,4 @@ same_flag false b = not b
 
 -- one role, and both record releases or neither
 abbrev pub same_end : Tested → Tested → Bool
-same_end a b = same_role a.role b.role && same_flag a.releases b.releases
+same_end a b = same_role a.role b.role && (same_flag a.releases b.releases && same_flag a.further b.further)

@@ -55,9 +55,10 @@ AnswersFor tested named count faults past (Err (Refused refusal)) = ⊥
 AnswersFor tested named count faults past (Err Changed) = ¬ IsSame tested named count faults past
 AnswersFor tested named count faults past (Err Memory) = ⊤
 
--- The result of explaining the faults of a verdict by this log, and what the reader has left. Nothing is said of the log if there was no memory for the faults.
+-- The result of explaining the faults of a verdict by this log, which is judged by the same statements, and what the reader has left. Nothing is said of the log if there
+-- was no memory for the faults.
 abbrev pub ExplainsOver : Tested → ℕ → List (FaultKey × Fault) → List ℕ → Option (List ℕ) → Result (Vec Evidence Global) Unexplained → Type 0
-ExplainsOver tested count faults log left (Ok reasons) = IsJudged log × IsSame tested (tested_by log) count faults (seen_in log) × AreReasons tested (seen_in log) faults reasons.items
+ExplainsOver tested count faults log left (Ok reasons) = IsJudged log × IsSame tested (tested_by tested.further log) count faults (seen_in log) × AreReasons tested (seen_in log) faults reasons.items
 ExplainsOver tested count faults log left (Err (Refused refusal)) = IsRefusedAt default_limit log left refusal
-ExplainsOver tested count faults log left (Err Changed) = IsJudged log × (¬ IsSame tested (tested_by log) count faults (seen_in log))
+ExplainsOver tested count faults log left (Err Changed) = IsJudged log × (¬ IsSame tested (tested_by tested.further log) count faults (seen_in log))
 ExplainsOver tested count faults log left (Err Memory) = ⊤

@@ -72,11 +72,13 @@ pub fn copy_of(alloc: Global, faults: &Faults) -> Result<Faults, Memory>
     Ok(copy)
 }
 
-/// Whether these are one tested end, of which releases are recorded in both logs or in neither.
+/// Whether these are one tested end, of which releases are recorded in both logs or in neither, and
+/// which is judged by the further statements both times or never.
 pub fn same_end(tested: Tested, other: Tested) -> bool
     ensures { result ≡ same_end tested other }
 {
-    same_role(tested.role, other.role) && same_flag(tested.releases, other.releases)
+    same_role(tested.role, other.role)
+        && (same_flag(tested.releases, other.releases) && same_flag(tested.further, other.further))
 }
 
 // Whether this is one role.

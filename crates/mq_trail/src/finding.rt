@@ -57,6 +57,7 @@ fn is_on_connection(role: Role, rule: Rule) -> bool
                 | Rule::C17
                 | Rule::C20
                 | Rule::C23
+                | Rule::A02
         ),
         Role::Server => matches!(
             rule,
@@ -72,6 +73,9 @@ fn is_on_connection(role: Role, rule: Rule) -> bool
                 | Rule::C21
                 | Rule::C22
                 | Rule::C23
+                | Rule::F05
+                | Rule::F06
+                | Rule::A02
         ),
     }
 }

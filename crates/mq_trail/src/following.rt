@@ -42,7 +42,7 @@ impl Watched for Brand {
     ghost use Rattle.std.specs.Prelude.{false};
     ghost use Rattle.mq_rules.specs.declared.role.Role.TheVariants.{Client};
 
-    ghost tested = { record { role = Client; releases = false } };
+    ghost tested = { record { role = Client; releases = false; further = false } };
 }
 
 /// A sink that drives a watcher, and drops the faults that it finds.

@@ -20,15 +20,16 @@ struct Rereading {
 }
 
 impl Rereading {
-    // Ends the log, and returns the end that its header names.
+    // Ends the log, and returns the end that its header names, judged by the further statements too
+    // or not.
     //
     // Errors: `Cut` if the log is cut short.
-    fn end(&mut self) -> Result<Tested, Refusal>
-        ensures { (log : List ℕ) → IsTracedTo self.old.tracer log → EndsAs log result }
+    fn end(&mut self, further: bool) -> Result<Tested, Refusal>
+        ensures { (log : List ℕ) → IsTracedTo self.old.tracer log → EndsAs further log result }
     {
         self.tracer.finish()?;
         match self.tracer.header() {
-            Some(header) => Ok(Tested::of(header)),
+            Some(header) => Ok(Tested::of(header, further)),
             None => Err(Refusal::Cut(self.tracer.byte_count())),
         }
     }
@@ -54,7 +55,8 @@ impl<W: Follower, K: Watched> Feed<Following<W, K>, Refusal> for Rereading {
 }
 
 /// Drives a watcher of this tested end over the events of the log that a reader gives, and returns
-/// it and the end that the log's header names, which may be another one. It reads at most
+/// it and the end that the log's header names, which may be another one. That is judged by the same
+/// statements: by the further ones too, if this one is. It reads at most
 /// 4,294,967,295 times, and at most 8,192 bytes each time.
 ///
 /// # Errors
@@ -68,13 +70,13 @@ pub fn follow_reader<R: Read, W: Follower + Drop>(
     watcher: W,
 ) -> Result<(W, Tested), Refusal>
     requires { W.agrees watcher tested (Some Void) [] }
-    ensures { IfSome (R.remaining reader.old) (λ log. FollowsOver W.agrees tested log (R.remaining reader.new) result) }
+    ensures { IfSome (R.remaining reader.old) (λ log. FollowsOver W.agrees tested.further tested log (R.remaining reader.new) result) }
 {
     follow_as::<R, W, Brand>(alloc, reader, tested, watcher)
 }
 
 // Drives a watcher over the log that a reader gives. The tested end is the one that is picked: which
-// it is, the watcher knows, and the code needn't.
+// it is, the watcher knows, and the code asks it only for the statements that are judged.
 fn follow_as<R: Read, W: Follower + Drop, K: Watched>(
     alloc: Global,
     reader: &mut R,
@@ -82,9 +84,8 @@ fn follow_as<R: Read, W: Follower + Drop, K: Watched>(
     watcher: W,
 ) -> Result<(W, Tested), Refusal>
     requires { W.agrees watcher K.tested (Some Void) [] }
-    ensures { IfSome (R.remaining reader.old) (λ log. FollowsOver W.agrees K.tested log (R.remaining reader.new) result) }
+    ensures { IfSome (R.remaining reader.old) (λ log. FollowsOver W.agrees tested.further K.tested log (R.remaining reader.new) result) }
 {
-    let _ = tested;
     let mut rereading = Rereading {
         tracer: Tracer::new(alloc, DEFAULT_LIMIT),
     };
@@ -97,6 +98,6 @@ fn follow_as<R: Read, W: Follower + Drop, K: Watched>(
         &mut buffer,
         u32::MAX,
     )?;
-    let named = rereading.end()?;
+    let named = rereading.end(tested.further)?;
     Ok((following.into_watcher(), named))
 }

@@ -15,15 +15,18 @@ use crate::early::Early;
 use crate::sessions::Sessions;
 use mq_log::Place3;
 use mq_rules::{
-    Bare, Both, Brisk, ConnTally, CountingConn, Fate, Faults, Memory, Note, Rule, Shapes, Tested,
-    Watch, conn_places,
+    Bare, Both, Brisk, ConnTally, CountingConn, CountingManners, Fate, Faults, Memory, Note, Rule,
+    Shapes, Tested, Watch, conn_places,
 };
 use std::alloc::Global;
 
-/// Watches all 74 statements, as `PlainWatchers` does, and counts how often those on connections
+/// Watches all statements, as `PlainWatchers` does, and counts how often those on connections
 /// and sessions are put to the test.
 pub struct CountingWatchers {
-    parts: Both<Shapes, Both<CountingConn<ConnTally>, Early<Counting<Sessions>>>>,
+    parts: Both<
+        Shapes,
+        Both<CountingConn<ConnTally>, Both<CountingManners, Early<Counting<Sessions>>>>,
+    >,
 }
 
 // As a derived one, but a call of its own.
@@ -44,7 +47,10 @@ impl CountingWatchers {
                 Shapes::new(tested),
                 Both::new(
                     CountingConn::new(alloc, tested),
-                    Early::new(alloc, tested, Counting::new(Sessions::new(alloc, tested))),
+                    Both::new(
+                        CountingManners::new(tested),
+                        Early::new(alloc, tested, Counting::new(Sessions::new(alloc, tested))),
+                    ),
                 ),
             ),
         }
@@ -56,27 +62,27 @@ impl CountingWatchers {
     {
         let later = &self.parts.b;
         if Sessions::tests(rule) {
-            return Some(later.b.places(rule));
+            return Some(later.b.b.places(rule));
         }
-        conn_places(&later.a, rule)
+        later.b.a.places(rule).or(conn_places(&later.a, rule))
     }
 
     /// What becomes of the latest connection. None if it is undecided.
     pub fn latest_fate(&self) -> Option<Fate>
         ensures { (tested : TheTested) (taken : Option TheFate) (past : List TheSeen) → ⟦<CountingWatchers as Watch>⟧.agrees self.now tested taken past → result ≡ latest_fate tested.role past }
     {
-        self.parts.b.b.latest_fate()
+        self.parts.b.b.b.latest_fate()
     }
 }
 
 impl Watch for CountingWatchers {
-    ghost agrees = { λ s. ⟦<Both<Shapes, Both<CountingConn<ConnTally>, Early<Counting<Sessions>>>> as Watch>⟧.agrees s.parts };
+    ghost agrees = { λ s. ⟦<Both<Shapes, Both<CountingConn<ConnTally>, Both<CountingManners, Early<Counting<Sessions>>>>> as Watch>⟧.agrees s.parts };
 
     ghost takes = { λ tested taken e past. IsOnConnection e past };
 
     ghost adds = { turns };
 
-    ghost weighs = { λ s. ⟦<Both<Shapes, Both<CountingConn<ConnTally>, Early<Counting<Sessions>>>> as Watch>⟧.weighs s.parts };
+    ghost weighs = { λ s. ⟦<Both<Shapes, Both<CountingConn<ConnTally>, Both<CountingManners, Early<Counting<Sessions>>>>> as Watch>⟧.weighs s.parts };
 
     ghost bound = { λ tested taken past. 4 * burden tested past };
 

@@ -11,13 +11,15 @@ ghost use Rattle.mq_books.specs.Burden.{burden};
 use crate::early::Early;
 use crate::sessions::Sessions;
 use mq_log::Place3;
-use mq_rules::{Bare, Both, Brisk, Conn, Fate, Faults, Memory, Note, Shapes, Tested, Watch};
+use mq_rules::{
+    Bare, Both, Brisk, Conn, Fate, Faults, Manners, Memory, Note, Shapes, Tested, Watch,
+};
 use std::alloc::Global;
 
-/// Watches all 74 statements, and counts nothing: W and C as the events come, and those on sessions
-/// once their connection is decided.
+/// Watches all statements, and counts nothing: W, C and the further statements as the events come,
+/// and those on sessions once their connection is decided.
 pub struct PlainWatchers {
-    parts: Both<Shapes, Both<Conn, Early<Sessions>>>,
+    parts: Both<Shapes, Both<Conn, Both<Manners, Early<Sessions>>>>,
 }
 
 // As a derived one, but a call of its own: what is to be freed is much, and else each function that
@@ -39,7 +41,10 @@ impl PlainWatchers {
                 Shapes::new(tested),
                 Both::new(
                     Conn::new(alloc, tested),
-                    Early::new(alloc, tested, Sessions::new(alloc, tested)),
+                    Both::new(
+                        Manners::new(tested),
+                        Early::new(alloc, tested, Sessions::new(alloc, tested)),
+                    ),
                 ),
             ),
         }
@@ -49,18 +54,18 @@ impl PlainWatchers {
     pub fn latest_fate(&self) -> Option<Fate>
         ensures { (tested : TheTested) (taken : Option TheFate) (past : List TheSeen) → ⟦<PlainWatchers as Watch>⟧.agrees self.now tested taken past → result ≡ latest_fate tested.role past }
     {
-        self.parts.b.b.latest_fate()
+        self.parts.b.b.b.latest_fate()
     }
 }
 
 impl Watch for PlainWatchers {
-    ghost agrees = { λ s. ⟦<Both<Shapes, Both<Conn, Early<Sessions>>> as Watch>⟧.agrees s.parts };
+    ghost agrees = { λ s. ⟦<Both<Shapes, Both<Conn, Both<Manners, Early<Sessions>>>> as Watch>⟧.agrees s.parts };
 
     ghost takes = { λ tested taken e past. IsOnConnection e past };
 
     ghost adds = { turns };
 
-    ghost weighs = { λ s. ⟦<Both<Shapes, Both<Conn, Early<Sessions>>> as Watch>⟧.weighs s.parts };
+    ghost weighs = { λ s. ⟦<Both<Shapes, Both<Conn, Both<Manners, Early<Sessions>>>> as Watch>⟧.weighs s.parts };
 
     ghost bound = { λ tested taken past. 4 * burden tested past };
 

@@ -133,6 +133,9 @@ fn event_words(rule: Rule) -> &'static str
         Rule::E1O | Rule::E2O | Rule::E3O => ": it came first, and waits for its answer",
         Rule::L2 => ": the RELEASE before",
         Rule::L3 => ": the PUBLISH that brought it, and wasn't released",
+        Rule::F05 => ": the CONNECT, with a Will QoS above the announced maximum",
+        Rule::F06 => ": the CONNECT, with Will Retain 1",
+        Rule::A02 => ": the CONNECT, without an Authentication Method",
         _ => "",
     }
 }

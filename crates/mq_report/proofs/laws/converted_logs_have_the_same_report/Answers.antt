@@ -11,7 +11,7 @@ use Rattle.mq_report.proofs.laws.converted_logs_have_the_same_report.Goals as go
 
 pub returns : goal.returns
 unfolding report seen_in
-returns c = λ limit log form first none whole.
+returns c = λ limit further log form first none whole.
     let same = converted_same limit log first none whole in
-    ap (λ (t : Tested). report_on form t.role (listed_faults (is_judged t) t (map seen (events (converted log)))) (length (events (converted log)))) (ap tested_as same.2)
-    ∙ ap (λ (shown : List Placed). report_on form (tested_by log).role (listed_faults (is_judged (tested_by log)) (tested_by log) (map seen shown)) (length shown)) same.3
+    ap (λ (t : Tested). report_on form t.role (listed_faults (is_judged t) t (map seen (events (converted log)))) (length (events (converted log)))) (ap (tested_as further) same.2)
+    ∙ ap (λ (shown : List Placed). report_on form (tested_by further log).role (listed_faults (is_judged (tested_by further log)) (tested_by further log) (map seen shown)) (length shown)) same.3

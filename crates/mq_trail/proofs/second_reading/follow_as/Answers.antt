@@ -43,5 +43,5 @@ returns-in_err-named g c =
 pub returns : goal.returns
 unfolding seen_in
 returns g c =
-    subst (λ (w : g.row.W.Denot). IfSome (g.R.Read.remaining c.args.reader.now) (λ log. IsJudged log × (c.in_ok-named.named ≡ tested_by log) × HasFollowed g.W.Watch.agrees g.K.Watched.tested w (map seen (events log)))) (sym c.into_watcher.ensures)
-    (fed-whole tracer_of (agrees g) c.in_ok-named.named c.in_ok-feed_log.ensures.all c.new.ensures.limit c.in_ok-named.ensures)
+    subst (λ (w : g.row.W.Denot). IfSome (g.R.Read.remaining c.args.reader.now) (λ log. IsJudged log × (c.in_ok-named.named ≡ tested_by c.args.tested.further log) × HasFollowed g.W.Watch.agrees g.K.Watched.tested w (map seen (events log)))) (sym c.into_watcher.ensures)
+    (fed-whole tracer_of (agrees g) c.args.tested.further c.in_ok-named.named c.in_ok-feed_log.ensures.all c.new.ensures.limit c.in_ok-named.ensures)

@@ -26,3 +26,6 @@ returns-in-C20 c = rw c.in-C20.is (λ at past is. ap (λ x. Some x) (c.expiry.en
 
 pub returns-in-C23 : goal.returns-in-C23
 returns-in-C23 c = rw c.in-C23.is (λ at past is. ap (λ x. Some x) (c.last.ensures Client (latest_connection past) is))
+
+pub returns-in-A02 : goal.returns-in-A02
+returns-in-A02 c = rw c.in-A02.is (λ at past is. ap (λ x. Some x) (c.connect.ensures Client (latest_connection past) is))

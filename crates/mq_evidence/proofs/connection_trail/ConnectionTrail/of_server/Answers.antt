@@ -37,3 +37,12 @@ returns-in-C22 c = rw c.in-C22.is (λ at past is accepted. ap (λ x. Some x) (c.
 
 pub returns-in-C23 : goal.returns-in-C23
 returns-in-C23 c = rw c.in-C23.is (λ at past is accepted. ap (λ x. Some x) (c.last.ensures Server (latest_connection past) is))
+
+pub returns-in-F05 : goal.returns-in-F05
+returns-in-F05 c = rw c.in-F05.is (λ at past is accepted. ap (λ x. Some x) (c.connect-in-F05.ensures Server (latest_connection past) is))
+
+pub returns-in-F06 : goal.returns-in-F06
+returns-in-F06 c = rw c.in-F06.is (λ at past is accepted. ap (λ x. Some x) (c.connect-in-F06.ensures Server (latest_connection past) is))
+
+pub returns-in-A02 : goal.returns-in-A02
+returns-in-A02 c = rw c.in-A02.is (λ at past is accepted. ap (λ x. Some x) (c.connect-in-A02.ensures Server (latest_connection past) is))

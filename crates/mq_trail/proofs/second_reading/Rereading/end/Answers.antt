@@ -16,7 +16,7 @@ returns-in_err-finish c = λ log traced.
 pub returns-in-Some : goal.returns-in-Some
 returns-in-Some c = λ log traced.
     let still : IsTracedTo c.finish.new.self log = subst (λ (t : Traced). IsTracedTo t log) (sym c.in_ok-finish.ensures.same) traced in
-    (c.in_ok-finish.ensures.ends log traced, c.of.ensures ∙ ap tested_as (named_by log c.in-Some.header (sym c.in-Some.is ∙ c.header.ensures.follows log still)))
+    (c.in_ok-finish.ensures.ends log traced, c.of.ensures ∙ ap (tested_as c.args.further) (named_by log c.in-Some.header (sym c.in-Some.is ∙ c.header.ensures.follows log still)))
 
 pub returns-in-None : goal.returns-in-None
 returns-in-None c = λ log traced.

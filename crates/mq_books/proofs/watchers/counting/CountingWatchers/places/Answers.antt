@@ -1,12 +1,15 @@
 use Rattle.std.proofs.Common.{◌≡◌, Bool, true, false, cond, Option, Some, None, sym, ap, ◌∙◌}
+use Rattle.std.specs.Option.{option_or}
 use Rattle.mq_rules.specs.Occasions.{places}
 use Rattle.mq_books.proofs.JudgingLaws.{counted-session, counted-past}
 use Rattle.mq_books.proofs.watchers.counting.CountingWatchers.places.Goals as goal
 
 pub returns-then-tests : goal.returns-then-tests
 returns-then-tests c = λ tested taken past was.
-    counted-session tested c.args.rule past c.places.result (sym c.tests.ensures ∙ c.if-tests.true) (c.places.ensures tested taken past was.1.1 (sym c.tests.ensures ∙ c.if-tests.true))
+    counted-session tested c.args.rule past c.places.result (sym c.tests.ensures ∙ c.if-tests.true) (c.places.ensures tested taken past was.1.1.1 (sym c.tests.ensures ∙ c.if-tests.true))
 
 pub returns : goal.returns
 returns c = λ tested taken past was.
-    c.conn_places.ensures tested taken past was.1.0 ∙ counted-past tested c.args.rule past (sym c.tests.ensures ∙ c.if-tests.false)
+    c.or.ensures
+    ∙ (λ i. option_or (c.places-2.ensures tested taken past was.1.1.0 i) (c.conn_places.ensures tested taken past was.1.0 i))
+    ∙ counted-past tested c.args.rule past (sym c.tests.ensures ∙ c.if-tests.false)
