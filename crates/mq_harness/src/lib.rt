@@ -247,7 +247,7 @@ pub fn reports<R: Read>(
     report: &str,
 ) -> Result<bool, Fail> {
     let mut written = Vec::new(alloc);
-    let answer = match run(alloc, reader, &mut written, form) {
+    let answer = match run(alloc, reader, &mut written, form, false) {
         Ok(outcome) => Some(outcome),
         Err(RunFault::Refused(refusal)) => {
             write_refused(alloc, &refusal, form, &mut written).map_err(

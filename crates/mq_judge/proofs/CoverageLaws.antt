@@ -77,16 +77,16 @@ none-among tested rule = go (is_on_bytes tested rule)
     go false = none
 
 -- what is counted for the end that a log's header names is what its statements have
-pub named-places : (tested : Tested) (log : List ℕ) (rule : Rule) → (8 ≤ length log → tested ≡ tested_by log) → places_among tested (events log) rule ≡ places_in log rule
+pub named-places : (further : Bool) (tested : Tested) (log : List ℕ) (rule : Rule) → (8 ≤ length log → tested ≡ tested_by further log) → places_among tested (events log) rule ≡ places_in further log rule
 unfolding places_in
-named-places tested log rule named = go (nat_lt (length log) 8) refl
+named-places further tested log rule named = go (nat_lt (length log) 8) refl
   where
-    go : (b : Bool) → nat_lt (length log) 8 ≡ b → places_among tested (events log) rule ≡ places_among (tested_by log) (events log) rule
+    go : (b : Bool) → nat_lt (length log) 8 ≡ b → places_among tested (events log) rule ≡ places_among (tested_by further log) (events log) rule
     go true is =
         let short = ltb-true (length log) 8 is in
         let nothing : events log ≡ [] = events-header log (omega (arith, short)) in
         ap (λ (received : List Placed). places_among tested received rule) nothing ∙ none-among tested rule
-        ∙ sym (ap (λ (received : List Placed). places_among (tested_by log) received rule) nothing ∙ none-among (tested_by log) rule)
+        ∙ sym (ap (λ (received : List Placed). places_among (tested_by further log) received rule) nothing ∙ none-among (tested_by further log) rule)
     go false is = ap (λ (t : Tested). places_among t (events log) rule) (named (ltb-false (length log) 8 is))
 
 -- a whole log isn't shorter than its header

@@ -51,50 +51,50 @@ unfolding seen_in
 unseen log h = ap (map seen) (events-header log h)
 
 -- the end that a whole header names
-pub tested-stays : (log more : List ℕ) → 8 ≤ length log → tested_by (log ++ more) ≡ tested_by log
-tested-stays log more long = ap tested_as (header-stays log more long)
+pub tested-stays : (further : Bool) (log more : List ℕ) → 8 ≤ length log → tested_by further (log ++ more) ≡ tested_by further log
+tested-stays further log more long = ap (tested_as further) (header-stays log more long)
 
 -- ---- what is known
 
 -- the faults that are found are those of the log
-faults-found : (w : Watching) (log : List ℕ) → (8 ≤ length log → w.tested ≡ tested_by log) → IsFound w (seen_in log) → AreFaultsOf log w.faults
-faults-found w log named found k rule = go (nat_lt (length log) 8) refl
+faults-found : (further : Bool) (w : Watching) (log : List ℕ) → (8 ≤ length log → w.tested ≡ tested_by further log) → IsFound w (seen_in log) → AreFaultsOf further log w.faults
+faults-found further w log named found k rule = go (nat_lt (length log) 8) refl
   where
     none : nat_lt (length log) 8 ≡ true → seen_in log ≡ []
     none is = let short = ltb-true (length log) 8 is in unseen log (omega (arith, short))
 
-    go : (b : Bool) → nat_lt (length log) 8 ≡ b → fault_at w.faults k rule ≡ fault_in (tested_by log) (seen_in log) k rule
+    go : (b : Bool) → nat_lt (length log) 8 ≡ b → fault_at w.faults k rule ≡ fault_in (tested_by further log) (seen_in log) k rule
     go true is =
         found.each k rule
         ∙ ap (λ s. fault_in w.tested s k rule) (none is)
         ∙ fault_in-start w.tested k rule
-        ∙ sym (fault_in-start (tested_by log) k rule)
-        ∙ ap (λ s. fault_in (tested_by log) s k rule) (sym (none is))
+        ∙ sym (fault_in-start (tested_by further log) k rule)
+        ∙ ap (λ s. fault_in (tested_by further log) s k rule) (sym (none is))
     go false is = found.each k rule ∙ ap (λ t. fault_in t (seen_in log) k rule) (named (ltb-false (length log) 8 is))
 
 events-counted : (w : Watching) (log : List ℕ) → IsFound w (seen_in log) → w.events ≡ length (events log)
 unfolding seen_in
 events-counted w log found = found.count ∙ length-map (events log) seen
 
-pub knows-found : (tracer : Traced) (w : Watching) (log : List ℕ) → KeepsHeader tracer.reading log → (8 ≤ length log → w.tested ≡ tested_by log) → IsFound w (seen_in log)
-    → KnowsBy tracer.reading w log
-knows-found tracer w log header named found = record { header = header; faults = faults-found w log named found; events = events-counted w log found }
+pub knows-found : (further : Bool) (tracer : Traced) (w : Watching) (log : List ℕ) → KeepsHeader tracer.reading log → (8 ≤ length log → w.tested ≡ tested_by further log) → IsFound w (seen_in log)
+    → KnowsBy further tracer.reading w log
+knows-found further tracer w log header named found = record { header = header; faults = faults-found further w log named found; events = events-counted w log found }
 
-pub follows-nothing : (limit : ℕ) (tracer : Traced) (w : Watching) → IsTracedTo tracer [] → tracer.reading.limit ≡ limit → IsWatching w [] → IsTallying w [] → FollowsBy limit tracer w []
-follows-nothing limit tracer w traced within watches tallies =
+pub follows-nothing : (limit : ℕ) (further : Bool) (tracer : Traced) (w : Watching) → IsTracedTo tracer [] → tracer.reading.limit ≡ limit → IsWatching w [] → IsTallying w [] → FollowsBy limit further tracer w []
+follows-nothing limit further tracer w traced within watches tallies =
     let here : IsWatching w (seen_in []) = subst (IsWatching w) (sym seen-nothing) watches in
     record {
       traced = traced;
       within = within;
-      knows = knows-found tracer w [] (keeps_header tracer.reading [] traced.keeps) (λ long. absurd (omega (arith, long))) here.found;
+      knows = knows-found further tracer w [] (keeps_header tracer.reading [] traced.keeps) (λ long. absurd (omega (arith, long))) here.found;
       named = λ long. absurd (omega (arith, long));
       watches = here;
       tallies = subst (IsTallying w) (sym nothing-complete) tallies;
     }
 
 -- nothing is refused in a log that a judge follows
-pub unrefused : (limit : ℕ) (tracer : Traced) (w : Watching) (log : List ℕ) → FollowsBy limit tracer w log → refused limit log ≡ None
-unrefused limit tracer w log f = subst (λ l. refused l log ≡ None) f.within f.traced.keeps.unrefused
+pub unrefused : (limit : ℕ) (further : Bool) (tracer : Traced) (w : Watching) (log : List ℕ) → FollowsBy limit further tracer w log → refused limit log ≡ None
+unrefused limit further tracer w log f = subst (λ l. refused l log ≡ None) f.within f.traced.keeps.unrefused
 
 -- ---- a piece that is taken in by a tracer, whose sink judges the events
 
@@ -130,8 +130,8 @@ fed-events watching tested counting limit next log piece old new (Err r) whom wa
 -- ---- the tested end, once the header is whole
 
 -- what is kept of the events, after what belongs to the header
-pub record Begun (w : Watching) (log : List ℕ) : Type 0 where
-  pub named : 8 ≤ length log → w.tested ≡ tested_by log
+pub record Begun (further : Bool) (w : Watching) (log : List ℕ) : Type 0 where
+  pub named : 8 ≤ length log → w.tested ≡ tested_by further log
   pub watches : IsWatching w (seen_in log)
   pub tallies : IsTallying w (events log)
 
@@ -139,12 +139,12 @@ no-events : (log : List ℕ) (count : ℕ) → count ≡ length (seen_in log) �
 no-events log count is none = nil_from_length (seen_in log) (sym is ∙ none)
 
 -- no event is complete in the header, so its end is taken up by watchers that have taken in none
-pub begun : (limit : ℕ) (first mid : Traced) (w v : Watching) (log piece rest : List ℕ) (header : Option Header) → FollowsBy limit first w log → (b : Begins mid log piece rest)
+pub begun : (limit : ℕ) (further : Bool) (first mid : Traced) (w v : Watching) (log piece rest : List ℕ) (header : Option Header) → FollowsBy limit further first w log → (b : Begins mid log piece rest)
     → header ≡ (if nat_lt (length (log ++ b.taken)) 8 then None else Some (header_by (log ++ b.taken)))
-    → (w.events ≡ 0 → IfSome header (λ named. (v.tested ≡ tested_as named) × IsWatching v [] × IsTallying v [])) → (header ≡ None → v ≡ w) → ((w.events ≡ 0 → ⊥) → v ≡ w)
-    → Begun v (log ++ b.taken)
+    → (w.events ≡ 0 → IfSome header (λ named. (v.tested ≡ tested_as further named) × IsWatching v [] × IsTallying v [])) → (header ≡ None → v ≡ w) → ((w.events ≡ 0 → ⊥) → v ≡ w)
+    → Begun further v (log ++ b.taken)
 unfolding seen_in
-begun limit first mid w v log piece rest header f b is anew unnamed later = go (nat_lt (length (log ++ b.taken)) 8) refl
+begun limit further first mid w v log piece rest header f b is anew unnamed later = go (nat_lt (length (log ++ b.taken)) 8) refl
   where
     same : seen_in (log ++ b.taken) ≡ seen_in log
     same = ap (map seen) b.no_event
@@ -156,10 +156,10 @@ begun limit first mid w v log piece rest header f b is anew unnamed later = go (
     tallied e = subst (IsTallying v) (sym b.no_event) (subst (λ (u : Watching). IsTallying u (events log)) (sym e) f.tallies)
 
     -- before the first event
-    fresh : header ≡ Some (header_by (log ++ b.taken)) → w.events ≡ 0 → Begun v (log ++ b.taken)
+    fresh : header ≡ Some (header_by (log ++ b.taken)) → w.events ≡ 0 → Begun further v (log ++ b.taken)
     fresh whole none =
-        let now : (v.tested ≡ tested_as (header_by (log ++ b.taken))) × IsWatching v [] × IsTallying v [] =
-        subst (λ (o : Option Header). IfSome o (λ named. (v.tested ≡ tested_as named) × IsWatching v [] × IsTallying v [])) whole (anew none) in
+        let now : (v.tested ≡ tested_as further (header_by (log ++ b.taken))) × IsWatching v [] × IsTallying v [] =
+        subst (λ (o : Option Header). IfSome o (λ named. (v.tested ≡ tested_as further named) × IsWatching v [] × IsTallying v [])) whole (anew none) in
         let unseen_yet : seen_in log ≡ [] = no-events log w.events f.watches.found.count none in
         record {
           named = λ long. now.0;
@@ -168,13 +168,13 @@ begun limit first mid w v log piece rest header f b is anew unnamed later = go (
         }
 
     -- after it
-    after : (w.events ≡ 0 → ⊥) → Begun v (log ++ b.taken)
+    after : (w.events ≡ 0 → ⊥) → Begun further v (log ++ b.taken)
     after some =
         let e : v ≡ w = later some in
-        let long : nat_lt (length log) 8 ≡ false → Begun v (log ++ b.taken) = λ is.
+        let long : nat_lt (length log) 8 ≡ false → Begun further v (log ++ b.taken) = λ is.
         let whole : 8 ≤ length log = ltb-false (length log) 8 is in
-        record { named = λ h. ap (λ (u : Watching). u.tested) e ∙ f.named whole ∙ sym (tested-stays log b.taken whole); watches = kept e; tallies = tallied e } in
-        let short : nat_lt (length log) 8 ≡ true → Begun v (log ++ b.taken) = λ is.
+        record { named = λ h. ap (λ (u : Watching). u.tested) e ∙ f.named whole ∙ sym (tested-stays further log b.taken whole); watches = kept e; tallies = tallied e } in
+        let short : nat_lt (length log) 8 ≡ true → Begun further v (log ++ b.taken) = λ is.
         let few : length log < 8 = ltb-true (length log) 8 is in
         absurd (some (f.watches.found.count ∙ ap length (unseen log (omega (arith, few))))) in
         by_length (nat_lt (length log) 8) refl long short
@@ -183,11 +183,11 @@ begun limit first mid w v log piece rest header f b is anew unnamed later = go (
         by_length true is p q = q is
         by_length false is p q = p is
 
-    by_count : (n : ℕ) → w.events ≡ n → header ≡ Some (header_by (log ++ b.taken)) → Begun v (log ++ b.taken)
+    by_count : (n : ℕ) → w.events ≡ n → header ≡ Some (header_by (log ++ b.taken)) → Begun further v (log ++ b.taken)
     by_count zero none whole = fresh whole none
     by_count (suc n) some whole = after (λ none. omega (arith, some, none))
 
-    go : (t : Bool) → nat_lt (length (log ++ b.taken)) 8 ≡ t → Begun v (log ++ b.taken)
+    go : (t : Bool) → nat_lt (length (log ++ b.taken)) 8 ≡ t → Begun further v (log ++ b.taken)
     go true short =
         let few : length (log ++ b.taken) < 8 = ltb-true (length (log ++ b.taken)) 8 short in
         record {
@@ -200,31 +200,31 @@ begun limit first mid w v log piece rest header f b is anew unnamed later = go (
 -- ---- a piece of a log
 
 -- the end that a longer log names, where its header is whole or nothing was added
-named-on : (v : Watching) (log more : List ℕ) → Begun v log → (8 ≤ length log) ⊎ (more ≡ []) → 8 ≤ length (log ++ more) → v.tested ≡ tested_by (log ++ more)
-named-on v log more b (inl whole) long = b.named whole ∙ sym (tested-stays log more whole)
-named-on v log more b (inr none) long =
+named-on : (further : Bool) (v : Watching) (log more : List ℕ) → Begun further v log → (8 ≤ length log) ⊎ (more ≡ []) → 8 ≤ length (log ++ more) → v.tested ≡ tested_by further (log ++ more)
+named-on further v log more b (inl whole) long = b.named whole ∙ sym (tested-stays further log more whole)
+named-on further v log more b (inr none) long =
     let same : log ++ more ≡ log = ap (λ (l : List ℕ). log ++ l) none ∙ append-nil log in
-    b.named (subst (λ (l : List ℕ). 8 ≤ length l) same long) ∙ ap tested_by (sym same)
+    b.named (subst (λ (l : List ℕ). 8 ≤ length l) same long) ∙ ap (tested_by further) (sym same)
 
 -- the bytes after the header are taken in, or one of them isn't
-pub consumed : (limit : ℕ) (first mid next : Traced) (w v x : Watching) (log piece rest : List ℕ) (result : Result (Unit {0}) Refusal) → FollowsBy limit first w log → (b : Begins mid log piece rest)
-    → mid.reading.limit ≡ first.reading.limit → Begun v (log ++ b.taken) → IfErr result (λ r. next.refusal ≡ Some r)
-    → TakesEvents mid.reading.limit v.tested (counts v.watchers) (log ++ b.taken) rest next x result → JudgesPieceBy limit next x log piece result
+pub consumed : (limit : ℕ) (further : Bool) (first mid next : Traced) (w v x : Watching) (log piece rest : List ℕ) (result : Result (Unit {0}) Refusal) → FollowsBy limit further first w log → (b : Begins mid log piece rest)
+    → mid.reading.limit ≡ first.reading.limit → Begun further v (log ++ b.taken) → IfErr result (λ r. next.refusal ≡ Some r)
+    → TakesEvents mid.reading.limit v.tested (counts v.watchers) (log ++ b.taken) rest next x result → JudgesPieceBy limit further next x log piece result
 unfolding seen_in
-consumed limit first mid next w v x log piece rest (Ok done) f b lim from given t =
+consumed limit further first mid next w v x log piece rest (Ok done) f b lim from given t =
     let all : (log ++ b.taken) ++ rest ≡ log ++ piece = append_assoc log b.taken rest ∙ ap (λ (p : List ℕ). log ++ p) (sym b.is) in
-    let named : 8 ≤ length ((log ++ b.taken) ++ rest) → x.tested ≡ tested_by ((log ++ b.taken) ++ rest) = λ long. t.2.0 ∙ named-on v (log ++ b.taken) rest from b.whole long in
-    let here : FollowsBy limit next x ((log ++ b.taken) ++ rest) = record {
+    let named : 8 ≤ length ((log ++ b.taken) ++ rest) → x.tested ≡ tested_by further ((log ++ b.taken) ++ rest) = λ long. t.2.0 ∙ named-on further v (log ++ b.taken) rest from b.whole long in
+    let here : FollowsBy limit further next x ((log ++ b.taken) ++ rest) = record {
       traced = t.0;
       within = t.1 ∙ lim ∙ f.within;
-      knows = knows-found next x ((log ++ b.taken) ++ rest) (keeps_header next.reading ((log ++ b.taken) ++ rest) t.0.keeps) named t.2.1.found;
+      knows = knows-found further next x ((log ++ b.taken) ++ rest) (keeps_header next.reading ((log ++ b.taken) ++ rest) t.0.keeps) named t.2.1.found;
       named = named;
       watches = t.2.1;
       tallies = t.2.3;
     } in
-    let follows : FollowsBy limit next x (log ++ piece) = subst (FollowsBy limit next x) all here in
-    (unrefused limit next x (log ++ piece) follows, follows)
-consumed limit first mid next w v x log piece rest (Err r) f b lim from given t =
+    let follows : FollowsBy limit further next x (log ++ piece) = subst (FollowsBy limit further next x) all here in
+    (unrefused limit further next x (log ++ piece) follows, follows)
+consumed limit further first mid next w v x log piece rest (Err r) f b lim from given t =
     let s = t.0 in
     let all : (log ++ b.taken) ++ s.taken ≡ log ++ (b.taken ++ s.taken) = append_assoc log b.taken s.taken in
     let same : mid.reading.limit ≡ limit = lim ∙ f.within in
@@ -232,8 +232,8 @@ consumed limit first mid next w v x log piece rest (Err r) f b lim from given t 
       | inl whole ↦ inl whole
       | inr none ↦ absurd (omega (arith, ap length (sym none ∙ s.is), length-append s.taken (s.byte ∷ s.later)))
     ] in
-    let here : KnowsBy next.reading x ((log ++ b.taken) ++ s.taken) =
-    knows-found next x ((log ++ b.taken) ++ s.taken) t.1 (λ long. t.2 ∙ named-on v (log ++ b.taken) s.taken from some long) t.3 in (
+    let here : KnowsBy further next.reading x ((log ++ b.taken) ++ s.taken) =
+    knows-found further next x ((log ++ b.taken) ++ s.taken) t.1 (λ long. t.2 ∙ named-on further v (log ++ b.taken) s.taken from some long) t.3 in (
       record {
         taken = b.taken ++ s.taken;
         byte = s.byte;
@@ -242,7 +242,7 @@ consumed limit first mid next w v x log piece rest (Err r) f b lim from given t 
         unrefused = subst (λ (l : List ℕ). refused limit l ≡ None) all (subst (λ (n : ℕ). refused n ((log ++ b.taken) ++ s.taken) ≡ None) same s.unrefused);
         why = subst (λ (l : List ℕ). IsRefusedByte limit l s.byte r) all (subst (λ (n : ℕ). IsRefusedByte n ((log ++ b.taken) ++ s.taken) s.byte r) same s.why);
       },
-      record { answers = given; knows = subst (KnowsBy next.reading x) all here },
+      record { answers = given; knows = subst (KnowsBy further next.reading x) all here },
     )
 
 -- places are counted if they were before
@@ -252,9 +252,9 @@ counting-stays limit tested counting before log piece next x (Ok done) same t = 
 counting-stays limit tested counting before log piece next x (Err r) same t = tt
 
 -- a byte of the header isn't taken in
-pub refused-first : (limit : ℕ) (first next : Traced) (w : Watching) (log piece : List ℕ) (r : Refusal) → FollowsBy limit first w log → next.refusal ≡ Some r
-    → StopsInHeader first.reading.limit log piece next.reading r → JudgesPieceBy limit next w log piece (Err r)
-refused-first limit first next w log piece r f given t =
+pub refused-first : (limit : ℕ) (further : Bool) (first next : Traced) (w : Watching) (log piece : List ℕ) (r : Refusal) → FollowsBy limit further first w log → next.refusal ≡ Some r
+    → StopsInHeader first.reading.limit log piece next.reading r → JudgesPieceBy limit further next w log piece (Err r)
+refused-first limit further first next w log piece r f given t =
     let s = t.0.0 in
     let few : length (log ++ s.taken) < 8 = t.1 in
     let part : length log ≤ 8 = omega (arith, few, length-append log s.taken) in
@@ -268,7 +268,7 @@ refused-first limit first next w log piece r f given t =
         unrefused = subst (λ (n : ℕ). refused n (log ++ s.taken) ≡ None) f.within s.unrefused;
         why = subst (λ (n : ℕ). IsRefusedByte n (log ++ s.taken) s.byte r) f.within (why first.reading.limit s.taken s.byte s.why);
       },
-      record { answers = given; knows = knows-found next w (log ++ s.taken) t.0.1 (λ long. absurd (omega (arith, few, long))) found },
+      record { answers = given; knows = knows-found further next w (log ++ s.taken) t.0.1 (λ long. absurd (omega (arith, few, long))) found },
     )
   where
     why : (n : ℕ) (taken : List ℕ) (byte : ℕ) → Why {S = Unit {0}} (λ _ _. Unit {0}) (λ _ _ _. ⊥) n log taken byte tt tt r → IsRefusedByte n (log ++ taken) byte r

@@ -32,24 +32,24 @@ use Rattle.mq_rules.proofs.Exports.{entries-listed}
 
 -- nothing is refused in what a judge with the default limit follows
 unrefused-yet : {judge : Judge} (log : List ℕ) → judge.limit ≡ default_limit → Follows judge log → refused default_limit log ≡ None
-unrefused-yet {judge} log e follows = subst (λ l. refused l log ≡ None) e (unrefused judge.limit judge.tracer judge.judging.watching log follows)
+unrefused-yet {judge} log e follows = subst (λ l. refused l log ≡ None) e (unrefused judge.limit judge.further judge.tracer judge.judging.watching log follows)
 
 -- what a verdict says of its log
-abbrev pub SaysOf : List ℕ → ℕ → FaultMap → Type 0
-SaysOf log count faults = (is_cut_short log ≡ false) × (count ≡ length (events log)) × AreFaultsOf log faults
+abbrev pub SaysOf : Bool → List ℕ → ℕ → FaultMap → Type 0
+SaysOf further log count faults = (is_cut_short log ≡ false) × (count ≡ length (events log)) × AreFaultsOf further log faults
 
 -- a verdict on a log that was fed whole, with the role of the end that was judged
 judge-ends : {S : Type 0} {first : ℕ} {x y : Option (List ℕ)} {judge : Judge} {sink : S} (count : ℕ) (faults : FaultMap) (role : Role)
-    → FedAll (λ j. j.limit) (λ j (_ : S). Follows j) first x y judge sink → first ≡ default_limit → ((log : List ℕ) → Follows judge log → SaysOf log count faults)
-    → ((log : List ℕ) → Follows judge log → role ≡ (tested_by log).role) → IfSome x (λ log. IsVerdictOn log role count faults)
+    → FedAll (λ j. j.limit) (λ j (_ : S). Follows j) first x y judge sink → first ≡ default_limit → ((log : List ℕ) → Follows judge log → SaysOf judge.further log count faults)
+    → ((log : List ℕ) → Follows judge log → role ≡ (tested_by judge.further log).role) → IfSome x (λ log. IsVerdictOn judge.further log role count faults)
 judge-ends {S} {first} {x} {y} {judge} {sink} count faults role took default verdict named =
     let log = took.log in
-    let v : SaysOf log count faults = verdict log took.followed in
-    whole-taken x y log (λ l. IsVerdictOn l role count faults) took.consumed took.ended (record {
+    let v : SaysOf judge.further log count faults = verdict log took.followed in
+    whole-taken x y log (λ l. IsVerdictOn judge.further l role count faults) took.consumed took.ended (record {
       judged = record { unrefused = unrefused-yet log (took.within ∙ default) took.followed; whole = v.0 };
       role_is = named log took.followed;
       count_is = v.1;
-      faults_are = entries-listed (is_judged (tested_by log)) (tested_by log) (seen_in log) faults v.2;
+      faults_are = entries-listed (is_judged (tested_by judge.further log)) (tested_by judge.further log) (seen_in log) faults v.2;
     })
 
 -- a log that was fed whole, and that the judge refused at its end
@@ -66,50 +66,52 @@ run-refused-at-end {S} {first} {x} {y} refusal took default why =
     })
 
 -- what finishing a judge gives that was fed a whole log
-pub judge-finishes : {V : Type 0} (count_in : V → ℕ) (faults_in : V → FaultMap) {S : Type 0} {first : ℕ} {x y : Option (List ℕ)} {judge : Judge} {sink : S} (result : Result (V × Role) Refusal)
-    → FedAll (λ j. j.limit) (λ j (_ : S). Follows j) first x y judge sink → first ≡ default_limit
-    → ((log : List ℕ) → Follows judge log → Finishes (λ (answer : V × Role). count_in answer.0) (λ (answer : V × Role). faults_in answer.0) log result)
-    → ((log : List ℕ) → Follows judge log → IfOk result (λ answer. answer.1 ≡ (tested_by log).role))
-    → IfSome x (λ log. JudgesOver count_in faults_in log y result)
-judge-finishes count_in faults_in (Ok answer) took default finished named = judge-ends (count_in answer.0) (faults_in answer.0) answer.1 took default finished named
-judge-finishes count_in faults_in (Err refusal) took default finished named = run-refused-at-end refusal took default finished
+pub judge-finishes : {V : Type 0} (further : Bool) (count_in : V → ℕ) (faults_in : V → FaultMap) {S : Type 0} {first : ℕ} {x y : Option (List ℕ)} {judge : Judge} {sink : S} (result : Result (V × Role) Refusal)
+    → FedAll (λ j. j.limit) (λ j (_ : S). Follows j) first x y judge sink → first ≡ default_limit → judge.further ≡ further
+    → ((log : List ℕ) → Follows judge log → Finishes judge.further (λ (answer : V × Role). count_in answer.0) (λ (answer : V × Role). faults_in answer.0) log result)
+    → ((log : List ℕ) → Follows judge log → IfOk result (λ answer. answer.1 ≡ (tested_by judge.further log).role))
+    → IfSome x (λ log. JudgesOver further count_in faults_in log y result)
+judge-finishes further count_in faults_in {S} {first} {x} (Ok answer) took default same finished named =
+    subst (λ (b : Bool). IfSome x (λ log. IsVerdictOn b log answer.1 (count_in answer.0) (faults_in answer.0))) same
+    (judge-ends (count_in answer.0) (faults_in answer.0) answer.1 took default finished named)
+judge-finishes further count_in faults_in (Err refusal) took default same finished named = run-refused-at-end refusal took default finished
 
 -- what holds of a log holds of what a reader had left, where that is known
 pub for_log : (remaining : Option (List ℕ)) (P Q : List ℕ → Type 0) → ((log : List ℕ) → P log → Q log) → IfSome remaining P → IfSome remaining Q
 for_log None P Q f h = tt
 for_log (Some log) P Q f h = f log h
 
-report-is : (form : Form) (log : List ℕ) (role : Role) (count : ℕ) (faults : FaultMap) → IsVerdictOn log role count faults
-    → report_on form role (map.entries faults) count ≡ report form log
+report-is : (further : Bool) (form : Form) (log : List ℕ) (role : Role) (count : ℕ) (faults : FaultMap) → IsVerdictOn further log role count faults
+    → report_on form role (map.entries faults) count ≡ report further form log
 unfolding report
-report-is form log role count faults v = rw (v.role_is, v.faults_are, v.count_is) refl
+report-is further form log role count faults v = rw (v.role_is, v.faults_are, v.count_is) refl
 
-outcome-is : (log : List ℕ) (role : Role) (count : ℕ) (faults : FaultMap) → IsVerdictOn log role count faults
-    → (if map.len faults == 0 then Pass else Fail) ≡ outcome_of log
-outcome-is log role count faults v = rw (map.len-entries faults, v.faults_are) refl
+outcome-is : (further : Bool) (log : List ℕ) (role : Role) (count : ℕ) (faults : FaultMap) → IsVerdictOn further log role count faults
+    → (if map.len faults == 0 then Pass else Fail) ≡ outcome_of further log
+outcome-is further log role count faults v = rw (map.len-entries faults, v.faults_are) refl
 
 -- a run that came to an outcome
-pub run-reports : (x y : Option (List ℕ)) (form : Form) (w z : Option (List ℕ)) (count : ℕ) (faults : FaultMap) (role : Role) (outcome : Outcome)
-    → IfSome x (λ log. IsVerdictOn log role count faults)
+pub run-reports : (further : Bool) (x y : Option (List ℕ)) (form : Form) (w z : Option (List ℕ)) (count : ℕ) (faults : FaultMap) (role : Role) (outcome : Outcome)
+    → IfSome x (λ log. IsVerdictOn further log role count faults)
     → Appends w z (report_on form role (map.entries faults) count) → outcome ≡ (if map.len faults == 0 then Pass else Fail)
-    → IfSome x (λ log. RunsOver form log y (Ok outcome) w z)
-run-reports x y form w z count faults role outcome judged wrote says =
-    for_log x (λ log. IsVerdictOn log role count faults) (λ log. RunsOver form log y (Ok outcome) w z)
-    (λ log v. (v.judged, says ∙ outcome-is log role count faults v, subst (Appends w z) (report-is form log role count faults v) wrote)) judged
+    → IfSome x (λ log. RunsOver further form log y (Ok outcome) w z)
+run-reports further x y form w z count faults role outcome judged wrote says =
+    for_log x (λ log. IsVerdictOn further log role count faults) (λ log. RunsOver further form log y (Ok outcome) w z)
+    (λ log v. (v.judged, says ∙ outcome-is further log role count faults v, subst (Appends w z) (report-is further form log role count faults v) wrote)) judged
 
 -- a run whose report couldn't be written
-stops-with : (form : Form) (log : List ℕ) (y w z : Option (List ℕ)) (fault : RunFault) → IsJudged log → FailsToReport form w z (report form log) fault → RunsOver form log y (Err fault) w z
-stops-with form log y w z (run_faults.Refused refusal) judged failed = absurd failed
-stops-with form log y w z run_faults.Write judged failed = (judged, failed)
-stops-with form log y w z run_faults.Memory judged failed = (judged, failed.0, failed.1)
+stops-with : (further : Bool) (form : Form) (log : List ℕ) (y w z : Option (List ℕ)) (fault : RunFault) → IsJudged log → FailsToReport form w z (report further form log) fault → RunsOver further form log y (Err fault) w z
+stops-with further form log y w z (run_faults.Refused refusal) judged failed = absurd failed
+stops-with further form log y w z run_faults.Write judged failed = (judged, failed)
+stops-with further form log y w z run_faults.Memory judged failed = (judged, failed.0, failed.1)
 
-pub run-stops-writing : (x y : Option (List ℕ)) (form : Form) (w z : Option (List ℕ)) (count : ℕ) (faults : FaultMap) (role : Role) (fault : RunFault)
-    → IfSome x (λ log. IsVerdictOn log role count faults)
+pub run-stops-writing : (further : Bool) (x y : Option (List ℕ)) (form : Form) (w z : Option (List ℕ)) (count : ℕ) (faults : FaultMap) (role : Role) (fault : RunFault)
+    → IfSome x (λ log. IsVerdictOn further log role count faults)
     → FailsToReport form w z (report_on form role (map.entries faults) count) fault
-    → IfSome x (λ log. RunsOver form log y (Err fault) w z)
-run-stops-writing x y form w z count faults role fault judged stopped =
-    for_log x (λ log. IsVerdictOn log role count faults) (λ log. RunsOver form log y (Err fault) w z)
-    (λ log v. stops-with form log y w z fault v.judged (subst (λ (t : List ℕ). FailsToReport form w z t fault) (report-is form log role count faults v) stopped)) judged
+    → IfSome x (λ log. RunsOver further form log y (Err fault) w z)
+run-stops-writing further x y form w z count faults role fault judged stopped =
+    for_log x (λ log. IsVerdictOn further log role count faults) (λ log. RunsOver further form log y (Err fault) w z)
+    (λ log v. stops-with further form log y w z fault v.judged (subst (λ (t : List ℕ). FailsToReport form w z t fault) (report-is further form log role count faults v) stopped)) judged
 
 -- ---- with coverage
 
@@ -119,46 +121,46 @@ for_both None P Q R f h k = tt
 for_both (Some log) P Q R f h k = f log h k
 
 -- how often each statement of a log is put to the test, and what isn't judged of it
-abbrev pub AreListsOf : List Covered → List Gap → List ℕ → Type 0
-AreListsOf rows gaps log = (rows ≡ coverage_of log) × (gaps ≡ unjudged_of log)
+abbrev pub AreListsOf : Bool → List Covered → List Gap → List ℕ → Type 0
+AreListsOf further rows gaps log = (rows ≡ coverage_of further log) × (gaps ≡ unjudged_of further log)
 
-pub lists-known : (x : Option (List ℕ)) (rows : List Covered) (gaps : List Gap) → IfSome x (λ log. rows ≡ coverage_of log) → IfSome x (λ log. gaps ≡ unjudged_of log)
-    → IfSome x (AreListsOf rows gaps)
-lists-known x rows gaps = for_both x (λ log. rows ≡ coverage_of log) (λ log. gaps ≡ unjudged_of log) (AreListsOf rows gaps) (λ log covered left. (covered, left))
+pub lists-known : (further : Bool) (x : Option (List ℕ)) (rows : List Covered) (gaps : List Gap) → IfSome x (λ log. rows ≡ coverage_of further log) → IfSome x (λ log. gaps ≡ unjudged_of further log)
+    → IfSome x (AreListsOf further rows gaps)
+lists-known further x rows gaps = for_both x (λ log. rows ≡ coverage_of further log) (λ log. gaps ≡ unjudged_of further log) (AreListsOf further rows gaps) (λ log covered left. (covered, left))
 
-covered-report-is : (form : Form) (log : List ℕ) (role : Role) (count : ℕ) (faults : FaultMap) (rows : List Covered) (gaps : List Gap) → IsVerdictOn log role count faults → AreListsOf rows gaps log
-    → covered_report_on form role (map.entries faults) count rows gaps ≡ covered_report form log
+covered-report-is : (further : Bool) (form : Form) (log : List ℕ) (role : Role) (count : ℕ) (faults : FaultMap) (rows : List Covered) (gaps : List Gap) → IsVerdictOn further log role count faults → AreListsOf further rows gaps log
+    → covered_report_on form role (map.entries faults) count rows gaps ≡ covered_report further form log
 unfolding covered_report
-covered-report-is form log role count faults rows gaps v are = rw (v.role_is, v.faults_are, v.count_is, are.0, are.1) refl
+covered-report-is further form log role count faults rows gaps v are = rw (v.role_is, v.faults_are, v.count_is, are.0, are.1) refl
 
 -- a run that came to an outcome, and said how often each statement was put to the test
-pub run-covers : (x y : Option (List ℕ)) (form : Form) (w z : Option (List ℕ)) (count : ℕ) (faults : FaultMap) (role : Role) (rows : List Covered) (gaps : List Gap) (outcome : Outcome)
-    → IfSome x (λ log. IsVerdictOn log role count faults) → IfSome x (AreListsOf rows gaps)
+pub run-covers : (further : Bool) (x y : Option (List ℕ)) (form : Form) (w z : Option (List ℕ)) (count : ℕ) (faults : FaultMap) (role : Role) (rows : List Covered) (gaps : List Gap) (outcome : Outcome)
+    → IfSome x (λ log. IsVerdictOn further log role count faults) → IfSome x (AreListsOf further rows gaps)
     → Appends w z (covered_report_on form role (map.entries faults) count rows gaps) → outcome ≡ (if map.len faults == 0 then Pass else Fail)
-    → IfSome x (λ log. RunsCoveredOver form log y (Ok outcome) w z)
-run-covers x y form w z count faults role rows gaps outcome judged covered wrote says =
-    for_both x (λ log. IsVerdictOn log role count faults) (AreListsOf rows gaps) (λ log. RunsCoveredOver form log y (Ok outcome) w z)
-    (λ log v is. (v.judged, says ∙ outcome-is log role count faults v, subst (Appends w z) (covered-report-is form log role count faults rows gaps v is) wrote)) judged covered
+    → IfSome x (λ log. RunsCoveredOver further form log y (Ok outcome) w z)
+run-covers further x y form w z count faults role rows gaps outcome judged covered wrote says =
+    for_both x (λ log. IsVerdictOn further log role count faults) (AreListsOf further rows gaps) (λ log. RunsCoveredOver further form log y (Ok outcome) w z)
+    (λ log v is. (v.judged, says ∙ outcome-is further log role count faults v, subst (Appends w z) (covered-report-is further form log role count faults rows gaps v is) wrote)) judged covered
 
 -- one whose report couldn't be written
-covers-partly : (form : Form) (log : List ℕ) (y w z : Option (List ℕ)) (fault : RunFault) → IsJudged log → FailsToReport form w z (covered_report form log) fault → RunsCoveredOver form log y (Err fault) w z
-covers-partly form log y w z (run_faults.Refused refusal) judged failed = absurd failed
-covers-partly form log y w z run_faults.Write judged failed = (judged, failed)
-covers-partly form log y w z run_faults.Memory judged failed = (judged, failed.1)
+covers-partly : (further : Bool) (form : Form) (log : List ℕ) (y w z : Option (List ℕ)) (fault : RunFault) → IsJudged log → FailsToReport form w z (covered_report further form log) fault → RunsCoveredOver further form log y (Err fault) w z
+covers-partly further form log y w z (run_faults.Refused refusal) judged failed = absurd failed
+covers-partly further form log y w z run_faults.Write judged failed = (judged, failed)
+covers-partly further form log y w z run_faults.Memory judged failed = (judged, failed.1)
 
-pub run-stops-covering : (x y : Option (List ℕ)) (form : Form) (w z : Option (List ℕ)) (count : ℕ) (faults : FaultMap) (role : Role) (rows : List Covered) (gaps : List Gap) (fault : RunFault)
-    → IfSome x (λ log. IsVerdictOn log role count faults) → IfSome x (AreListsOf rows gaps)
+pub run-stops-covering : (further : Bool) (x y : Option (List ℕ)) (form : Form) (w z : Option (List ℕ)) (count : ℕ) (faults : FaultMap) (role : Role) (rows : List Covered) (gaps : List Gap) (fault : RunFault)
+    → IfSome x (λ log. IsVerdictOn further log role count faults) → IfSome x (AreListsOf further rows gaps)
     → FailsToReport form w z (covered_report_on form role (map.entries faults) count rows gaps) fault
-    → IfSome x (λ log. RunsCoveredOver form log y (Err fault) w z)
-run-stops-covering x y form w z count faults role rows gaps fault judged covered stopped =
-    for_both x (λ log. IsVerdictOn log role count faults) (AreListsOf rows gaps) (λ log. RunsCoveredOver form log y (Err fault) w z)
-    (λ log v is. covers-partly form log y w z fault v.judged (subst (λ (t : List ℕ). FailsToReport form w z t fault) (covered-report-is form log role count faults rows gaps v is) stopped)) judged covered
+    → IfSome x (λ log. RunsCoveredOver further form log y (Err fault) w z)
+run-stops-covering further x y form w z count faults role rows gaps fault judged covered stopped =
+    for_both x (λ log. IsVerdictOn further log role count faults) (AreListsOf further rows gaps) (λ log. RunsCoveredOver further form log y (Err fault) w z)
+    (λ log v is. covers-partly further form log y w z fault v.judged (subst (λ (t : List ℕ). FailsToReport form w z t fault) (covered-report-is further form log role count faults rows gaps v is) stopped)) judged covered
 
 -- one that had no memory for the lists
-pub run-lacks-rows : (x y : Option (List ℕ)) (form : Form) (w : Option (List ℕ)) (count : ℕ) (faults : FaultMap) (role : Role) → IfSome x (λ log. IsVerdictOn log role count faults)
-    → IfSome x (λ log. RunsCoveredOver form log y (Err run_faults.Memory) w w)
-run-lacks-rows x y form w count faults role judged =
-    for_log x (λ log. IsVerdictOn log role count faults) (λ log. RunsCoveredOver form log y (Err run_faults.Memory) w w) (λ log v. (v.judged, refl)) judged
+pub run-lacks-rows : (further : Bool) (x y : Option (List ℕ)) (form : Form) (w : Option (List ℕ)) (count : ℕ) (faults : FaultMap) (role : Role) → IfSome x (λ log. IsVerdictOn further log role count faults)
+    → IfSome x (λ log. RunsCoveredOver further form log y (Err run_faults.Memory) w w)
+run-lacks-rows further x y form w count faults role judged =
+    for_log x (λ log. IsVerdictOn further log role count faults) (λ log. RunsCoveredOver further form log y (Err run_faults.Memory) w w) (λ log v. (v.judged, refl)) judged
 
 -- what is so of the rows, if there are some, is so of these
 pub rows-known : {A : Type 0} (P : List ℕ → A → Type 0) (x : Option (List ℕ)) (found : Option A) (rows : A) → found ≡ Some rows → IfSome x (λ log. IfSome found (P log))

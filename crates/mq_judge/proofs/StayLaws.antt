@@ -46,18 +46,18 @@ seen-more log (byte ∷ more) =
       ap seen_in (sym (append_assoc log (byte ∷ []) more)) ∙ later.1 ∙ ap (λ s. later.0 ++ s) here.1 ∙ sym (append_assoc later.0 here.0 (seen_in log)),
     )
 
-pub known-stays : (log more : List ℕ) (known later : FaultMap) → AreFaultsOf log known → AreFaultsOf (log ++ more) later
+pub known-stays : (further : Bool) (log more : List ℕ) (known later : FaultMap) → AreFaultsOf further log known → AreFaultsOf further (log ++ more) later
     → (k : ℕ) (rule : Rule) (fault : Fault) → fault_at known k rule ≡ Some fault → fault_at later k rule ≡ Some fault
-known-stays log more known later are are_later k rule fault h = go (nat_lt (length log) 8) refl
+known-stays further log more known later are are_later k rule fault h = go (nat_lt (length log) 8) refl
   where
     go : (b : Bool) → nat_lt (length log) 8 ≡ b → fault_at later k rule ≡ Some fault
     go true short =
         let few = ltb-true (length log) 8 short in
         let none : seen_in log ≡ [] = unseen log (omega (arith, few)) in
-        absurd (let bad : None ≡ Some fault = sym (are k rule ∙ ap (λ s. fault_in (tested_by log) s k rule) none ∙ fault_in-start (tested_by log) k rule) ∙ h in cc)
+        absurd (let bad : None ≡ Some fault = sym (are k rule ∙ ap (λ s. fault_in (tested_by further log) s k rule) none ∙ fault_in-start (tested_by further log) k rule) ∙ h in cc)
     go false long =
         let many = ltb-false (length log) 8 long in
         are_later k rule
-        ∙ ap (λ t. fault_in t (seen_in (log ++ more)) k rule) (tested-stays log more many)
-        ∙ ap (λ s. fault_in (tested_by log) s k rule) (seen-more log more).1
-        ∙ stays-in (tested_by log) (seen-more log more).0 (seen_in log) k rule fault (sym (are k rule) ∙ h)
+        ∙ ap (λ t. fault_in t (seen_in (log ++ more)) k rule) (tested-stays further log more many)
+        ∙ ap (λ s. fault_in (tested_by further log) s k rule) (seen-more log more).1
+        ∙ stays-in (tested_by further log) (seen-more log more).0 (seen_in log) k rule fault (sym (are k rule) ∙ h)

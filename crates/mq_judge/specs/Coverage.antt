@@ -18,9 +18,9 @@ use Rattle.mq_rules.specs.Trials.{places_bytes}
 abbrev pub places_among : Tested → List Placed → Rule → ℕ
 places_among tested received rule = cond (is_on_bytes tested rule) (places_bytes tested received rule) (places tested (map seen received) rule)
 
--- how many it has in a log
-unfoldable pub places_in : List ℕ → Rule → ℕ
-places_in log rule = places_among (tested_by log) (events log) rule
+-- how many it has in a log that is judged by the further statements too, or not
+unfoldable pub places_in : Bool → List ℕ → Rule → ℕ
+places_in further log rule = places_among (tested_by further log) (events log) rule
 
 -- The statement is about packets that only the other end sends: SUBSCRIBE, UNSUBSCRIBE and CONNECT (W15 to W19), or CONNACK (W20).
 abbrev pub is_foreign : Role → Rule → Bool
@@ -41,6 +41,6 @@ listed_row tested received rule = cond (is_listed tested rule (places_among test
 abbrev pub rows_among : Tested → List Placed → List Rule → List Covered
 rows_among tested received rules = flat_map (listed_row tested received) rules
 
--- How often each statement that is listed is put to the test in a log, in the order of reports.
-unfoldable pub coverage_of : List ℕ → List Covered
-coverage_of log = rows_among (tested_by log) (events log) all_rules
+-- How often each statement that is listed is put to the test in a log that is judged by the further statements too, or not, in the order of reports.
+unfoldable pub coverage_of : Bool → List ℕ → List Covered
+coverage_of further log = rows_among (tested_by further log) (events log) all_rules

@@ -99,5 +99,5 @@ unjudged_among tested past =
     with_last (with_last (with_last (with_last (shown_in tested.role past) (undecided_in tested.role past)) (shared_in tested.role past)) (unrested_in tested.role past)) (unreleased tested)
 
 -- what isn't judged of a log
-unfoldable pub unjudged_of : List ℕ → List Gap
-unjudged_of log = unjudged_among (tested_by log) (seen_in log)
+unfoldable pub unjudged_of : Bool → List ℕ → List Gap
+unjudged_of further log = unjudged_among (tested_by further log) (seen_in log)

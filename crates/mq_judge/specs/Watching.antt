@@ -55,9 +55,9 @@ IsTallying w received = is_counting w.watchers ≡ true → CountsBytes w.tally 
 abbrev pub CountsNothing : Watching → Watching → Type 0
 CountsNothing old new = (is_counting new.watchers ≡ is_counting old.watchers) × (new.tally ≡ old.tally)
 
--- The counts of the events before this one, and then those with it.
-abbrev pub Tallies : Watching → Watching → Place3 → Event → Type 0
-Tallies old new place event = (p : Placed) (received : List Placed) → p.event ≡ event → place.position ≡ length received + 1 → IsTallying old received → IsTallying new (p ∷ received)
+-- What is kept of the events before this one themselves, and then with it.
+abbrev pub TalliesNext : Watching → Watching → Place3 → Event → Type 0
+TalliesNext old new place event = (p : Placed) (received : List Placed) → p.event ≡ event → place.position ≡ length received + 1 → IsTallying old received → IsTallying new (p ∷ received)
 
 -- These events were taken in as those of this end, and their places are counted, or aren't.
 abbrev pub IsJudging : Tested → Bool → Watching → List Placed → Type 0

@@ -25,16 +25,20 @@ use std::marker::Brand;
 pub struct Options {
     /// The largest packet that is read, in bytes: 5 to 268,435,460.
     pub limit: u32,
+    /// Judge the further statements too, beside those that always are.
+    pub further: bool,
 }
 
 impl Default for Options {
+    ghost use Rattle.std.specs.Prelude.{false};
     ghost use Rattle.mq_report.specs.Stopping.{default_limit};
 
-    ghost is_default = { λ options. options.limit ≡ default_limit };
+    ghost is_default = { λ options. (options.limit ≡ default_limit) × (options.further ≡ false) };
 
     fn default() -> Self {
         Options {
             limit: DEFAULT_LIMIT,
+            further: false,
         }
     }
 }
@@ -65,6 +69,7 @@ pub(crate) struct CoveredVerdict {
 #[derive(Drop)]
 pub struct Judge {
     limit: u32,
+    further: bool,
     tracer: Tracer,
     judging: Judging<Brand>,
 }
@@ -74,6 +79,7 @@ impl Judge {
     pub fn new(alloc: Global, options: Options) -> Self
         ensures follows { Follows result [] }
         ensures limit { result.limit ≡ options.limit }
+        ensures further { result.further ≡ options.further }
         ensures counts { is_counting result ≡ false }
     {
         Judge::start(alloc, options, false)
@@ -83,6 +89,7 @@ impl Judge {
     pub fn counting(alloc: Global, options: Options) -> Self
         ensures follows { Follows result [] }
         ensures limit { result.limit ≡ options.limit }
+        ensures further { result.further ≡ options.further }
         ensures counts { is_counting result ≡ true }
     {
         Judge::start(alloc, options, true)
@@ -92,15 +99,18 @@ impl Judge {
     fn start(alloc: Global, options: Options, counting: bool) -> Self
         ensures follows { Follows result [] }
         ensures limit { result.limit ≡ options.limit }
+        ensures further { result.further ≡ options.further }
         ensures counts { is_counting result ≡ counting }
     {
         // Until the log's header is whole, it doesn't matter which end this is.
         let tested = Tested {
             role: Role::Client,
             releases: false,
+            further: options.further,
         };
         Judge {
             limit: options.limit,
+            further: options.further,
             tracer: Tracer::new(alloc, options.limit),
             judging: Judging::new(Watching::new(alloc, tested, counting)),
         }
@@ -110,7 +120,7 @@ impl Judge {
     /// test. None if the judge doesn't count them. After a refusal it says nothing of the log.
     pub fn places(&self, rule: Rule) -> Option<u32>
         ensures plain { is_counting self.now ≡ false → result ≡ None }
-        ensures counted { (log : List ℕ) → is_counting self.now ≡ true → Follows self.now log → result ≡ Some (places_in log rule) }
+        ensures counted { (log : List ℕ) → is_counting self.now ≡ true → Follows self.now log → result ≡ Some (places_in self.now.further log rule) }
     {
         let watching = &self.judging.watching;
         if !watching.is_counting() {
@@ -122,17 +132,17 @@ impl Judge {
     /// Which end is judged, once the log's header is whole. After a refusal it is what the bytes
     /// before the refused one say.
     pub fn role(&self) -> Option<Role>
-        ensures { (taken : List ℕ) → Knows self.now taken → result ≡ (if nat_lt (length taken) 8 then None else Some (tested_by taken).role) }
+        ensures { (taken : List ℕ) → Knows self.now taken → result ≡ (if nat_lt (length taken) 8 then None else Some (tested_by self.now.further taken).role) }
     {
         let header = self.tracer.header()?;
-        Some(Tested::of(header).role)
+        Some(Tested::of(header, self.further).role)
     }
 
     /// The faults that are known: those of the events so far, each with the event that shows it.
     /// What is known stays, whatever comes after it. After a refusal they are those of the events
     /// that are complete before the refused byte.
     pub fn known(&self) -> &Faults
-        ensures { (taken : List ℕ) → Knows self.now taken → AreFaultsOf taken result.now }
+        ensures { (taken : List ℕ) → Knows self.now taken → AreFaultsOf self.now.further taken result.now }
     {
         &self.judging.watching.faults
     }
@@ -158,10 +168,11 @@ impl Judge {
         ensures answers { (log : List ℕ) → Follows self.old log → JudgesPiece log piece.now self.new result }
         ensures counts { (log : List ℕ) → Follows self.old log → OnOk result (is_counting self.new ≡ is_counting self.old) }
         ensures limit { self.new.limit ≡ self.old.limit }
+        ensures further { self.new.further ≡ self.old.further }
         ensures refuses { IfErr result (λ refusal. self.new.tracer.refusal ≡ Some refusal) }
         ensures for_ever { IfSome self.old.tracer.refusal (λ refusal. (result ≡ Err refusal) × (self.new ≡ self.old)) }
     {
-        consume(&mut self.tracer, &mut self.judging, piece)
+        consume(self.further, &mut self.tracer, &mut self.judging, piece)
     }
 
     /// Ends the log, and returns how many events it has. The faults stay known: they are the
@@ -175,6 +186,7 @@ impl Judge {
         ensures known { (log : List ℕ) → Follows self.old log → Knows self.new log }
         ensures same { OnOk result (self.new ≡ self.old) }
         ensures limit { self.new.limit ≡ self.old.limit }
+        ensures further { self.new.further ≡ self.old.further }
         ensures refuses { IfErr result (λ refusal. self.new.tracer.refusal ≡ Some refusal) }
         ensures for_ever { IfSome self.old.tracer.refusal (λ refusal. (result ≡ Err refusal) × (self.new ≡ self.old)) }
     {
@@ -191,7 +203,7 @@ impl Judge {
     /// The refusal that an earlier call returned; `Cut`, at the log's length, if the log ends
     /// inside its header or a record.
     pub fn finish(self) -> Result<Verdict, Refusal>
-        ensures verdict { (log : List ℕ) → Follows self log → Finishes (λ v. v.events) (λ v. v.faults) log result }
+        ensures verdict { (log : List ℕ) → Follows self log → Finishes self.further (λ v. v.events) (λ v. v.faults) log result }
         ensures for_ever { IfSome self.tracer.refusal (λ refusal. result ≡ Err refusal) }
     {
         let (verdict, _) = self.finish_with_role()?;
@@ -205,8 +217,8 @@ impl Judge {
     ///
     /// As `finish`.
     pub(crate) fn finish_with_role(self) -> Result<(Verdict, Role), Refusal>
-        ensures verdict { (log : List ℕ) → Follows self log → Finishes (λ answer. answer.0.events) (λ answer. answer.0.faults) log result }
-        ensures role { (log : List ℕ) → Follows self log → IfOk result (λ answer. answer.1 ≡ (tested_by log).role) }
+        ensures verdict { (log : List ℕ) → Follows self log → Finishes self.further (λ answer. answer.0.events) (λ answer. answer.0.faults) log result }
+        ensures role { (log : List ℕ) → Follows self log → IfOk result (λ answer. answer.1 ≡ (tested_by self.further log).role) }
         ensures for_ever { IfSome self.tracer.refusal (λ refusal. result ≡ Err refusal) }
     {
         let mut judge = self;
@@ -219,10 +231,10 @@ impl Judge {
     ///
     /// As `finish`.
     pub(crate) fn finish_covered(self, alloc: Global) -> Result<(CoveredVerdict, Role), Refusal>
-        ensures verdict { (log : List ℕ) → Follows self log → Finishes (λ answer. answer.0.verdict.events) (λ answer. answer.0.verdict.faults) log result }
-        ensures role { (log : List ℕ) → Follows self log → IfOk result (λ answer. answer.1 ≡ (tested_by log).role) }
-        ensures rows { (log : List ℕ) → is_counting self ≡ true → Follows self log → IfOk result (λ answer. IfSome answer.0.rows (λ rows. rows.items ≡ coverage_of log)) }
-        ensures gaps { (log : List ℕ) → is_counting self ≡ true → Follows self log → IfOk result (λ answer. IfSome answer.0.gaps (λ gaps. gaps.items ≡ unjudged_of log)) }
+        ensures verdict { (log : List ℕ) → Follows self log → Finishes self.further (λ answer. answer.0.verdict.events) (λ answer. answer.0.verdict.faults) log result }
+        ensures role { (log : List ℕ) → Follows self log → IfOk result (λ answer. answer.1 ≡ (tested_by self.further log).role) }
+        ensures rows { (log : List ℕ) → is_counting self ≡ true → Follows self log → IfOk result (λ answer. IfSome answer.0.rows (λ rows. rows.items ≡ coverage_of self.further log)) }
+        ensures gaps { (log : List ℕ) → is_counting self ≡ true → Follows self log → IfOk result (λ answer. IfSome answer.0.gaps (λ gaps. gaps.items ≡ unjudged_of self.further log)) }
         ensures for_ever { IfSome self.tracer.refusal (λ refusal. result ≡ Err refusal) }
     {
         let mut judge = self;
@@ -240,7 +252,7 @@ impl Judge {
     // How often each statement that is listed was put to the test in the log so far, where places
     // are counted. Nothing if there is no memory for it.
     fn coverage(&self, alloc: Global) -> Option<Vec<Covered>>
-        ensures { (log : List ℕ) → is_counting self.now ≡ true → Follows self.now log → 8 ≤ length log → IfSome result (λ rows. rows.items ≡ coverage_of log) }
+        ensures { (log : List ℕ) → is_counting self.now ≡ true → Follows self.now log → 8 ≤ length log → IfSome result (λ rows. rows.items ≡ coverage_of self.now.further log) }
     {
         match coverage(alloc, &self.judging.watching) {
             Ok(rows) => Some(rows),
@@ -251,7 +263,7 @@ impl Judge {
     // What isn't judged of the log so far, where places are counted. Nothing if there is no memory for
     // it.
     fn gaps(&self, alloc: Global) -> Option<Vec<Gap>>
-        ensures { (log : List ℕ) → is_counting self.now ≡ true → Follows self.now log → 8 ≤ length log → IfSome result (λ gaps. gaps.items ≡ unjudged_of log) }
+        ensures { (log : List ℕ) → is_counting self.now ≡ true → Follows self.now log → 8 ≤ length log → IfSome result (λ gaps. gaps.items ≡ unjudged_of self.now.further log) }
     {
         match self.judging.watching.gaps(alloc) {
             Ok(gaps) => Some(gaps),
@@ -264,15 +276,15 @@ impl Judge {
     //
     // Errors: As `finish`.
     fn take_verdict(&mut self) -> Result<(Verdict, Role), Refusal>
-        ensures verdict { (log : List ℕ) → Follows self.old log → Finishes (λ answer. answer.0.events) (λ answer. answer.0.faults) log result }
-        ensures role { (log : List ℕ) → Follows self.old log → IfOk result (λ answer. answer.1 ≡ (tested_by log).role) }
+        ensures verdict { (log : List ℕ) → Follows self.old log → Finishes self.old.further (λ answer. answer.0.events) (λ answer. answer.0.faults) log result }
+        ensures role { (log : List ℕ) → Follows self.old log → IfOk result (λ answer. answer.1 ≡ (tested_by self.old.further log).role) }
         ensures for_ever { IfSome self.old.tracer.refusal (λ refusal. result ≡ Err refusal) }
     {
         self.tracer.finish()?;
         let Some(header) = self.tracer.header() else {
             return Err(Refusal::Cut(self.tracer.byte_count()));
         };
-        let role = Tested::of(header).role;
+        let role = Tested::of(header, self.further).role;
         let watching = &mut self.judging.watching;
         let verdict = Verdict {
             events: watching.events,
@@ -283,16 +295,21 @@ impl Judge {
 }
 
 // Takes in a piece of a log: first what belongs to its header, which names the end that is judged,
-// and then the rest, in which events are complete.
-fn consume(tracer: &mut Tracer, judging: &mut Judging<Brand>, piece: &[u8]) -> Result<(), Refusal>
-    ensures answers { (limit : ℕ) (log : List ℕ) → FollowsBy limit tracer.old judging.old.watching log → JudgesPieceBy limit tracer.new judging.new.watching log piece.now result }
-    ensures counts { (limit : ℕ) (log : List ℕ) → FollowsBy limit tracer.old judging.old.watching log → OnOk result (counts judging.new.watching.watchers ≡ counts judging.old.watching.watchers) }
+// by the further statements too or not, and then the rest, in which events are complete.
+fn consume(
+    further: bool,
+    tracer: &mut Tracer,
+    judging: &mut Judging<Brand>,
+    piece: &[u8],
+) -> Result<(), Refusal>
+    ensures answers { (limit : ℕ) (log : List ℕ) → FollowsBy limit further tracer.old judging.old.watching log → JudgesPieceBy limit further tracer.new judging.new.watching log piece.now result }
+    ensures counts { (limit : ℕ) (log : List ℕ) → FollowsBy limit further tracer.old judging.old.watching log → OnOk result (counts judging.new.watching.watchers ≡ counts judging.old.watching.watchers) }
     ensures refuses { IfErr result (λ refusal. tracer.new.refusal ≡ Some refusal) }
     ensures for_ever { IfSome tracer.old.refusal (λ refusal. (result ≡ Err refusal) × (tracer.new ≡ tracer.old) × (judging.new ≡ judging.old)) }
 {
     match tracer.begin(piece) {
         Ok(rest) => {
-            judging.watching.begin(tracer.header());
+            judging.watching.begin(tracer.header(), further);
             take_events::<Brand>(tracer, judging, rest)
         }
         Err(refusal) => Err(refusal),

@@ -7,20 +7,23 @@ ghost use Rattle.mq_trace.specs.Feeding.{TakesAtMost};
 ghost use Rattle.mq_judge.specs.Coverage.{coverage_of};
 ghost use Rattle.mq_judge.specs.Unjudged.{unjudged_of};
 ghost use Rattle.mq_judge.specs.Runner.{JudgesOver, RunsOver, RunsCoveredOver};
+ghost use Rattle.mq_report.specs.Stopping.{default_limit};
 ghost use Rattle.mq_judge.specs.Telling.{IsToldOf, IsToldOfRun, IsJudgedFor, Said};
 
 use super::judge::{CoveredVerdict, Judge, Options};
 use super::progress::Progress;
 use super::telling::{Before, Telling};
 use mq_log::Refusal;
-use mq_report::{Form, Outcome, RunFault, Verdict, feed_log, write_covered_report, write_report};
+use mq_report::{
+    DEFAULT_LIMIT, Form, Outcome, RunFault, Verdict, feed_log, write_covered_report, write_report,
+};
 use mq_rules::Role;
 use std::alloc::Global;
 use std::io::{Read, Write};
 use std::marker::Brand;
 
-/// Judges the log that a reader gives, and writes the report on it in this form. It is
-/// `run_bounded` with 4,294,967,295 turns.
+/// Judges the log that a reader gives, by the further statements too or not, and writes the report
+/// on it in this form. It is `run_bounded` with 4,294,967,295 turns.
 ///
 /// # Errors
 ///
@@ -31,7 +34,7 @@ use std::marker::Brand;
 /// ```
 /// let log = b"MQTR\x01\x00\x01\x00\x01\x00\x00\x00\x00";
 /// let mut report = Vec::new(rt.alloc());
-/// let outcome = run(rt.alloc(), &mut log.as_slice(), &mut report, Form::Text)?;
+/// let outcome = run(rt.alloc(), &mut log.as_slice(), &mut report, Form::Text, false)?;
 /// assert_eq!(rt; outcome, Outcome::Pass);
 /// assert_eq!(rt; report.as_slice(), b"pass 1 events\n".as_slice());
 /// ```
@@ -40,11 +43,12 @@ pub fn run<R: Read, W: Write>(
     reader: &mut R,
     writer: &mut W,
     form: Form,
+    further: bool,
 ) -> Result<Outcome, RunFault>
-    ensures runs { IfSome (R.remaining reader.old) (λ log. RunsOver form log (R.remaining reader.new) result (W.contents writer.old) (W.contents writer.new)) }
+    ensures runs { IfSome (R.remaining reader.old) (λ log. RunsOver further form log (R.remaining reader.new) result (W.contents writer.old) (W.contents writer.new)) }
     ensures unwritten { (refusal : AnyRefusal) → result ≡ Err (run_faults.Refused refusal) → writer.new ≡ writer.old }
 {
-    run_bounded(alloc, reader, writer, form, u32::MAX)
+    run_bounded(alloc, reader, writer, form, further, u32::MAX)
 }
 
 /// Judges the log that a reader gives, and writes the report, as `run` does. After each turn it
@@ -59,17 +63,19 @@ pub fn run_watched<R: Read, W: Write, P: Progress>(
     reader: &mut R,
     writer: &mut W,
     form: Form,
+    further: bool,
     progress: &mut P,
 ) -> Result<Outcome, RunFault>
-    ensures runs { IfSome (R.remaining reader.old) (λ log. RunsOver form log (R.remaining reader.new) result (W.contents writer.old) (W.contents writer.new)) }
+    ensures runs { IfSome (R.remaining reader.old) (λ log. RunsOver further form log (R.remaining reader.new) result (W.contents writer.old) (W.contents writer.new)) }
     ensures unwritten { (refusal : AnyRefusal) → result ≡ Err (run_faults.Refused refusal) → writer.new ≡ writer.old }
-    ensures told { IsToldOfRun result (R.remaining reader.old) (P.told progress.old) (P.told progress.new) }
+    ensures told { IsToldOfRun further result (R.remaining reader.old) (P.told progress.old) (P.told progress.new) }
 {
-    run_all(alloc, reader, writer, form, u32::MAX, progress)
+    run_all(alloc, reader, writer, form, further, u32::MAX, progress)
 }
 
-/// Judges the log that a reader gives, and writes the report on it in this form. It reads at most
-/// `turns` times, counting interrupted reads, and at most 8,192 bytes each time.
+/// Judges the log that a reader gives, by the further statements too or not, and writes the report
+/// on it in this form. It reads at most `turns` times, counting interrupted reads, and at most 8,192
+/// bytes each time.
 ///
 /// # Errors
 ///
@@ -82,13 +88,14 @@ pub fn run_bounded<R: Read, W: Write>(
     reader: &mut R,
     writer: &mut W,
     form: Form,
+    further: bool,
     turns: u32,
 ) -> Result<Outcome, RunFault>
-    ensures runs { IfSome (R.remaining reader.old) (λ log. RunsOver form log (R.remaining reader.new) result (W.contents writer.old) (W.contents writer.new)) }
+    ensures runs { IfSome (R.remaining reader.old) (λ log. RunsOver further form log (R.remaining reader.new) result (W.contents writer.old) (W.contents writer.new)) }
     ensures unwritten { (refusal : AnyRefusal) → result ≡ Err (run_faults.Refused refusal) → writer.new ≡ writer.old }
     ensures few { TakesAtMost (8192 * turns) (R.remaining reader.old) (R.remaining reader.new) }
 {
-    run_all(alloc, reader, writer, form, turns, &mut ())
+    run_all(alloc, reader, writer, form, further, turns, &mut ())
 }
 
 // Judges the log that a reader gives in at most `turns` turns, telling `progress` how far it is,
@@ -98,23 +105,24 @@ fn run_all<R: Read, W: Write, P: Progress>(
     reader: &mut R,
     writer: &mut W,
     form: Form,
+    further: bool,
     turns: u32,
     progress: &mut P,
 ) -> Result<Outcome, RunFault>
-    ensures runs { IfSome (R.remaining reader.old) (λ log. RunsOver form log (R.remaining reader.new) result (W.contents writer.old) (W.contents writer.new)) }
+    ensures runs { IfSome (R.remaining reader.old) (λ log. RunsOver further form log (R.remaining reader.new) result (W.contents writer.old) (W.contents writer.new)) }
     ensures unwritten { (refusal : AnyRefusal) → result ≡ Err (run_faults.Refused refusal) → writer.new ≡ writer.old }
-    ensures told { IsToldOfRun result (R.remaining reader.old) (P.told progress.old) (P.told progress.new) }
+    ensures told { IsToldOfRun further result (R.remaining reader.old) (P.told progress.old) (P.told progress.new) }
     ensures few { TakesAtMost (8192 * turns) (R.remaining reader.old) (R.remaining reader.new) }
 {
-    let judged = judge_bounded(alloc, reader, turns, progress);
+    let judged = judge_bounded(alloc, reader, further, turns, progress);
     progress.end();
     let (verdict, role) = judged?;
     write_report(alloc, &verdict, role, form, writer)?;
     Ok(outcome(&verdict))
 }
 
-/// Judges the log that a reader gives, and returns the verdict on it and the role of the end that
-/// was judged. It reads at most 4,294,967,295 times, and at most 8,192 bytes each time.
+/// Judges the log that a reader gives, by the further statements too or not, and returns the verdict
+/// on it and the role of the end that was judged. It reads at most 4,294,967,295 times, and at most 8,192 bytes each time.
 ///
 /// # Errors
 ///
@@ -125,13 +133,17 @@ fn run_all<R: Read, W: Write, P: Progress>(
 ///
 /// ```
 /// let nested = b"MQTR\x01\x00\x01\x00\x01\x00\x00\x00\x00\x01";
-/// let refused = judge_reader(rt.alloc(), &mut nested.as_slice());
+/// let refused = judge_reader(rt.alloc(), &mut nested.as_slice(), false);
 /// assert!(rt; matches!(refused, Err(Refusal::Nested(13))));
 /// ```
-pub fn judge_reader<R: Read>(alloc: Global, reader: &mut R) -> Result<(Verdict, Role), Refusal>
-    ensures { IfSome (R.remaining reader.old) (λ log. JudgesOver (λ v. v.events) (λ v. v.faults) log (R.remaining reader.new) result) }
+pub fn judge_reader<R: Read>(
+    alloc: Global,
+    reader: &mut R,
+    further: bool,
+) -> Result<(Verdict, Role), Refusal>
+    ensures { IfSome (R.remaining reader.old) (λ log. JudgesOver further (λ v. v.events) (λ v. v.faults) log (R.remaining reader.new) result) }
 {
-    judge_bounded(alloc, reader, u32::MAX, &mut ())
+    judge_bounded(alloc, reader, further, u32::MAX, &mut ())
 }
 
 // Judges the log that a reader gives in at most `turns` turns, telling `progress` how far it is,
@@ -139,30 +151,33 @@ pub fn judge_reader<R: Read>(alloc: Global, reader: &mut R) -> Result<(Verdict, 
 fn judge_bounded<R: Read, P: Progress>(
     alloc: Global,
     reader: &mut R,
+    further: bool,
     turns: u32,
     progress: &mut P,
 ) -> Result<(Verdict, Role), Refusal>
-    ensures judges { IfSome (R.remaining reader.old) (λ log. JudgesOver (λ v. v.events) (λ v. v.faults) log (R.remaining reader.new) result) }
-    ensures told { IsToldOf (IsJudgedFor result) (R.remaining reader.old) (P.told progress.old) (P.told progress.new) }
+    ensures judges { IfSome (R.remaining reader.old) (λ log. JudgesOver further (λ v. v.events) (λ v. v.faults) log (R.remaining reader.new) result) }
+    ensures told { IsToldOf further (IsJudgedFor result) (R.remaining reader.old) (P.told progress.old) (P.told progress.new) }
     ensures few { TakesAtMost (8192 * turns) (R.remaining reader.old) (R.remaining reader.new) }
 {
-    judge_telling::<R, P, Brand>(alloc, reader, turns, progress)
+    judge_telling::<R, P, Brand>(alloc, reader, further, turns, progress)
 }
 
 // Judges as `judge_bounded` does, and tells it to whoever had been told what was picked.
 fn judge_telling<R: Read, P: Progress, K: Before>(
     alloc: Global,
     reader: &mut R,
+    further: bool,
     turns: u32,
     progress: &mut P,
 ) -> Result<(Verdict, Role), Refusal>
     requires told { (before : List Said) → K.told before → P.told progress.old before }
     requires counting { K.counting ≡ false }
-    ensures judges { IfSome (R.remaining reader.old) (λ log. JudgesOver (λ v. v.events) (λ v. v.faults) log (R.remaining reader.new) result) }
-    ensures told { IsToldOf (IsJudgedFor result) (R.remaining reader.old) K.told (P.told progress.new) }
+    requires further { K.further ≡ further }
+    ensures judges { IfSome (R.remaining reader.old) (λ log. JudgesOver further (λ v. v.events) (λ v. v.faults) log (R.remaining reader.new) result) }
+    ensures told { IsToldOf K.further (IsJudgedFor result) (R.remaining reader.old) K.told (P.told progress.new) }
     ensures few { TakesAtMost (8192 * turns) (R.remaining reader.old) (R.remaining reader.new) }
 {
-    let judge = Judge::new(alloc, Options::default());
+    let judge = Judge::new(alloc, options(further));
     let mut telling = Telling::<K>::new(judge);
     let mut buffer = [0; 8192];
     feed_log(&mut telling, progress, reader, &mut buffer, turns)?;
@@ -182,13 +197,14 @@ pub fn run_covered<R: Read, W: Write, P: Progress>(
     reader: &mut R,
     writer: &mut W,
     form: Form,
+    further: bool,
     progress: &mut P,
 ) -> Result<Outcome, RunFault>
-    ensures runs { IfSome (R.remaining reader.old) (λ log. RunsCoveredOver form log (R.remaining reader.new) result (W.contents writer.old) (W.contents writer.new)) }
+    ensures runs { IfSome (R.remaining reader.old) (λ log. RunsCoveredOver further form log (R.remaining reader.new) result (W.contents writer.old) (W.contents writer.new)) }
     ensures unwritten { (refusal : AnyRefusal) → result ≡ Err (run_faults.Refused refusal) → writer.new ≡ writer.old }
-    ensures told { IsToldOfRun result (R.remaining reader.old) (P.told progress.old) (P.told progress.new) }
+    ensures told { IsToldOfRun further result (R.remaining reader.old) (P.told progress.old) (P.told progress.new) }
 {
-    let judged = judge_covered(alloc, reader, progress);
+    let judged = judge_covered(alloc, reader, further, progress);
     progress.end();
     let (covered, role) = judged?;
     let CoveredVerdict {
@@ -210,35 +226,49 @@ pub fn run_covered<R: Read, W: Write, P: Progress>(
 fn judge_covered<R: Read, P: Progress>(
     alloc: Global,
     reader: &mut R,
+    further: bool,
     progress: &mut P,
 ) -> Result<(CoveredVerdict, Role), Refusal>
-    ensures judges { IfSome (R.remaining reader.old) (λ log. JudgesOver (λ v. v.verdict.events) (λ v. v.verdict.faults) log (R.remaining reader.new) result) }
-    ensures rows { IfSome (R.remaining reader.old) (λ log. IfOk result (λ answer. IfSome answer.0.rows (λ rows. rows.items ≡ coverage_of log))) }
-    ensures gaps { IfSome (R.remaining reader.old) (λ log. IfOk result (λ answer. IfSome answer.0.gaps (λ gaps. gaps.items ≡ unjudged_of log))) }
-    ensures told { IsToldOf (IsJudgedFor result) (R.remaining reader.old) (P.told progress.old) (P.told progress.new) }
+    ensures judges { IfSome (R.remaining reader.old) (λ log. JudgesOver further (λ v. v.verdict.events) (λ v. v.verdict.faults) log (R.remaining reader.new) result) }
+    ensures rows { IfSome (R.remaining reader.old) (λ log. IfOk result (λ answer. IfSome answer.0.rows (λ rows. rows.items ≡ coverage_of further log))) }
+    ensures gaps { IfSome (R.remaining reader.old) (λ log. IfOk result (λ answer. IfSome answer.0.gaps (λ gaps. gaps.items ≡ unjudged_of further log))) }
+    ensures told { IsToldOf further (IsJudgedFor result) (R.remaining reader.old) (P.told progress.old) (P.told progress.new) }
 {
-    cover_telling::<R, P, Brand>(alloc, reader, progress)
+    cover_telling::<R, P, Brand>(alloc, reader, further, progress)
 }
 
 // Judges as `judge_covered` does, and tells it to whoever had been told what was picked.
 fn cover_telling<R: Read, P: Progress, K: Before>(
     alloc: Global,
     reader: &mut R,
+    further: bool,
     progress: &mut P,
 ) -> Result<(CoveredVerdict, Role), Refusal>
     requires told { (before : List Said) → K.told before → P.told progress.old before }
     requires counting { K.counting ≡ true }
-    ensures judges { IfSome (R.remaining reader.old) (λ log. JudgesOver (λ v. v.verdict.events) (λ v. v.verdict.faults) log (R.remaining reader.new) result) }
-    ensures rows { IfSome (R.remaining reader.old) (λ log. IfOk result (λ answer. IfSome answer.0.rows (λ rows. rows.items ≡ coverage_of log))) }
-    ensures gaps { IfSome (R.remaining reader.old) (λ log. IfOk result (λ answer. IfSome answer.0.gaps (λ gaps. gaps.items ≡ unjudged_of log))) }
-    ensures told { IsToldOf (IsJudgedFor result) (R.remaining reader.old) K.told (P.told progress.new) }
+    requires further { K.further ≡ further }
+    ensures judges { IfSome (R.remaining reader.old) (λ log. JudgesOver further (λ v. v.verdict.events) (λ v. v.verdict.faults) log (R.remaining reader.new) result) }
+    ensures rows { IfSome (R.remaining reader.old) (λ log. IfOk result (λ answer. IfSome answer.0.rows (λ rows. rows.items ≡ coverage_of further log))) }
+    ensures gaps { IfSome (R.remaining reader.old) (λ log. IfOk result (λ answer. IfSome answer.0.gaps (λ gaps. gaps.items ≡ unjudged_of further log))) }
+    ensures told { IsToldOf K.further (IsJudgedFor result) (R.remaining reader.old) K.told (P.told progress.new) }
 {
-    let judge = Judge::counting(alloc, Options::default());
+    let judge = Judge::counting(alloc, options(further));
     let mut telling = Telling::<K>::new(judge);
     let mut buffer = [0; 8192];
     feed_log(&mut telling, progress, reader, &mut buffer, u32::MAX)?;
     let judge = telling.into_judge();
     judge.finish_covered(alloc)
+}
+
+// The options of a run: the default ones, but for whether the further statements are judged too.
+fn options(further: bool) -> Options
+    ensures limit { result.limit ≡ default_limit }
+    ensures further { result.further ≡ further }
+{
+    Options {
+        limit: DEFAULT_LIMIT,
+        further,
+    }
 }
 
 // The outcome of a report on a verdict.

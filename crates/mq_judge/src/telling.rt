@@ -7,7 +7,8 @@ use mq_log::Refusal;
 use mq_trace::Feed;
 use std::marker::{Brand, PhantomData};
 
-/// What had been told before, and whether places are counted. Each call of `judge_telling` or of
+/// What had been told before, whether places are counted, and whether the further statements are
+/// judged too. Each call of `judge_telling` or of
 /// `cover_telling` picks it.
 pub trait Before {
     ghost use Rattle.std.specs.Prelude.{Bool};
@@ -17,6 +18,9 @@ pub trait Before {
 
     // Whether the judge counts places.
     ghost counting: { Bool };
+
+    // Whether it judges the further statements too.
+    ghost further: { Bool };
 }
 
 impl Before for Brand {
@@ -25,6 +29,8 @@ impl Before for Brand {
     ghost told = { λ _. ⊤ };
 
     ghost counting = { false };
+
+    ghost further = { false };
 }
 
 /// A judge that tells after each piece of its log how far it is.
@@ -65,9 +71,9 @@ impl<P: Progress, K: Before> Feed<P, Refusal> for Telling<K> {
 
     ghost limit = { λ telling. telling.judge.limit };
 
-    ghost follows = { λ telling progress log. Follows telling.judge log × IsTold K.told (P.told progress) log × (is_counting telling.judge ≡ K.counting) };
+    ghost follows = { λ telling progress log. Follows telling.judge log × IsTold K.further K.told (P.told progress) log × (is_counting telling.judge ≡ K.counting) × (telling.judge.further ≡ K.further) };
 
-    ghost stops = { λ limit telling progress log piece refusal. RefusesIn limit telling.judge log piece refusal × IsTold K.told (P.told progress) log };
+    ghost stops = { λ limit telling progress log piece refusal. RefusesIn limit telling.judge log piece refusal × IsTold K.further K.told (P.told progress) log };
 
     fn feed(&mut self, progress: &mut P, piece: &[u8]) -> Result<(), Refusal> {
         match self.judge.feed(piece) {

@@ -14,7 +14,7 @@ ghost use Rattle.mq_rules.specs.Notes.{tested_as, note_of, note_of_bare};
 ghost use Rattle.mq_rules.specs.Weights.{in_word};
 ghost use Rattle.mq_rules.specs.declared.role.Tested.{Tested as TheTested};
 ghost use Rattle.mq_rules.specs.declared.fate.Fate.TheVariants.{Void};
-ghost use Rattle.mq_judge.specs.Watching.{IsWatching, IsTallying, Tallies, TakesIn, LeavesOut, CountsNothing, watchers_weigh};
+ghost use Rattle.mq_judge.specs.Watching.{IsWatching, IsTallying, TalliesNext, TakesIn, LeavesOut, CountsNothing, watchers_weigh};
 ghost use Rattle.mq_judge.specs.Coverage.{places_among};
 ghost use Rattle.mq_judge.specs.Unjudged.{unjudged_among};
 ghost use Rattle.mq_judge.specs.Gathering.{Gathers};
@@ -110,9 +110,10 @@ impl Watching {
             .gaps(alloc, self.tested, self.watchers.latest_fate())
     }
 
-    /// Judges the end that the log's header names, once the header is whole, and before any event.
-    pub fn begin(&mut self, header: Option<Header>)
-        ensures first { self.old.events ≡ 0 → IfSome header (λ named. (self.new.tested ≡ tested_as named) × IsWatching self.new [] × IsTallying self.new []) }
+    /// Judges the end that the log's header names, once the header is whole, and before any event: by
+    /// the further statements too or not.
+    pub fn begin(&mut self, header: Option<Header>, further: bool)
+        ensures first { self.old.events ≡ 0 → IfSome header (λ named. (self.new.tested ≡ tested_as further named) × IsWatching self.new [] × IsTallying self.new []) }
         ensures kind { counts self.new.watchers ≡ counts self.old.watchers }
         ensures unnamed { header ≡ None → self.new ≡ self.old }
         ensures later { (self.old.events ≡ 0 → ⊥) → self.new ≡ self.old }
@@ -121,7 +122,7 @@ impl Watching {
             return;
         }
         if let Some(header) = header {
-            *self = Watching::new(self.alloc, Tested::of(header), self.is_counting());
+            *self = Watching::new(self.alloc, Tested::of(header, further), self.is_counting());
         }
     }
 
@@ -193,7 +194,7 @@ impl Watching {
         ensures ok { OnOk result (TakesIn self.old self.new at (note_of_bare bare.entry)) }
         ensures memory { OnErr result (LeavesOut self.old self.new at (note_of_bare bare.entry)) }
         ensures counts { OnOk result (counts self.new.watchers ≡ counts self.old.watchers) }
-        ensures tallies { OnOk result ((entry : Entry) → IsTriedAs bare.entry.size bare.entry.fields entry → Tallies self.old self.new at (item_event bare.entry.direction (packet_item bare.entry.size entry))) }
+        ensures tallies { OnOk result ((entry : Entry) → IsTriedAs bare.entry.size bare.entry.fields entry → TalliesNext self.old self.new at (item_event bare.entry.direction (packet_item bare.entry.size entry))) }
     {
         match self.watchers.step_counted(at, bare, &mut self.faults) {
             Ok(()) => {
@@ -215,7 +216,7 @@ impl Watching {
         ensures ok { OnOk result (TakesIn self.old self.new at (note_of_bare bare.entry)) }
         ensures memory { OnErr result (LeavesOut self.old self.new at (note_of_bare bare.entry)) }
         ensures counts { OnOk result (counts self.new.watchers ≡ counts self.old.watchers) }
-        ensures tallies { OnOk result ((entry : Entry) → IsTriedAs bare.entry.size bare.entry.fields entry → Tallies self.old self.new at (item_event bare.entry.direction (packet_item bare.entry.size entry))) }
+        ensures tallies { OnOk result ((entry : Entry) → IsTriedAs bare.entry.size bare.entry.fields entry → TalliesNext self.old self.new at (item_event bare.entry.direction (packet_item bare.entry.size entry))) }
     {
         if self.watchers.is_counting() {
             return self.count_bare(at, bare);
@@ -263,7 +264,7 @@ impl Watching {
         ensures ok { OnOk result (TakesIn self.old self.new place (note_of (item_event direction (packet_item size (view packet.entry))))) }
         ensures memory { OnErr result (LeavesOut self.old self.new place (note_of (item_event direction (packet_item size (view packet.entry))))) }
         ensures counts { OnOk result (counts self.new.watchers ≡ counts self.old.watchers) }
-        ensures tallies { OnOk result (Tallies self.old self.new place (item_event direction (packet_item size (view packet.entry)))) }
+        ensures tallies { OnOk result (TalliesNext self.old self.new place (item_event direction (packet_item size (view packet.entry)))) }
     {
         let Ok(note) = Note::of_packet(self.alloc, direction, size, &packet) else {
             return Err(Memory);
@@ -292,7 +293,7 @@ impl Watching {
         ensures ok { OnOk result (TakesIn self.old self.new place (note_of (item_event direction (packet_item size (view (packets.Publish publish.entry)))))) }
         ensures memory { OnErr result (LeavesOut self.old self.new place (note_of (item_event direction (packet_item size (view (packets.Publish publish.entry)))))) }
         ensures counts { OnOk result (counts self.new.watchers ≡ counts self.old.watchers) }
-        ensures tallies { OnOk result (Tallies self.old self.new place (item_event direction (packet_item size (view (packets.Publish publish.entry))))) }
+        ensures tallies { OnOk result (TalliesNext self.old self.new place (item_event direction (packet_item size (view (packets.Publish publish.entry))))) }
     {
         self.take_packet(place, direction, size, Packet::Publish(publish))
     }
@@ -312,7 +313,7 @@ impl Watching {
         ensures ok { OnOk result (TakesIn self.old self.new place (note_of (item_event direction (packet_item size (view packet.entry))))) }
         ensures memory { OnErr result (LeavesOut self.old self.new place (note_of (item_event direction (packet_item size (view packet.entry))))) }
         ensures counts { OnOk result (counts self.new.watchers ≡ counts self.old.watchers) }
-        ensures tallies { OnOk result (Tallies self.old self.new place (item_event direction (packet_item size (view packet.entry)))) }
+        ensures tallies { OnOk result (TalliesNext self.old self.new place (item_event direction (packet_item size (view packet.entry)))) }
     {
         match BareFields::of_packet(&packet) {
             Some(fields) => self.receive_bare(
@@ -342,7 +343,7 @@ impl Watching {
         ensures ok { OnOk result (TakesIn self.old self.new place (note_of (item_event direction (packet_item size (view (packets.Publish publish.entry)))))) }
         ensures memory { OnErr result (LeavesOut self.old self.new place (note_of (item_event direction (packet_item size (view (packets.Publish publish.entry)))))) }
         ensures counts { OnOk result (counts self.new.watchers ≡ counts self.old.watchers) }
-        ensures tallies { OnOk result (Tallies self.old self.new place (item_event direction (packet_item size (view (packets.Publish publish.entry))))) }
+        ensures tallies { OnOk result (TalliesNext self.old self.new place (item_event direction (packet_item size (view (packets.Publish publish.entry))))) }
     {
         if !is_bare(&publish) {
             return self.take_publish(place, direction, size, publish);
@@ -425,7 +426,7 @@ impl End for Brand {
     ghost use Rattle.std.specs.Prelude.{false};
     ghost use Rattle.mq_rules.specs.declared.role.Role.TheVariants.{Client};
 
-    ghost tested = { record { role = Client; releases = false } };
+    ghost tested = { record { role = Client; releases = false; further = false } };
 
     ghost counting = { false };
 }

@@ -72,7 +72,7 @@ static ROWS: [(&[Part], Option<u32>, &str); 6] = [
 
 // Whether the log is shown as this text, with the faults that the judge finds in it.
 fn is_shown(alloc: Global, log: &[u8], around: Option<u32>, text: &[u8]) -> Result<bool, Fail> {
-    let Ok((verdict, role)) = judge_reader(alloc, &mut &log[..]) else {
+    let Ok((verdict, role)) = judge_reader(alloc, &mut &log[..], false) else {
         return Ok(false);
     };
     let mut written = Vec::new(alloc);
@@ -140,7 +140,7 @@ fn shows_3000_faults(rt: HostRuntime) -> Result<(), Fail> {
 
 #[test]
 fn refuses_a_log_that_is_cut_short(rt: HostRuntime) {
-    let judged = judge_reader(rt.alloc(), &mut &HEADER[..7]);
+    let judged = judge_reader(rt.alloc(), &mut &HEADER[..7], false);
     assert!(rt; matches!(judged, Err(Refusal::Cut(7))));
 }
 

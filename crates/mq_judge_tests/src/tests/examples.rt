@@ -18,7 +18,13 @@ fn judging_pieces(rt: HostRuntime) -> Result<(), Fail> {
 fn judging_a_reader(rt: HostRuntime) -> Result<(), Fail> {
     let log = b"MQTR\x01\x00\x01\x00\x01\x00\x00\x00\x00";
     let mut report = Vec::new(rt.alloc());
-    let outcome = run(rt.alloc(), &mut log.as_slice(), &mut report, Form::Text)?;
+    let outcome = run(
+        rt.alloc(),
+        &mut log.as_slice(),
+        &mut report,
+        Form::Text,
+        false,
+    )?;
     assert_eq!(rt; outcome, Outcome::Pass);
     assert_eq!(rt; report.as_slice(), b"pass 1 events\n".as_slice());
     Ok(())
@@ -27,7 +33,7 @@ fn judging_a_reader(rt: HostRuntime) -> Result<(), Fail> {
 #[test]
 fn refusing_a_log(rt: HostRuntime) -> Result<(), Fail> {
     let nested = b"MQTR\x01\x00\x01\x00\x01\x00\x00\x00\x00\x01";
-    let refused = judge_reader(rt.alloc(), &mut nested.as_slice());
+    let refused = judge_reader(rt.alloc(), &mut nested.as_slice(), false);
     assert!(rt; matches!(refused, Err(Refusal::Nested(13))));
     Ok(())
 }

@@ -13,7 +13,13 @@ const LOG: &[u8] = b"MQTR\x01\x00\x01\x00\
 // Whether a log that is judged with this limit on packets has so many events and no fault; or is
 // refused so, at once and at its end.
 fn is_judged(alloc: Global, limit: u32, log: &[u8], answer: Result<u32, Refusal>) -> bool {
-    let mut judge = Judge::new(alloc, Options { limit });
+    let mut judge = Judge::new(
+        alloc,
+        Options {
+            limit,
+            further: false,
+        },
+    );
     let fed = judge.feed(log);
     match judge.finish() {
         Ok(verdict) => { fed.is_ok() && verdict.faults.is_empty() && answer == Ok(verdict.events) }

@@ -56,7 +56,13 @@ fn writes_nothing_after_a_failed_write(rt: HostRuntime) -> Result<(), Fail> {
 fn judges_70000_events(rt: HostRuntime) -> Result<(), Fail> {
     let log = pings(rt.alloc(), &ACCEPTED, 69_997)?;
     let mut written = Vec::new(rt.alloc());
-    let answer = run(rt.alloc(), &mut log.as_slice(), &mut written, Form::Text);
+    let answer = run(
+        rt.alloc(),
+        &mut log.as_slice(),
+        &mut written,
+        Form::Text,
+        false,
+    );
     assert_eq!(rt; answer, Ok(Outcome::Pass));
     assert!(rt; written.as_slice() == b"pass 70000 events\n".as_slice());
     Ok(())
@@ -67,7 +73,7 @@ fn reads_for_more_than_100000_turns(rt: HostRuntime) -> Result<(), Fail> {
     let log = pings(rt.alloc(), &ACCEPTED, 26_000)?;
     let mut reader = Pieces::interrupted(log.as_slice(), 1, false);
     let mut written = Vec::new(rt.alloc());
-    let answer = run(rt.alloc(), &mut reader, &mut written, Form::Text);
+    let answer = run(rt.alloc(), &mut reader, &mut written, Form::Text, false);
     assert_eq!(rt; answer, Ok(Outcome::Pass));
     assert!(rt; written.as_slice() == b"pass 26003 events\n".as_slice());
     Ok(())
@@ -78,7 +84,7 @@ fn reads_for_more_than_100000_turns(rt: HostRuntime) -> Result<(), Fail> {
 fn run_for(alloc: Global, turns: u32) -> Result<Outcome, RunFault> {
     let mut reader = Pieces::interrupted(HEADER, 1, false);
     let mut written = Vec::new(alloc);
-    run_bounded(alloc, &mut reader, &mut written, Form::Text, turns)
+    run_bounded(alloc, &mut reader, &mut written, Form::Text, false, turns)
 }
 
 #[test]
@@ -108,7 +114,14 @@ fn refuses_after_as_many_reads_as_it_was_given(rt: HostRuntime) {
     for turns in [0, 1, 2, 1000] {
         let mut reader = Interrupted { reads: 0 };
         let mut written = Vec::new(rt.alloc());
-        let answer = run_bounded(rt.alloc(), &mut reader, &mut written, Form::Json, turns);
+        let answer = run_bounded(
+            rt.alloc(),
+            &mut reader,
+            &mut written,
+            Form::Json,
+            false,
+            turns,
+        );
         assert_eq!(rt; answer, Err(RunFault::Refused(Refusal::Read(0))));
         assert!(rt; written.is_empty());
         assert_eq!(rt; reader.reads, turns);
@@ -140,7 +153,7 @@ fn reports_1200_faults_in_each_form(rt: HostRuntime) -> Result<(), Fail> {
     let log = many_faults(rt.alloc())?;
     for form in [Form::Text, Form::Json, Form::Summary] {
         let mut written = Vec::new(rt.alloc());
-        let answer = run(rt.alloc(), &mut log.as_slice(), &mut written, form);
+        let answer = run(rt.alloc(), &mut log.as_slice(), &mut written, form, false);
         assert_eq!(rt; answer, Ok(Outcome::Fail));
     }
     Ok(())

@@ -99,7 +99,7 @@ fn is_shown_long(alloc: Global, log: &[u8], text: &str) -> bool {
 
 // Whether the log is shown as this text with the faults at its events, in short lines.
 fn is_shown_around(alloc: Global, log: &[u8], around: Option<u32>, text: &str) -> bool {
-    let Ok((verdict, role)) = judge_reader(alloc, &mut &log[..]) else {
+    let Ok((verdict, role)) = judge_reader(alloc, &mut &log[..], false) else {
         return false;
     };
     let mut written = Vec::new(alloc);

@@ -20,7 +20,7 @@ fn assert_runs(
     for size in [1, 7, 8192] {
         let mut written = Vec::new(rt.alloc());
         let mut reader = Pieces::interrupted(log, size, false);
-        let ran = run(rt.alloc(), &mut reader, &mut written, Form::Text);
+        let ran = run(rt.alloc(), &mut reader, &mut written, Form::Text, false);
         assert_eq!(rt; ran, answer, "in turns of {size}");
         assert!(rt; written.as_slice() == text.as_bytes(), "in turns of {size}");
     }
@@ -82,7 +82,7 @@ fn refuses_where_the_reader_fails(rt: HostRuntime) -> Result<(), AllocError> {
     for count in 0..log.len() + 1 {
         let mut written = Vec::new(rt.alloc());
         let mut reader = Pieces::interrupted(&log[..count], 5, true);
-        let ran = run(rt.alloc(), &mut reader, &mut written, Form::Text);
+        let ran = run(rt.alloc(), &mut reader, &mut written, Form::Text, false);
         let refusal = Refusal::Read(count as u64);
         assert_eq!(rt; ran, Err(RunFault::Refused(refusal)));
         assert!(rt; written.is_empty());
@@ -107,7 +107,7 @@ const JSON: &[u8] = b"{\"events\":4,\"faults\":[\
 // Whether a run whose writer fails after this part of the report writes that and no more.
 fn is_stopped(alloc: Global, log: &[u8], form: Form, part: &[u8]) -> bool {
     let mut writer = Failing::after(alloc, part.len(), None);
-    run(alloc, &mut &log[..], &mut writer, form) == Err(RunFault::Write)
+    run(alloc, &mut &log[..], &mut writer, form, false) == Err(RunFault::Write)
         && writer.taken.as_slice() == part
 }
 

@@ -100,7 +100,7 @@ fn is_fed(alloc: Global, log: &[u8], is_cut: bool) -> bool {
 // lacked it.
 fn is_run(alloc: Global, log: &[u8], form: Form, text: &str, report: &str) -> bool {
     let mut writer = Cursor::new([0; 512]);
-    let ran = run(alloc, &mut Pieces::of(log, 7), &mut writer, form);
+    let ran = run(alloc, &mut Pieces::of(log, 7), &mut writer, form, false);
     let written = writer.position() as usize;
     let Some(part) = report.as_bytes().get(..written) else {
         return false;

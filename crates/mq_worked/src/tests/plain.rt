@@ -67,7 +67,7 @@ fn noted(alloc: Global, log: &[u8]) -> Result<Option<(Tested, Vec<Seen>)>, Memor
     };
     match tracer.feed(log, &mut notes) {
         Ok(()) => match tracer.header() {
-            Some(header) => Ok(Some((Tested::of(header), notes.seen))),
+            Some(header) => Ok(Some((Tested::of(header, false), notes.seen))),
             None => Ok(None),
         },
         Err(Refusal::Memory(_)) => Err(Memory),

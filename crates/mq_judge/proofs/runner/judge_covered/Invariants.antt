@@ -3,4 +3,4 @@ use Rattle.mq_judge.proofs.runner.judge_covered.Given as goal
 
 -- what had been told before
 abbrev pub ghosts-cover_telling : goal.ghosts-cover_telling
-ghosts-cover_telling g a = record { told = g.P.Progress.told a.progress.now; counting = true }
+ghosts-cover_telling g a = record { told = g.P.Progress.told a.progress.now; counting = true; further = a.further }

@@ -14,35 +14,35 @@ pub returns-in_err-covered-clause-told : goal.returns-in_err-covered-clause-told
 returns-in_err-covered-clause-told g c =
     let p = err_from_is_err_and c.from_residual.result c.from_residual.ensures.1 in
     let told = g.P.Progress.told in
-    rw (p.1, p.2) (told-refusal _ (told c.args.progress.now) (told c.judge_covered-judged.new.progress) (told c.end.new.self) c.end.ensures c.in_err-covered.ensures.told)
+    rw (p.1, p.2) (told-refusal c.args.further _ (told c.args.progress.now) (told c.judge_covered-judged.new.progress) (told c.end.new.self) c.end.ensures c.in_err-covered.ensures.told)
 
 pub returns-in_default-clause-runs : goal.returns-in_default-clause-runs
 returns-in_default-clause-runs g c =
-    run-lacks-rows _ (g.R.Read.remaining c.judge_covered-judged.new.reader) c.args.form (g.W.Write.contents c.args.writer.now) _ _ _ c.in_ok-covered.ensures.judges
+    run-lacks-rows c.args.further _ (g.R.Read.remaining c.judge_covered-judged.new.reader) c.args.form (g.W.Write.contents c.args.writer.now) _ _ _ c.in_ok-covered.ensures.judges
 
 pub returns-in_default-clause-told : goal.returns-in_default-clause-told
 returns-in_default-clause-told g c =
     let told = g.P.Progress.told in
-    told-verdict (Err run_faults.Memory) _ (told c.args.progress.now) (told c.judge_covered-judged.new.progress) (told c.end.new.self) c.end.ensures c.in_ok-covered.ensures.told
+    told-verdict c.args.further (Err run_faults.Memory) _ (told c.args.progress.now) (told c.judge_covered-judged.new.progress) (told c.end.new.self) c.end.ensures c.in_ok-covered.ensures.told
 
 pub returns-in_err-write_covered_report-clause-runs : goal.returns-in_err-write_covered_report-clause-runs
 returns-in_err-write_covered_report-clause-runs g c =
     let p = err_from_is_err_and c.from_residual-in_err-write_covered_report.result c.from_residual-in_err-write_covered_report.ensures.1 in
-    rw (p.1, p.2) (run-stops-covering _ _ c.args.form _ _ _ _ _ _ _ _ c.in_ok-covered.ensures.judges (lists-known _ _ _
-    (subst (λ (rows : List Covered). IfSome (g.R.Read.remaining c.args.reader.now) (λ log. rows ≡ coverage_of log)) (sym c.deref.ensures.value) (rows-known _ _ _ _ c.in-Some.is c.in_ok-covered.ensures.rows))
-    (subst (λ (gaps : List Gap). IfSome (g.R.Read.remaining c.args.reader.now) (λ log. gaps ≡ unjudged_of log)) (sym c.deref-2.ensures.value) (rows-known _ _ _ _ c.in-Some-gaps.is c.in_ok-covered.ensures.gaps))) c.in_err-write_covered_report.ensures.err)
+    rw (p.1, p.2) (run-stops-covering c.args.further _ _ c.args.form _ _ _ _ _ _ _ _ c.in_ok-covered.ensures.judges (lists-known c.args.further _ _ _
+    (subst (λ (rows : List Covered). IfSome (g.R.Read.remaining c.args.reader.now) (λ log. rows ≡ coverage_of c.args.further log)) (sym c.deref.ensures.value) (rows-known _ _ _ _ c.in-Some.is c.in_ok-covered.ensures.rows))
+    (subst (λ (gaps : List Gap). IfSome (g.R.Read.remaining c.args.reader.now) (λ log. gaps ≡ unjudged_of c.args.further log)) (sym c.deref-2.ensures.value) (rows-known _ _ _ _ c.in-Some-gaps.is c.in_ok-covered.ensures.gaps))) c.in_err-write_covered_report.ensures.err)
 
 pub returns-in_err-write_covered_report-clause-told : goal.returns-in_err-write_covered_report-clause-told
 returns-in_err-write_covered_report-clause-told g c =
     let told = g.P.Progress.told in
-    told-verdict _ _ (told c.args.progress.now) (told c.judge_covered-judged.new.progress) (told c.end.new.self) c.end.ensures c.in_ok-covered.ensures.told
+    told-verdict c.args.further _ _ (told c.args.progress.now) (told c.judge_covered-judged.new.progress) (told c.end.new.self) c.end.ensures c.in_ok-covered.ensures.told
 
 pub returns-clause-runs : goal.returns-clause-runs
-returns-clause-runs g c = run-covers _ None c.args.form _ _ _ _ _ _ _ _ c.in_ok-covered.ensures.judges (lists-known _ _ _
-    (subst (λ (rows : List Covered). IfSome (g.R.Read.remaining c.args.reader.now) (λ log. rows ≡ coverage_of log)) (sym c.deref.ensures.value) (rows-known _ _ _ _ c.in-Some.is c.in_ok-covered.ensures.rows))
-    (subst (λ (gaps : List Gap). IfSome (g.R.Read.remaining c.args.reader.now) (λ log. gaps ≡ unjudged_of log)) (sym c.deref-2.ensures.value) (rows-known _ _ _ _ c.in-Some-gaps.is c.in_ok-covered.ensures.gaps))) c.in_ok-write_covered_report.ensures.ok c.outcome.ensures
+returns-clause-runs g c = run-covers c.args.further _ None c.args.form _ _ _ _ _ _ _ _ c.in_ok-covered.ensures.judges (lists-known c.args.further _ _ _
+    (subst (λ (rows : List Covered). IfSome (g.R.Read.remaining c.args.reader.now) (λ log. rows ≡ coverage_of c.args.further log)) (sym c.deref.ensures.value) (rows-known _ _ _ _ c.in-Some.is c.in_ok-covered.ensures.rows))
+    (subst (λ (gaps : List Gap). IfSome (g.R.Read.remaining c.args.reader.now) (λ log. gaps ≡ unjudged_of c.args.further log)) (sym c.deref-2.ensures.value) (rows-known _ _ _ _ c.in-Some-gaps.is c.in_ok-covered.ensures.gaps))) c.in_ok-write_covered_report.ensures.ok c.outcome.ensures
 
 pub returns-clause-told : goal.returns-clause-told
 returns-clause-told g c =
     let told = g.P.Progress.told in
-    told-verdict (Ok c.outcome.result) _ (told c.args.progress.now) (told c.judge_covered-judged.new.progress) (told c.end.new.self) c.end.ensures c.in_ok-covered.ensures.told
+    told-verdict c.args.further (Ok c.outcome.result) _ (told c.args.progress.now) (told c.judge_covered-judged.new.progress) (told c.end.new.self) c.end.ensures c.in_ok-covered.ensures.told

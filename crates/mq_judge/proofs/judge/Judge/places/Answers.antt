@@ -8,4 +8,4 @@ pub returns-clause-counted : goal.returns-clause-counted
 unfolding seen_in
 returns-clause-counted c = λ log counts f.
     let watching = c.args.self.now.judging.watching in
-    ap Some (c.places.ensures (events log) counts f.watches f.tallies ∙ named-places watching.tested log c.args.rule f.named)
+    ap Some (c.places.ensures (events log) counts f.watches f.tallies ∙ named-places c.args.self.now.further watching.tested log c.args.rule f.named)

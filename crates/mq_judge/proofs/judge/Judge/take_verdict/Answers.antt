@@ -21,12 +21,12 @@ returns-in_default-clause-verdict c = λ log k.
     (cut_unnamed log (sym c.in_default.is ∙ c.header.ensures.follows log traced), ap refusals.Cut (c.byte_count.ensures.follows log traced))
 
 pub returns-clause-verdict : goal.returns-clause-verdict
-returns-clause-verdict c = λ log k. (c.in_ok-finish.ensures.ends log k.traced, k.knows.events, subst (AreFaultsOf log) (sym c.take_faults.ensures) k.knows.faults)
+returns-clause-verdict c = λ log k. (c.in_ok-finish.ensures.ends log k.traced, k.knows.events, subst (AreFaultsOf c.args.self.now.further log) (sym c.take_faults.ensures) k.knows.faults)
 
 pub returns-clause-role : goal.returns-clause-role
 returns-clause-role c = λ log k.
     let traced : IsTracedTo c.finish.new.self log = subst (λ (t : Traced). IsTracedTo t log) (sym c.in_ok-finish.ensures.same) k.traced in
-    ap (λ (t : Tested). t.role) (c.of-role.ensures ∙ ap tested_as (named_by log c.in-Some.header (sym c.in-Some.is ∙ c.header.ensures.follows log traced)))
+    ap (λ (t : Tested). t.role) (c.of-role.ensures ∙ ap (tested_as c.args.self.now.further) (named_by log c.in-Some.header (sym c.in-Some.is ∙ c.header.ensures.follows log traced)))
 
 pub returns-in_default-clause-for_ever : goal.returns-in_default-clause-for_ever
 returns-in_default-clause-for_ever c = not-refused c.args.self.now.tracer.refusal tt (λ refusal. c.finish.new.self ≡ c.args.self.now.tracer) _ c.in_ok-finish.ensures.for_ever

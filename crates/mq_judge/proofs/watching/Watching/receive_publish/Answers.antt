@@ -8,7 +8,7 @@ use Rattle.mq_rules.specs.declared.note.Note.{Note}
 use Rattle.mq_rules.specs.declared.bare.Bare.{Bare}
 use Rattle.mq_rules.specs.ByteTallies.{IsTriedAs}
 use Rattle.mq_rules.proofs.Exports.{bare_publish, publish_tried}
-use Rattle.mq_judge.specs.Watching.{LeavesOut, TakesIn, Tallies}
+use Rattle.mq_judge.specs.Watching.{LeavesOut, TakesIn, TalliesNext}
 use Rattle.mq_judge.proofs.WatchingLaws.{on_ok}
 use Rattle.mq_judge.proofs.watching.Watching.receive_publish.Goals as goal
 
@@ -29,6 +29,6 @@ returns-clause-tallies c =
     let entry = view (packets.Publish c.args.publish) in
     let exact = c.of_publish-bare.ensures.exact in
     on_ok c.receive_bare.result _ _ (λ counted.
-    subst (λ (b : Bare). Tallies c.args.self.now c.receive_bare.new.self c.args.place (item_event b.direction (packet b.size entry))) exact
+    subst (λ (b : Bare). TalliesNext c.args.self.now c.receive_bare.new.self c.args.place (item_event b.direction (packet b.size entry))) exact
     (counted entry (subst (λ (b : Bare). IsTriedAs b.size b.fields entry) (sym exact) (publish_tried c.args.size (publish_view c.args.publish) (c.is_bare.ensures.none c.if-not-is_bare.false)))))
     c.receive_bare.ensures.tallies

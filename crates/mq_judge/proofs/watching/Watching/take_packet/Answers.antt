@@ -1,10 +1,10 @@
 use Rattle.std.proofs.Common.{subst, sym, ◌∙◌, ◌∷◌}
-use Rattle.mq_rules.specs.declared.byte_tally.ByteTally.{ByteTally}
 use Rattle.mq_rules.specs.declared.role.Tested.{Tested}
 use Rattle.mq_rules.specs.ByteTallies.{CountsBytes}
+use Rattle.mq_rules.specs.declared.byte_tally.ByteTally.{ByteTally}
 use Rattle.mq_judge.proofs.watching.Watching.take_packet.Goals as goal
 
--- taking in counts nothing on a packet's bytes, and what is counted after that is the packet's
+-- taking in keeps nothing of the packet itself, and what is kept after that is the packet's
 pub returns-in-Ok-take_in-clause-tallies : goal.returns-in-Ok-take_in-clause-tallies
 returns-in-Ok-take_in-clause-tallies c = λ p received is at was on.
     let old = c.args.self.now in
