@@ -5,6 +5,7 @@ use Rattle.std.specs.Prelude.{slice_index}
 use Rattle.std.proofs.KnownBytes.{Keeps-refl}
 use Rattle.std.specs.Io.KnownBytes.{Appends, IsAtEnd, Keeps, prepend_known}
 use Rattle.mq_log.specs.Events.{events}
+use Rattle.mq_log.specs.Framing.{header_by}
 use Rattle.mq_rules.specs.declared.role.Role.{Role}
 use Rattle.mq_rules.specs.declared.role.Tested.{Tested}
 use Rattle.mq_rules.specs.declared.fault.Fault.{Fault}
@@ -41,9 +42,9 @@ use Rattle.mq_cli.proofs.MessageLaws.{own_refusal, part-kept}
 -- ---- the report on a verdict
 
 -- without faults it is that of a check
-passed_is : (form : Form) (log : List ℕ) (role : Role) (count : ℕ) (faults : FaultMap) → IsVerdictOn log role count faults → report_on form role (map.entries faults) count ≡ report form log
+passed_is : (further : Bool) (form : Form) (log : List ℕ) (role : Role) (count : ℕ) (faults : FaultMap) → IsVerdictOn further log role count faults → report_on form role (map.entries faults) count ≡ report further form log
 unfolding report
-passed_is form log role count faults v = rw (v.role_is, v.faults_are, v.count_is) refl
+passed_is further form log role count faults v = rw (v.role_is, v.faults_are, v.count_is) refl
 
 -- there are as many moments as events
 seen_count : (log : List ℕ) → length (seen_in log) ≡ length (events log)
@@ -51,11 +52,11 @@ unfolding seen_in
 seen_count log = length-map (events log) seen
 
 -- the other log has the verdict of the first one
-pub same_of : (first second : List ℕ) (releases : Bool) (role : Role) (count : ℕ) (faults : FaultMap) → IsVerdictOn first role count faults
-    → IsSame (record { role = role; releases = releases }) (tested_by second) count (map.entries faults) (seen_in second) → releases ≡ (tested_by first).releases → HaveSameVerdict first second
+pub same_of : (further : Bool) (first second : List ℕ) (releases : Bool) (role : Role) (count : ℕ) (faults : FaultMap) → IsVerdictOn further first role count faults
+    → IsSame (record { role = role; releases = releases; further = further }) (tested_by further second) count (map.entries faults) (seen_in second) → releases ≡ (header_by first).releases → HaveSameVerdict further first second
 unfolding seen_in
-same_of first second releases role count faults v same is = record {
-  end = same.end ∙ ap₂ (λ r b. record { role = r; releases = b }) v.role_is is;
+same_of further first second releases role count faults v same is = record {
+  end = same.end ∙ ap₂ (λ r b. record { role = r; releases = b; further = further }) v.role_is is;
   counted = sym (length-map (events second) seen) ∙ sym same.counted ∙ v.count_is;
   found = sym (ap (λ t. listed_faults (is_judged t) t (seen_in second)) (sym same.end)) ∙ sym same.listed ∙ v.faults_are;
 }
@@ -92,92 +93,92 @@ for_two_readings (Some log) judged again R k l h = for_one_file (Some log) judge
 -- ---- a log without faults
 
 -- there are no faults in the verdict's log
-pub faultless_if : (first : List ℕ) (role : Role) (count : ℕ) (faults : FaultMap) → IsVerdictOn first role count faults → (map.len faults == 0) ≡ true → IsFaultless first
-faultless_if first role count faults v none = sym v.faults_are ∙ nil_from_length (map.entries faults) (sym (map.len-entries faults) ∙ eqb-true (map.len faults) 0 none)
+pub faultless_if : (further : Bool) (first : List ℕ) (role : Role) (count : ℕ) (faults : FaultMap) → IsVerdictOn further first role count faults → (map.len faults == 0) ≡ true → IsFaultless further first
+faultless_if further first role count faults v none = sym v.faults_are ∙ nil_from_length (map.entries faults) (sym (map.len-entries faults) ∙ eqb-true (map.len faults) 0 none)
 
-pub inquiry_passes : (form : Form) (role : Role) (count : ℕ) (faults : FaultMap) (judged again old new : Option (List ℕ)) (status : Result ℕ Lapse) → (map.len faults == 0) ≡ true
-    → IfSome judged (λ log. IsVerdictOn log role count faults) → OnOk status (Appends old new (report_on form role (map.entries faults) count))
-    → IfOk status (λ s. s ≡ 0 → IfBoth judged again (λ first second. IsPassed form first old new))
-inquiry_passes form role count faults judged again old new (Err lapse) none v wrote = tt
-inquiry_passes form role count faults judged again old new (Ok s) none v wrote = λ is.
-    by_first judged again (λ log. IsVerdictOn log role count faults) (λ first second. IsPassed form first old new)
-    (λ first second w. (w.judged, faultless_if first role count faults w none, subst (Appends old new) (passed_is form first role count faults w) wrote)) v
+pub inquiry_passes : (further : Bool) (form : Form) (role : Role) (count : ℕ) (faults : FaultMap) (judged again old new : Option (List ℕ)) (status : Result ℕ Lapse) → (map.len faults == 0) ≡ true
+    → IfSome judged (λ log. IsVerdictOn further log role count faults) → OnOk status (Appends old new (report_on form role (map.entries faults) count))
+    → IfOk status (λ s. s ≡ 0 → IfBoth judged again (λ first second. IsPassed further form first old new))
+inquiry_passes further form role count faults judged again old new (Err lapse) none v wrote = tt
+inquiry_passes further form role count faults judged again old new (Ok s) none v wrote = λ is.
+    by_first judged again (λ log. IsVerdictOn further log role count faults) (λ first second. IsPassed further form first old new)
+    (λ first second w. (w.judged, faultless_if further first role count faults w none, subst (Appends old new) (passed_is further form first role count faults w) wrote)) v
 
 -- the report on it wasn't written
-pub pass_stops : (form : Form) (releases : Bool) (role : Role) (count : ℕ) (faults : FaultMap) (judged again left again_left old new : Option (List ℕ)) (status : Result ℕ Lapse)
-    → (map.len faults == 0) ≡ true → IfSome judged (λ log. IsVerdictOn log role count faults)
+pub pass_stops : (further : Bool) (form : Form) (releases : Bool) (role : Role) (count : ℕ) (faults : FaultMap) (judged again left again_left old new : Option (List ℕ)) (status : Result ℕ Lapse)
+    → (map.len faults == 0) ≡ true → IfSome judged (λ log. IsVerdictOn further log role count faults)
     → IfErr status (StopsReportBy form (report_on form role (map.entries faults) count) old new)
-    → IfErr status (λ lapse. HasReleases releases judged → IfBoth judged again (λ first second. StopsInquiry form lapse first second left again_left old new))
-pass_stops form releases role count faults judged again left again_left old new (Ok s) none v stops = tt
-pass_stops form releases role count faults judged again left again_left old new (Err lapse) none v stops = λ _.
-    by_first judged again (λ log. IsVerdictOn log role count faults) (λ first second. StopsInquiry form lapse first second left again_left old new)
+    → IfErr status (λ lapse. HasReleases releases judged → IfBoth judged again (λ first second. StopsInquiry further form lapse first second left again_left old new))
+pass_stops further form releases role count faults judged again left again_left old new (Ok s) none v stops = tt
+pass_stops further form releases role count faults judged again left again_left old new (Err lapse) none v stops = λ _.
+    by_first judged again (λ log. IsVerdictOn further log role count faults) (λ first second. StopsInquiry further form lapse first second left again_left old new)
     (λ first second w. go first second w lapse stops) v
   where
-    go : (first second : List ℕ) → IsVerdictOn first role count faults → (l : Lapse) → StopsReportBy form (report_on form role (map.entries faults) count) old new l
-        → StopsInquiry form l first second left again_left old new
+    go : (first second : List ℕ) → IsVerdictOn further first role count faults → (l : Lapse) → StopsReportBy form (report_on form role (map.entries faults) count) old new l
+        → StopsInquiry further form l first second left again_left old new
     go first second w (Failed failure) h = inr (inl (
       w.judged,
-      faultless_if first role count faults w none,
-      subst (λ (text : List ℕ). StopsReport form text failure old new) (passed_is form first role count faults w) h,
+      faultless_if further first role count faults w none,
+      subst (λ (text : List ℕ). StopsReport form text failure old new) (passed_is further form first role count faults w) h,
     ))
     go first second w Changed h = absurd h
 
 -- ---- a log with faults, which is read again
 
 -- there are some
-pub faulty_if : (first : List ℕ) (role : Role) (count : ℕ) (faults : FaultMap) → IsVerdictOn first role count faults → (map.len faults == 0) ≡ false → ¬ IsFaultless first
-faulty_if first role count faults v some none =
+pub faulty_if : (further : Bool) (first : List ℕ) (role : Role) (count : ℕ) (faults : FaultMap) → IsVerdictOn further first role count faults → (map.len faults == 0) ≡ false → ¬ IsFaultless further first
+faulty_if further first role count faults v some none =
     let zero_many : map.len faults ≡ 0 = map.len-entries faults ∙ ap (length {A = FaultKey × Fault}) (v.faults_are ∙ none) in
     absurd (let bad : true ≡ false = sym (eq-eqb (map.len faults) 0 zero_many) ∙ some in cc)
 
 -- what the verdict's faults conflict with is what those of the other log do
-pub reasons_of_other : (second : List ℕ) (tested : Tested) (count : ℕ) (faults : List (FaultKey × Fault)) (reasons : List Evidence) → IsSame tested (tested_by second) count faults (seen_in second)
-    → AreReasons tested (seen_in second) faults reasons → AreReasonsOf second reasons
+pub reasons_of_other : (second : List ℕ) (tested : Tested) (count : ℕ) (faults : List (FaultKey × Fault)) (reasons : List Evidence) → IsSame tested (tested_by tested.further second) count faults (seen_in second)
+    → AreReasons tested (seen_in second) faults reasons → AreReasonsOf tested.further second reasons
 reasons_of_other second tested count faults reasons same are =
     subst (λ (t : Tested). AreReasons t (seen_in second) (listed_faults (is_judged t) t (seen_in second)) reasons) (sym same.end)
     (subst (λ (f : List (FaultKey × Fault)). AreReasons tested (seen_in second) f reasons) same.listed are)
 
 -- so they are those of the log that was read again
-pub again_if : (first second : List ℕ) (releases : Bool) (role : Role) (count : ℕ) (faults : FaultMap) (reasons : List Evidence) → IsVerdictOn first role count faults → IsJudged second
-    → IsSame (record { role = role; releases = releases }) (tested_by second) count (map.entries faults) (seen_in second)
-    → AreReasons (record { role = role; releases = releases }) (seen_in second) (map.entries faults) reasons → releases ≡ (tested_by first).releases → AreReasonsAgain first second reasons
-again_if first second releases role count faults reasons v judged same are is = record {
+pub again_if : (further : Bool) (first second : List ℕ) (releases : Bool) (role : Role) (count : ℕ) (faults : FaultMap) (reasons : List Evidence) → IsVerdictOn further first role count faults → IsJudged second
+    → IsSame (record { role = role; releases = releases; further = further }) (tested_by further second) count (map.entries faults) (seen_in second)
+    → AreReasons (record { role = role; releases = releases; further = further }) (seen_in second) (map.entries faults) reasons → releases ≡ (header_by first).releases → AreReasonsAgain further first second reasons
+again_if further first second releases role count faults reasons v judged same are is = record {
   second = judged;
-  same = same_of first second releases role count faults v same is;
-  are = reasons_of_other second (record { role = role; releases = releases }) count (map.entries faults) reasons same are;
+  same = same_of further first second releases role count faults v same is;
+  are = reasons_of_other second (record { role = role; releases = releases; further = further }) count (map.entries faults) reasons same are;
 }
 
 -- and the report on the verdict is that on the other log
-other_report : (form : Form) (second : List ℕ) (tested : Tested) (count : ℕ) (faults : List (FaultKey × Fault)) (reasons : List Evidence) → IsSame tested (tested_by second) count faults (seen_in second)
-    → reasoned_verdict form tested count faults reasons ≡ reasoned_report form second reasons
+other_report : (form : Form) (second : List ℕ) (tested : Tested) (count : ℕ) (faults : List (FaultKey × Fault)) (reasons : List Evidence) → IsSame tested (tested_by tested.further second) count faults (seen_in second)
+    → reasoned_verdict form tested count faults reasons ≡ reasoned_report tested.further form second reasons
 unfolding seen_in
 other_report form second tested count faults reasons same =
     ap (λ (n : ℕ). reasoned_verdict form tested n faults reasons) (same.counted ∙ length-map (events second) seen)
     ∙ ap (λ (f : List (FaultKey × Fault)). reasoned_verdict form tested (length (events second)) f reasons) same.listed
     ∙ ap (λ (t : Tested). reasoned_report_on form t.role (listed_faults (is_judged t) t (seen_in second)) (length (events second)) reasons) (sym same.end)
 
-pub inquiry_reasons : (form : Form) (releases : Bool) (role : Role) (count : ℕ) (faults : FaultMap) (judged again old new : Option (List ℕ)) (status : Result ℕ Lapse)
-    → (map.len faults == 0) ≡ false → IfSome judged (λ log. IsVerdictOn log role count faults)
-    → OnOk status (IfSome again (λ log. IsExplained form (record { role = role; releases = releases }) count (map.entries faults) log old new))
-    → IfOk status (λ s. s ≡ 1 → HasReleases releases judged → IfBoth judged again (λ first second. IsReasoned form first second old new))
-inquiry_reasons form releases role count faults judged again old new (Err lapse) some v told = tt
-inquiry_reasons form releases role count faults None again old new (Ok s) some v told = λ one is. tt
-inquiry_reasons form releases role count faults (Some first) None old new (Ok s) some v told = λ one is. tt
-inquiry_reasons form releases role count faults (Some first) (Some second) old new (Ok s) some v told = λ one is.
-    let tested : Tested = record { role = role; releases = releases } in
+pub inquiry_reasons : (further : Bool) (form : Form) (releases : Bool) (role : Role) (count : ℕ) (faults : FaultMap) (judged again old new : Option (List ℕ)) (status : Result ℕ Lapse)
+    → (map.len faults == 0) ≡ false → IfSome judged (λ log. IsVerdictOn further log role count faults)
+    → OnOk status (IfSome again (λ log. IsExplained form (record { role = role; releases = releases; further = further }) count (map.entries faults) log old new))
+    → IfOk status (λ s. s ≡ 1 → HasReleases releases judged → IfBoth judged again (λ first second. IsReasoned further form first second old new))
+inquiry_reasons further form releases role count faults judged again old new (Err lapse) some v told = tt
+inquiry_reasons further form releases role count faults None again old new (Ok s) some v told = λ one is. tt
+inquiry_reasons further form releases role count faults (Some first) None old new (Ok s) some v told = λ one is. tt
+inquiry_reasons further form releases role count faults (Some first) (Some second) old new (Ok s) some v told = λ one is.
+    let tested : Tested = record { role = role; releases = releases; further = further } in
     record {
       first = v.judged;
-      faulty = faulty_if first role count faults v some;
+      faulty = faulty_if further first role count faults v some;
       reasons = told.2.0;
-      are = again_if first second releases role count faults told.2.0 v told.0 told.1 told.2.1 is;
+      are = again_if further first second releases role count faults told.2.0 v told.0 told.1 told.2.1 is;
       reported = subst (Appends old new) (other_report form second tested count (map.entries faults) told.2.0 told.1) told.2.2;
     }
 
 -- logs with one verdict have this one
-pub same_as_first : (first second : List ℕ) (releases : Bool) (role : Role) (count : ℕ) (faults : FaultMap) → IsVerdictOn first role count faults → releases ≡ (tested_by first).releases
-    → HaveSameVerdict first second → IsSame (record { role = role; releases = releases }) (tested_by second) count (map.entries faults) (seen_in second)
-same_as_first first second releases role count faults v is same =
-    let one : tested_by second ≡ record { role = role; releases = releases } = same.end ∙ sym (ap₂ (λ r b. record { role = r; releases = b }) v.role_is is) in
+pub same_as_first : (further : Bool) (first second : List ℕ) (releases : Bool) (role : Role) (count : ℕ) (faults : FaultMap) → IsVerdictOn further first role count faults → releases ≡ (header_by first).releases
+    → HaveSameVerdict further first second → IsSame (record { role = role; releases = releases; further = further }) (tested_by further second) count (map.entries faults) (seen_in second)
+same_as_first further first second releases role count faults v is same =
+    let one : tested_by further second ≡ record { role = role; releases = releases; further = further } = same.end ∙ sym (ap₂ (λ r b. record { role = r; releases = b; further = further }) v.role_is is) in
     record {
       end = one;
       counted = v.count_is ∙ sym same.counted ∙ sym (seen_count second);
@@ -185,32 +186,32 @@ same_as_first first second releases role count faults v is same =
     }
 
 -- a log that is read again and has another verdict isn't the one that was judged
-pub differs_if : (first second : List ℕ) (releases : Bool) (role : Role) (count : ℕ) (faults : FaultMap) → IsVerdictOn first role count faults → releases ≡ (tested_by first).releases
+pub differs_if : (further : Bool) (first second : List ℕ) (releases : Bool) (role : Role) (count : ℕ) (faults : FaultMap) → IsVerdictOn further first role count faults → releases ≡ (header_by first).releases
     → ((refusal : Refusal) × IsRefusedBy second refusal)
-    ⊎ (IsJudged second × (¬ IsSame (record { role = role; releases = releases }) (tested_by second) count (map.entries faults) (seen_in second)))
-    → ((refusal : Refusal) × IsRefusedBy second refusal) ⊎ (IsJudged second × (¬ HaveSameVerdict first second))
-differs_if first second releases role count faults v is (inl refused) = inl refused
-differs_if first second releases role count faults v is (inr (judged, differs)) =
-    inr (judged, λ same. absurd (differs (same_as_first first second releases role count faults v is same)))
+    ⊎ (IsJudged second × (¬ IsSame (record { role = role; releases = releases; further = further }) (tested_by further second) count (map.entries faults) (seen_in second)))
+    → ((refusal : Refusal) × IsRefusedBy second refusal) ⊎ (IsJudged second × (¬ HaveSameVerdict further first second))
+differs_if further first second releases role count faults v is (inl refused) = inl refused
+differs_if further first second releases role count faults v is (inr (judged, differs)) =
+    inr (judged, λ same. absurd (differs (same_as_first further first second releases role count faults v is same)))
 
 -- it wasn't explained
-pub explaining_stops : (form : Form) (releases : Bool) (role : Role) (count : ℕ) (faults : FaultMap) (judged again left again_left old new : Option (List ℕ)) (result : Result ℕ Lapse)
-    → (map.len faults == 0) ≡ false → IfSome judged (λ log. IsVerdictOn log role count faults)
-    → IfErr result (λ lapse. IfSome again (λ log. StopsExplaining form (record { role = role; releases = releases }) count (map.entries faults) lapse log again_left old new))
-    → IfErr result (λ lapse. HasReleases releases judged → IfBoth judged again (λ first second. StopsInquiry form lapse first second left again_left old new))
-explaining_stops form releases role count faults judged again left again_left old new (Ok s) some v stops = tt
-explaining_stops form releases role count faults None again left again_left old new (Err lapse) some v stops = λ is. tt
-explaining_stops form releases role count faults (Some first) None left again_left old new (Err lapse) some v stops = λ is. tt
-explaining_stops form releases role count faults (Some first) (Some second) left again_left old new (Err lapse) some v stops = λ is. go is lapse stops
+pub explaining_stops : (further : Bool) (form : Form) (releases : Bool) (role : Role) (count : ℕ) (faults : FaultMap) (judged again left again_left old new : Option (List ℕ)) (result : Result ℕ Lapse)
+    → (map.len faults == 0) ≡ false → IfSome judged (λ log. IsVerdictOn further log role count faults)
+    → IfErr result (λ lapse. IfSome again (λ log. StopsExplaining form (record { role = role; releases = releases; further = further }) count (map.entries faults) lapse log again_left old new))
+    → IfErr result (λ lapse. HasReleases releases judged → IfBoth judged again (λ first second. StopsInquiry further form lapse first second left again_left old new))
+explaining_stops further form releases role count faults judged again left again_left old new (Ok s) some v stops = tt
+explaining_stops further form releases role count faults None again left again_left old new (Err lapse) some v stops = λ is. tt
+explaining_stops further form releases role count faults (Some first) None left again_left old new (Err lapse) some v stops = λ is. tt
+explaining_stops further form releases role count faults (Some first) (Some second) left again_left old new (Err lapse) some v stops = λ is. go is lapse stops
   where
     tested : Tested
-    tested = record { role = role; releases = releases }
+    tested = record { role = role; releases = releases; further = further }
 
-    faulty : ¬ IsFaultless first
-    faulty = faulty_if first role count faults v some
+    faulty : ¬ IsFaultless further first
+    faulty = faulty_if further first role count faults v some
 
-    go : releases ≡ (tested_by first).releases → (l : Lapse) → StopsExplaining form tested count (map.entries faults) l second again_left old new
-        → StopsInquiry form l first second left again_left old new
+    go : releases ≡ (header_by first).releases → (l : Lapse) → StopsExplaining form tested count (map.entries faults) l second again_left old new
+        → StopsInquiry further form l first second left again_left old new
     go is (Failed failures.Read) h = inr (inr (v.judged, faulty, h))
     go is (Failed failures.Memory) h = inr (inr (v.judged, faulty, h))
     go is (Failed failures.Write) h = inr (inr (
@@ -218,22 +219,22 @@ explaining_stops form releases role count faults (Some first) (Some second) left
       faulty,
       (
         h.2.0,
-        again_if first second releases role count faults h.2.0 v h.0 h.1 h.2.1 is,
+        again_if further first second releases role count faults h.2.0 v h.0 h.1 h.2.1 is,
         subst (AppendsPart old new) (other_report form second tested count (map.entries faults) h.2.0 h.1) h.2.2,
       ),
     ))
-    go is Changed h = record { first = v.judged; faulty = faulty; why = differs_if first second releases role count faults v is h.0; unwritten = h.1 }
+    go is Changed h = record { first = v.judged; faulty = faulty; why = differs_if further first second releases role count faults v is h.0; unwritten = h.1 }
 
 -- ---- a log that is refused while it is judged
 
 -- it can't be told
-pub refusing_stops : (form : Form) (releases : Bool) (judged again left again_left old new : Option (List ℕ)) (refusal : Refusal) (failure : Failure)
+pub refusing_stops : (further : Bool) (form : Form) (releases : Bool) (judged again left again_left old new : Option (List ℕ)) (refusal : Refusal) (failure : Failure)
     → IfSome judged (λ log. IsRefusedAt default_limit log left refusal)
     → (failure ≡ failure_of refusal) ⊎ ((failure ≡ failures.Memory) × LacksJsonMemory form refusal old new) → BeginsRefusal form refusal old new
-    → HasReleases releases judged → IfBoth judged again (λ first second. StopsInquiry form (Failed failure) first second left again_left old new)
-refusing_stops form releases judged again left again_left old new refusal failure stops failed begun = λ _.
+    → HasReleases releases judged → IfBoth judged again (λ first second. StopsInquiry further form (Failed failure) first second left again_left old new)
+refusing_stops further form releases judged again left again_left old new refusal failure stops failed begun = λ _.
     by_first judged again (λ log. IsRefusedAt default_limit log left refusal)
-    (λ first second. StopsInquiry form (Failed failure) first second left again_left old new) (λ first second h. inl (by_why first h failed)) stops
+    (λ first second. StopsInquiry further form (Failed failure) first second left again_left old new) (λ first second h. inl (by_why first h failed)) stops
   where
     on_log : (r : Refusal) (log : List ℕ) → IsRefusedAt default_limit log left r → BeginsRefusal form r old new → StopsFirst form (failure_of r) log left old new
     on_log (refusals.Read at) log h (inl kept) = (at, h, kept)
@@ -268,11 +269,11 @@ releases_kept releases shown first log same one is = rw (same, one) is
 -- ---- the two readers
 
 -- both stop where the readers that were made of them do
-pub inquiry_stops : (path : List ℕ) (form : Form) (judged again first second judged_left again_left old new : Option (List ℕ)) (is_closed : Bool) (error : Stream)
+pub inquiry_stops : (path : List ℕ) (further : Bool) (form : Form) (judged again first second judged_left again_left old new : Option (List ℕ)) (is_closed : Bool) (error : Stream)
     (failure : Failure) (trouble : Trouble) → first ≡ judged → second ≡ again → failure_in trouble ≡ failure
-    → IfBoth first second (λ x y. StopsInquiry form (Failed failure) x y judged_left again_left old new) → Tells is_closed path trouble error
-    → FailsInquiryBegun path form judged again is_closed old new error
-inquiry_stops path form judged again first second judged_left again_left old new is_closed error failure trouble one other same stops told = inl (record {
+    → IfBoth first second (λ x y. StopsInquiry further form (Failed failure) x y judged_left again_left old new) → Tells is_closed path trouble error
+    → FailsInquiryBegun path further form judged again is_closed old new error
+inquiry_stops path further form judged again first second judged_left again_left old new is_closed error failure trouble one other same stops told = inl (record {
   judged_left = judged_left;
   again_left = again_left;
   trouble = trouble;
@@ -280,35 +281,35 @@ inquiry_stops path form judged again first second judged_left again_left old new
   told = told;
 })
 
-pub failing_rejoined : (path : List ℕ) (form : Form) (log judged again old new : Option (List ℕ)) (is_closed : Bool) (error : Stream) → Keeps log judged
-    → FailsInquiryBegun path form judged again is_closed old new error → FailsInquiryBegun path form log again is_closed old new error
-failing_rejoined path form log judged again old new is_closed error k (inl stops) = inl (record {
+pub failing_rejoined : (path : List ℕ) (further : Bool) (form : Form) (log judged again old new : Option (List ℕ)) (is_closed : Bool) (error : Stream) → Keeps log judged
+    → FailsInquiryBegun path further form judged again is_closed old new error → FailsInquiryBegun path further form log again is_closed old new error
+failing_rejoined path further form log judged again old new is_closed error k (inl stops) = inl (record {
   judged_left = stops.judged_left;
   again_left = stops.again_left;
   trouble = stops.trouble;
-  stops = rejoin_inquiry log judged again (λ first second. StopsInquiry form (Failed (failure_in stops.trouble)) first second stops.judged_left stops.again_left old new) k stops.stops;
+  stops = rejoin_inquiry log judged again (λ first second. StopsInquiry further form (Failed (failure_in stops.trouble)) first second stops.judged_left stops.again_left old new) k stops.stops;
   told = stops.told;
 })
-failing_rejoined path form log judged again old new is_closed error k (inr changes) = inr (record {
-  changed = rejoin_inquiry log judged again (λ first second. HasChanged first second old new) k changes.changed;
+failing_rejoined path further form log judged again old new is_closed error k (inr changes) = inr (record {
+  changed = rejoin_inquiry log judged again (λ first second. HasChanged further first second old new) k changes.changed;
   told = changes.told;
 })
 
 -- ---- a file that was opened twice
 
-pub inquiry_of_file_stops : (path : List ℕ) (form : Form) (file judged again old new : Option (List ℕ)) (is_closed : Bool) (error : Stream) → Keeps file judged → Keeps file again
-    → FailsInquiryReaders path form judged again is_closed old new error → FailsInquiryReaders path form file file is_closed old new error
-inquiry_of_file_stops path form file judged again old new is_closed error k l (inl unbegun) = inl unbegun
-inquiry_of_file_stops path form file judged again old new is_closed error k l (inr (inl stops)) = inr (inl (record {
+pub inquiry_of_file_stops : (path : List ℕ) (further : Bool) (form : Form) (file judged again old new : Option (List ℕ)) (is_closed : Bool) (error : Stream) → Keeps file judged → Keeps file again
+    → FailsInquiryReaders path further form judged again is_closed old new error → FailsInquiryReaders path further form file file is_closed old new error
+inquiry_of_file_stops path further form file judged again old new is_closed error k l (inl unbegun) = inl unbegun
+inquiry_of_file_stops path further form file judged again old new is_closed error k l (inr (inl stops)) = inr (inl (record {
   judged_left = stops.judged_left;
   again_left = stops.again_left;
   trouble = stops.trouble;
   stops = for_two_readings file judged again
-      (λ first second. StopsInquiry form (Failed (failure_in stops.trouble)) first second stops.judged_left stops.again_left old new) k l stops.stops;
+      (λ first second. StopsInquiry further form (Failed (failure_in stops.trouble)) first second stops.judged_left stops.again_left old new) k l stops.stops;
   told = stops.told;
 }))
-inquiry_of_file_stops path form file judged again old new is_closed error k l (inr (inr changes)) = inr (inr (record {
-  changed = for_two_readings file judged again (λ first second. HasChanged first second old new) k l changes.changed;
+inquiry_of_file_stops path further form file judged again old new is_closed error k l (inr (inr changes)) = inr (inr (record {
+  changed = for_two_readings file judged again (λ first second. HasChanged further first second old new) k l changes.changed;
   told = changes.told;
 }))
 

@@ -29,7 +29,7 @@ refused_lacks tested count faults (Some log) left refusal lapse is h =
 
 -- nor is one that has another verdict
 pub changed_lacks : (tested : Tested) (count : ℕ) (faults : List (FaultKey × Fault)) (again left : Option (List ℕ))
-    → IfSome again (λ log. IsJudged log × (¬ IsSame tested (tested_by log) count faults (seen_in log))) → IfSome again (λ log. LacksReasons tested count faults Changed log left)
+    → IfSome again (λ log. IsJudged log × (¬ IsSame tested (tested_by tested.further log) count faults (seen_in log))) → IfSome again (λ log. LacksReasons tested count faults Changed log left)
 changed_lacks tested count faults None left h = tt
 changed_lacks tested count faults (Some log) left h = inr h
 

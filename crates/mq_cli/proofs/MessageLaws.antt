@@ -66,12 +66,12 @@ whole_is_begun old middle new text (Err e) a k = part-whole old new text (Append
 
 -- ---- what keeps a task from being done is what keeps its text from being written
 
-pub rules_stop : (word : String Global) (input left old new : Option (List ℕ)) (status : Result ℕ Obstacle)
-    → IfErr status (StopsText (listed_for (Some (string_bytes word))) (no_role_line (string_bytes word)) old new)
-    → IfErr status (StopsAttempt (Rules (Some word)) input left old new)
-rules_stop word input left old new (Ok s) h = tt
-rules_stop word input left old new (Err (obstacles.Failed failure)) h = h
-rules_stop word input left old new (Err (obstacles.Misused misuse)) h = ((h.0, h.1), h.2)
+pub rules_stop : (further : Bool) (word : String Global) (input left old new : Option (List ℕ)) (status : Result ℕ Obstacle)
+    → IfErr status (StopsText (listed_for further (Some (string_bytes word))) (no_role_line (string_bytes word)) old new)
+    → IfErr status (StopsAttempt (Rules (Some word) further) input left old new)
+rules_stop further word input left old new (Ok s) h = tt
+rules_stop further word input left old new (Err (obstacles.Failed failure)) h = h
+rules_stop further word input left old new (Err (obstacles.Misused misuse)) h = ((h.0, h.1), h.2)
 
 pub explanation_stops : (code : String Global) (input left old new : Option (List ℕ)) (status : Result ℕ Obstacle)
     → IfErr status (StopsText (explained_for (string_bytes code)) (no_statement_line (string_bytes code)) old new)
@@ -85,10 +85,10 @@ explanation_stops code input left old new (Err (obstacles.Misused misuse)) h = (
 -- memory may run out for it
 memory_stops : (task : Task) (input left old new : Option (List ℕ)) (line : List ℕ) → IsMisnamed task input line → Keeps old new
     → StopsTask failures.Memory task input left old new
-memory_stops (Check file form coverage) input left old new line misnamed kept = absurd misnamed
+memory_stops (Check file form coverage further) input left old new line misnamed kept = absurd misnamed
 memory_stops (Show file long) input left old new line misnamed kept = absurd misnamed
 memory_stops (Packet hex long) input left old new line misnamed kept = packet_lacks long (string_bytes hex) input old new kept
-memory_stops (Rules role) input left old new line misnamed kept = kept
+memory_stops (Rules role further) input left old new line misnamed kept = kept
 memory_stops (Explain code) input left old new line misnamed kept = kept
 
 pub misuse_fails : (task : Task) (line : List ℕ) (input left old new : Option (List ℕ)) (error : Stream) → IsMisnamed task input line
@@ -137,54 +137,54 @@ unflushed_begun form refusal old middle new (Err failure) own a k =
 -- ---- a check
 
 -- a run without coverage, and one with it
-over_is_for : (form : Form) (log : List ℕ) (left old new : Option (List ℕ)) (result : Result Outcome RunFault) → RunsOver form log left result old new
-    → RunsFor form false log left result old new
-over_is_for form log left old new (Ok outcome) h = h
-over_is_for form log left old new (Err (run_faults.Refused refusal)) h = h
-over_is_for form log left old new (Err run_faults.Write) h = h
-over_is_for form log left old new (Err run_faults.Memory) h = (h.0, inl h.1, h.2)
+over_is_for : (further : Bool) (form : Form) (log : List ℕ) (left old new : Option (List ℕ)) (result : Result Outcome RunFault) → RunsOver further form log left result old new
+    → RunsFor further form false log left result old new
+over_is_for further form log left old new (Ok outcome) h = h
+over_is_for further form log left old new (Err (run_faults.Refused refusal)) h = h
+over_is_for further form log left old new (Err run_faults.Write) h = h
+over_is_for further form log left old new (Err run_faults.Memory) h = (h.0, inl h.1, h.2)
 
-covered_is_for : (form : Form) (log : List ℕ) (left old new : Option (List ℕ)) (result : Result Outcome RunFault) → RunsCoveredOver form log left result old new
-    → RunsFor form true log left result old new
-covered_is_for form log left old new (Ok outcome) h = h
-covered_is_for form log left old new (Err (run_faults.Refused refusal)) h = h
-covered_is_for form log left old new (Err run_faults.Write) h = h
-covered_is_for form log left old new (Err run_faults.Memory) h = (h.0, inr refl, h.1)
+covered_is_for : (further : Bool) (form : Form) (log : List ℕ) (left old new : Option (List ℕ)) (result : Result Outcome RunFault) → RunsCoveredOver further form log left result old new
+    → RunsFor further form true log left result old new
+covered_is_for further form log left old new (Ok outcome) h = h
+covered_is_for further form log left old new (Err (run_faults.Refused refusal)) h = h
+covered_is_for further form log left old new (Err run_faults.Write) h = h
+covered_is_for further form log left old new (Err run_faults.Memory) h = (h.0, inr refl, h.1)
 
-pub ran_without : (form : Form) (coverage : Bool) (remaining left old new : Option (List ℕ)) (result : Result Outcome RunFault) → coverage ≡ false
-    → IfSome remaining (λ log. RunsOver form log left result old new) → IfSome remaining (λ log. RunsFor form coverage log left result old new)
-ran_without form coverage remaining left old new result not_asked ran =
-    rw not_asked (for_log remaining (λ log. RunsOver form log left result old new) (λ log. RunsFor form false log left result old new)
-    (λ log h. over_is_for form log left old new result h) ran)
+pub ran_without : (further : Bool) (form : Form) (coverage : Bool) (remaining left old new : Option (List ℕ)) (result : Result Outcome RunFault) → coverage ≡ false
+    → IfSome remaining (λ log. RunsOver further form log left result old new) → IfSome remaining (λ log. RunsFor further form coverage log left result old new)
+ran_without further form coverage remaining left old new result not_asked ran =
+    rw not_asked (for_log remaining (λ log. RunsOver further form log left result old new) (λ log. RunsFor further form false log left result old new)
+    (λ log h. over_is_for further form log left old new result h) ran)
 
-pub ran_with : (form : Form) (coverage : Bool) (remaining left old new : Option (List ℕ)) (result : Result Outcome RunFault) → coverage ≡ true
-    → IfSome remaining (λ log. RunsCoveredOver form log left result old new) → IfSome remaining (λ log. RunsFor form coverage log left result old new)
-ran_with form coverage remaining left old new result asked ran =
-    rw asked (for_log remaining (λ log. RunsCoveredOver form log left result old new) (λ log. RunsFor form true log left result old new)
-    (λ log h. covered_is_for form log left old new result h) ran)
+pub ran_with : (further : Bool) (form : Form) (coverage : Bool) (remaining left old new : Option (List ℕ)) (result : Result Outcome RunFault) → coverage ≡ true
+    → IfSome remaining (λ log. RunsCoveredOver further form log left result old new) → IfSome remaining (λ log. RunsFor further form coverage log left result old new)
+ran_with further form coverage remaining left old new result asked ran =
+    rw asked (for_log remaining (λ log. RunsCoveredOver further form log left result old new) (λ log. RunsFor further form true log left result old new)
+    (λ log h. covered_is_for further form log left old new result h) ran)
 
 -- a status for a refusal says which one it is, and that it was written and nothing else
-pub refusal_is_printed : {E : Type 0} (form : Form) (coverage : Bool) (remaining left old middle new : Option (List ℕ)) (refusal : Refusal) (status : Result ℕ E)
-    → IfSome remaining (λ log. RunsFor form coverage log left (Err (run_faults.Refused refusal)) old middle) → middle ≡ old
+pub refusal_is_printed : {E : Type 0} (further : Bool) (form : Form) (coverage : Bool) (remaining left old middle new : Option (List ℕ)) (refusal : Refusal) (status : Result ℕ E)
+    → IfSome remaining (λ log. RunsFor further form coverage log left (Err (run_faults.Refused refusal)) old middle) → middle ≡ old
     → OnOk status (IsOfLog refusal) → OnOk status (Appends middle new (refused_report form refusal))
     → IfOk status (λ s. s ≡ 2 → IfSome remaining (λ log. RefusesCheck form log old new))
-refusal_is_printed form coverage remaining left old middle new refusal (Ok s) ran unwritten own written = λ is.
-    for_log remaining (λ log. RunsFor form coverage log left (Err (run_faults.Refused refusal)) old middle) (λ log. RefusesCheck form log old new)
+refusal_is_printed further form coverage remaining left old middle new refusal (Ok s) ran unwritten own written = λ is.
+    for_log remaining (λ log. RunsFor further form coverage log left (Err (run_faults.Refused refusal)) old middle) (λ log. RefusesCheck form log old new)
     (λ log h. (refusal, own_refusal log left refusal own h, subst (λ v. Appends v new (refused_report form refusal)) unwritten written)) ran
-refusal_is_printed form coverage remaining left old middle new refusal (Err e) ran unwritten own written = tt
+refusal_is_printed further form coverage remaining left old middle new refusal (Err e) ran unwritten own written = tt
 
 -- where it can't be told, that is why
-pub refusal_stops : (form : Form) (coverage : Bool) (remaining left old middle new : Option (List ℕ)) (refusal : Refusal) (status : Result ℕ Failure)
-    → IfSome remaining (λ log. RunsFor form coverage log left (Err (run_faults.Refused refusal)) old middle) → middle ≡ old
+pub refusal_stops : (further : Bool) (form : Form) (coverage : Bool) (remaining left old middle new : Option (List ℕ)) (refusal : Refusal) (status : Result ℕ Failure)
+    → IfSome remaining (λ log. RunsFor further form coverage log left (Err (run_faults.Refused refusal)) old middle) → middle ≡ old
     → IfErr status (λ failure. (failure ≡ failure_of refusal) ⊎ ((failure ≡ failures.Memory) × LacksJsonMemory form refusal middle new))
     → IfErr status (λ _. BeginsRefusal form refusal middle new)
-    → IfErr status (λ failure. IfSome remaining (λ log. StopsCheck form coverage failure log left old new))
-refusal_stops form coverage remaining left old middle new refusal (Ok s) ran unwritten failed begun = tt
-refusal_stops form coverage remaining left old middle new refusal (Err failure) ran unwritten failed begun =
-    for_log remaining (λ log. RunsFor form coverage log left (Err (run_faults.Refused refusal)) old middle) (λ log. StopsCheck form coverage failure log left old new)
+    → IfErr status (λ failure. IfSome remaining (λ log. StopsCheck further form coverage failure log left old new))
+refusal_stops further form coverage remaining left old middle new refusal (Ok s) ran unwritten failed begun = tt
+refusal_stops further form coverage remaining left old middle new refusal (Err failure) ran unwritten failed begun =
+    for_log remaining (λ log. RunsFor further form coverage log left (Err (run_faults.Refused refusal)) old middle) (λ log. StopsCheck further form coverage failure log left old new)
     (λ log h. by_why log h failed) ran
   where
-    on_log : (r : Refusal) (log : List ℕ) → IsRefusedAt default_limit log left r → BeginsRefusal form r old new → StopsCheck form coverage (failure_of r) log left old new
+    on_log : (r : Refusal) (log : List ℕ) → IsRefusedAt default_limit log left r → BeginsRefusal form r old new → StopsCheck further form coverage (failure_of r) log left old new
     on_log (refusals.Read at) log h (inl kept) = (at, h, kept)
     on_log (refusals.Read at) log h (inr (own, part)) = absurd own
     on_log (refusals.Memory at) log h (inl kept) = inl (at, h, kept)
@@ -193,34 +193,34 @@ refusal_stops form coverage remaining left old middle new refusal (Err failure) 
     on_log r log h (inr (own, part)) = inr (r, own_refusal log left r own h, part)
 
     by_why : (log : List ℕ) → IsRefusedAt default_limit log left refusal
-        → (failure ≡ failure_of refusal) ⊎ ((failure ≡ failures.Memory) × LacksJsonMemory form refusal middle new) → StopsCheck form coverage failure log left old new
-    by_why log h (inl why) = subst (λ f. StopsCheck form coverage f log left old new) (sym why)
+        → (failure ≡ failure_of refusal) ⊎ ((failure ≡ failures.Memory) × LacksJsonMemory form refusal middle new) → StopsCheck further form coverage failure log left old new
+    by_why log h (inl why) = subst (λ f. StopsCheck further form coverage f log left old new) (sym why)
         (on_log refusal log h (subst (λ v. BeginsRefusal form refusal v new) unwritten begun))
-    by_why log h (inr (is, lacks)) = subst (λ f. StopsCheck form coverage f log left old new) (sym is)
+    by_why log h (inr (is, lacks)) = subst (λ f. StopsCheck further form coverage f log left old new) (sym is)
         (inr (inl lacks.0, inr (refusal, own_refusal log left refusal lacks.1 h), subst (λ v. Keeps v new) unwritten lacks.2))
 
 -- the report was written, and then not flushed
-pub report_stops : (form : Form) (coverage : Bool) (remaining left old middle new : Option (List ℕ)) (outcome : Outcome) (status : Result ℕ Failure)
-    → IfSome remaining (λ log. RunsFor form coverage log left (Ok outcome) old middle) → Keeps middle new → IfErr status (λ failure. failure ≡ failures.Write)
-    → IfErr status (λ failure. IfSome remaining (λ log. StopsCheck form coverage failure log left old new))
-report_stops form coverage remaining left old middle new outcome (Ok s) ran kept failed = tt
-report_stops form coverage remaining left old middle new outcome (Err failure) ran kept failed =
-    for_log remaining (λ log. RunsFor form coverage log left (Ok outcome) old middle) (λ log. StopsCheck form coverage failure log left old new)
-    (λ log h. subst (λ f. StopsCheck form coverage f log left old new) (sym failed)
-    (inl (h.0, part-whole old new (report_for form coverage log) (Appends-kept old middle new (report_for form coverage log) h.2 kept)))) ran
+pub report_stops : (further : Bool) (form : Form) (coverage : Bool) (remaining left old middle new : Option (List ℕ)) (outcome : Outcome) (status : Result ℕ Failure)
+    → IfSome remaining (λ log. RunsFor further form coverage log left (Ok outcome) old middle) → Keeps middle new → IfErr status (λ failure. failure ≡ failures.Write)
+    → IfErr status (λ failure. IfSome remaining (λ log. StopsCheck further form coverage failure log left old new))
+report_stops further form coverage remaining left old middle new outcome (Ok s) ran kept failed = tt
+report_stops further form coverage remaining left old middle new outcome (Err failure) ran kept failed =
+    for_log remaining (λ log. RunsFor further form coverage log left (Ok outcome) old middle) (λ log. StopsCheck further form coverage failure log left old new)
+    (λ log h. subst (λ f. StopsCheck further form coverage f log left old new) (sym failed)
+    (inl (h.0, part-whole old new (report_for further form coverage log) (Appends-kept old middle new (report_for further form coverage log) h.2 kept)))) ran
 
 -- a beginning of the report was written
-pub run_stops : (form : Form) (coverage : Bool) (remaining left old new : Option (List ℕ)) → IfSome remaining (λ log. RunsFor form coverage log left (Err run_faults.Write) old new)
-    → IfSome remaining (λ log. StopsCheck form coverage failures.Write log left old new)
-run_stops form coverage remaining left old new ran =
-    for_log remaining (λ log. RunsFor form coverage log left (Err run_faults.Write) old new) (λ log. StopsCheck form coverage failures.Write log left old new)
-    (λ log h. inl (h.0, part-begun old new (report_for form coverage log) h.1)) ran
+pub run_stops : (further : Bool) (form : Form) (coverage : Bool) (remaining left old new : Option (List ℕ)) → IfSome remaining (λ log. RunsFor further form coverage log left (Err run_faults.Write) old new)
+    → IfSome remaining (λ log. StopsCheck further form coverage failures.Write log left old new)
+run_stops further form coverage remaining left old new ran =
+    for_log remaining (λ log. RunsFor further form coverage log left (Err run_faults.Write) old new) (λ log. StopsCheck further form coverage failures.Write log left old new)
+    (λ log h. inl (h.0, part-begun old new (report_for further form coverage log) h.1)) ran
 
 -- memory ran out for the report
-pub run_lacks : (form : Form) (coverage : Bool) (remaining left old new : Option (List ℕ)) → IfSome remaining (λ log. RunsFor form coverage log left (Err run_faults.Memory) old new)
-    → IfSome remaining (λ log. StopsCheck form coverage failures.Memory log left old new)
-run_lacks form coverage remaining left old new ran =
-    for_log remaining (λ log. RunsFor form coverage log left (Err run_faults.Memory) old new) (λ log. StopsCheck form coverage failures.Memory log left old new)
+pub run_lacks : (further : Bool) (form : Form) (coverage : Bool) (remaining left old new : Option (List ℕ)) → IfSome remaining (λ log. RunsFor further form coverage log left (Err run_faults.Memory) old new)
+    → IfSome remaining (λ log. StopsCheck further form coverage failures.Memory log left old new)
+run_lacks further form coverage remaining left old new ran =
+    for_log remaining (λ log. RunsFor further form coverage log left (Err run_faults.Memory) old new) (λ log. StopsCheck further form coverage failures.Memory log left old new)
     (λ log h. inr (h.1, inl h.0, subst (λ v. Keeps old v) (sym h.2) (Keeps-refl old))) ran
 
 -- ---- a log that is shown

@@ -14,11 +14,11 @@ use Rattle.mq_rules.specs.declared.role.Tested.{Tested}
 use Rattle.mq_rules.specs.declared.fault.Fault.{Fault}
 use Rattle.mq_rules.specs.declared.faults.FaultKey.{FaultKey}
 use Rattle.mq_rules.specs.FaultKeys.{FaultMap}
-use Rattle.mq_rules.specs.Notes.{tested_by, seen_in}
 use Rattle.mq_evidence.specs.declared.evidence.Evidence.{Evidence}
 use Rattle.mq_trail.specs.Explaining.{AreReasons, IsSame}
 use Rattle.mq_rules.proofs.Exports.{both_true}
 use Rattle.mq_log.specs.Events.{Placed, events}
+use Rattle.mq_log.specs.Framing.{header_by}
 use Rattle.mq_judge.specs.declared.Form.TheVariants.{Text, Json}
 use Rattle.mq_judge.specs.declared.Refusal.{Refusal}
 use Rattle.mq_judge.specs.declared.Refusal.TheVariants as refusals
@@ -123,111 +123,111 @@ those_found tested count faults None reasons found = tt
 those_found tested count faults (Some log) reasons found = inr found
 
 -- what was found for a verdict is what is shown
-shown_reasons : (first second : List ℕ) (releases : Bool) (role : Role) (count : ℕ) (faults : FaultMap) (reasons : List Evidence) → IsVerdictOn first role count faults
-    → AreFoundReasons (record { role = role; releases = releases }) count (map.entries faults) second reasons → releases ≡ (tested_by first).releases → AreShownReasons first second reasons
-shown_reasons first second releases role count faults reasons v (inl none) is = inl (sym v.faults_are ∙ none.0, none.1)
-shown_reasons first second releases role count faults reasons v (inr found) is = inr (again_if first second releases role count faults reasons v found.0 found.1 found.2 is)
+shown_reasons : (further : Bool) (first second : List ℕ) (releases : Bool) (role : Role) (count : ℕ) (faults : FaultMap) (reasons : List Evidence) → IsVerdictOn further first role count faults
+    → AreFoundReasons (record { role = role; releases = releases; further = further }) count (map.entries faults) second reasons → releases ≡ (header_by first).releases → AreShownReasons further first second reasons
+shown_reasons further first second releases role count faults reasons v (inl none) is = inl (sym v.faults_are ∙ none.0, none.1)
+shown_reasons further first second releases role count faults reasons v (inr found) is = inr (again_if further first second releases role count faults reasons v found.0 found.1 found.2 is)
 
 -- nothing is shown of a log with faults if it isn't known what they conflict with
 pub reasons_lack : (plan : Plan) (releases : Bool) (role : Role) (count : ℕ) (faults : FaultMap) (judged again shown judged_left again_left shown_left old : Option (List ℕ)) (lapse : Lapse)
-    → (map.len faults == 0) ≡ false → IfSome judged (λ log. IsVerdictOn log role count faults)
-    → IfSome again (λ log. LacksReasons (record { role = role; releases = releases }) count (map.entries faults) lapse log again_left) → HasReleases releases judged
+    → (map.len faults == 0) ≡ false → IfSome judged (λ log. IsVerdictOn plan.further log role count faults)
+    → IfSome again (λ log. LacksReasons (record { role = role; releases = releases; further = plan.further }) count (map.entries faults) lapse log again_left) → HasReleases releases judged
     → IfAll judged again shown (λ first second third. StopsPlan plan lapse first second third judged_left again_left shown_left old old)
 reasons_lack plan releases role count faults judged again shown judged_left again_left shown_left old lapse some v lacks is =
-    for_two judged again shown (λ log. IsVerdictOn log role count faults × (releases ≡ (tested_by log).releases))
-    (λ log. LacksReasons (record { role = role; releases = releases }) count (map.entries faults) lapse log again_left)
+    for_two judged again shown (λ log. IsVerdictOn plan.further log role count faults × (releases ≡ (header_by log).releases))
+    (λ log. LacksReasons (record { role = role; releases = releases; further = plan.further }) count (map.entries faults) lapse log again_left)
     (λ first second third. StopsPlan plan lapse first second third judged_left again_left shown_left old old)
     (λ first second third w h. go first second third w.0 w.1 lapse h)
-    (both_known judged (λ log. IsVerdictOn log role count faults) (λ log. releases ≡ (tested_by log).releases) v is) lacks
+    (both_known judged (λ log. IsVerdictOn plan.further log role count faults) (λ log. releases ≡ (header_by log).releases) v is) lacks
   where
     tested : Tested
-    tested = record { role = role; releases = releases }
+    tested = record { role = role; releases = releases; further = plan.further }
 
-    go : (first second third : List ℕ) → IsVerdictOn first role count faults → releases ≡ (tested_by first).releases → (l : Lapse)
+    go : (first second third : List ℕ) → IsVerdictOn plan.further first role count faults → releases ≡ (header_by first).releases → (l : Lapse)
         → LacksReasons tested count (map.entries faults) l second again_left → StopsPlan plan l first second third judged_left again_left shown_left old old
-    go first second third w named (Failed failure) h = inr (inl (w.judged, faulty_if first role count faults w some, h, Keeps-refl old))
+    go first second third w named (Failed failure) h = inr (inl (w.judged, faulty_if plan.further first role count faults w some, h, Keeps-refl old))
     go first second third w named Changed h = record {
       first = w.judged;
-      faulty = faulty_if first role count faults w some;
-      why = differs_if first second releases role count faults w named h;
+      faulty = faulty_if plan.further first role count faults w some;
+      why = differs_if plan.further first second releases role count faults w named h;
       unwritten = Keeps-refl old;
     }
 
 -- ---- a log that was judged, and is shown
 
 -- the text with a verdict's faults is that with the faults of the log that they were found in
-text_is : (plan : Plan) (role : Role) (count : ℕ) (faults : FaultMap) (reasons : List Evidence) (log shown : List ℕ) → IsVerdictOn log role count faults
+text_is : (plan : Plan) (role : Role) (count : ℕ) (faults : FaultMap) (reasons : List Evidence) (log shown : List ℕ) → IsVerdictOn plan.further log role count faults
     → text_with plan role (map.entries faults) reasons shown ≡ reviewed plan log shown reasons
 text_is plan role count faults reasons log shown v = ap₂ (λ (r : Role) (f : List (FaultKey × Fault)). text_with plan r f reasons shown) v.role_is v.faults_are
 
 -- a verdict on a log, whose header says this of releases
-abbrev IsVerdictFor : (releases : Bool) → Role → ℕ → FaultMap → List ℕ → Type 0
-IsVerdictFor releases role count faults log = IsVerdictOn log role count faults × (releases ≡ (tested_by log).releases)
+abbrev IsVerdictFor : (further releases : Bool) → Role → ℕ → FaultMap → List ℕ → Type 0
+IsVerdictFor further releases role count faults log = IsVerdictOn further log role count faults × (releases ≡ (header_by log).releases)
 
 pub review_passes : {E : Type 0} (plan : Plan) (releases : Bool) (role : Role) (count : ℕ) (faults : FaultMap) (reasons : List Evidence) (judged again shown old new : Option (List ℕ)) (status : Result ℕ E)
-    → IfSome judged (λ log. IsVerdictOn log role count faults)
-    → IfSome again (λ log. AreFoundReasons (record { role = role; releases = releases }) count (map.entries faults) log reasons)
+    → IfSome judged (λ log. IsVerdictOn plan.further log role count faults)
+    → IfSome again (λ log. AreFoundReasons (record { role = role; releases = releases; further = plan.further }) count (map.entries faults) log reasons)
     → IfOk status (λ s. s ≡ 0 → IfSome shown (λ log. IsJudged log × Appends old new (text_with plan role (map.entries faults) reasons log (events log))))
     → IfOk status (λ s. s ≡ 0 → HasReleases releases judged → IfAll judged again shown (λ first second third. IsReviewed plan first second third old new))
 review_passes plan releases role count faults reasons judged again shown old new (Err e) v found written = tt
 review_passes plan releases role count faults reasons judged again shown old new (Ok s) v found written = λ passed is.
-    for_all judged again shown (IsVerdictFor releases role count faults)
-    (λ log. AreFoundReasons (record { role = role; releases = releases }) count (map.entries faults) log reasons)
+    for_all judged again shown (IsVerdictFor plan.further releases role count faults)
+    (λ log. AreFoundReasons (record { role = role; releases = releases; further = plan.further }) count (map.entries faults) log reasons)
     (λ log. IsJudged log × Appends old new (text_with plan role (map.entries faults) reasons log (events log)))
     (λ first second third. IsReviewed plan first second third old new)
     (λ first second third w f h. record {
       first = w.0.judged;
       reasons = reasons;
-      are = shown_reasons first second releases role count faults reasons w.0 f w.1;
+      are = shown_reasons plan.further first second releases role count faults reasons w.0 f w.1;
       last = h.0;
       written = subst (λ (text : List Placed → List ℕ). Appends old new (text (events third))) (text_is plan role count faults reasons first third w.0) h.1;
     })
-    (both_known judged (λ log. IsVerdictOn log role count faults) (λ log. releases ≡ (tested_by log).releases) v is) found (written passed)
+    (both_known judged (λ log. IsVerdictOn plan.further log role count faults) (λ log. releases ≡ (header_by log).releases) v is) found (written passed)
 
 pub review_is_refused : {E : Type 0} (plan : Plan) (releases : Bool) (role : Role) (count : ℕ) (faults : FaultMap) (reasons : List Evidence) (judged again shown old new : Option (List ℕ)) (status : Result ℕ E)
-    → IfSome judged (λ log. IsVerdictOn log role count faults)
-    → IfSome again (λ log. AreFoundReasons (record { role = role; releases = releases }) count (map.entries faults) log reasons)
+    → IfSome judged (λ log. IsVerdictOn plan.further log role count faults)
+    → IfSome again (λ log. AreFoundReasons (record { role = role; releases = releases; further = plan.further }) count (map.entries faults) log reasons)
     → IfOk status (λ s. s ≡ 2 → IfSome shown (λ log. RefusesShow (text_with plan role (map.entries faults) reasons log) log old new))
     → IfOk status (λ s. s ≡ 2 → HasReleases releases judged → IfAll judged again shown (λ first second third. RefusesPlan plan first second third old new))
 review_is_refused plan releases role count faults reasons judged again shown old new (Err e) v found refused = tt
 review_is_refused plan releases role count faults reasons judged again shown old new (Ok s) v found refused = λ passed is.
-    for_all judged again shown (IsVerdictFor releases role count faults)
-    (λ log. AreFoundReasons (record { role = role; releases = releases }) count (map.entries faults) log reasons)
+    for_all judged again shown (IsVerdictFor plan.further releases role count faults)
+    (λ log. AreFoundReasons (record { role = role; releases = releases; further = plan.further }) count (map.entries faults) log reasons)
     (λ log. RefusesShow (text_with plan role (map.entries faults) reasons log) log old new)
     (λ first second third. RefusesPlan plan first second third old new)
     (λ first second third w f h. inr (
       w.0.judged,
       (
         reasons,
-        shown_reasons first second releases role count faults reasons w.0 f w.1,
+        shown_reasons plan.further first second releases role count faults reasons w.0 f w.1,
         subst (λ (text : List Placed → List ℕ). RefusesShow text third old new) (text_is plan role count faults reasons first third w.0) h,
       ),
     ))
-    (both_known judged (λ log. IsVerdictOn log role count faults) (λ log. releases ≡ (tested_by log).releases) v is) found (refused passed)
+    (both_known judged (λ log. IsVerdictOn plan.further log role count faults) (λ log. releases ≡ (header_by log).releases) v is) found (refused passed)
 
 pub review_stops : (plan : Plan) (releases : Bool) (role : Role) (count : ℕ) (faults : FaultMap) (reasons : List Evidence)
     (judged again shown judged_left again_left shown_left old new : Option (List ℕ)) (status : Result ℕ Lapse)
-    → IfSome judged (λ log. IsVerdictOn log role count faults)
-    → IfSome again (λ log. AreFoundReasons (record { role = role; releases = releases }) count (map.entries faults) log reasons)
+    → IfSome judged (λ log. IsVerdictOn plan.further log role count faults)
+    → IfSome again (λ log. AreFoundReasons (record { role = role; releases = releases; further = plan.further }) count (map.entries faults) log reasons)
     → IfErr status (λ lapse. IfSome shown (λ log. StopsShowing (text_with plan role (map.entries faults) reasons log) lapse log shown_left old new))
     → IfErr status (λ lapse. HasReleases releases judged → IfAll judged again shown (λ first second third. StopsPlan plan lapse first second third judged_left again_left shown_left old new))
 review_stops plan releases role count faults reasons judged again shown judged_left again_left shown_left old new (Ok s) v found stops = tt
 review_stops plan releases role count faults reasons judged again shown judged_left again_left shown_left old new (Err lapse) v found stops = λ is.
-    for_all judged again shown (IsVerdictFor releases role count faults)
-    (λ log. AreFoundReasons (record { role = role; releases = releases }) count (map.entries faults) log reasons)
+    for_all judged again shown (IsVerdictFor plan.further releases role count faults)
+    (λ log. AreFoundReasons (record { role = role; releases = releases; further = plan.further }) count (map.entries faults) log reasons)
     (λ log. StopsShowing (text_with plan role (map.entries faults) reasons log) lapse log shown_left old new)
     (λ first second third. StopsPlan plan lapse first second third judged_left again_left shown_left old new)
     (λ first second third w f h. go first second third w f lapse h)
-    (both_known judged (λ log. IsVerdictOn log role count faults) (λ log. releases ≡ (tested_by log).releases) v is) found stops
+    (both_known judged (λ log. IsVerdictOn plan.further log role count faults) (λ log. releases ≡ (header_by log).releases) v is) found stops
   where
-    go : (first second third : List ℕ) → IsVerdictFor releases role count faults first
-        → AreFoundReasons (record { role = role; releases = releases }) count (map.entries faults) second reasons → (l : Lapse)
+    go : (first second third : List ℕ) → IsVerdictFor plan.further releases role count faults first
+        → AreFoundReasons (record { role = role; releases = releases; further = plan.further }) count (map.entries faults) second reasons → (l : Lapse)
         → StopsShowing (text_with plan role (map.entries faults) reasons third) l third shown_left old new → StopsPlan plan l first second third judged_left again_left shown_left old new
     go first second third w f (Failed failure) h = inr (inr (
       w.0.judged,
       (
         reasons,
-        shown_reasons first second releases role count faults reasons w.0 f w.1,
+        shown_reasons plan.further first second releases role count faults reasons w.0 f w.1,
         subst (λ (text : List Placed → List ℕ). StopsShow text failure third shown_left old new) (text_is plan role count faults reasons first third w.0) h,
       ),
     ))
@@ -283,7 +283,7 @@ file_stops plan file judged again shown old new is_closed error k l m (inr (inl 
   told = stops.told;
 }))
 file_stops plan file judged again shown old new is_closed error k l m (inr (inr changes)) = inr (inr (record {
-  changed = for_file_thrice file judged again shown (λ first second third. HasChanged first second old new) k l m changes.changed;
+  changed = for_file_thrice file judged again shown (λ first second third. HasChanged plan.further first second old new) k l m changes.changed;
   told = changes.told;
 }))
 
@@ -321,6 +321,6 @@ stops_rejoined plan log judged again shown old new is_closed error k (inl stops)
   told = stops.told;
 })
 stops_rejoined plan log judged again shown old new is_closed error k (inr changes) = inr (record {
-  changed = rejoin_all log judged again shown (λ first second third. HasChanged first second old new) k changes.changed;
+  changed = rejoin_all log judged again shown (λ first second third. HasChanged plan.further first second old new) k changes.changed;
   told = changes.told;
 })

@@ -3,6 +3,7 @@ use Rattle.std.specs.Prelude.{◌≡◌, ◌⊎◌, ℕ, Bool, false, List, leng
 use Rattle.std.specs.Io.KnownBytes.{Appends, Keeps}
 use Rattle.clap.specs.Words.{Text}
 use Rattle.mq_log.specs.Events.{events}
+use Rattle.mq_log.specs.Framing.{header_by}
 use Rattle.mq_rules.specs.Notes.{tested_by, seen_in}
 use Rattle.mq_rules.specs.declared.role.Tested.{Tested}
 use Rattle.mq_rules.specs.declared.fault.Fault.{Fault}
@@ -39,45 +40,46 @@ log_at (Some path) = Ok path
 abbrev pub log_of : Inquiry → Result Text Text
 log_of inquiry = if inquiry.coverage then Err two_reports_line else log_at (path_named (option_map string_bytes inquiry.file))
 
--- ---- what each status means for the log that was judged and the one that was read again: one log, unless its file changed between the two readings
+-- ---- what each status means for the log that was judged and the one that was read again: one log, unless its file changed between the two readings. Both are judged by the
+-- further statements too, or neither.
 
 -- the report on a log in this form that says that its faults conflict with these
-abbrev pub reasoned_report : Form → List ℕ → List Evidence → List ℕ
-reasoned_report form log reasons = reasoned_report_on form (tested_by log).role (found_in log) (length (events log)) reasons
+abbrev pub reasoned_report : Bool → Form → List ℕ → List Evidence → List ℕ
+reasoned_report further form log reasons = reasoned_report_on form (tested_by further log).role (found_in further log) (length (events log)) reasons
 
 -- these are what the log's faults conflict with, in their order
-abbrev pub AreReasonsOf : List ℕ → List Evidence → Type 0
-AreReasonsOf log reasons = AreReasons (tested_by log) (seen_in log) (found_in log) reasons
+abbrev pub AreReasonsOf : Bool → List ℕ → List Evidence → Type 0
+AreReasonsOf further log reasons = AreReasons (tested_by further log) (seen_in log) (found_in further log) reasons
 
 -- The two logs have the same verdict: on the same end, with the same faults, among as many events.
-pub record HaveSameVerdict (judged again : List ℕ) : Type 0 where
-  pub end : tested_by again ≡ tested_by judged
+pub record HaveSameVerdict (further : Bool) (judged again : List ℕ) : Type 0 where
+  pub end : tested_by further again ≡ tested_by further judged
   pub counted : length (events again) ≡ length (events judged)
-  pub found : found_in again ≡ found_in judged
+  pub found : found_in further again ≡ found_in further judged
 
 -- 0: the log has no fault, and the report was written and nothing else
-abbrev pub IsPassed : Form → List ℕ → (old new : Option (List ℕ)) → Type 0
-IsPassed form log old new = IsJudged log × IsFaultless log × Appends old new (report_for form false log)
+abbrev pub IsPassed : Bool → Form → List ℕ → (old new : Option (List ℕ)) → Type 0
+IsPassed further form log old new = IsJudged log × IsFaultless further log × Appends old new (report_for further form false log)
 
 -- The log that is read again has the verdict of the one that was judged, and these are what its faults conflict with, in their order.
-pub record AreReasonsAgain (judged again : List ℕ) (reasons : List Evidence) : Type 0 where
+pub record AreReasonsAgain (further : Bool) (judged again : List ℕ) (reasons : List Evidence) : Type 0 where
   pub second : IsJudged again
-  pub same : HaveSameVerdict judged again
-  pub are : AreReasonsOf again reasons
+  pub same : HaveSameVerdict further judged again
+  pub are : AreReasonsOf further again reasons
 
 -- 1: The log has faults, it was read again for what they conflict with, and the report that says this was written and nothing else.
-pub record IsReasoned (form : Form) (judged again : List ℕ) (old new : Option (List ℕ)) : Type 0 where
+pub record IsReasoned (further : Bool) (form : Form) (judged again : List ℕ) (old new : Option (List ℕ)) : Type 0 where
   pub first : IsJudged judged
-  pub faulty : ¬ IsFaultless judged
+  pub faulty : ¬ IsFaultless further judged
   pub reasons : List Evidence
-  pub are : AreReasonsAgain judged again reasons
-  pub reported : Appends old new (reasoned_report form again reasons)
+  pub are : AreReasonsAgain further judged again reasons
+  pub reported : Appends old new (reasoned_report further form again reasons)
 
 -- 4: The log has faults; read again it is refused, or has another verdict; nothing was written.
-pub record HasChanged (judged again : List ℕ) (old new : Option (List ℕ)) : Type 0 where
+pub record HasChanged (further : Bool) (judged again : List ℕ) (old new : Option (List ℕ)) : Type 0 where
   pub first : IsJudged judged
-  pub faulty : ¬ IsFaultless judged
-  pub why : ((refusal : Refusal) × IsRefusedBy again refusal) ⊎ (IsJudged again × (¬ HaveSameVerdict judged again))
+  pub faulty : ¬ IsFaultless further judged
+  pub why : ((refusal : Refusal) × IsRefusedBy again refusal) ⊎ (IsJudged again × (¬ HaveSameVerdict further judged again))
   pub unwritten : Keeps old new
 
 -- a report of this text wasn't written: memory ran out for it as JSON, and nothing was; or part of it was
@@ -94,25 +96,25 @@ StopsFirst form failures.Memory log left old new = ((at : ℕ) × IsRefusedAt de
 StopsFirst form failures.Write log left old new = (refusal : Refusal) × IsRefusedBy log refusal × AppendsPart old new (refused_report form refusal)
 
 -- 4: the log has no fault, and the report wasn't written, or only part of it
-abbrev pub StopsPass : Form → Failure → List ℕ → (old new : Option (List ℕ)) → Type 0
-StopsPass form failure log old new = IsJudged log × IsFaultless log × StopsReport form (report_for form false log) failure old new
+abbrev pub StopsPass : Bool → Form → Failure → List ℕ → (old new : Option (List ℕ)) → Type 0
+StopsPass further form failure log old new = IsJudged log × IsFaultless further log × StopsReport form (report_for further form false log) failure old new
 
 -- reading the log again failed, or memory ran out for that, for what the faults conflict with or for the report, and nothing was written; or part of the report was
-abbrev pub StopsReasons : Form → Failure → (judged again : List ℕ) → (left old new : Option (List ℕ)) → Type 0
-StopsReasons form failures.Read judged again left old new = (at : ℕ) × IsRefusedAt default_limit again left (refusals.Read at) × Keeps old new
-StopsReasons form failures.Memory judged again left old new = Keeps old new
-StopsReasons form failures.Write judged again left old new = (reasons : List Evidence) × AreReasonsAgain judged again reasons
-    × AppendsPart old new (reasoned_report form again reasons)
+abbrev pub StopsReasons : Bool → Form → Failure → (judged again : List ℕ) → (left old new : Option (List ℕ)) → Type 0
+StopsReasons further form failures.Read judged again left old new = (at : ℕ) × IsRefusedAt default_limit again left (refusals.Read at) × Keeps old new
+StopsReasons further form failures.Memory judged again left old new = Keeps old new
+StopsReasons further form failures.Write judged again left old new = (reasons : List Evidence) × AreReasonsAgain further judged again reasons
+    × AppendsPart old new (reasoned_report further form again reasons)
 
 -- 4: that, for a log with faults
-abbrev pub StopsAgain : Form → Failure → (judged again : List ℕ) → (left old new : Option (List ℕ)) → Type 0
-StopsAgain form failure judged again left old new = IsJudged judged × (¬ IsFaultless judged) × StopsReasons form failure judged again left old new
+abbrev pub StopsAgain : Bool → Form → Failure → (judged again : List ℕ) → (left old new : Option (List ℕ)) → Type 0
+StopsAgain further form failure judged again left old new = IsJudged judged × (¬ IsFaultless further judged) × StopsReasons further form failure judged again left old new
 
 -- 4: why, while the log was judged or while it was read again, and what had been written; the two readers have these bytes left
-abbrev pub StopsInquiry : Form → Lapse → (judged again : List ℕ) → (judged_left again_left old new : Option (List ℕ)) → Type 0
-StopsInquiry form (Failed failure) judged again judged_left again_left old new =
-    StopsFirst form failure judged judged_left old new ⊎ (StopsPass form failure judged old new ⊎ StopsAgain form failure judged again again_left old new)
-StopsInquiry form Changed judged again judged_left again_left old new = HasChanged judged again old new
+abbrev pub StopsInquiry : Bool → Form → Lapse → (judged again : List ℕ) → (judged_left again_left old new : Option (List ℕ)) → Type 0
+StopsInquiry further form (Failed failure) judged again judged_left again_left old new =
+    StopsFirst form failure judged judged_left old new ⊎ (StopsPass further form failure judged old new ⊎ StopsAgain further form failure judged again again_left old new)
+StopsInquiry further form Changed judged again judged_left again_left old new = HasChanged further judged again old new
 
 -- ---- the parts of that
 
@@ -124,7 +126,7 @@ failure_by run_faults.Memory = failures.Memory
 
 -- the header of the log says this of releases, if the log is known
 abbrev pub HasReleases : (releases : Bool) → Option (List ℕ) → Type 0
-HasReleases releases log = IfSome log (λ bytes. releases ≡ (tested_by bytes).releases)
+HasReleases releases log = IfSome log (λ bytes. releases ≡ (header_by bytes).releases)
 
 -- a report of this text wasn't written for this reason, and for no other
 abbrev pub StopsReportBy : Form → (text : List ℕ) → (old new : Option (List ℕ)) → Lapse → Type 0
@@ -137,14 +139,14 @@ reasoned_verdict form tested count faults reasons = reasoned_report_on form test
 
 -- the log that was read again has this verdict, and the report that says what its faults conflict with was written and nothing else
 abbrev pub IsExplained : Form → Tested → ℕ → List (FaultKey × Fault) → List ℕ → (old new : Option (List ℕ)) → Type 0
-IsExplained form tested count faults log old new = IsJudged log × IsSame tested (tested_by log) count faults (seen_in log)
+IsExplained form tested count faults log old new = IsJudged log × IsSame tested (tested_by tested.further log) count faults (seen_in log)
     × ((reasons : List Evidence) × AreReasons tested (seen_in log) faults reasons × Appends old new (reasoned_verdict form tested count faults reasons))
 
 -- it wasn't: reading failed, or memory ran out, and nothing was written; or part of the report was; or the log is refused or has another verdict
 abbrev pub StopsExplaining : Form → Tested → ℕ → List (FaultKey × Fault) → Lapse → List ℕ → (left old new : Option (List ℕ)) → Type 0
 StopsExplaining form tested count faults (Failed failures.Read) log left old new = (at : ℕ) × IsRefusedAt default_limit log left (refusals.Read at) × Keeps old new
 StopsExplaining form tested count faults (Failed failures.Memory) log left old new = Keeps old new
-StopsExplaining form tested count faults (Failed failures.Write) log left old new = IsJudged log × IsSame tested (tested_by log) count faults (seen_in log)
+StopsExplaining form tested count faults (Failed failures.Write) log left old new = IsJudged log × IsSame tested (tested_by tested.further log) count faults (seen_in log)
     × ((reasons : List Evidence) × AreReasons tested (seen_in log) faults reasons × AppendsPart old new (reasoned_verdict form tested count faults reasons))
 StopsExplaining form tested count faults Changed log left old new =
-    (((refusal : Refusal) × IsRefusedBy log refusal) ⊎ (IsJudged log × (¬ IsSame tested (tested_by log) count faults (seen_in log)))) × Keeps old new
+    (((refusal : Refusal) × IsRefusedBy log refusal) ⊎ (IsJudged log × (¬ IsSame tested (tested_by tested.further log) count faults (seen_in log)))) × Keeps old new

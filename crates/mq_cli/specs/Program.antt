@@ -110,14 +110,14 @@ pub record StopsReaders (plan : Plan) (judged again shown : Option Text) (is_clo
   pub told : Tells is_closed plan.path trouble error
 
 -- The log changed between the first two readings, and it is said so.
-pub record ChangesReaders (judged again shown : Option Text) (old new : Option (List ℕ)) (error : Stream) : Type 0 where
-  pub changed : IfAll judged again shown (λ first second third. HasChanged first second old new)
+pub record ChangesReaders (further : Bool) (judged again shown : Option Text) (old new : Option (List ℕ)) (error : Stream) : Type 0 where
+  pub changed : IfAll judged again shown (λ first second third. HasChanged further first second old new)
   pub told : IsTold error changed_line
 
 -- 4: judging the log, reading it again or showing it failed, or it changed
 abbrev pub FailsBegun : Plan → (judged again shown : Option Text) → (is_closed : Bool) → (old new : Option (List ℕ)) → Stream → Type 0
 FailsBegun plan judged again shown is_closed old new error =
-    StopsReaders plan judged again shown is_closed old new error ⊎ ChangesReaders judged again shown old new error
+    StopsReaders plan judged again shown is_closed old new error ⊎ ChangesReaders plan.further judged again shown old new error
 
 -- 4: the same, or the first bytes of the log couldn't be read
 abbrev pub FailsReaders : Plan → (judged again shown : Option Text) → (is_closed : Bool) → (old new : Option (List ℕ)) → Stream → Type 0
@@ -150,11 +150,11 @@ FailsReview given review is_closed old new error = IsOkAnd (plan_of review) (λ 
 
 -- 0: the log has no fault, and the report was written
 abbrev pub PassesInquiry : Given → Inquiry → Option (List ℕ) → Option (List ℕ) → Type 0
-PassesInquiry given inquiry old new = IsOkAnd (log_of inquiry) (λ path. IfSome (given.file path) (λ log. IsPassed (form_of inquiry.form) log old new))
+PassesInquiry given inquiry old new = IsOkAnd (log_of inquiry) (λ path. IfSome (given.file path) (λ log. IsPassed inquiry.further (form_of inquiry.form) log old new))
 
 -- 1: it has faults, and the report that says what they conflict with was written
 abbrev pub FindsReasons : Given → Inquiry → Option (List ℕ) → Option (List ℕ) → Type 0
-FindsReasons given inquiry old new = IsOkAnd (log_of inquiry) (λ path. IfSome (given.file path) (λ log. IsReasoned (form_of inquiry.form) log log old new))
+FindsReasons given inquiry old new = IsOkAnd (log_of inquiry) (λ path. IfSome (given.file path) (λ log. IsReasoned inquiry.further (form_of inquiry.form) log log old new))
 
 -- 2: the log is refused, and the line that says so was written
 abbrev pub RefusesInquiry : Given → Inquiry → (old new : Option (List ℕ)) → Stream → Type 0
@@ -167,27 +167,27 @@ MisusesInquiry inquiry error_old error_new = IsErrAnd (log_of inquiry) (λ line.
 
 -- Reading or writing failed, or memory ran out, while one log was judged or while the other one was read, and it is said what failed. What the two readers have left
 -- isn't specified.
-pub record StopsInquiryReaders (path : Text) (form : Form) (judged again : Option Text) (is_closed : Bool) (old new : Option (List ℕ)) (error : Stream) : Type 0 where
+pub record StopsInquiryReaders (path : Text) (further : Bool) (form : Form) (judged again : Option Text) (is_closed : Bool) (old new : Option (List ℕ)) (error : Stream) : Type 0 where
   pub judged_left : Option (List ℕ)
   pub again_left : Option (List ℕ)
   pub trouble : Trouble
-  pub stops : IfBoth judged again (λ first second. StopsInquiry form (lapses.Failed (failure_in trouble)) first second judged_left again_left old new)
+  pub stops : IfBoth judged again (λ first second. StopsInquiry further form (lapses.Failed (failure_in trouble)) first second judged_left again_left old new)
   pub told : Tells is_closed path trouble error
 
 -- The log changed between the two readings, and it is said so.
-pub record ChangesInquiry (judged again : Option Text) (old new : Option (List ℕ)) (error : Stream) : Type 0 where
-  pub changed : IfBoth judged again (λ first second. HasChanged first second old new)
+pub record ChangesInquiry (further : Bool) (judged again : Option Text) (old new : Option (List ℕ)) (error : Stream) : Type 0 where
+  pub changed : IfBoth judged again (λ first second. HasChanged further first second old new)
   pub told : IsTold error changed_line
 
 -- 4: judging the log or reading it again failed, or it changed
-abbrev pub FailsInquiryBegun : (path : Text) → Form → (judged again : Option Text) → (is_closed : Bool) → (old new : Option (List ℕ)) → Stream → Type 0
-FailsInquiryBegun path form judged again is_closed old new error =
-    StopsInquiryReaders path form judged again is_closed old new error ⊎ ChangesInquiry judged again old new error
+abbrev pub FailsInquiryBegun : (path : Text) → (further : Bool) → Form → (judged again : Option Text) → (is_closed : Bool) → (old new : Option (List ℕ)) → Stream → Type 0
+FailsInquiryBegun path further form judged again is_closed old new error =
+    StopsInquiryReaders path further form judged again is_closed old new error ⊎ ChangesInquiry further judged again old new error
 
 -- 4: the same, or the first bytes of the log couldn't be read
-abbrev pub FailsInquiryReaders : (path : Text) → Form → (judged again : Option Text) → (is_closed : Bool) → (old new : Option (List ℕ)) → Stream → Type 0
-FailsInquiryReaders path form judged again is_closed old new error =
-    IsUnbegun path is_closed old new error ⊎ FailsInquiryBegun path form judged again is_closed old new error
+abbrev pub FailsInquiryReaders : (path : Text) → (further : Bool) → Form → (judged again : Option Text) → (is_closed : Bool) → (old new : Option (List ℕ)) → Stream → Type 0
+FailsInquiryReaders path further form judged again is_closed old new error =
+    IsUnbegun path is_closed old new error ⊎ FailsInquiryBegun path further form judged again is_closed old new error
 
 -- The file couldn't be opened: nothing was written, and it is said why, and which file it is.
 pub record IsUnopenedLog (given : Given) (path : Text) (is_closed : Bool) (old new : Option (List ℕ)) (error : Stream) : Type 0 where
@@ -197,13 +197,13 @@ pub record IsUnopenedLog (given : Given) (path : Text) (is_closed : Bool) (old n
   pub told : Tells is_closed path trouble error
 
 -- 4: the file couldn't be opened, or not be read or judged, or it changed
-abbrev pub FailsInquiryFile : Given → (path : Text) → Form → (is_closed : Bool) → (old new : Option (List ℕ)) → Stream → Type 0
-FailsInquiryFile given path form is_closed old new error = IsUnopenedLog given path is_closed old new error
-    ⊎ FailsInquiryReaders path form (given.file path) (given.file path) is_closed old new error
+abbrev pub FailsInquiryFile : Given → (path : Text) → (further : Bool) → Form → (is_closed : Bool) → (old new : Option (List ℕ)) → Stream → Type 0
+FailsInquiryFile given path further form is_closed old new error = IsUnopenedLog given path is_closed old new error
+    ⊎ FailsInquiryReaders path further form (given.file path) (given.file path) is_closed old new error
 
 -- 4: the check failed, or it is misused, and the line that says so couldn't be written
 abbrev pub FailsInquiry : Given → Inquiry → (is_closed : Bool) → (old new : Option (List ℕ)) → Stream → Type 0
-FailsInquiry given inquiry is_closed old new error = IsOkAnd (log_of inquiry) (λ path. FailsInquiryFile given path (form_of inquiry.form) is_closed old new error)
+FailsInquiry given inquiry is_closed old new error = IsOkAnd (log_of inquiry) (λ path. FailsInquiryFile given path inquiry.further (form_of inquiry.form) is_closed old new error)
     ⊎ IsErrAnd (log_of inquiry) (λ line. FailsUnplanned line old new error)
 
 -- ---- a log that is converted. The file that was made is gone when the program ends, so nothing is said of it here.

@@ -30,7 +30,7 @@ use Rattle.mq_cli.specs.declared.lapse.Lapse.TheVariants.{Failed, Changed}
 use Rattle.mq_cli.specs.Lapses.{AreVerdictReasons, StopsReading}
 use Rattle.mq_cli.specs.Inquiring.{AreReasonsAgain, HasChanged}
 use Rattle.mq_cli.specs.Messages.{IsRefusedBy, RefusesCheck, RefusesShow, StopsShow}
-use Rattle.mq_host.specs.Streams.{AppendsPart, no_faults_line, no_file_line, no_number_line}
+use Rattle.mq_host.specs.Streams.{AppendsPart, no_faults_for_all_line, no_faults_line, no_file_line, no_number_line}
 
 -- ---- what the words ask for
 
@@ -42,41 +42,48 @@ is_count digits = nat_lt 0 (length digits) && (list_all (λ digit. nat_lt (digit
 abbrev pub count_of : Text → Option ℕ
 count_of word = if is_count (without_leading_plus word) then Some (digits_value 10 (without_leading_plus word)) else None
 
--- What to show: the log at this path; all events, or only those at most `around` positions from a fault; in long lines or short ones.
+-- What to show: the log at this path; all events, or only those at most `around` positions from a fault; in long lines or short ones; with faults of the further statements
+-- too, or not.
 pub record Plan : Type 0 where
   pub path : Text
   pub around : Option ℕ
   pub long : Bool
+  pub further : Bool
 
 -- a plan as the source has it
 abbrev pub plan_view : SourcePlan → Plan
-plan_view plan = record { path = plan.path.now; around = plan.extent.around; long = plan.extent.long }
+plan_view plan = record { path = plan.path.now; around = plan.extent.around; long = plan.extent.long; further = plan.further }
 
 -- what to show of the log in a file, if a file is named that can be read more than once; else the message
-abbrev pub plan_on : (path : Option Text) → (around : Option ℕ) → (long : Bool) → Result Plan Text
-plan_on None around long = Err no_file_line
-plan_on (Some path) around long = Ok (record { path = path; around = around; long = long })
+abbrev pub plan_on : (path : Option Text) → (around : Option ℕ) → (long further : Bool) → Result Plan Text
+plan_on None around long further = Err no_file_line
+plan_on (Some path) around long further = Ok (record { path = path; around = around; long = long; further = further })
 
 -- the same, with the word after `--around` and the number that it is; else the message
-abbrev pub plan_near : (path : Option Text) → (word : Text) → Option ℕ → (long : Bool) → Result Plan Text
-plan_near path word None long = Err (no_number_line word)
-plan_near path word (Some count) long = plan_on path (Some count) long
+abbrev pub plan_near : (path : Option Text) → (word : Text) → Option ℕ → (long further : Bool) → Result Plan Text
+plan_near path word None long further = Err (no_number_line word)
+plan_near path word (Some count) long further = plan_on path (Some count) long further
 
 -- the same, with the word after `--around` if there is one
-abbrev pub plan_around : (path around : Option Text) → (long : Bool) → Result Plan Text
-plan_around path None long = plan_on path None long
-plan_around path (Some word) long = plan_near path word (count_of word) long
+abbrev pub plan_around : (path around : Option Text) → (long further : Bool) → Result Plan Text
+plan_around path None long further = plan_on path None long further
+plan_around path (Some word) long further = plan_near path word (count_of word) long further
+
+-- the message if no faults are asked for: on the word after `--around` if there is one, else on `--all`
+abbrev pub unfaulty_line : (around : Option Text) → Text
+unfaulty_line None = no_faults_for_all_line
+unfaulty_line (Some word) = no_faults_line
 
 -- what to show, or the message if there is nothing to show
 abbrev pub plan_of : Review → Result Plan Text
-plan_of review = if review.faults then plan_around (path_named (option_map string_bytes review.file)) (option_map string_bytes review.around) review.long
-    else Err no_faults_line
+plan_of review = if review.faults then plan_around (path_named (option_map string_bytes review.file)) (option_map string_bytes review.around) review.long review.further
+    else Err (unfaulty_line (option_map string_bytes review.around))
 
 -- ---- what each status means for the log that was judged, the one that was read again and the one that was shown: one log, unless its file changed between the readings
 
 -- what is said of the faults of the log that was judged: nothing if it has none, else what they conflict with, by the log that is read again
-abbrev pub AreShownReasons : (judged again : List ℕ) → List Evidence → Type 0
-AreShownReasons judged again reasons = (IsFaultless judged × (reasons ≡ [])) ⊎ AreReasonsAgain judged again reasons
+abbrev pub AreShownReasons : (further : Bool) → (judged again : List ℕ) → List Evidence → Type 0
+AreShownReasons further judged again reasons = (IsFaultless further judged × (reasons ≡ [])) ⊎ AreReasonsAgain further judged again reasons
 
 -- the text of events with these faults on this end, each with what it conflicts with, and with moments if the records of the log that is shown have them
 abbrev pub text_with : Plan → Role → List (FaultKey × Fault) → List Evidence → (shown : List ℕ) → List Placed → List ℕ
@@ -84,25 +91,25 @@ text_with plan role faults reasons shown = annotated (is_timed shown) (record { 
 
 -- the same with the faults of the log that was judged
 abbrev pub reviewed : Plan → (judged shown : List ℕ) → List Evidence → List Placed → List ℕ
-reviewed plan judged shown reasons = text_with plan (tested_by judged).role (found_in judged) reasons shown
+reviewed plan judged shown reasons = text_with plan (tested_by plan.further judged).role (found_in plan.further judged) reasons shown
 
 -- 0: The log can be judged and shown; and the text of the events, with the faults and what they conflict with, was written and nothing else.
 pub record IsReviewed (plan : Plan) (judged again shown : List ℕ) (old new : Option (List ℕ)) : Type 0 where
   pub first : IsJudged judged
   pub reasons : List Evidence
-  pub are : AreShownReasons judged again reasons
+  pub are : AreShownReasons plan.further judged again reasons
   pub last : IsJudged shown
   pub written : Appends old new (reviewed plan judged shown reasons (events shown))
 
 -- what is shown of the log that was judged, by this; and what its faults conflict with was found before
-abbrev pub IsShownBy : (judged again : List ℕ) → (List Evidence → Type 0) → Type 0
-IsShownBy judged again P = IsJudged judged × ((reasons : List Evidence) × AreShownReasons judged again reasons × P reasons)
+abbrev pub IsShownBy : (further : Bool) → (judged again : List ℕ) → (List Evidence → Type 0) → Type 0
+IsShownBy further judged again P = IsJudged judged × ((reasons : List Evidence) × AreShownReasons further judged again reasons × P reasons)
 
 -- 2: the log is refused while it is judged, and the line that says so was written and nothing else; or it is refused only while it is shown, and that line was
 -- written after the text of the preceding events
 abbrev pub RefusesPlan : Plan → (judged again shown : List ℕ) → (old new : Option (List ℕ)) → Type 0
 RefusesPlan plan judged again shown old new = RefusesCheck forms.Text judged old new
-    ⊎ IsShownBy judged again (λ reasons. RefusesShow (reviewed plan judged shown reasons) shown old new)
+    ⊎ IsShownBy plan.further judged again (λ reasons. RefusesShow (reviewed plan judged shown reasons) shown old new)
 
 -- 4, while the log was judged: reading it failed, or memory ran out, and nothing was written; or part of the line on its refusal was
 abbrev pub StopsJudging : Failure → List ℕ → (left old new : Option (List ℕ)) → Type 0
@@ -111,15 +118,15 @@ StopsJudging failures.Memory log left old new = (at : ℕ) × IsRefusedAt defaul
 StopsJudging failures.Write log left old new = (refusal : Refusal) × IsRefusedBy log refusal × AppendsPart old new (refused_line refusal)
 
 -- 4: reading the log again failed, or memory ran out, for a log that was judged and has faults, and nothing was written
-abbrev pub StopsRereading : Failure → (judged again : List ℕ) → (left old new : Option (List ℕ)) → Type 0
-StopsRereading failure judged again left old new = IsJudged judged × (¬ IsFaultless judged) × StopsReading failure again left × Keeps old new
+abbrev pub StopsRereading : (further : Bool) → Failure → (judged again : List ℕ) → (left old new : Option (List ℕ)) → Type 0
+StopsRereading further failure judged again left old new = IsJudged judged × (¬ IsFaultless further judged) × StopsReading failure again left × Keeps old new
 
 -- 4: why, while the log was judged, read again or shown, and what had been written; the three readers have these bytes left
 abbrev pub StopsPlan : Plan → Lapse → (judged again shown : List ℕ) → (judged_left again_left shown_left old new : Option (List ℕ)) → Type 0
 StopsPlan plan (Failed failure) judged again shown judged_left again_left shown_left old new = StopsJudging failure judged judged_left old new
-    ⊎ (StopsRereading failure judged again again_left old new
-    ⊎ IsShownBy judged again (λ reasons. StopsShow (reviewed plan judged shown reasons) failure shown shown_left old new))
-StopsPlan plan Changed judged again shown judged_left again_left shown_left old new = HasChanged judged again old new
+    ⊎ (StopsRereading plan.further failure judged again again_left old new
+    ⊎ IsShownBy plan.further judged again (λ reasons. StopsShow (reviewed plan judged shown reasons) failure shown shown_left old new))
+StopsPlan plan Changed judged again shown judged_left again_left shown_left old new = HasChanged plan.further judged again old new
 
 -- this holds for the bytes of the log that was judged and of another one, if they are known
 abbrev pub IfBoth : (judged other : Option (List ℕ)) → (List ℕ → List ℕ → Type 0) → Type 0

@@ -7,6 +7,7 @@ ghost use Rattle.mq_cli.specs.declared.lapse.Lapse.TheVariants as lapses;
 ghost use Rattle.mq_cli.specs.Messages.{RefusesCheck};
 ghost use Rattle.mq_cli.specs.Program.{FailsInquiry, FailsInquiryBegun, FailsInquiryFile, FailsInquiryReaders, FindsReasons, IsHinted, MisusesInquiry, PassesInquiry, RefusesInquiry};
 ghost use Rattle.mq_cli.specs.Inquiring.{HasReleases, IsExplained, IsPassed, IsReasoned, StopsExplaining, StopsInquiry, StopsReportBy, failure_by, log_of};
+ghost use Rattle.mq_cli.specs.Messages.{form_of};
 ghost use Rattle.mq_cli.specs.Reviewing.{IfBoth};
 ghost use Rattle.mq_host.specs.Streams.{IsTold, misuse_line, stream};
 ghost use Rattle.mq_host.specs.Troubles.{hint_line};
@@ -23,6 +24,15 @@ use mq_report::{write_reasoned_report, write_report};
 use mq_rules::{Role, Tested};
 use std::alloc::Global;
 use std::io::{Read, Write};
+
+/// What is wanted of a log that is judged.
+#[derive(Clone, Copy)]
+pub struct Wanted {
+    /// The form of the report.
+    pub form: Form,
+    /// Whether the further statements are judged too.
+    pub further: bool,
+}
 
 /// Judges a log, says what each fault conflicts with, and returns the status to exit with.
 ///
@@ -51,8 +61,19 @@ pub fn inquire<H: Host, W: Output, E: ErrorStream>(
     ensures unprinted { result ≡ MISUSED → Keeps (W.contents output.old) (W.contents output.new) }
 {
     match log_of(asked) {
-        Ok(path) => inquire_file(alloc, host, path, form_of(asked.form), output, error),
+        Ok(path) => inquire_file(alloc, host, path, wanted_of(asked), output, error),
         Err(misuse) => misuse.report(alloc, error),
+    }
+}
+
+// What is wanted of the log.
+fn wanted_of(asked: &Inquiry) -> Wanted
+    ensures form { result.form ≡ form_of asked.now.form }
+    ensures further { result.further ≡ asked.now.further }
+{
+    Wanted {
+        form: form_of(asked.form),
+        further: asked.further,
     }
 }
 
@@ -75,26 +96,26 @@ fn inquire_file<H: Host, W: Output, E: ErrorStream>(
     alloc: Global,
     host: &H,
     path: &str,
-    form: Form,
+    wanted: Wanted,
     output: &mut W,
     error: &mut E,
 ) -> u8
     ensures passed { result ≡ PASSED → IfSome ((H.gives host.now).file path.now)
-        (λ log. IsPassed form log (W.contents output.old) (W.contents output.new)) }
+        (λ log. IsPassed wanted.further wanted.form log (W.contents output.old) (W.contents output.new)) }
     ensures faulty { result ≡ FAULTY → IfSome ((H.gives host.now).file path.now)
-        (λ log. IsReasoned form log log (W.contents output.old) (W.contents output.new)) }
+        (λ log. IsReasoned wanted.further wanted.form log log (W.contents output.old) (W.contents output.new)) }
     ensures refused { result ≡ REFUSED → IfSome ((H.gives host.now).file path.now)
-        (λ log. RefusesCheck form log (W.contents output.old) (W.contents output.new)) }
+        (λ log. RefusesCheck wanted.form log (W.contents output.old) (W.contents output.new)) }
     ensures hinted { result ≡ REFUSED → IsHinted ((H.gives host.now).file path.now)
         (stream E.contents E.has_failed error.old error.new) }
-    ensures failed { result ≡ FAILED → FailsInquiryFile (H.gives host.now) path.now form (W.is_closed output.new)
+    ensures failed { result ≡ FAILED → FailsInquiryFile (H.gives host.now) path.now wanted.further wanted.form (W.is_closed output.new)
         (W.contents output.old) (W.contents output.new) (stream E.contents E.has_failed error.old error.new) }
     ensures statuses { (result ≤ 2) ⊎ (result ≡ FAILED) }
     ensures quiet { result ≤ 1 → Keeps (E.contents error.old) (E.contents error.new) }
 {
     match host.open(path) {
         Ok(judged) => match host.open(path) {
-            Ok(again) => inquire_readers(alloc, path, form, judged, again, output, error),
+            Ok(again) => inquire_readers(alloc, path, wanted, judged, again, output, error),
             Err(trouble) => trouble.report(path, output, error),
         },
         Err(trouble) => trouble.report(path, output, error),
@@ -105,20 +126,20 @@ fn inquire_file<H: Host, W: Output, E: ErrorStream>(
 fn inquire_readers<R: Read + Drop, W: Output, E: ErrorStream>(
     alloc: Global,
     path: &str,
-    form: Form,
+    wanted: Wanted,
     judged: R,
     again: R,
     output: &mut W,
     error: &mut E,
 ) -> u8
     ensures passed { result ≡ PASSED → IfBoth (R.remaining judged) (R.remaining again)
-        (λ first second. IsPassed form first (W.contents output.old) (W.contents output.new)) }
+        (λ first second. IsPassed wanted.further wanted.form first (W.contents output.old) (W.contents output.new)) }
     ensures faulty { result ≡ FAULTY → IfBoth (R.remaining judged) (R.remaining again)
-        (λ first second. IsReasoned form first second (W.contents output.old) (W.contents output.new)) }
+        (λ first second. IsReasoned wanted.further wanted.form first second (W.contents output.old) (W.contents output.new)) }
     ensures refused { result ≡ REFUSED → IfBoth (R.remaining judged) (R.remaining again)
-        (λ first second. RefusesCheck form first (W.contents output.old) (W.contents output.new)) }
+        (λ first second. RefusesCheck wanted.form first (W.contents output.old) (W.contents output.new)) }
     ensures hinted { result ≡ REFUSED → IsHinted (R.remaining judged) (stream E.contents E.has_failed error.old error.new) }
-    ensures failed { result ≡ FAILED → FailsInquiryReaders path.now form (R.remaining judged) (R.remaining again) (W.is_closed output.new)
+    ensures failed { result ≡ FAILED → FailsInquiryReaders path.now wanted.further wanted.form (R.remaining judged) (R.remaining again) (W.is_closed output.new)
         (W.contents output.old) (W.contents output.new) (stream E.contents E.has_failed error.old error.new) }
     ensures statuses { (result ≤ 2) ⊎ (result ≡ FAILED) }
     ensures quiet { result ≤ 1 → Keeps (E.contents error.old) (E.contents error.new) }
@@ -128,7 +149,7 @@ fn inquire_readers<R: Read + Drop, W: Output, E: ErrorStream>(
         Ok(start) => inquire_on(
             alloc,
             path,
-            form,
+            wanted,
             start.as_slice(),
             judged,
             again,
@@ -144,7 +165,7 @@ fn inquire_readers<R: Read + Drop, W: Output, E: ErrorStream>(
 fn inquire_on<R: Read + Drop, W: Output, E: ErrorStream>(
     alloc: Global,
     path: &str,
-    form: Form,
+    wanted: Wanted,
     start: &[u8],
     judged: R,
     again: R,
@@ -152,15 +173,15 @@ fn inquire_on<R: Read + Drop, W: Output, E: ErrorStream>(
     error: &mut E,
 ) -> u8
     ensures passed { result ≡ PASSED → IfBoth (prepend_known start.now (R.remaining judged)) (R.remaining again)
-        (λ first second. IsPassed form first (W.contents output.old) (W.contents output.new)) }
+        (λ first second. IsPassed wanted.further wanted.form first (W.contents output.old) (W.contents output.new)) }
     ensures faulty { result ≡ FAULTY → HasReleases (slice_index start.now 6 == 1) (prepend_known start.now (R.remaining judged))
         → IfBoth (prepend_known start.now (R.remaining judged)) (R.remaining again)
-        (λ first second. IsReasoned form first second (W.contents output.old) (W.contents output.new)) }
+        (λ first second. IsReasoned wanted.further wanted.form first second (W.contents output.old) (W.contents output.new)) }
     ensures refused { result ≡ REFUSED → IfBoth (prepend_known start.now (R.remaining judged)) (R.remaining again)
-        (λ first second. RefusesCheck form first (W.contents output.old) (W.contents output.new)) }
+        (λ first second. RefusesCheck wanted.form first (W.contents output.old) (W.contents output.new)) }
     ensures hinted { result ≡ REFUSED → IsTold (stream E.contents E.has_failed error.old error.new) (hint_line start.now) }
     ensures failed { result ≡ FAILED → HasReleases (slice_index start.now 6 == 1) (prepend_known start.now (R.remaining judged))
-        → FailsInquiryBegun path.now form (prepend_known start.now (R.remaining judged)) (R.remaining again) (W.is_closed output.new)
+        → FailsInquiryBegun path.now wanted.further wanted.form (prepend_known start.now (R.remaining judged)) (R.remaining again) (W.is_closed output.new)
         (W.contents output.old) (W.contents output.new) (stream E.contents E.has_failed error.old error.new) }
     ensures statuses { (result ≤ 2) ⊎ (result ≡ FAILED) }
     ensures quiet { result ≤ 1 → Keeps (E.contents error.old) (E.contents error.new) }
@@ -168,7 +189,7 @@ fn inquire_on<R: Read + Drop, W: Output, E: ErrorStream>(
     let releases = has_releases(start);
     let mut judged = Noting::new(start.chain(judged));
     let mut again = Noting::new(again);
-    match inquire_twice(alloc, form, releases, &mut judged, &mut again, output) {
+    match inquire_twice(alloc, wanted, releases, &mut judged, &mut again, output) {
         Ok(REFUSED) => {
             give_hint(start, error);
             REFUSED
@@ -200,34 +221,38 @@ pub fn has_releases(start: &[u8]) -> bool
 /// `Changed` if the other log is refused or gives another verdict; and what failed.
 pub fn inquire_twice<R: Read, S: Read, W: Write>(
     alloc: Global,
-    form: Form,
+    wanted: Wanted,
     releases: bool,
     judged: &mut R,
     again: &mut S,
     output: &mut W,
 ) -> Result<u8, Lapse>
     ensures passed { IfOk result (λ status. status ≡ PASSED → IfBoth (R.remaining judged.old) (S.remaining again.old)
-        (λ first second. IsPassed form first (W.contents output.old) (W.contents output.new))) }
+        (λ first second. IsPassed wanted.further wanted.form first (W.contents output.old) (W.contents output.new))) }
     ensures faulty { IfOk result (λ status. status ≡ FAULTY → HasReleases releases (R.remaining judged.old)
         → IfBoth (R.remaining judged.old) (S.remaining again.old)
-        (λ first second. IsReasoned form first second (W.contents output.old) (W.contents output.new))) }
+        (λ first second. IsReasoned wanted.further wanted.form first second (W.contents output.old) (W.contents output.new))) }
     ensures refused { IfOk result (λ status. status ≡ REFUSED → IfBoth (R.remaining judged.old) (S.remaining again.old)
-        (λ first second. RefusesCheck form first (W.contents output.old) (W.contents output.new))) }
+        (λ first second. RefusesCheck wanted.form first (W.contents output.old) (W.contents output.new))) }
     ensures stops { IfErr result (λ lapse. HasReleases releases (R.remaining judged.old)
         → IfBoth (R.remaining judged.old) (S.remaining again.old)
-        (λ first second. StopsInquiry form lapse first second (R.remaining judged.new) (S.remaining again.new)
+        (λ first second. StopsInquiry wanted.further wanted.form lapse first second (R.remaining judged.new) (S.remaining again.new)
         (W.contents output.old) (W.contents output.new))) }
     ensures statuses { IfOk result (λ status. status ≤ REFUSED) }
 {
-    match judge_reader(alloc, judged) {
+    match judge_reader(alloc, judged, wanted.further) {
         Ok((verdict, role)) => {
             if verdict.faults.is_empty() {
-                return pass(alloc, &verdict, role, form, output);
+                return pass(alloc, &verdict, role, wanted.form, output);
             }
-            let tested = Tested { role, releases };
-            explain(alloc, &verdict, tested, form, again, output)
+            let tested = Tested {
+                role,
+                releases,
+                further: wanted.further,
+            };
+            explain(alloc, &verdict, tested, wanted.form, again, output)
         }
-        Err(refusal) => match refuse(alloc, &refusal, form, output) {
+        Err(refusal) => match refuse(alloc, &refusal, wanted.form, output) {
             Ok(status) => Ok(status),
             Err(failure) => Err(Lapse::Failed(failure)),
         },

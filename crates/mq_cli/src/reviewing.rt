@@ -10,7 +10,7 @@ ghost use Rattle.mq_cli.specs.Messages.{RefusesShow};
 ghost use Rattle.mq_cli.specs.Inquiring.{HasReleases};
 ghost use Rattle.mq_cli.specs.Program.{FailsBegun, FailsFile, FailsReaders, FailsReview, IsHinted, MisusesReview, PassesReview, RefusesReview};
 ghost use Rattle.mq_cli.specs.Lapses.{LacksReasons};
-ghost use Rattle.mq_cli.specs.Reviewing.{AreFoundReasons, IfAll, IsReviewed, RefusesPlan, StopsPlan, StopsShowing, count_of, plan_near, plan_of, plan_on, plan_view, text_with};
+ghost use Rattle.mq_cli.specs.Reviewing.{AreFoundReasons, IfAll, IsReviewed, RefusesPlan, StopsPlan, StopsShowing, count_of, plan_near, plan_of, plan_on, plan_view, text_with, unfaulty_line};
 ghost use Rattle.mq_host.specs.Streams.{IsTold, misuse_line, stream};
 ghost use Rattle.mq_host.specs.Troubles.{hint_line};
 
@@ -35,6 +35,8 @@ pub struct Plan<'a> {
     pub path: &'a str,
     /// How much of it is shown.
     pub extent: Extent,
+    /// Whether the further statements are judged too.
+    pub further: bool,
 }
 
 /// Shows a log with the faults at its events, and returns the status to exit with.
@@ -77,11 +79,22 @@ fn plan_of(asked: &Review) -> Result<Plan<'_>, Misuse<'_>>
     ensures err { IfErr result (λ why. plan_of asked.now ≡ Err (misuse_line why)) }
 {
     if !asked.faults {
-        return Err(Misuse::NoFaults);
+        return Err(unfaulty(&asked.around));
     }
     match &asked.around {
-        None => plan_on(&asked.file, None, asked.long),
-        Some(word) => plan_near(&asked.file, word.as_str(), asked.long),
+        None => plan_on(&asked.file, None, asked.long, asked.further),
+        Some(word) => plan_near(&asked.file, word.as_str(), asked.long, asked.further),
+    }
+}
+
+// Why there is nothing to show if no faults are asked for: a number of positions, or else the further
+// statements, need them.
+fn unfaulty<'a>(around: &Option<String>) -> Misuse<'a>
+    ensures { misuse_line result ≡ unfaulty_line (option_map string_bytes around.now) }
+{
+    match around {
+        Some(_) => Misuse::NoFaults,
+        None => Misuse::NoFaultsForAll,
     }
 }
 
@@ -90,12 +103,13 @@ fn plan_near<'a>(
     file: &'a Option<String>,
     word: &'a str,
     long: bool,
+    further: bool,
 ) -> Result<Plan<'a>, Misuse<'a>>
-    ensures ok { IfOk result (λ plan. plan_near (path_named (option_map string_bytes file.now)) word.now (count_of word.now) long ≡ Ok (plan_view plan)) }
-    ensures err { IfErr result (λ why. plan_near (path_named (option_map string_bytes file.now)) word.now (count_of word.now) long ≡ Err (misuse_line why)) }
+    ensures ok { IfOk result (λ plan. plan_near (path_named (option_map string_bytes file.now)) word.now (count_of word.now) long further ≡ Ok (plan_view plan)) }
+    ensures err { IfErr result (λ why. plan_near (path_named (option_map string_bytes file.now)) word.now (count_of word.now) long further ≡ Err (misuse_line why)) }
 {
     match count_of(word) {
-        Some(count) => plan_on(file, Some(count), long),
+        Some(count) => plan_on(file, Some(count), long, further),
         None => Err(Misuse::NoNumber(word)),
     }
 }
@@ -105,14 +119,16 @@ fn plan_on<'a>(
     file: &'a Option<String>,
     around: Option<u32>,
     long: bool,
+    further: bool,
 ) -> Result<Plan<'a>, Misuse<'a>>
-    ensures ok { IfOk result (λ plan. plan_on (path_named (option_map string_bytes file.now)) around long ≡ Ok (plan_view plan)) }
-    ensures err { IfErr result (λ why. plan_on (path_named (option_map string_bytes file.now)) around long ≡ Err (misuse_line why)) }
+    ensures ok { IfOk result (λ plan. plan_on (path_named (option_map string_bytes file.now)) around long further ≡ Ok (plan_view plan)) }
+    ensures err { IfErr result (λ why. plan_on (path_named (option_map string_bytes file.now)) around long further ≡ Err (misuse_line why)) }
 {
     match path_named(file) {
         Some(path) => Ok(Plan {
             path,
             extent: Extent { around, long },
+            further,
         }),
         None => Err(Misuse::NoFile),
     }
@@ -273,9 +289,13 @@ pub fn show_reasoned<R: Read, S: Read, T: Read, W: Write>(
         (R.remaining judged.new) (S.remaining again.new) (T.remaining shown.new) (W.contents output.old) (W.contents output.new))) }
     ensures statuses { IfOk result (λ status. (status ≡ PASSED) ⊎ (status ≡ REFUSED)) }
 {
-    match judge_reader(alloc, judged) {
+    match judge_reader(alloc, judged, plan.further) {
         Ok((verdict, role)) => {
-            let tested = Tested { role, releases };
+            let tested = Tested {
+                role,
+                releases,
+                further: plan.further,
+            };
             match reasons_for(alloc, tested, &verdict, again) {
                 Ok(reasons) => show_verdict(
                     alloc,

@@ -89,10 +89,16 @@ pub fn attempt<'a, R: Read, W: Write, P: Progress>(
     ensures statuses { IfOk result (λ status. status ≤ REFUSED) }
 {
     match task {
-        Task::Check { form, coverage, .. } => match check(
+        Task::Check {
+            form,
+            coverage,
+            further,
+            ..
+        } => match check(
             alloc,
             form_of(*form),
             *coverage,
+            *further,
             input,
             output,
             progress,
@@ -110,8 +116,14 @@ pub fn attempt<'a, R: Read, W: Write, P: Progress>(
             Err(failure) => Err(Obstacle::Failed(failure)),
         },
         Task::Packet { hex, long } => packet_given(alloc, hex.as_str(), *long, input, output),
-        Task::Rules { role: None } => print_all(alloc, output),
-        Task::Rules { role: Some(word) } => print_rules(alloc, word.as_str(), output),
+        Task::Rules {
+            role: None,
+            further,
+        } => print_all(alloc, *further, output),
+        Task::Rules {
+            role: Some(word),
+            further,
+        } => { print_rules(alloc, word.as_str(), *further, output) }
         Task::Explain { code } => explain(alloc, code.as_str(), output),
     }
 }
@@ -127,29 +139,30 @@ pub fn form_of(form: AskedForm) -> Form
     }
 }
 
-// Judges a log, with a report in this form, which says how often each statement was put to the test
-// if `coverage` is asked for.
+// Judges a log, by the further statements too or not, with a report in this form, which says how
+// often each statement was put to the test if `coverage` is asked for.
 fn check<R: Read, W: Write, P: Progress>(
     alloc: Global,
     form: Form,
     coverage: bool,
+    further: bool,
     input: &mut R,
     output: &mut W,
     progress: &mut P,
 ) -> Result<u8, Failure>
     ensures passed { IfOk result (λ status. status ≡ PASSED → IfSome (R.remaining input.old)
-        (λ log. IsJudged log × IsFaultless log)) }
+        (λ log. IsJudged log × IsFaultless further log)) }
     ensures faulty { IfOk result (λ status. status ≡ FAULTY → IfSome (R.remaining input.old)
-        (λ log. IsJudged log × (¬ IsFaultless log))) }
+        (λ log. IsJudged log × (¬ IsFaultless further log))) }
     ensures reported { IfOk result (λ status. status ≤ FAULTY → IfSome (R.remaining input.old)
-        (λ log. Appends (W.contents output.old) (W.contents output.new) (report_for form coverage log))) }
+        (λ log. Appends (W.contents output.old) (W.contents output.new) (report_for further form coverage log))) }
     ensures refused { IfOk result (λ status. status ≡ REFUSED → IfSome (R.remaining input.old)
         (λ log. RefusesCheck form log (W.contents output.old) (W.contents output.new))) }
     ensures stops { IfErr result (λ failure. IfSome (R.remaining input.old)
-        (λ log. StopsCheck form coverage failure log (R.remaining input.new) (W.contents output.old) (W.contents output.new))) }
+        (λ log. StopsCheck further form coverage failure log (R.remaining input.new) (W.contents output.old) (W.contents output.new))) }
     ensures statuses { IfOk result (λ status. status ≤ REFUSED) }
 {
-    match run_for(alloc, form, coverage, input, output, progress) {
+    match run_for(alloc, form, coverage, further, input, output, progress) {
         Ok(Outcome::Pass) => see_out(PASSED, output),
         Ok(Outcome::Fail) => see_out(FAULTY, output),
         Err(RunFault::Refused(refusal)) => refuse(alloc, &refusal, form, output),
@@ -164,18 +177,19 @@ fn run_for<R: Read, W: Write, P: Progress>(
     alloc: Global,
     form: Form,
     coverage: bool,
+    further: bool,
     input: &mut R,
     output: &mut W,
     progress: &mut P,
 ) -> Result<Outcome, RunFault>
-    ensures runs { IfSome (R.remaining input.old) (λ log. RunsFor form coverage log (R.remaining input.new) result
+    ensures runs { IfSome (R.remaining input.old) (λ log. RunsFor further form coverage log (R.remaining input.new) result
         (W.contents output.old) (W.contents output.new)) }
     ensures unwritten { (refusal : Refusal) → result ≡ Err (run_faults.Refused refusal) → output.new ≡ output.old }
 {
     if coverage {
-        run_covered(alloc, input, output, form, progress)
+        run_covered(alloc, input, output, form, further, progress)
     } else {
-        run_watched(alloc, input, output, form, progress)
+        run_watched(alloc, input, output, form, further, progress)
     }
 }
 
@@ -359,41 +373,47 @@ fn write_report<W: Write>(bytes: &[u8], long: bool, output: &mut W) -> Result<bo
     }
 }
 
-// Lists all statements.
-fn print_all<'a, W: Write>(alloc: Global, output: &mut W) -> Result<u8, Obstacle<'a>>
+// Lists all statements, with the further ones or without.
+fn print_all<'a, W: Write>(alloc: Global, further: bool, output: &mut W) -> Result<u8, Obstacle<'a>>
     ensures printed { OnOk result
-        (Appends (W.contents output.old) (W.contents output.new) (statement_lines None)) }
-    ensures stops { IfErr result (StopsText (Some (statement_lines None)) [] (W.contents output.old) (W.contents output.new)) }
+        (Appends (W.contents output.old) (W.contents output.new) (statement_lines further None)) }
+    ensures stops { IfErr result (StopsText (Some (statement_lines further None)) [] (W.contents output.old) (W.contents output.new)) }
     ensures statuses { IfOk result (λ status. status ≡ PASSED) }
 {
-    list(alloc, None, output)
+    list(alloc, None, further, output)
 }
 
-// Lists the statements that bind the end that the word names.
+// Lists the statements that bind the end that the word names, with the further ones or without.
 fn print_rules<'a, W: Write>(
     alloc: Global,
     word: &'a str,
+    further: bool,
     output: &mut W,
 ) -> Result<u8, Obstacle<'a>>
-    ensures printed { OnOk result (Prints (listed_for (Some word.now)) (W.contents output.old) (W.contents output.new)) }
-    ensures stops { IfErr result (StopsText (listed_for (Some word.now)) (no_role_line word.now)
+    ensures printed { OnOk result (Prints (listed_for further (Some word.now)) (W.contents output.old) (W.contents output.new)) }
+    ensures stops { IfErr result (StopsText (listed_for further (Some word.now)) (no_role_line word.now)
         (W.contents output.old) (W.contents output.new)) }
     ensures statuses { IfOk result (λ status. status ≡ PASSED) }
 {
     match role_named(word) {
-        Some(role) => list(alloc, Some(role), output),
+        Some(role) => list(alloc, Some(role), further, output),
         None => Err(Obstacle::Misused(Misuse::NoRole(word))),
     }
 }
 
-// Lists the statements, for one end or for both.
-fn list<'a, W: Write>(alloc: Global, role: Option<Role>, output: &mut W) -> Result<u8, Obstacle<'a>>
+// Lists the statements, for one end or for both, with the further ones or without.
+fn list<'a, W: Write>(
+    alloc: Global,
+    role: Option<Role>,
+    further: bool,
+    output: &mut W,
+) -> Result<u8, Obstacle<'a>>
     ensures printed { OnOk result
-        (Appends (W.contents output.old) (W.contents output.new) (statement_lines role)) }
-    ensures stops { IfErr result (StopsText (Some (statement_lines role)) [] (W.contents output.old) (W.contents output.new)) }
+        (Appends (W.contents output.old) (W.contents output.new) (statement_lines further role)) }
+    ensures stops { IfErr result (StopsText (Some (statement_lines further role)) [] (W.contents output.old) (W.contents output.new)) }
     ensures statuses { IfOk result (λ status. status ≡ PASSED) }
 {
-    match statement_list(alloc, role) {
+    match statement_list(alloc, role, further) {
         Ok(text) => print(text.as_str(), output),
         Err(_) => Err(Obstacle::Failed(Failure::Memory)),
     }

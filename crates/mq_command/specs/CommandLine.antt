@@ -25,19 +25,19 @@ use Rattle.mq_command.specs.declared.command_line.EarlyExit.TheVariants.{Help, U
 abbrev pub flag : Text → Rule
 flag name = record (new_rule name) { long = Some name; action = Some SetTrue }
 
--- `check [--json] [--summary] [--coverage] [--why] [FILE]`
+-- `check [--json] [--summary] [--coverage] [--why] [--all] [FILE]`
 abbrev pub check_command : App
-check_command = with_rule (with_rule (with_rule (with_rule (with_rule (new_app (codes "check")) (new_rule (codes "FILE"))) (flag (codes "json"))) (flag (codes "summary")))
-    (flag (codes "coverage"))) (flag (codes "why"))
+check_command = with_rule (with_rule (with_rule (with_rule (with_rule (with_rule (new_app (codes "check")) (new_rule (codes "FILE"))) (flag (codes "json"))) (flag (codes "summary")))
+    (flag (codes "coverage"))) (flag (codes "why"))) (flag (codes "all"))
 
 -- `--around N`
 abbrev pub around_option : Rule
 around_option = record (new_rule (codes "N")) { long = Some (codes "around") }
 
--- `show [--long] [--faults] [--around N] [FILE]`
+-- `show [--long] [--faults] [--around N] [--all] [FILE]`
 abbrev pub show_command : App
-show_command = with_rule (with_rule (with_rule (with_rule (new_app (codes "show")) (new_rule (codes "FILE"))) (flag (codes "long"))) (flag (codes "faults")))
-    around_option
+show_command = with_rule (with_rule (with_rule (with_rule (with_rule (new_app (codes "show")) (new_rule (codes "FILE"))) (flag (codes "long"))) (flag (codes "faults")))
+    around_option) (flag (codes "all"))
 
 -- one value or more
 abbrev pub several : ValueRange
@@ -47,9 +47,9 @@ several = record { start_inclusive = 1; end_inclusive = usize_max }
 abbrev pub packet_command : App
 packet_command = with_rule (with_rule (new_app (codes "packet")) (record (new_rule (codes "HEX")) { range = Some several; required = true })) (flag (codes "long"))
 
--- `rules [--role ROLE]`
+-- `rules [--role ROLE] [--all]`
 abbrev pub rules_command : App
-rules_command = with_rule (new_app (codes "rules")) (record (new_rule (codes "role")) { long = Some (codes "role") })
+rules_command = with_rule (with_rule (new_app (codes "rules")) (record (new_rule (codes "role")) { long = Some (codes "role") })) (flag (codes "all"))
 
 -- an operand of this name that has to be given
 abbrev pub required_operand : Text → Rule
@@ -80,7 +80,7 @@ mqjudge = with_subcommand
     convert_command.top
 
 -- what a command line asks for: a subcommand, its operand, the form of the report, its other flags, the number after `--around`,
--- the end that it is for, the file that it makes, and whether one that is there may be emptied
+-- whether the further statements are meant too, the end that it is for, the file that it makes, and whether one that is there may be emptied
 pub record Request : Type 0 where
   pub subcommand : Text
   pub operand : Option Text
@@ -90,6 +90,7 @@ pub record Request : Type 0 where
   pub long : Bool
   pub faults : Bool
   pub around : Option Text
+  pub further : Bool
   pub role : Option Text
   pub made : Option Text
   pub force : Bool
@@ -106,18 +107,19 @@ plain_request subcommand operand =
       long = false;
       faults = false;
       around = None;
+      further = false;
       role = None;
       made = None;
       force = false;
     }
 
--- `check` on this file, with a report in this form, with coverage or without, and with what the faults conflict with or without
-abbrev pub check_request : Option Text → Form → (coverage why : Bool) → Request
-check_request file form coverage why = record (plain_request (codes "check") file) { form = form; coverage = coverage; why = why }
+-- `check` on this file, with a report in this form, with coverage or without, with what the faults conflict with or without, and with the further statements or without
+abbrev pub check_request : Option Text → Form → (coverage why further : Bool) → Request
+check_request file form coverage why further = record (plain_request (codes "check") file) { form = form; coverage = coverage; why = why; further = further }
 
--- `show` of this file, with these flags and this number
-abbrev pub show_request : Option Text → (long faults : Bool) → (around : Option Text) → Request
-show_request file long faults around = record (plain_request (codes "show") file) { long = long; faults = faults; around = around }
+-- `show` of this file, with these flags and this number, and with the further statements or without
+abbrev pub show_request : Option Text → (long faults : Bool) → (around : Option Text) → (further : Bool) → Request
+show_request file long faults around further = record (plain_request (codes "show") file) { long = long; faults = faults; around = around; further = further }
 
 -- `packet` on these digits, with this flag
 abbrev pub digits_request : Text → (long : Bool) → Request
@@ -127,9 +129,9 @@ digits_request hex long = record (plain_request (codes "packet") (Some hex)) { l
 abbrev pub packet_request : Option (List Text) → (long : Bool) → Request
 packet_request words long = digits_request (spaced (unwrap_or words [])) long
 
--- `rules` for the end that this word names
-abbrev pub rules_request : Option Text → Request
-rules_request role = record (plain_request (codes "rules") None) { role = role }
+-- `rules` for the end that this word names, with the further statements or without
+abbrev pub rules_request : Option Text → (further : Bool) → Request
+rules_request role further = record (plain_request (codes "rules") None) { role = role; further = further }
 
 -- `explain` of this code or citation; the operand is required
 abbrev pub explain_request : Option Text → Request
@@ -152,11 +154,11 @@ form_in rows = if is_true (first_of (codes "json") rows) then forms.Json
 -- the request in a subcommand's name and matches
 abbrev pub request_in : Text × List Row → Request
 request_in met = if bytes_eq met.0 (codes "check") then check_request (first_of (codes "FILE") met.1) (form_in met.1) (is_true (first_of (codes "coverage") met.1))
-    (is_true (first_of (codes "why") met.1))
+    (is_true (first_of (codes "why") met.1)) (is_true (first_of (codes "all") met.1))
     else (if bytes_eq met.0 (codes "show") then show_request (first_of (codes "FILE") met.1) (is_true (first_of (codes "long") met.1))
-    (is_true (first_of (codes "faults") met.1)) (first_of (codes "N") met.1)
+    (is_true (first_of (codes "faults") met.1)) (first_of (codes "N") met.1) (is_true (first_of (codes "all") met.1))
     else (if bytes_eq met.0 (codes "packet") then packet_request (all_of (codes "HEX") met.1) (is_true (first_of (codes "long") met.1))
-    else (if bytes_eq met.0 (codes "rules") then rules_request (first_of (codes "role") met.1)
+    else (if bytes_eq met.0 (codes "rules") then rules_request (first_of (codes "role") met.1) (is_true (first_of (codes "all") met.1))
     else (if bytes_eq met.0 (codes "explain") then explain_request (first_of (codes "CODE") met.1)
     else convert_request (first_of (codes "IN") met.1) (first_of (codes "OUT") met.1) (is_true (first_of (codes "force") met.1))))))
 
@@ -170,19 +172,19 @@ word_faults words = fault_of mqjudge words
 
 -- the request that corresponds to some work
 abbrev pub request_by : Work → Request
-request_by (Once (Check file form coverage)) = check_request (option_map string_bytes file) form coverage false
-request_by (Once (Show file long)) = show_request (option_map string_bytes file) long false None
+request_by (Once (Check file form coverage further)) = check_request (option_map string_bytes file) form coverage false further
+request_by (Once (Show file long)) = show_request (option_map string_bytes file) long false None false
 request_by (Once (Packet hex long)) = digits_request (string_bytes hex) long
-request_by (Once (Rules role)) = rules_request (option_map string_bytes role)
+request_by (Once (Rules role further)) = rules_request (option_map string_bytes role) further
 request_by (Once (Explain code)) = explain_request (Some (string_bytes code))
-request_by (Again review) = show_request (option_map string_bytes review.file) review.long review.faults (option_map string_bytes review.around)
-request_by (Why inquiry) = check_request (option_map string_bytes inquiry.file) inquiry.form inquiry.coverage true
+request_by (Again review) = show_request (option_map string_bytes review.file) review.long review.faults (option_map string_bytes review.around) review.further
+request_by (Why inquiry) = check_request (option_map string_bytes inquiry.file) inquiry.form inquiry.coverage true inquiry.further
 request_by (Convert conversion) = convert_request (Some (string_bytes conversion.input)) (Some (string_bytes conversion.output)) conversion.force
 
--- what shows a log and reads it again is asked for by `--faults` or by a number of positions; without them the log is read once
+-- what shows a log and reads it again is asked for by `--faults`, by a number of positions or by `--all`; without them the log is read once
 abbrev pub ReadsAsAsked : Work → Type 0
 ReadsAsAsked (Once task) = ⊤
-ReadsAsAsked (Again review) = (review.faults ≡ true) ⊎ IsSome review.around
+ReadsAsAsked (Again review) = (review.faults ≡ true) ⊎ (IsSome review.around ⊎ (review.further ≡ true))
 ReadsAsAsked (Why inquiry) = ⊤
 ReadsAsAsked (Convert conversion) = ⊤
 
@@ -217,16 +219,16 @@ path_named (Some operand) = if bytes_eq operand (codes "-") then None else Some 
 
 -- the path of the log that a task reads: none if it reads standard input, or nothing
 abbrev pub path_of : Task → Option Text
-path_of (Check file form coverage) = path_named (option_map string_bytes file)
+path_of (Check file form coverage further) = path_named (option_map string_bytes file)
 path_of (Show file long) = path_named (option_map string_bytes file)
 path_of (Packet hex long) = None
-path_of (Rules role) = None
+path_of (Rules role further) = None
 path_of (Explain code) = None
 
 -- a task reads its input: a log, or the digits of a packet if the operand is `-`. Others need no input.
 abbrev pub reads_input : Task → Bool
-reads_input (Check file form coverage) = true
+reads_input (Check file form coverage further) = true
 reads_input (Show file long) = true
 reads_input (Packet hex long) = is_dash (string_bytes hex)
-reads_input (Rules role) = false
+reads_input (Rules role further) = false
 reads_input (Explain code) = false

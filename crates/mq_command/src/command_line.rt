@@ -90,6 +90,8 @@ pub struct Review {
     pub around: Option<String>,
     /// Say what else each packet says.
     pub long: bool,
+    /// Judge the further statements too. Without faults nothing is judged.
+    pub further: bool,
 }
 
 /// Judge a log and say what each fault conflicts with: one reading finds the faults, and another
@@ -103,6 +105,8 @@ pub struct Inquiry {
     /// Whether it is also asked for how often each statement was put to the test. No report says
     /// both.
     pub coverage: bool,
+    /// Judge the further statements too.
+    pub further: bool,
 }
 
 /// The form of the report that a check writes.
@@ -127,6 +131,8 @@ pub enum Task {
         form: Form,
         /// Report how often each statement was put to the test too.
         coverage: bool,
+        /// Judge the further statements too.
+        further: bool,
     },
     /// Show the events of the log in `file`, or on standard input if there is none or it is `-`.
     Show {
@@ -147,6 +153,8 @@ pub enum Task {
     Rules {
         /// `client` or `server`.
         role: Option<String>,
+        /// List the further statements too.
+        further: bool,
     },
     /// Explain a statement, or all statements with a citation.
     Explain {
@@ -203,9 +211,9 @@ pub enum EarlyExit {
 }
 
 /// Reads the words of a command line,
-/// `mqjudge check [--json] [--summary] [--coverage] [--why] [FILE]`,
-/// `mqjudge show [--long] [--faults] [--around N] [FILE]`,
-/// `mqjudge packet [--long] HEX..`, `mqjudge rules [--role ROLE]`, `mqjudge explain CODE` or
+/// `mqjudge check [--json] [--summary] [--coverage] [--why] [--all] [FILE]`,
+/// `mqjudge show [--long] [--faults] [--around N] [--all] [FILE]`,
+/// `mqjudge packet [--long] HEX..`, `mqjudge rules [--role ROLE] [--all]`, `mqjudge explain CODE` or
 /// `mqjudge convert [--force] IN OUT`, of which the first is the program's name. A request for help
 /// or the version is returned as a `EarlyExit`, and so are words that aren't such a command line.
 pub fn parse<S: AsStr>(alloc: Global, words: &[S]) -> Result<Work, EarlyExit>
@@ -224,6 +232,7 @@ pub fn parse<S: AsStr>(alloc: Global, words: &[S]) -> Result<Work, EarlyExit>
                 form_in(check),
                 is_true(check.get_str("coverage")),
                 is_true(check.get_str("why")),
+                is_true(check.get_str("all")),
             ),
             None => match matches.subcommand_matches("show") {
                 Some(show) => show_task(
@@ -232,6 +241,7 @@ pub fn parse<S: AsStr>(alloc: Global, words: &[S]) -> Result<Work, EarlyExit>
                     is_true(show.get_str("long")),
                     is_true(show.get_str("faults")),
                     show.get_str("N"),
+                    is_true(show.get_str("all")),
                 ),
                 None => match matches.subcommand_matches("packet") {
                     Some(packet) => packet_task(
@@ -240,7 +250,11 @@ pub fn parse<S: AsStr>(alloc: Global, words: &[S]) -> Result<Work, EarlyExit>
                         is_true(packet.get_str("long")),
                     ),
                     None => match matches.subcommand_matches("rules") {
-                        Some(rules) => rules_task(alloc, rules.get_str("role")),
+                        Some(rules) => rules_task(
+                            alloc,
+                            rules.get_str("role"),
+                            is_true(rules.get_str("all")),
+                        ),
                         None => match matches.subcommand_matches("explain") {
                             Some(explain) => explain_task(alloc, explain.get_str("CODE")),
                             None => match matches.subcommand_matches("convert") {
@@ -371,7 +385,8 @@ fn check_command<'a>(alloc: Global) -> Result<Command<'a>, AllocError>
             alloc,
             "why",
             "Say what each fault conflicts with; reads FILE twice if it has faults",
-        ))
+        ))?
+        .arg(flag(alloc, "all", "Judge the further statements too"))
 }
 
 // The definition of `show`.
@@ -393,7 +408,12 @@ fn show_command<'a>(alloc: Global) -> Result<Command<'a>, AllocError>
             "faults",
             "Show the faults under their events; reads FILE more than once",
         ))?
-        .arg(around_option(alloc))
+        .arg(around_option(alloc))?
+        .arg(flag(
+            alloc,
+            "all",
+            "With --faults: judge the further statements too",
+        ))
 }
 
 // The option `--around N` of `show`.
@@ -456,7 +476,8 @@ fn rules_command<'a>(alloc: Global) -> Result<Command<'a>, AllocError>
     Command::new(alloc, "rules")
         .about("Lists the statements")
         .after_help(RULES_HELP)
-        .arg(role)
+        .arg(role)?
+        .arg(flag(alloc, "all", "List the further statements too"))
 }
 
 // The definition of `explain`.
@@ -526,17 +547,18 @@ fn form_in(check: &ArgMatches<'_>) -> Form
     }
 }
 
-// The work of `check` on this operand, with a report in this form, with coverage or without, and
-// with what the faults conflict with or without.
+// The work of `check` on this operand, with a report in this form, with coverage or without, with
+// what the faults conflict with or without, and with the further statements or without.
 fn check_task(
     alloc: Global,
     file: Option<&str>,
     form: Form,
     coverage: bool,
     why: bool,
+    further: bool,
 ) -> Result<Work, EarlyExit>
     ensures work { IfOk result (λ work.
-        request_by work ≡ check_request (option_map (λ path. path.now) file.entry) form coverage why) }
+        request_by work ≡ check_request (option_map (λ path. path.now) file.entry) form coverage why further) }
     ensures readings { IfOk result ReadsAsAsked }
     ensures stop { IfErr result (λ stop. stop ≡ EarlyExit.Memory) }
 {
@@ -546,32 +568,36 @@ fn check_task(
             file,
             form,
             coverage,
+            further,
         }));
     }
     Ok(Work::Once(Task::Check {
         file,
         form,
         coverage,
+        further,
     }))
 }
 
-// The work of `show` on this operand, with these flags and this number.
+// The work of `show` on this operand, with these flags and this number, and with the further
+// statements or without.
 fn show_task(
     alloc: Global,
     file: Option<&str>,
     long: bool,
     faults: bool,
     around: Option<&str>,
+    further: bool,
 ) -> Result<Work, EarlyExit>
     ensures work { IfOk result (λ work.
         request_by work ≡ show_request (option_map (λ path. path.now) file.entry) long faults
-        (option_map (λ number. number.now) around.entry)) }
+        (option_map (λ number. number.now) around.entry) further) }
     ensures readings { IfOk result ReadsAsAsked }
     ensures stop { IfErr result (λ stop. stop ≡ EarlyExit.Memory) }
 {
     let file = copy_word(alloc, file)?;
     let around = copy_word(alloc, around)?;
-    if !faults && around.is_none() {
+    if !faults && around.is_none() && !further {
         return Ok(Work::Once(Task::Show { file, long }));
     }
     Ok(Work::Again(Review {
@@ -579,6 +605,7 @@ fn show_task(
         faults,
         around,
         long,
+        further,
     }))
 }
 
@@ -595,15 +622,15 @@ fn packet_task(alloc: Global, words: Option<&[&str]>, long: bool) -> Result<Work
     }
 }
 
-// The task of `rules` for this end.
-fn rules_task(alloc: Global, role: Option<&str>) -> Result<Work, EarlyExit>
+// The task of `rules` for this end, with the further statements or without.
+fn rules_task(alloc: Global, role: Option<&str>, further: bool) -> Result<Work, EarlyExit>
     ensures work { IfOk result (λ work.
-        request_by work ≡ rules_request (option_map (λ word. word.now) role.entry)) }
+        request_by work ≡ rules_request (option_map (λ word. word.now) role.entry) further) }
     ensures readings { IfOk result ReadsAsAsked }
     ensures stop { IfErr result (λ stop. stop ≡ EarlyExit.Memory) }
 {
     let role = copy_word(alloc, role)?;
-    Ok(Work::Once(Task::Rules { role }))
+    Ok(Work::Once(Task::Rules { role, further }))
 }
 
 // The task of `explain` on this operand; a missing operand counts as an empty one.

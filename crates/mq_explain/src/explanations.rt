@@ -8,6 +8,7 @@ ghost use Rattle.mq_explain.specs.Explaining.{explanation_of};
 mod connections;
 mod deliveries;
 mod exchanges;
+mod further;
 mod packets;
 mod releases;
 mod sessions;
@@ -94,6 +95,9 @@ pub fn explanation(rule: Rule) -> &'static str
         Rule::B02 => deliveries::B02,
         Rule::B03 => deliveries::B03,
         Rule::B04 => deliveries::B04,
+        Rule::F05 => further::F05,
+        Rule::F06 => further::F06,
+        Rule::A02 => further::A02,
     }
 }
 

@@ -2,18 +2,22 @@
 ghost use Rattle.std.specs.Prelude.{◌≡◌, ◌++◌, IfOk, OnOk, Some, string_bytes};
 ghost use Rattle.std.specs.List.{flat_map};
 ghost use Rattle.mq_rules.specs.declared.rule.Rule.{Rule};
-ghost use Rattle.mq_explain.specs.Listing.{all_codes, both_citations, bound_ends, citation_for, lists_statement, spaced_code};
+ghost use Rattle.mq_explain.specs.Listing.{all_codes, binds_for, both_citations, bound_ends, citation_for, lists_statement, spaced_code};
 ghost use Rattle.mq_explain.specs.Listing.{listed_line, role_named, statement_line, statement_lines};
 
 use mq_rules::{Role, Rule};
 use std::alloc::{AllocError, Global};
 
 /// The lines of the statements, in the order of reports: of those that bind this end, or of all if
-/// none is named.
-pub fn statement_list(alloc: Global, role: Option<Role>) -> Result<String, AllocError>
-    ensures { IfOk result (λ text. string_bytes text ≡ statement_lines role) }
+/// none is named; with the further ones or without.
+pub fn statement_list(
+    alloc: Global,
+    role: Option<Role>,
+    further: bool,
+) -> Result<String, AllocError>
+    ensures { IfOk result (λ text. string_bytes text ≡ statement_lines further role) }
 {
-    lines_of(alloc, Rule::all(), role)
+    lines_of(alloc, Rule::all(), role, further)
 }
 
 /// Appends the codes of all statements to the text, in the order of reports, each after a space.
@@ -42,22 +46,32 @@ fn add_code(text: &mut String, rule: Rule) -> Result<(), AllocError>
     text.push_str(rule.code())
 }
 
-// The lines of these statements.
-fn lines_of(alloc: Global, rules: &[Rule], role: Option<Role>) -> Result<String, AllocError>
-    ensures { IfOk result (λ text. string_bytes text ≡ flat_map (listed_line role) rules.now) }
+// The lines of these statements, of which the further ones are listed if they are asked for.
+fn lines_of(
+    alloc: Global,
+    rules: &[Rule],
+    role: Option<Role>,
+    further: bool,
+) -> Result<String, AllocError>
+    ensures { IfOk result (λ text. string_bytes text ≡ flat_map (listed_line further role) rules.now) }
 {
     let mut text = String::new(alloc);
     for rule in rules {
-        add_line(&mut text, *rule, role)?;
+        add_line(&mut text, *rule, role, further)?;
     }
     Ok(text)
 }
 
 // Appends the line of a statement to the text, if it is listed.
-fn add_line(text: &mut String, rule: Rule, role: Option<Role>) -> Result<(), AllocError>
-    ensures { OnOk result (string_bytes text.new ≡ string_bytes text.old ++ listed_line role rule) }
+fn add_line(
+    text: &mut String,
+    rule: Rule,
+    role: Option<Role>,
+    further: bool,
+) -> Result<(), AllocError>
+    ensures { OnOk result (string_bytes text.new ≡ string_bytes text.old ++ listed_line further role rule) }
 {
-    if is_listed(rule, role) {
+    if is_listed(rule, role, further) {
         put_rule_line(text, rule, role)
     } else {
         Ok(())
@@ -111,8 +125,15 @@ fn put_both(text: &mut String, client: &str, server: &str) -> Result<(), AllocEr
 }
 
 // Whether a statement is listed for this end, or for both if none is named.
-fn is_listed(rule: Rule, role: Option<Role>) -> bool
-    ensures { result ≡ lists_statement role rule }
+fn is_listed(rule: Rule, role: Option<Role>, further: bool) -> bool
+    ensures { result ≡ lists_statement further role rule }
+{
+    (further || !rule.is_further()) && binds_for(rule, role)
+}
+
+// Whether a statement binds this end, or any if none is named.
+fn binds_for(rule: Rule, role: Option<Role>) -> bool
+    ensures { result ≡ binds_for role rule }
 {
     match role {
         Some(role) => rule.binds(role),

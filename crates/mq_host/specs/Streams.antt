@@ -6,7 +6,7 @@ use Rattle.mq_explain.specs.Listing.{all_codes}
 use Rattle.mq_host.specs.declared.failure.Failure.{Failure}
 use Rattle.mq_host.specs.declared.failure.Failure.TheVariants as failures
 use Rattle.mq_host.specs.declared.misuse.Misuse.{Misuse}
-use Rattle.mq_host.specs.declared.misuse.Misuse.TheVariants.{NotHex, TooLong, NoRole, NoStatement, NoFaults, NoFile, NoNumber, NoFileForWhy, TwoReports, SameFile, OutExists}
+use Rattle.mq_host.specs.declared.misuse.Misuse.TheVariants.{NotHex, TooLong, NoRole, NoStatement, NoFaults, NoFaultsForAll, NoFile, NoNumber, NoFileForWhy, TwoReports, SameFile, OutExists}
 
 -- The known bytes grew by a beginning of the text, or by all of it, and by nothing else.
 pub record AppendsPart (old new : Option (List ℕ)) (text : List ℕ) : Type 0 where
@@ -62,6 +62,10 @@ no_statement_line word = codes "mqjudge: no statement " ++ (word ++ (10 ∷ code
 abbrev pub no_faults_line : List ℕ
 no_faults_line = codes "mqjudge: --around needs --faults" ++ 10 ∷ []
 
+-- the line on the further statements where no faults are asked for
+abbrev pub no_faults_for_all_line : List ℕ
+no_faults_for_all_line = codes "mqjudge: --all needs --faults" ++ 10 ∷ []
+
 abbrev pub no_file_line : List ℕ
 no_file_line = codes "mqjudge: --faults reads the log more than once, so it needs a FILE, not standard input" ++ 10 ∷ []
 
@@ -90,6 +94,7 @@ misuse_line TooLong = too_long_line
 misuse_line (NoRole word) = no_role_line word.now
 misuse_line (NoStatement word) = no_statement_line word.now
 misuse_line NoFaults = no_faults_line
+misuse_line NoFaultsForAll = no_faults_for_all_line
 misuse_line NoFile = no_file_line
 misuse_line (NoNumber word) = no_number_line word.now
 misuse_line NoFileForWhy = no_file_for_why_line

@@ -23,6 +23,8 @@ pub enum Misuse<'a> {
     NoStatement(&'a str),
     /// A number of positions is given, but faults aren't asked for.
     NoFaults,
+    /// The further statements are asked for too, but faults aren't.
+    NoFaultsForAll,
     /// No file is named that can be read twice.
     NoFile,
     /// The word isn't a number of positions.
@@ -61,6 +63,7 @@ impl Misuse<'_> {
             ),
             Misuse::NoStatement(word) => refuse_statement(alloc, word, error),
             Misuse::NoFaults => write_misuse("mqjudge: --around needs --faults\n", error),
+            Misuse::NoFaultsForAll => write_misuse("mqjudge: --all needs --faults\n", error),
             Misuse::NoFile => write_misuse(
                 "mqjudge: --faults reads the log more than once, so it needs a FILE, not standard input\n",
                 error,

@@ -1,6 +1,6 @@
 //! `check --why`.
 use super::harness::{CONNECTED, NESTED, Narrow, Trickle, WHOLE_LOG, add_record};
-use crate::inquiring::inquire_twice;
+use crate::inquiring::{Wanted, inquire_twice};
 use crate::lapse::Lapse;
 use mq_host::{FAULTY, Failure, PASSED, REFUSED};
 use mq_judge::Form;
@@ -63,6 +63,14 @@ const THREE_LINES: &str = "fault 4 E1R MQTT-4.3.2-4 decided 7 record 4 offset -\
     because 8 C01 event -\n\
     fail 3 faults 9 events\n";
 
+// A report in this form, by the statements that are always judged.
+fn in_form(form: Form) -> Wanted {
+    Wanted {
+        form,
+        further: false,
+    }
+}
+
 // Whether the log that is judged and the one that is read again give this, and write this text.
 fn gives(
     alloc: Global,
@@ -75,7 +83,7 @@ fn gives(
     let mut output = Vec::new(alloc);
     let given = inquire_twice(
         alloc,
-        form,
+        in_form(form),
         true,
         &mut Trickle::of(judged, None),
         &mut Trickle::of(again, None),
@@ -113,7 +121,7 @@ fn reads_a_log_without_faults_once(rt: HostRuntime) {
         let mut output = Vec::new(rt.alloc());
         let given = inquire_twice(
             rt.alloc(),
-            form,
+            in_form(form),
             true,
             &mut Trickle::of(WHOLE_LOG, None),
             &mut Trickle::of(WHOLE_LOG, Some(0)),
@@ -182,7 +190,7 @@ fn reports_a_failed_first_or_second_reading(rt: HostRuntime) {
         let mut output = Vec::new(rt.alloc());
         let given = inquire_twice(
             rt.alloc(),
-            Form::Text,
+            in_form(Form::Text),
             true,
             &mut Trickle::of(IN_USE, first),
             &mut Trickle::of(IN_USE, second),
@@ -205,7 +213,7 @@ fn reports_a_failed_write_of_reasons(rt: HostRuntime) {
     ] {
         let given = inquire_twice(
             rt.alloc(),
-            Form::Text,
+            in_form(Form::Text),
             true,
             &mut Trickle::of(log, None),
             &mut Trickle::of(log, None),
@@ -222,7 +230,7 @@ fn reports_reasons_without_memory(rt: HostRuntime) {
     let mut output = Cursor::new([0; 1024]);
     let given = inquire_twice(
         rt.alloc(),
-        Form::Text,
+        in_form(Form::Text),
         true,
         &mut &IN_USE[..],
         &mut &IN_USE[..],

@@ -44,7 +44,29 @@ struct Row {
     error: &'static str,
 }
 
-static ROWS: [Row; 27] = [
+// A server that announces Maximum QoS 1, and accepts a Will of QoS 2.
+const WILLING: &[u8] = b"MQTR\x01\x01\x01\x00\
+    \x01\x00\x00\x00\x00\
+    \x03\x00\x00\x00\x16\x10\x14\x00\x04MQTT\x05\x16\x00\x3c\x00\x00\x01c\x00\x00\x01t\x00\x00\
+    \x02\x00\x00\x00\x07\x20\x05\x00\x00\x02\x24\x01";
+
+static ROWS: [Row; 29] = [
+    Row {
+        words: &["mqjudge", "check", "a.log"],
+        file: WILLING,
+        input: GOOD,
+        status: 0,
+        output: "pass 3 events\n",
+        error: "",
+    },
+    Row {
+        words: &["mqjudge", "check", "--all", "a.log"],
+        file: WILLING,
+        input: GOOD,
+        status: 1,
+        output: "fault 3 F05 MQTT-3.2.2-12 decided 3 record 3 offset -\nfail 1 faults 3 events\n",
+        error: "",
+    },
     Row {
         words: &["mqjudge", "check", "a.log"],
         file: GOOD,
@@ -277,7 +299,31 @@ const NEAR_LINES: &str = "..\n\
 const NO_FILE: &str =
     "mqjudge: --faults reads the log more than once, so it needs a FILE, not standard input\n";
 
-static REVIEWS: [Row; 16] = [
+static REVIEWS: [Row; 19] = [
+    Row {
+        words: &["mqjudge", "show", "--all", "a.log"],
+        file: FAULTY,
+        input: GOOD,
+        status: 3,
+        output: "",
+        error: "mqjudge: --all needs --faults\n",
+    },
+    Row {
+        words: &["mqjudge", "show", "--all", "--around", "1", "a.log"],
+        file: FAULTY,
+        input: GOOD,
+        status: 3,
+        output: "",
+        error: "mqjudge: --around needs --faults\n",
+    },
+    Row {
+        words: &["mqjudge", "show", "--all", "--faults", "a.log"],
+        file: GOOD,
+        input: FAULTY,
+        status: 0,
+        output: LINES,
+        error: "",
+    },
     Row {
         words: &["mqjudge", "show", "--faults", "a.log"],
         file: FAULTY,
@@ -430,7 +476,17 @@ const NO_FILE_FOR_WHY: &str =
 
 const TWO_REPORTS: &str = "mqjudge: --why and --coverage are two reports: ask for one at a time\n";
 
-static INQUIRIES: [Row; 9] = [
+static INQUIRIES: [Row; 10] = [
+    Row {
+        words: &["mqjudge", "check", "--why", "--all", "a.log"],
+        file: WILLING,
+        input: GOOD,
+        status: 1,
+        output: "fault 3 F05 MQTT-3.2.2-12 decided 3 record 3 offset -\n\
+            because 3 F05 event 2\n\
+            fail 1 faults 3 events\n",
+        error: "",
+    },
     Row {
         words: &["mqjudge", "check", "--why", "a.log"],
         file: FAULTY,

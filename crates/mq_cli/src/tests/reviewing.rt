@@ -86,6 +86,7 @@ fn plan(around: Option<u32>, long: bool) -> Plan<'static> {
     Plan {
         path: "a.log",
         extent: Extent { around, long },
+        further: false,
     }
 }
 

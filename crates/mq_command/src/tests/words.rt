@@ -16,23 +16,34 @@ fn task_of(alloc: Global, words: &[&str]) -> Result<Task, EarlyExit> {
 }
 
 // Whether these words ask for a check of this file, or of the input, with a report in this form, with
-// coverage or without.
+// coverage or without, and with the further statements or without.
+fn is_check_with(
+    alloc: Global,
+    words: &[&str],
+    wanted: Option<&str>,
+    report: (Form, bool, bool),
+) -> Result<bool, EarlyExit> {
+    let Task::Check {
+        file,
+        form,
+        coverage,
+        further,
+    } = task_of(alloc, words)?
+    else {
+        return Ok(false);
+    };
+    let path = file.as_ref().map(|path| path.as_str());
+    Ok(path == wanted && (form, coverage, further) == report)
+}
+
+// The same without the further statements.
 fn is_check_of(
     alloc: Global,
     words: &[&str],
     wanted: Option<&str>,
     report: (Form, bool),
 ) -> Result<bool, EarlyExit> {
-    let Task::Check {
-        file,
-        form,
-        coverage,
-    } = task_of(alloc, words)?
-    else {
-        return Ok(false);
-    };
-    let path = file.as_ref().map(|path| path.as_str());
-    Ok(path == wanted && (form, coverage) == report)
+    is_check_with(alloc, words, wanted, (report.0, report.1, false))
 }
 
 #[test]
@@ -79,6 +90,80 @@ fn reads_the_words_of_a_check(rt: HostRuntime) -> Result<(), Fail> {
     for (words, wanted, report) in rows {
         assert!(rt;
             is_check_of(rt.alloc(), words, wanted, report)?,
+            "{words:?}"
+        );
+    }
+    Ok(())
+}
+
+#[test]
+fn reads_whether_a_check_is_of_all_statements(rt: HostRuntime) -> Result<(), Fail> {
+    let rows: [(&[&str], Option<&str>, (Form, bool, bool)); 4] = [
+        (
+            &["mqjudge", "check", "--all"],
+            None,
+            (Form::Text, false, true),
+        ),
+        (
+            &["mqjudge", "check", "--all", "a.log", "--json"],
+            Some("a.log"),
+            (Form::Json, false, true),
+        ),
+        (
+            &["mqjudge", "check", "--coverage", "--summary", "--all", "-"],
+            Some("-"),
+            (Form::Summary, true, true),
+        ),
+        (
+            &["mqjudge", "check", "--", "--all"],
+            Some("--all"),
+            (Form::Text, false, false),
+        ),
+    ];
+    for (words, wanted, report) in rows {
+        assert!(rt;
+            is_check_with(rt.alloc(), words, wanted, report)?,
+            "{words:?}"
+        );
+    }
+    Ok(())
+}
+
+// Whether these words ask for the statements that bind this end, or all, with the further ones or
+// without.
+fn is_rules_of(
+    alloc: Global,
+    words: &[&str],
+    wanted: Option<&str>,
+    is_all: bool,
+) -> Result<bool, EarlyExit> {
+    match task_of(alloc, words)? {
+        Task::Rules { role, further } => {
+            Ok(role.as_ref().map(|role| role.as_str()) == wanted && further == is_all)
+        }
+        _ => Ok(false),
+    }
+}
+
+#[test]
+fn reads_the_words_of_a_list_of_statements(rt: HostRuntime) -> Result<(), Fail> {
+    let rows: [(&[&str], Option<&str>, bool); 4] = [
+        (&["mqjudge", "rules"], None, false),
+        (&["mqjudge", "rules", "--all"], None, true),
+        (
+            &["mqjudge", "rules", "--role", "client"],
+            Some("client"),
+            false,
+        ),
+        (
+            &["mqjudge", "rules", "--all", "--role", "server"],
+            Some("server"),
+            true,
+        ),
+    ];
+    for (words, wanted, is_all) in rows {
+        assert!(rt;
+            is_rules_of(rt.alloc(), words, wanted, is_all)?,
             "{words:?}"
         );
     }
@@ -241,13 +326,13 @@ fn reads_the_words_of_a_packet(rt: HostRuntime) -> Result<(), Fail> {
 }
 
 // Whether these words ask for a review of this file with its faults, near to them by this number of
-// positions, with long lines or not.
+// positions, with long lines or not, and with the further statements or not.
 fn is_review_of(
     alloc: Global,
     words: &[&str],
     path: Option<&str>,
     number: Option<&str>,
-    is_long: bool,
+    (is_long, is_all): (bool, bool),
 ) -> Result<bool, EarlyExit> {
     let Work::Again(
         Review {
@@ -255,6 +340,7 @@ fn is_review_of(
             faults,
             around,
             long,
+            further,
         },
     ) = parse(alloc, words)?
     else {
@@ -262,48 +348,67 @@ fn is_review_of(
     };
     let file = file.as_ref().map(|path| path.as_str());
     let around = around.as_ref().map(|number| number.as_str());
-    Ok(faults && long == is_long && file == path && around == number)
+    Ok(faults && long == is_long && further == is_all && file == path && around == number)
 }
 
 #[test]
 fn reads_the_words_of_a_review(rt: HostRuntime) -> Result<(), Fail> {
     let words = ["mqjudge", "show", "--around", "3", "--faults", "a.log"];
-    assert!(rt; is_review_of(rt.alloc(), &words, Some("a.log"), Some("3"), false)?);
+    assert!(rt; is_review_of(rt.alloc(), &words, Some("a.log"), Some("3"), (false, false))?);
     let words = ["mqjudge", "show", "--faults", "--long"];
-    assert!(rt; is_review_of(rt.alloc(), &words, None, None, true)?);
+    assert!(rt; is_review_of(rt.alloc(), &words, None, None, (true, false))?);
+    let words = ["mqjudge", "show", "--all", "--faults", "a.log"];
+    assert!(rt; is_review_of(rt.alloc(), &words, Some("a.log"), None, (false, true))?);
     Ok(())
 }
 
 // Whether these words ask for a check of this file with what its faults conflict with, in this form,
-// and for coverage too or not.
+// for coverage too or not, and for the further statements or not.
 fn is_inquiry_of(
     alloc: Global,
     words: &[&str],
     path: Option<&str>,
-    report: (Form, bool),
+    report: (Form, bool, bool),
 ) -> Result<bool, EarlyExit> {
     let Work::Why(
         Inquiry {
             file,
             form,
             coverage,
+            further,
         },
     ) = parse(alloc, words)?
     else {
         return Ok(false);
     };
     let file = file.as_ref().map(|path| path.as_str());
-    Ok(file == path && (form, coverage) == report)
+    Ok(file == path && (form, coverage, further) == report)
 }
 
 #[test]
 fn reads_the_words_of_an_inquiry(rt: HostRuntime) -> Result<(), Fail> {
     let words = ["mqjudge", "check", "--why", "a.log"];
-    assert!(rt; is_inquiry_of(rt.alloc(), &words, Some("a.log"), (Form::Text, false))?);
+    assert!(rt;
+        is_inquiry_of(
+            rt.alloc(),
+            &words,
+            Some("a.log"),
+            (Form::Text, false, false)
+        )?
+    );
     let words = ["mqjudge", "check", "a.log", "--json", "--why"];
-    assert!(rt; is_inquiry_of(rt.alloc(), &words, Some("a.log"), (Form::Json, false))?);
+    assert!(rt;
+        is_inquiry_of(
+            rt.alloc(),
+            &words,
+            Some("a.log"),
+            (Form::Json, false, false)
+        )?
+    );
+    let words = ["mqjudge", "check", "--all", "a.log", "--why"];
+    assert!(rt; is_inquiry_of(rt.alloc(), &words, Some("a.log"), (Form::Text, false, true))?);
     let words = ["mqjudge", "check", "--why", "--coverage", "--summary"];
-    assert!(rt; is_inquiry_of(rt.alloc(), &words, None, (Form::Summary, true))?);
+    assert!(rt; is_inquiry_of(rt.alloc(), &words, None, (Form::Summary, true, false))?);
     Ok(())
 }
 

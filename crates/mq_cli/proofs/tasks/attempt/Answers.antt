@@ -39,16 +39,16 @@ returns-in-Packet-clause-stops g c =
     let Q : List ℕ → Type 0 = λ w. IfErr c.packet_given.result (StopsGiven c.in-Packet.long w input old new) in
     subst P (sym asked) (packet_stops c.in-Packet.hex c.in-Packet.long input left old new c.packet_given.result (subst Q hex c.packet_given.ensures.stops))
 
-pub returns-in-Rules-Some-clause-stops : goal.returns-in-Rules-Some-clause-stops
-returns-in-Rules-Some-clause-stops g c =
-    let asked : c.args.task.now ≡ Rules (Some c.in-Rules-Some.word) = search rules in
-    let word : c.as_str-in-Rules-Some.result.now ≡ string_bytes c.in-Rules-Some.word = search rules in
+pub returns-in-Rules-Some-default-clause-stops : goal.returns-in-Rules-Some-default-clause-stops
+returns-in-Rules-Some-default-clause-stops g c =
+    let asked : c.args.task.now ≡ Rules (Some c.in-Rules-Some-default.word) c.in-Rules-Some-default.further = search rules in
+    let word : c.as_str-in-Rules-Some-default.result.now ≡ string_bytes c.in-Rules-Some-default.word = search rules in
     let input = g.R.Read.remaining c.args.input.now in
     let old = g.W.Write.contents c.args.output.now in
     let new = g.W.Write.contents c.print_rules.new.output in
     let P : Task → Type 0 = λ task. IfErr c.print_rules.result (StopsAttempt task input input old new) in
-    let Q : List ℕ → Type 0 = λ w. IfErr c.print_rules.result (StopsText (listed_for (Some w)) (no_role_line w) old new) in
-    subst P (sym asked) (rules_stop c.in-Rules-Some.word input input old new c.print_rules.result (subst Q word c.print_rules.ensures.stops))
+    let Q : List ℕ → Type 0 = λ w. IfErr c.print_rules.result (StopsText (listed_for c.in-Rules-Some-default.further (Some w)) (no_role_line w) old new) in
+    subst P (sym asked) (rules_stop c.in-Rules-Some-default.further c.in-Rules-Some-default.word input input old new c.print_rules.result (subst Q word c.print_rules.ensures.stops))
 
 pub returns-in-Explain-clause-stops : goal.returns-in-Explain-clause-stops
 returns-in-Explain-clause-stops g c =

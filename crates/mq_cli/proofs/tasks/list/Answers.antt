@@ -5,6 +5,6 @@ use Rattle.mq_cli.proofs.tasks.list.Goals as goal
 
 pub returns-in-Ok-clause-stops : goal.returns-in-Ok-clause-stops
 returns-in-Ok-clause-stops g c =
-    let lines : c.as_str.result.now ≡ statement_lines c.args.role = search rules in
+    let lines : c.as_str.result.now ≡ statement_lines c.args.further c.args.role = search rules in
     let P : List ℕ → Type 0 = λ text. IfErr c.print.result (StopsText (Some text) [] (g.W.Write.contents c.args.output.now) (g.W.Write.contents c.print.new.output)) in
     subst P lines (c.print.ensures.stops [])

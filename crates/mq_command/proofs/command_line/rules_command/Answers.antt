@@ -1,4 +1,4 @@
-use Rattle.std.proofs.Common.{rules, ap, ap₂, codes, Some, ◌≡◌, ◌∙◌, ◌||◌}
+use Rattle.std.proofs.Common.{rules, ap, ap₂, codes, false, Some, ◌≡◌, ◌∙◌, ◌||◌}
 use Rattle.std.proofs.lemmas.Result.{IfOk-weaker}
 use Rattle.clap.specs.Words.{Rule, app_of, new_app, new_rule, rule_of, with_rule}
 use Rattle.clap.specs.Simple.{app_of_fields}
@@ -13,9 +13,12 @@ pub returns-clause-app : goal.returns-clause-app
 returns-clause-app c =
     let role_is : rule_of c.long-role.result ≡ named (new_rule (codes "role")) = search rules in
     let about_is : app_of c.after_help.result ≡ new_app (codes "rules") = ap app_of_fields c.after_help.ensures ∙ ap app_of_fields c.about.ensures ∙ c.new-2.ensures.app in
-    IfOk-weaker c.arg.result _ _ (λ r h. h.shape (search rules) ∙ ap₂ with_rule about_is role_is) c.arg.ensures
+    let with_role = c.in_ok-arg.ensures.shape (search rules) ∙ ap₂ with_rule about_is role_is in
+    IfOk-weaker c.arg-2.result _ _ (λ r h. h.shape c.flag.ensures.local ∙ ap₂ with_rule with_role c.flag.ensures.rule) c.arg-2.ensures
 
 pub returns-clause-local : goal.returns-clause-local
 returns-clause-local c =
     let before = ap (λ (f : Command-F Command). f.has_globals) c.after_help.ensures ∙ ap (λ (f : Command-F Command). f.has_globals) c.about.ensures ∙ c.new-2.ensures.local in
-    IfOk-weaker c.arg.result _ _ (λ r h. h.globals ∙ ap₂ (λ x y. x || y) before (search rules)) c.arg.ensures
+    let role_local : c.long-role.result.global ≡ false = search rules in
+    let with_role = c.in_ok-arg.ensures.globals ∙ ap₂ (λ x y. x || y) before role_local in
+    IfOk-weaker c.arg-2.result _ _ (λ r h. h.globals ∙ ap₂ (λ x y. x || y) with_role c.flag.ensures.local) c.arg-2.ensures

@@ -5,4 +5,4 @@ use Rattle.mq_explain.proofs.listing.lines_of.Given as goal
 
 abbrev pub invariant-loop-rule : goal.invariant-loop-rule
 invariant-loop-rule l =
-    string_bytes l.text ++ flat_map (listed_line l.role) (drop l.rule-index l.rules) ≡ flat_map (listed_line l.role) l.rules
+    string_bytes l.text ++ flat_map (listed_line l.further l.role) (drop l.rule-index l.rules) ≡ flat_map (listed_line l.further l.role) l.rules

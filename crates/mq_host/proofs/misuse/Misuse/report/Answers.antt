@@ -12,6 +12,9 @@ returns-in-NoStatement-clause-printed g c = rw c.in-NoStatement.is c.refuse_stat
 pub returns-in-NoFaults-clause-printed : goal.returns-in-NoFaults-clause-printed
 returns-in-NoFaults-clause-printed g c = rw c.in-NoFaults.is c.write_misuse-in-NoFaults.ensures.printed
 
+pub returns-in-NoFaultsForAll-clause-printed : goal.returns-in-NoFaultsForAll-clause-printed
+returns-in-NoFaultsForAll-clause-printed g c = rw c.in-NoFaultsForAll.is c.write_misuse-in-NoFaultsForAll.ensures.printed
+
 pub returns-in-NoFile-clause-printed : goal.returns-in-NoFile-clause-printed
 returns-in-NoFile-clause-printed g c = rw c.in-NoFile.is c.write_misuse-in-NoFile.ensures.printed
 
