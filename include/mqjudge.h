@@ -182,7 +182,8 @@ uint32_t mqjudge_weight(mqjudge *judge, size_t *weight);
 
 /* How often a statement was put to the test: at how many events of what was told, at no cost. So a verdict without a
  * fault says what it is worth. A statement that doesn't bind the end that is judged has 0. Statements are counted from 0,
- * in the order of reports. OK, NO_JUDGE, ABSENT (no such statement), REFUSED. */
+ * in the order of reports. The further ones come last: they have names, and nothing is judged by them here. OK, NO_JUDGE,
+ * ABSENT (no such statement, or one that is judged only on request), REFUSED. */
 uint32_t mqjudge_places(mqjudge *judge, uint32_t statement, uint32_t *places);
 
 /* Why the log is refused: the number of the refusal (docs/LOG_FORMAT.md), and the offset in the log of the refused byte.

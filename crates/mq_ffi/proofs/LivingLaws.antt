@@ -22,8 +22,8 @@ pub takes : (source : Source) (log piece : List ℕ) (old new : Live) (answer : 
     → TakesIn piece old.judge new.judge old.refusal new.refusal answer → Takes source log piece new answer
 takes source log piece old new (Ok _) more told is taken =
     let after = taken.1 log told.follows in
-    (after.0, record { follows = after.1; unrefused = taken.0 ∙ told.unrefused; first = λ e. absurd (more (sym is ∙ e)); counting = after.2 ∙ told.counting }, is)
-takes source log piece old new (Err trouble) more told is taken = (taken.0, record { refusal = taken.1.0; kept = taken.1.1; why = taken.1.2 log told.follows })
+    (after.0, record { follows = after.1; unrefused = taken.0 ∙ told.unrefused; first = λ e. absurd (more (sym is ∙ e)); counting = after.2 ∙ told.counting; usual = taken.2 ∙ told.usual }, is)
+takes source log piece old new (Err trouble) more told is taken = (taken.0, record { refusal = taken.1.0; kept = taken.1.1; why = taken.1.2 log told.follows; usual = taken.2 ∙ told.usual })
 
 abbrev is_first : Source → Bool
 is_first sources.Nothing = true
@@ -75,9 +75,9 @@ places_or_absent None = Err troubles.Absent
 places_or_absent (Some places) = Ok places
 
 pub counted_places : (rule : Rule) (live : Live) (o : Option ℕ) (answer : Result ℕ Trouble) → is_some live.refusal ≡ false
-    → ((log : List ℕ) → is_counting live.judge ≡ true → Follows live.judge log → o ≡ Some (places_in log rule))
+    → ((log : List ℕ) → is_counting live.judge ≡ true → Follows live.judge log → o ≡ Some (places_in live.judge.further log rule))
     → answer ≡ places_or_absent o → AnswersPlaces rule live answer
 counted_places rule live o answer unrefused known is = record {
   for_ever = if_none live.refusal _ unrefused;
-  counted = λ log told. is ∙ ap places_or_absent (known log told.counting told.follows);
+  counted = λ log told. is ∙ ap places_or_absent (known log told.counting told.follows ∙ ap (λ b. Some (places_in b log rule)) told.usual);
 }

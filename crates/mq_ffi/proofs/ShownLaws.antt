@@ -160,29 +160,29 @@ counted : (log : List ℕ) → length (seen_in log) ≡ length (events log)
 unfolding seen_in
 counted log = length-map (events log) seen
 
-pub none_yet : (log : List ℕ) (known : FaultMap) → AreFaultsOf log known → (event : ℕ) → length (events log) < event → shown_by event (entries known) ≡ []
-none_yet log known are event later =
-    none_shown event known (λ k rule. ap (shown event) (are k rule) ∙ none-in event (tested_by log) (seen_in log) k rule (subst (λ n. n < event) (sym (counted log)) later))
+pub none_yet : (further : Bool) (log : List ℕ) (known : FaultMap) → AreFaultsOf further log known → (event : ℕ) → length (events log) < event → shown_by event (entries known) ≡ []
+none_yet further log known are event later =
+    none_shown event known (λ k rule. ap (shown event) (are k rule) ∙ none-in event (tested_by further log) (seen_in log) k rule (subst (λ n. n < event) (sym (counted log)) later))
 
 -- the end that a header names makes no difference before there is an event
-same-tested : (log more : List ℕ) (event k : ℕ) (rule : Rule)
-    → shown event (fault_in (tested_by (log ++ more)) (seen_in log) k rule) ≡ shown event (fault_in (tested_by log) (seen_in log) k rule)
-same-tested log more event k rule = go (nat_lt (length log) 8) refl where
-  go : (b : Bool) → nat_lt (length log) 8 ≡ b → shown event (fault_in (tested_by (log ++ more)) (seen_in log) k rule) ≡ shown event (fault_in (tested_by log) (seen_in log) k rule)
+same-tested : (further : Bool) (log more : List ℕ) (event k : ℕ) (rule : Rule)
+    → shown event (fault_in (tested_by further (log ++ more)) (seen_in log) k rule) ≡ shown event (fault_in (tested_by further log) (seen_in log) k rule)
+same-tested further log more event k rule = go (nat_lt (length log) 8) refl where
+  go : (b : Bool) → nat_lt (length log) 8 ≡ b → shown event (fault_in (tested_by further (log ++ more)) (seen_in log) k rule) ≡ shown event (fault_in (tested_by further log) (seen_in log) k rule)
   go true is =
       let few = ltb-true (length log) 8 is in
       let none : seen_in log ≡ [] = unseen log (omega (arith, few)) in
-      ap (λ s. shown event (fault_in (tested_by (log ++ more)) s k rule)) none
-      ∙ ap (shown event) (fault_in-start (tested_by (log ++ more)) k rule ∙ sym (fault_in-start (tested_by log) k rule))
-      ∙ ap (λ s. shown event (fault_in (tested_by log) s k rule)) (sym none)
-  go false is = ap (λ t. shown event (fault_in t (seen_in log) k rule)) (tested-stays log more (ltb-false (length log) 8 is))
+      ap (λ s. shown event (fault_in (tested_by further (log ++ more)) s k rule)) none
+      ∙ ap (shown event) (fault_in-start (tested_by further (log ++ more)) k rule ∙ sym (fault_in-start (tested_by further log) k rule))
+      ∙ ap (λ s. shown event (fault_in (tested_by further log) s k rule)) (sym none)
+  go false is = ap (λ t. shown event (fault_in t (seen_in log) k rule)) (tested-stays further log more (ltb-false (length log) 8 is))
 
-pub shown_stays : (log more : List ℕ) (known later : FaultMap) → AreFaultsOf log known → AreFaultsOf (log ++ more) later → (event : ℕ) → event ≤ length (events log)
+pub shown_stays : (further : Bool) (log more : List ℕ) (known later : FaultMap) → AreFaultsOf further log known → AreFaultsOf further (log ++ more) later → (event : ℕ) → event ≤ length (events log)
     → shown_by event (entries later) ≡ shown_by event (entries known)
-shown_stays log more known later are are_later event within =
+shown_stays further log more known later are are_later event within =
     same_shown event later known (λ k rule.
     let newer = seen-more log more in
-    ap (shown event) (are_later k rule ∙ ap (λ s. fault_in (tested_by (log ++ more)) s k rule) newer.1)
-    ∙ stays-in event (tested_by (log ++ more)) newer.0 (seen_in log) k rule (subst (λ n. event ≤ n) (sym (counted log)) within)
-    ∙ same-tested log more event k rule
+    ap (shown event) (are_later k rule ∙ ap (λ s. fault_in (tested_by further (log ++ more)) s k rule) newer.1)
+    ∙ stays-in event (tested_by further (log ++ more)) newer.0 (seen_in log) k rule (subst (λ n. event ≤ n) (sym (counted log)) within)
+    ∙ same-tested further log more event k rule
     ∙ ap (shown event) (sym (are k rule)))

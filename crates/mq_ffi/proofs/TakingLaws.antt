@@ -37,7 +37,7 @@ afterwards limit judge log front back refusal (stops, has_refused) =
         unrefused = subst (λ (bytes : List ℕ). refused limit bytes ≡ None) along stops.unrefused;
         why = subst (λ (bytes : List ℕ). IsRefusedByte limit bytes stops.byte refusal) along stops.why;
       },
-      subst (λ (bytes : List ℕ). HasRefused judge.tracer judge.judging.watching bytes refusal) along has_refused,
+      subst (λ (bytes : List ℕ). HasRefused judge.further judge.tracer judge.judging.watching bytes refusal) along has_refused,
     )
 
 pub takes_nothing : (judge : Judge) (refusal : Option Refusal) → TakesIn [] judge judge refusal refusal (Ok tt)
@@ -49,6 +49,7 @@ takes_nothing judge refusal = (
         subst (Follows judge) same follows,
         refl,
       ),
+  refl,
 )
 
 -- a piece that is taken in, and then another
@@ -61,6 +62,7 @@ takes_both front back first middle last before between after (Ok _) one other = 
       let next = other.1 (log ++ front) before.1 in
       let along : (log ++ front) ++ back ≡ log ++ (front ++ back) = append_assoc log front back in
       (subst (λ (bytes : List ℕ). refused last.limit bytes ≡ None) along next.0, subst (Follows last) along next.1, next.2 ∙ before.2),
+  other.2 ∙ one.2,
 )
 takes_both front back first middle last before between after (Err trouble) one other = (
   other.0,
@@ -70,12 +72,13 @@ takes_both front back first middle last before between after (Err trouble) one o
     λ log follows.
         afterwards last.limit last log front back other.1.0 (other.1.2 (log ++ front) (one.1 log follows).1),
   ),
+  other.2 ∙ one.2,
 )
 
 -- a piece that isn't, of which more was to come
 pub takes_first : (front back : List ℕ) (old new : Judge) (before after : Option Refusal) (trouble : Trouble)
     → TakesIn front old new before after (Err trouble) → TakesIn (front ++ back) old new before after (Err trouble)
-takes_first front back old new before after trouble is = (is.0, (is.1.0, is.1.1, λ log follows. earlier new.limit new log front back is.1.0 (is.1.2 log follows)))
+takes_first front back old new before after trouble is = (is.0, (is.1.0, is.1.1, λ log follows. earlier new.limit new log front back is.1.0 (is.1.2 log follows)), is.2)
 
 -- These bytes are in records, of which all but those with the rest were taken in.
 pub record HasTaken (written : List ℕ → List ℕ) (bytes rest : List ℕ) (old new : Judge) (before after : Option Refusal) : Type 0 where

@@ -9,7 +9,7 @@ use Rattle.mq_rules.specs.declared.role.Role.TheVariants as roles
 use Rattle.mq_rules.specs.declared.fault.Fault.{Fault}
 use Rattle.mq_rules.specs.declared.faults.FaultKey.{FaultKey}
 use Rattle.mq_rules.specs.FaultKeys.{FaultMap, faults_at}
-use Rattle.mq_rules.specs.Rules.{all_rules}
+use Rattle.mq_rules.specs.Rules.{all_rules, is_further}
 use Rattle.mq_rules.specs.Weights.{in_word}
 use Rattle.mq_rules.specs.Notes.{seen_in}
 use Rattle.mq_books.specs.Burden.{burden}
@@ -29,6 +29,15 @@ nth (x ∷ xs) (suc n) = nth xs n
 -- the statement with this number, in the order of reports, counted from 0
 abbrev pub statement_at : ℕ → Option Rule
 statement_at = nth all_rules
+
+-- a statement, if it is judged without being asked for: a further one isn't
+abbrev pub unless_further : Option Rule → Option Rule
+unless_further None = None
+unless_further (Some rule) = if is_further rule then None else Some rule
+
+-- the statement with this number, if it is judged
+abbrev pub judged_at : ℕ → Option Rule
+judged_at number = unless_further (statement_at number)
 
 -- the end with this number
 abbrev pub role_at : ℕ → Option Role
@@ -79,7 +88,7 @@ chosen_fault (choices.From position) faults = first_fault_from position faults
 pub record AsksFault (chosen : List Found → Option Found) (before after : FaultRow) (old new : Live) (code : ℕ) : Type 0 where
   pub same : new ≡ old
   pub faults : FaultMap
-  pub known : (taken : List ℕ) → Knows old.judge taken → AreFaultsOf taken faults
+  pub known : (taken : List ℕ) → Knows old.judge taken → AreFaultsOf old.judge.further taken faults
   pub shown : ShowsRow (chosen (map.entries faults)) before after code
 
 -- It counts them.
@@ -87,7 +96,7 @@ pub record CountsFaults (after : ℕ) (old new : Live) (code : ℕ) : Type 0 whe
   pub same : new ≡ old
   pub answer : code ≡ 0
   pub faults : FaultMap
-  pub known : (taken : List ℕ) → Knows old.judge taken → AreFaultsOf taken faults
+  pub known : (taken : List ℕ) → Knows old.judge taken → AreFaultsOf old.judge.further taken faults
   pub counted : after ≡ map.len faults
 
 -- It weighs exactly what the judge keeps, which is bounded by what is open in the log.

@@ -117,7 +117,7 @@ pub record FinishesAs (before after : ℕ) (old new : Live) (code : ℕ) : Type 
   pub counts : WritesCount answer before after code
   pub finishes : Finishes old new answer
 
--- how many places a statement has, if there is such a statement
+-- how many places a statement has, if there is such a statement that is judged
 abbrev pub PlacesBy : Option Rule → Live → Result ℕ Trouble → Type 0
 PlacesBy None live answer = answer ≡ Err troubles.Absent
 PlacesBy (Some rule) live answer = AnswersPlaces rule live answer

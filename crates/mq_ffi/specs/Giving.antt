@@ -61,7 +61,7 @@ IsGiven old new None result = (result ≡ None) × (new ≡ old)
 -- the fault that comes next, of those that are known
 pub record GivesNext (old new : Live) (result : Option FaultRow) : Type 0 where
   pub faults : FaultMap
-  pub known : (taken : List ℕ) → Knows old.judge taken → AreFaultsOf taken faults
+  pub known : (taken : List ℕ) → Knows old.judge taken → AreFaultsOf old.judge.further taken faults
   pub next : Option (FaultRow × Turn)
   pub gives : Gives old.turn (map.entries faults) next
   pub is : IsGiven old new next result

@@ -22,33 +22,37 @@ use Rattle.mq_ffi.specs.Telling.{bytes_of}
 abbrev pub Answer : Type 0
 Answer = Result (Unit {0}) Trouble
 
--- The judge was told this log, and refused none of it. Nothing is told before the first call. It counts how often each statement is put to the test.
+-- The judge was told this log, and refused none of it. Nothing is told before the first call. It counts how often each statement is put to the test, and doesn't judge the further
+-- statements.
 pub record IsTold (live : Live) (log : List ℕ) : Type 0 where
   pub follows : Follows live.judge log
   pub unrefused : live.refusal ≡ None
   pub first : live.source ≡ sources.Nothing → log ≡ []
   pub counting : is_counting live.judge ≡ true
+  pub usual : live.judge.further ≡ false
 
 -- The call is refused for this reason, and changes nothing.
 abbrev pub Declines : Trouble → Live → Live → Answer → Type 0
 Declines trouble old new answer = (answer ≡ Err trouble) × (new ≡ old)
 
--- A log that wasn't refused so far is refused, and why. The judge knows the faults of the events before the refused byte.
+-- A log that wasn't refused so far is refused, and why. The judge knows the faults of the events before the refused byte, but for those of the further statements.
 pub record IsStopped (limit : ℕ) (log piece : List ℕ) (new : Live) : Type 0 where
   pub refusal : Refusal
   pub kept : new.refusal ≡ Some refusal
   pub why : RefusesIn limit new.judge log piece refusal
+  pub usual : new.judge.further ≡ false
 
 -- The judge was told these bytes after this log, and from then on is told what this source gives: either nothing is refused, or it is known what is.
 abbrev pub Takes : Source → List ℕ → List ℕ → Live → Answer → Type 0
 Takes source log piece new (Ok _) = (refused new.judge.limit (log ++ piece) ≡ None) × IsTold new (log ++ piece) × (new.source ≡ source)
 Takes source log piece new (Err trouble) = (trouble ≡ troubles.Refused) × IsStopped new.judge.limit log piece new
 
--- The same of a judge and of what is kept of its refusal.
+-- The same of a judge and of what is kept of its refusal. It goes on to judge the further statements too, or not.
 abbrev pub TakesIn : List ℕ → Judge → Judge → Option Refusal → Option Refusal → Answer → Type 0
 TakesIn piece old new before after (Ok _) = (after ≡ before) × ((log : List ℕ) → Follows old log → (refused new.limit (log ++ piece) ≡ None) × Follows new (log ++ piece) × (is_counting new ≡ is_counting old))
+    × (new.further ≡ old.further)
 TakesIn piece old new before after (Err trouble) =
-    (trouble ≡ troubles.Refused) × ((refusal : Refusal) × (after ≡ Some refusal) × ((log : List ℕ) → Follows old log → RefusesIn new.limit new log piece refusal))
+    (trouble ≡ troubles.Refused) × ((refusal : Refusal) × (after ≡ Some refusal) × ((log : List ℕ) → Follows old log → RefusesIn new.limit new log piece refusal)) × (new.further ≡ old.further)
 
 -- Once a log is refused each call says so, and changes nothing.
 abbrev pub StaysRefused : Live → Live → Answer → Type 0
@@ -96,7 +100,7 @@ pub record Tells (event : Event) (old new : Live) (answer : Answer) : Type 0 whe
 -- The log ends: it is whole, and has so many events, or is refused as cut short. The faults stay known.
 abbrev pub Ends : List ℕ → Live → Result ℕ Trouble → Type 0
 Ends log new (Ok count) = (is_cut_short log ≡ false) × (count ≡ length (events log)) × IsTold new log × (new.source ≡ sources.Ended)
-Ends log new (Err trouble) = (trouble ≡ troubles.Refused) × ((refusal : Refusal) × (new.refusal ≡ Some refusal) × IsRefusedEnd log refusal) × Knows new.judge log
+Ends log new (Err trouble) = (trouble ≡ troubles.Refused) × ((refusal : Refusal) × (new.refusal ≡ Some refusal) × IsRefusedEnd log refusal) × Knows new.judge log × (new.judge.further ≡ false)
 
 -- whether the log has ended
 abbrev pub is_end : Source → Bool
@@ -117,4 +121,4 @@ pub record Finishes (old new : Live) (answer : Result ℕ Trouble) : Type 0 wher
 -- what asking how often a statement was put to the test answers
 pub record AnswersPlaces (rule : Rule) (live : Live) (answer : Result ℕ Trouble) : Type 0 where
   pub for_ever : IfSome live.refusal (λ _. answer ≡ Err troubles.Refused)
-  pub counted : (log : List ℕ) → IsTold live log → answer ≡ Ok (places_in log rule)
+  pub counted : (log : List ℕ) → IsTold live log → answer ≡ Ok (places_in false log rule)

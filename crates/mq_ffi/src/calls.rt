@@ -1,7 +1,7 @@
 //! What the exported functions do: each takes the judge out of the handle, asks it, and puts it
 //! back.
 ghost use Rattle.std.specs.Prelude.{◌≡◌, ℕ, None};
-ghost use Rattle.mq_ffi.specs.Asking.{AsksFault, CountsFaults, ShowsFound, Weighs, chosen_fault, statement_at as statement_of};
+ghost use Rattle.mq_ffi.specs.Asking.{AsksFault, CountsFaults, ShowsFound, Weighs, chosen_fault, judged_at as judged_of};
 ghost use Rattle.mq_ffi.specs.Calling.{Asked, AskedInto, Makes, MakesWith, limit_by as limit_for, Frees, FeedsAs, BeginsAs, TellsAs, AsksRefusal, AsksName, FinishesAs, BeginsWith, AsksPlaces, PlacesBy};
 ghost use Rattle.mq_ffi.specs.Giving.{AsksNext};
 ghost use Rattle.mq_ffi.specs.Holding.{held};
@@ -10,7 +10,7 @@ use crate::about::put_text;
 use crate::answer::{Trouble, code_of};
 use crate::asking::{Choice, choose};
 use crate::event::Event;
-use crate::fault::{FaultRow, statement_at};
+use crate::fault::{FaultRow, judged_at};
 use crate::handle::Handle;
 use crate::live::Live;
 use mq_log::Header;
@@ -161,9 +161,9 @@ pub fn weight_of(alloc: Global, judge: &mut Handle, weight: &mut usize) -> u32
     code_of(Ok(()))
 }
 
-/// How many places the statement with this number has.
+/// How many places the statement with this number has, if it is judged.
 pub fn place_count(alloc: Global, judge: &mut Handle, statement: u32, places: &mut u32) -> u32
-    ensures { AskedInto (places.new ≡ places.old) (AsksPlaces (statement_of statement) places.old places.new) (held judge.old) (held judge.new) result }
+    ensures { AskedInto (places.new ≡ places.old) (AsksPlaces (judged_of statement) places.old places.new) (held judge.old) (held judge.new) result }
 {
     let Some(live) = judge.take(alloc) else {
         return code_of(Err(Trouble::NoJudge));
@@ -179,11 +179,11 @@ pub fn place_count(alloc: Global, judge: &mut Handle, statement: u32, places: &m
     }
 }
 
-// How many places the statement with this number has.
+// How many places the statement with this number has, if it is judged.
 fn places_of(live: &Live, statement: u32) -> Result<u32, Trouble>
-    ensures { PlacesBy (statement_of statement) live.now result }
+    ensures { PlacesBy (judged_of statement) live.now result }
 {
-    match statement_at(statement) {
+    match judged_at(statement) {
         Some(rule) => live.places(rule),
         None => Err(Trouble::Absent),
     }

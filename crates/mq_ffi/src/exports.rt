@@ -6,7 +6,7 @@ ghost use Rattle.mq_rules.specs.FaultKeys.{faults_at};
 ghost use Rattle.mq_rules.specs.Rules.{code_of as code_text};
 ghost use Rattle.mq_rules.specs.Naming.{citation_of, sentence_of};
 ghost use Rattle.mq_ffi.specs.declared.event.Event.TheVariants as happened;
-ghost use Rattle.mq_ffi.specs.Asking.{AsksFault, CountsFaults, Weighs, first_fault_from, nth, statement_at as statement_of, role_at as role_of};
+ghost use Rattle.mq_ffi.specs.Asking.{AsksFault, CountsFaults, Weighs, first_fault_from, nth, judged_at as judged_of, statement_at as statement_of, role_at as role_of};
 ghost use Rattle.mq_ffi.specs.Calling.{Asked, AskedInto, Makes, Frees, FeedsAs, BeginsAs, TellsAs, AsksPlaces, AsksRefusal, AsksName, FinishesAs};
 ghost use Rattle.mq_ffi.specs.Giving.{AsksNext};
 ghost use Rattle.mq_ffi.specs.Holding.{held};
@@ -183,7 +183,7 @@ pub extern "C" fn mqjudge_places(
     statement: u32,
     places: &mut u32,
 ) -> u32
-    ensures { AskedInto (places.new ≡ places.old) (AsksPlaces (statement_of statement) places.old places.new) (held judge.old) (held judge.new) result }
+    ensures { AskedInto (places.new ≡ places.old) (AsksPlaces (judged_of statement) places.old places.new) (held judge.old) (held judge.new) result }
 {
     place_count(alloc, judge, statement, places)
 }

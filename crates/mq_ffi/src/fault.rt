@@ -1,6 +1,6 @@
 //! A fault, as C reads it.
 ghost use Rattle.std.specs.Prelude.{◌≡◌, Some};
-ghost use Rattle.mq_ffi.specs.Asking.{IsRow, statement_at, role_at};
+ghost use Rattle.mq_ffi.specs.Asking.{IsRow, judged_at, statement_at, role_at, unless_further};
 
 use mq_rules::{Fault, FaultKey, Role, Rule};
 
@@ -51,6 +51,23 @@ pub fn statement_at(number: u32) -> Option<Rule>
     ensures { result ≡ statement_at number }
 {
     Rule::all().get(number as usize).copied()
+}
+
+/// The statement with this number, if there is one that is judged: a further one isn't.
+pub fn judged_at(number: u32) -> Option<Rule>
+    ensures { result ≡ judged_at number }
+{
+    match statement_at(number) {
+        Some(rule) => unless_further(rule),
+        None => None,
+    }
+}
+
+// The statement, unless it is a further one.
+fn unless_further(rule: Rule) -> Option<Rule>
+    ensures { result ≡ unless_further (Some rule) }
+{
+    if rule.is_further() { None } else { Some(rule) }
 }
 
 /// The end with this number: 0 is a client, 1 a server.

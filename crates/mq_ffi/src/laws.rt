@@ -1,5 +1,5 @@
 //! What an event shows, as the contract of a function that does nothing.
-ghost use Rattle.std.specs.Prelude.{◌≡◌, ◌<◌, ◌≤◌, ◌++◌, ℕ, List, [], length};
+ghost use Rattle.std.specs.Prelude.{◌≡◌, ◌<◌, ◌≤◌, ◌++◌, ℕ, Bool, List, [], length};
 ghost use Rattle.std.specs.FinMap as map;
 ghost use Rattle.mq_log.specs.Events.{events};
 ghost use Rattle.mq_rules.specs.FaultKeys.{FaultMap};
@@ -10,6 +10,6 @@ ghost use Rattle.mq_ffi.specs.Giving.{shown_by};
 /// isn't in the log yet. So the faults that come after those of the last event are new, and nothing
 /// is missed by whoever asks for them in this order.
 pub fn what_an_event_shows_stays()
-    ensures stays { (log more : List ℕ) (known later : FaultMap) → AreFaultsOf log known → AreFaultsOf (log ++ more) later → (event : ℕ) → event ≤ length (events log) → shown_by event (map.entries later) ≡ shown_by event (map.entries known) }
-    ensures none_yet { (log : List ℕ) (known : FaultMap) → AreFaultsOf log known → (event : ℕ) → length (events log) < event → shown_by event (map.entries known) ≡ [] }
+    ensures stays { (further : Bool) (log more : List ℕ) (known later : FaultMap) → AreFaultsOf further log known → AreFaultsOf further (log ++ more) later → (event : ℕ) → event ≤ length (events log) → shown_by event (map.entries later) ≡ shown_by event (map.entries known) }
+    ensures none_yet { (further : Bool) (log : List ℕ) (known : FaultMap) → AreFaultsOf further log known → (event : ℕ) → length (events log) < event → shown_by event (map.entries known) ≡ [] }
 {}

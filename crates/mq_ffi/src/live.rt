@@ -45,6 +45,7 @@ pub struct Live {
 
 impl Live {
     /// A judge that was told nothing. It reads packets of at most `limit` bytes: 5 to 268,435,460.
+    /// It doesn't judge the further statements.
     pub fn new(alloc: Global, limit: u32) -> Live
         ensures told { IsTold result [] }
         ensures limit { result.judge.limit ≡ limit }
@@ -52,7 +53,13 @@ impl Live {
         ensures turn { result.turn ≡ record { event = 0; given = 0 } }
     {
         Live {
-            judge: Judge::counting(alloc, Options { limit }),
+            judge: Judge::counting(
+                alloc,
+                Options {
+                    limit,
+                    further: false,
+                },
+            ),
             source: Source::Nothing,
             refusal: None,
             turn: Turn { event: 0, given: 0 },
@@ -61,7 +68,7 @@ impl Live {
 
     /// The faults that are known.
     pub fn known(&self) -> &Faults
-        ensures { (taken : List ℕ) → Knows self.now.judge taken → AreFaultsOf taken result.now }
+        ensures { (taken : List ℕ) → Knows self.now.judge taken → AreFaultsOf self.now.judge.further taken result.now }
     {
         self.judge.known()
     }

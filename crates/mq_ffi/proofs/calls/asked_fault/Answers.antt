@@ -1,5 +1,5 @@
-use Rattle.std.proofs.Common.{◌≡◌, subst, sym, refl, Option, Some}
-use Rattle.mq_judge.specs.Judging.{Knows}
+use Rattle.std.proofs.Common.{◌≡◌, ℕ, List, subst, sym, refl, Option, Some}
+use Rattle.mq_judge.specs.Judging.{AreFaultsOf, Knows}
 use Rattle.mq_ffi.specs.declared.live.Live.{Live}
 use Rattle.mq_ffi.specs.Asking.{AsksFault, chosen_fault}
 use Rattle.mq_ffi.specs.Calling.{AskedInto}
@@ -13,7 +13,7 @@ returns c =
     let asked : asks c.in-Some.live.value c.in-Some.live.value c.write_found-answer.result = record {
       same = refl;
       faults = c.known.result.now;
-      known = λ taken k. c.known.ensures taken (subst (λ (l : Live). Knows l.judge taken) (sym c.deref.ensures) k);
+      known = subst (λ (l : Live). (taken : List ℕ) → Knows l.judge taken → AreFaultsOf l.judge.further taken c.known.result.now) c.deref.ensures c.known.ensures;
       shown = shows_row _ c.choose.result c.args.fault.now c.write_found-answer.new.fault c.write_found-answer.result c.choose.ensures c.write_found-answer.ensures;
     } in
     subst (λ (o : Option Live). AskedInto (c.write_found-answer.new.fault ≡ c.args.fault.now) asks o (held c.put.new.self) c.write_found-answer.result) c.in-Some.ensures.taken

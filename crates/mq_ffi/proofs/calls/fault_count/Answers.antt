@@ -1,5 +1,5 @@
-use Rattle.std.proofs.Common.{◌≡◌, subst, sym, refl, Option, Some}
-use Rattle.mq_judge.specs.Judging.{Knows}
+use Rattle.std.proofs.Common.{◌≡◌, ℕ, List, subst, sym, refl, Option, Some}
+use Rattle.mq_judge.specs.Judging.{AreFaultsOf, Knows}
 use Rattle.mq_ffi.specs.declared.live.Live.{Live}
 use Rattle.mq_ffi.specs.Asking.{CountsFaults}
 use Rattle.mq_ffi.specs.Calling.{AskedInto}
@@ -13,7 +13,7 @@ returns c =
       same = refl;
       answer = c.code_of-2.ensures;
       faults = c.known.result.now;
-      known = λ taken k. c.known.ensures taken (subst (λ (l : Live). Knows l.judge taken) (sym c.deref.ensures) k);
+      known = subst (λ (l : Live). (taken : List ℕ) → Knows l.judge taken → AreFaultsOf l.judge.further taken c.known.result.now) c.deref.ensures c.known.ensures;
       counted = c.len.ensures;
     } in
     subst (λ (o : Option Live). AskedInto (c.len.result ≡ c.args.faults.now) asks o (held c.put.new.self) c.code_of-2.result) c.in-Some.ensures.taken

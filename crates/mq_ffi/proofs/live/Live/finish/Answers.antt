@@ -15,7 +15,7 @@ returns-in-Err c =
       given = refl;
       for_ever = if_none old.refusal _ (sym c.is_some.ensures ∙ c.if-is_some.false);
       taken = λ log told. ends_from old.source log old new (Err troubles.Refused) (sym c.has_ended.ensures ∙ c.if-has_ended.false)
-          (refl, (c.in-Err.refusal, refl, c.in-Err.ensures.verdict log told.follows), c.end.ensures.known log told.follows);
+          (refl, (c.in-Err.refusal, refl, c.in-Err.ensures.verdict log told.follows), c.end.ensures.known log told.follows, c.end.ensures.further ∙ told.usual);
     }
 
 pub returns-in-Ok : goal.returns-in-Ok
@@ -35,6 +35,7 @@ returns-in-Ok c =
               unrefused = told.unrefused;
               first = λ e. absurd (ended_is_last e);
               counting = ap is_counting c.in-Ok.ensures.same ∙ told.counting;
+              usual = c.end.ensures.further ∙ told.usual;
             },
             refl,
           );
