@@ -3,14 +3,15 @@
 
 That is the position of an earlier event, or none, and at most two numbers. It is a second opinion, and no part of the program: it was
 written from the words of the statements, which are the sentences of the functions here too. Like occasions.py it looks back over the
-whole log for each fault, and keeps no state from one position to the next. Whether there is a fault is reference.py's.
+whole log for each fault, and keeps no state from one position to the next. Whether there is a fault is reference.py's, and with --all,
+of the further statements that the program judges on request, further.py's.
 
 For each log it prints its report, as `mqjudge check` does, and under each fault a line `because POSITION CODE event POSITION numbers N N`:
 `event -` where no event is to blame, and no numbers where there are none. With --words it says after that, in parentheses, what the event
 is, or what never came, in the words that the program has for it (mq_report/specs/Because.antt). With --self-test it checks worked logs
 (worked_because.py), those of the suite, and laws on these and many others.
 
-usage: bench/because.py [--words] LOG..
+usage: bench/because.py [--words] [--all] LOG..
        bench/because.py --self-test [--made 150]
 """
 import argparse
@@ -20,7 +21,9 @@ from dataclasses import dataclass
 from pathlib import Path
 
 sys.dont_write_bytecode = True  # the repository stays as it is
+import on_request
 import reference
+from further_table import JUDGED
 from reading import (
     CONNACK, CONNECT, DISCONNECT, NAMES, PINGREQ, PINGRESP, PUBREC, PUBREL, Recording, SUBACK, SUBSCRIBE, UNSUBACK, UNSUBSCRIBE,
 )
@@ -449,7 +452,29 @@ def counts_wrongly(exchange: str) -> Reason:
 
 REASONS["B03"] = counts_wrongly("E5")
 REASONS["B04"] = counts_wrongly("E6")
-assert set(REASONS) == set(CITATIONS)
+
+# -- F and A, of further statements: the CONNECT of the connection
+
+
+@says("F05")
+def accepts_too_high_a_will(log: Log, k: int) -> Evidence:
+    """The CONNECT, whose Will has a QoS that the server can't take."""
+    return Evidence("the CONNECT, with a Will QoS above the announced maximum", connect_of(log, k))
+
+
+@says("F06")
+def accepts_a_will_to_retain(log: Log, k: int) -> Evidence:
+    """The CONNECT, whose Will is to be retained."""
+    return Evidence("the CONNECT, with Will Retain 1", connect_of(log, k))
+
+
+@says("A02")
+def authenticates_unasked(log: Log, k: int) -> Evidence:
+    """The CONNECT, which names no method."""
+    return Evidence("the CONNECT, without an Authentication Method", connect_of(log, k))
+
+
+assert set(REASONS) == {*CITATIONS, *JUDGED}
 
 # ---- what is said
 
@@ -464,10 +489,11 @@ def line(k: int, rule: str, found: Evidence) -> str:
     return f"because {k} {rule} event {found.because or '-'}{' numbers' + numbers if numbers else ''}"
 
 
-def lines(recording: Recording, with_words: bool = False) -> list[str]:
-    """The report on a log, with a line under each fault."""
+def lines(recording: Recording, with_words: bool = False, with_all: bool = False) -> list[str]:
+    """The report on a log, or that on all that the program judges, with a line under each fault."""
     log, out = Log(recording.events, recording.role, recording.releases), []
-    for said in reference.reported(recording).splitlines():
+    report = (on_request if with_all else reference).reported(recording)
+    for said in report.splitlines():
         out.append(said)
         if said.startswith("fault "):
             _, at, rule, *_ = said.split()
@@ -480,6 +506,7 @@ def main() -> int:
     arguments = argparse.ArgumentParser(description="Says of each fault of logs what it conflicts with.")
     arguments.add_argument("logs", nargs="*", type=Path, metavar="LOG")
     arguments.add_argument("--words", action="store_true", help="say it in words too")
+    arguments.add_argument("--all", action="store_true", help="judge by the further statements too that the program judges")
     arguments.add_argument("--self-test", action="store_true", help="check worked logs, the suite and laws")
     arguments.add_argument("--made", type=int, default=150, help="how many logs of each kind it makes")
     given = arguments.parse_args()
@@ -492,7 +519,7 @@ def main() -> int:
     for path in given.logs:
         if len(given.logs) > 1:
             print(f"{path}:")
-        print(*lines(Recording(path.read_bytes()), given.words), sep="\n")
+        print(*lines(Recording(path.read_bytes()), given.words, given.all), sep="\n")
     return 0
 
 

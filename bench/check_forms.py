@@ -6,7 +6,8 @@ usage: bench/check_forms.py PROGRAM [LOG ..]
 The text report of each log is made into the other forms here, in Python: each of the worked logs of check_rows.py, a log of
 3,000 faults, one of long packets that break a rule, one of texts that do, one of packets that aren't whole at a CLOSE, refused logs, some of all these in version 2, one with
 moments of a century, and the logs that are named. What each tests (`--coverage`) is what occasions.py finds, and what its faults
-conflict with (`--why`, `show --faults`) what because.py finds, but for a log that is too long for that. JSON is also read back by
+conflict with (`--why`, `show --faults`) what because.py finds, but for a log that is too long for that. With `--all` each form is made
+from the same text report with the further faults of on_request.py in it. JSON is also read back by
 Python's json module. What `show --faults` is to print is made from the text report, from what `show` prints, and from Python's
 dates. The bytes of packets that break a rule, or aren't whole at a CLOSE, are those that reading.py finds in the log. Each line of
 `show` is that of showing.py, and each of `show --long` begins with it.
@@ -27,9 +28,13 @@ from pathlib import Path
 sys.dont_write_bytecode = True  # the repository stays as it is
 import because
 import check_rows
+import further_worked
 import occasions
+import on_request
 import reading
 import showing
+from further_table import JUDGED
+from judges import STATUSES
 from versions import clock, in_version_2
 
 CONNECT = bytes.fromhex("100D00044D5154540502003C000000")
@@ -112,8 +117,18 @@ def counted(body: bytes) -> bytes:
     return (bytes([size]) if size < 128 else bytes([size % 128 + 128, size // 128])) + body
 
 
+def asking() -> bytes:
+    """A server that breaks the further statements, among others, and several at one event, on connection after connection."""
+    names, words = further_worked.packets(), []
+    for connect in ("CONNECT-WILL-2", "CONNECT-WILL-RETAINED", "CONNECT-M", "CONNECT-NAMED", "CONNECT"):
+        for connack in ("CONNACK-QOS-1", "CONNACK-NO-RETAIN", "CONNACK-M", "200B000008240125001500016D", "CONNACK-RESUMED"):
+            words += ["OPEN", f"<{connect}", f">{connack}", ">AUTH-M", ">PUBLISH1:1", f">{connack}", "<PINGREQ", "REST", "CLOSE"]
+    return check_rows.log_of("server " + " ".join(words), names)
+
+
 def logs(paths: list[str]) -> list[tuple[str, bytes]]:
     found = [(row.name, row.log) for row in check_rows.rows()]
+    found.append(("a server that further statements are about", asking()))
     found.append(("3,000 faults", many_faults(3000)))
     found.append(("long packets that break a rule", long_broken()))
     found.append(("texts that break a rule", wrong_texts()))
@@ -261,6 +276,7 @@ def all_codes() -> list[str]:
         + [f"S{n:02}" for n in range(1, 8)]
         + [code for code in exchanges if code not in left_out]
         + ["L1", "L2", "L3", "B01", "B02", "B03", "B04"]
+        + list(JUDGED)
     )
 
 
@@ -271,44 +287,61 @@ def run(program: str, log: bytes, *words: str) -> tuple[int, str, str]:
 
 def all_sentences(program: str) -> dict[str, str]:
     """What each statement says, by its code."""
-    lines = (line.split(" ", 3) for line in run(program, b"", "rules")[1].splitlines())
+    lines = (line.split(" ", 3) for line in run(program, b"", "rules", "--all")[1].splitlines())
     return {code: sentence for code, _, _, sentence in lines}
 
 
-def wanted_of(program: str, name: str, log: bytes, path: str, sentences: dict[str, str]) -> dict[tuple[str, ...], tuple[int, str, str]]:
+Answer = tuple[int, str, str]  # status, standard output, standard error
+Wanted = dict[tuple[str, ...], Answer]  # what each command line is to answer
+
+
+def wanted_of(program: str, name: str, log: bytes, path: str, sentences: dict[str, str]) -> Wanted:
     """What each command line is to answer for this log, which is at this path too."""
     status, text, errors = run(program, log, "check")
-    wanted = {
-        ("check", "--json"): (status, as_json(text), errors),
-        ("check", "--summary"): (status, in_short(text), errors),
-        ("check", "--json", "--summary"): (status, as_json(text), errors),
-    }
-    covered = with_coverage(name, log, text)
-    if covered is not None:
-        wanted |= {
-            ("check", "--coverage"): (status, covered, errors),
-            ("check", "--json", "--coverage"): (status, as_json(covered), errors),
-            ("check", "--coverage", "--summary"): (status, in_short(covered), errors),
-            ("check", "--summary", "--coverage", "--json"): (status, as_json(covered), errors),
-        }
-    told = with_reasons(log, text)
-    if told is not None:
-        wanted |= {
-            ("check", "--why", path): (status, told, errors),
-            ("check", "--json", "--why", path): (status, as_reasoned_json(told), errors),
-            ("check", "--why", "--summary", path): (status, in_short(text), errors),
-        }
-    said = said_of_faults(name, log, text)
+    wanted = wanted_of_checks(name, log, path, (status, text, errors), False)
+    with_all = on_request.with_further(text, reading.Recording(log))
+    answer = STATUSES[with_all.splitlines()[-1].split()[0]], with_all, errors
+    wanted |= {("check", "--all"): answer, **wanted_of_checks(name, log, path, answer, True)}
     for long in ((), ("--long",)):
         shown = run(program, log, "show", *long)
         events = with_bytes(shown[1], log)
         if long:
             wanted["show", *long] = (shown[0], events, shown[2])
-        for around in (None, 0, 1, 3) if said is not None else ():
-            nearness = () if around is None else ("--around", str(around))
-            answer = (shown[0], under_events(events, text, sentences, said, around), shown[2])
-            wanted["show", "--faults", *long, *nearness, path] = answer
+        for report, options in ((text, ()), (with_all, ("--all",))):
+            said = said_of_faults(name, log, report)
+            distances = (None, 0, 1, 3) if report != text or not options else (0,)
+            for around in distances if said is not None else ():
+                nearness = () if around is None else ("--around", str(around))
+                under = under_events(events, report, sentences, said, around)
+                wanted["show", "--faults", *options, *long, *nearness, path] = (shown[0], under, shown[2])
     return wanted
+
+
+def wanted_of_checks(name: str, log: bytes, path: str, answer: Answer, with_all: bool) -> Wanted:
+    """The other forms of a text report, of the 74 statements or of all."""
+    status, text, errors = answer
+    wanted = {
+        ("--json",): (status, as_json(text), errors),
+        ("--summary",): (status, in_short(text), errors),
+        ("--json", "--summary"): (status, as_json(text), errors),
+    }
+    covered = with_coverage(name, log, text, with_all)
+    if covered is not None:
+        wanted |= {
+            ("--coverage",): (status, covered, errors),
+            ("--json", "--coverage"): (status, as_json(covered), errors),
+            ("--coverage", "--summary"): (status, in_short(covered), errors),
+            ("--summary", "--coverage", "--json"): (status, as_json(covered), errors),
+        }
+    told = with_reasons(log, text, with_all)
+    if told is not None:
+        wanted |= {
+            ("--why", path): (status, told, errors),
+            ("--json", "--why", path): (status, as_reasoned_json(told), errors),
+            ("--why", "--summary", path): (status, in_short(text), errors),
+        }
+    options = ("--all",) if with_all else ()
+    return {("check", *words[:1], *options, *words[1:]): one for words, one in wanted.items()}
 
 
 def wrong_lines(program: str, log: bytes) -> list[str]:
@@ -319,23 +352,24 @@ def wrong_lines(program: str, log: bytes) -> list[str]:
     return wrong + [line for line, one in zip_longest(long, wanted, fillvalue="") if not one or not line.startswith(one)]
 
 
-def with_coverage(name: str, log: bytes, text: str) -> str | None:
+def with_coverage(name: str, log: bytes, text: str, with_all: bool) -> str | None:
     """The text report with what was tested, which is known by how the log was made, or by occasions.py if it isn't too long."""
     if name.startswith("3,000 faults"):
-        return occasions.covering(text, occasions.of_publishes(3_001))
-    return occasions.covering(text, occasions.lines(reading.Recording(log))) if len(log) < SHORT else None
+        return None if with_all else occasions.covering(text, occasions.of_publishes(3_001))
+    tested = on_request.tested if with_all else occasions.lines
+    return occasions.covering(text, tested(reading.Recording(log))) if len(log) < SHORT else None
 
 
-def with_reasons(log: bytes, text: str) -> str | None:
+def with_reasons(log: bytes, text: str, with_all: bool) -> str | None:
     """The text report with what each fault conflicts with, as because.py finds it, if the log isn't too long."""
     if text.startswith("refused"):
         return text
-    return reasoned(reading.Recording(log)) if len(log) < SHORT else None
+    return reasoned(reading.Recording(log), with_all) if len(log) < SHORT else None
 
 
-def reasoned(recording: reading.Recording) -> str:
+def reasoned(recording: reading.Recording, with_all: bool = False) -> str:
     """The text report on a log that isn't refused, with what each fault conflicts with."""
-    return "".join(f"{line}\n" for line in because.lines(recording))
+    return "".join(f"{line}\n" for line in because.lines(recording, with_all=with_all))
 
 
 def as_reasoned_json(text: str) -> str:

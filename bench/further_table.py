@@ -1,8 +1,9 @@
-"""The thirty further statements, in the order of reports: code, citations, and what each says; and where its words are kept.
+"""The thirty further statements, in the order of reports: code, citations, and what each says; where its words are kept; and which of
+them the program judges, on request.
 
-They are a part of the second opinion that further.py gives, and no part of the program: nothing judges them yet but that. Each was
-written from the words of docs/DECISIONS.md and of the standard. Like those of statements.py they look at the whole log for each
-position, and keep no state from one position to the next.
+They are a part of the second opinion that further.py gives, and no part of the program. Each was written from the words of
+docs/DECISIONS.md and of the standard, before the program judged any. Like those of statements.py they look at the whole log for
+each position, and keep no state from one position to the next.
 
 Two things are said of each statement: where its fault at a position is decided, if it has one there; and whether it is put to the
 test there. What is put to the test may hold all the same, and what fails was put to the test.
@@ -41,7 +42,7 @@ P02 - MQTT-3.3.4-3 A PUBLISH has an identifier if each matching subscription has
 R01 - MQTT-3.3.1-11,MQTT-3.3.1-12 RETAIN is 0 where no matching subscription can make it 1
 R02 - sec-4.8.2 No retained message is sent for a shared subscription
 A01 MQTT-3.1.2-30 - With a method only AUTH and DISCONNECT are sent before the CONNACK
-A02 MQTT-4.12.0-7 MQTT-4.12.0-6 Without an Authentication Method in CONNECT nothing else has one
+A02 MQTT-4.12.0-7 MQTT-4.12.0-6 Without an Authentication Method in CONNECT there is no enhanced authentication
 A03 MQTT-4.12.0-5,MQTT-4.12.1-1 MQTT-4.12.0-5 AUTH and CONNACK have the Authentication Method of the CONNECT
 K01 MQTT-3.1.2-20,MQTT-3.2.2-21 - A client isn't silent for longer than the Keep Alive
 K02 - MQTT-3.1.2-22,MQTT-3.2.2-22 A server closes the connection of a client that is silent
@@ -52,6 +53,7 @@ for line in SHAPES.strip().split("\n"):
     code, client, server, sentence = line.split(" ", 3)
     CITATIONS[code] = {role: text for role, text in (("client", client), ("server", server)) if text != "-"}
     SENTENCES[code] = sentence
+JUDGED = ("F05", "F06", "A02")  # that the program judges too, if `--all` asks for them
 TIMED = {"K01", "K02"}  # that look at moments
 OF_SESSIONS = {code for code in CITATIONS if code[0] in "BPR"}  # that are judged only where the session is known
 

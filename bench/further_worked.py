@@ -1,4 +1,5 @@
-"""Checks of further.py: worked logs (further_rows.txt), and laws that hold on these and on all other logs.
+"""Checks of further.py: worked logs (further_rows.txt), also those of mq_rules_tests, which are proved, of the statements that the
+program judges; and laws that hold on the former and on all other logs.
 
 It is a part of the second opinion that further.py gives, and no part of the program.
 """
@@ -15,8 +16,9 @@ import hostile_logs
 import honest_logs
 import random_logs
 import reference
+import worked_places
 from further import Fault, chosen, decided, faults, log_of, places
-from further_table import CITATIONS
+from further_table import CITATIONS, JUDGED
 from reading import Recording
 from sessions import Log
 
@@ -26,8 +28,8 @@ BEGINNINGS = 4  # of each log that isn't worked, with which it is compared
 SHORT = 5_000  # bytes of a worked log of the 74 statements on which the laws are checked
 LONGEST = 150  # events of a log that is made on which they are
 # What honest_logs.py doesn't heed: its servers answer each UNSUBSCRIBE by 0x00, and give any message a Subscription Identifier; its
-# clients give some too, and say PUBACK 0x10; and both ends send AUTH without a method.
-NOT_HEEDED = {"server": {"B07", "D03", "P01", "A02"}, "client": {"V06", "A02"}}
+# clients give some too, and say PUBACK 0x10.
+NOT_HEEDED = {"server": {"B07", "D03", "P01"}, "client": {"V06"}}
 # The beginnings of the names of packets that only one end sends.
 OF_CLIENTS = ("CONNECT", "RECONNECT", "BAD-CONNECT", "SUBSCRIBE", "SHARE", "UNSUBSCRIBE", "PINGREQ")
 OF_SERVERS = ("CONNACK", "RESUMED", "BAD-CONNACK", "SUBACK", "UNSUBACK", "PINGRESP")
@@ -38,6 +40,8 @@ class Row:
     line: str
     code: str
     which: str
+    bytes: bytes
+    recording: Recording
     log: Log
     is_timed: bool
     faults: list[Fault]
@@ -91,10 +95,12 @@ def rows() -> Iterator[Row]:
         head, words, wrong, at = (part.strip() for part in line.split("|"))
         code, which = head.partition(":")[0].split()
         is_timed = "@" in words
-        recording = Recording((timed_log if is_timed else check_rows.log_of)(words, names))
+        log = (timed_log if is_timed else check_rows.log_of)(words, names)
+        recording = Recording(log)
         assert recording.refusal is None, line
         expected = [fault_of(one) for one in wrong.split(";")] if wrong != "-" else []
-        yield Row(line, code, which, log_of(recording), is_timed, expected, [int(one) for one in at.split() if one != "-"])
+        tested = [int(one) for one in at.split() if one != "-"]
+        yield Row(line, code, which, log, recording, log_of(recording), is_timed, expected, tested)
 
 
 # ---- what is wrong
@@ -112,6 +118,17 @@ def wrong_row(row: Row) -> Iterator[str]:
     others = [one for one in reference.faults(row.log) if one[1][0] != "W"]
     if others and row.which != "near":
         yield f"{row.line}\n  it breaks {others} of the 74 statements too"
+
+
+def wrong_proved(proved: list[worked_places.Worked]) -> Iterator[str]:
+    """The worked logs of mq_rules_tests have just the faults that are proved of them; none where they aren't asked for."""
+    for one in proved:
+        found = [k for k, code, _ in faults(one.log, codes=JUDGED) if code == one.rule] if one.is_asked else []
+        if found != one.places:
+            yield f"{one.name}: proved {one.places}, found {found}"
+    seen = {(one.rule, one.log.role, bool(one.places)) for one in proved}
+    wanted = {(code, role, fails) for code in JUDGED for role in CITATIONS[code] for fails in (True, False)}
+    yield from (f"there is no proved log: {one}" for one in sorted(wanted - seen))
 
 
 def wrong_coverage(all_rows: list[Row]) -> Iterator[str]:
@@ -206,7 +223,8 @@ def wrong_honest(name: str, log: Log) -> Iterator[str]:
 
 def self_test(count: int) -> int:
     begun, all_rows, laws = time.monotonic(), list(rows()), Laws()
-    wrong = [*(line for row in all_rows for line in wrong_row(row)), *wrong_coverage(all_rows)]
+    proved = list(worked_places.proved(worked_places.PROVED_FAULTS, JUDGED))
+    wrong = [*(line for row in all_rows for line in wrong_row(row)), *wrong_coverage(all_rows), *wrong_proved(proved)]
     for row in all_rows:
         wrong += [f"{row.line}\n  {line}" for line in laws.wrong(row.log, row.is_timed, list(range(row.log.last)))]
     others = [(row.name, row.log) for row in check_rows.rows() if len(row.log) < SHORT]
@@ -219,6 +237,6 @@ def self_test(count: int) -> int:
         wrong += [f"{name}: {line}" for line in laws.wrong(log, True, lengths)] if log.last <= LONGEST else []
     for line in wrong:
         print(f"{line:.1000}")
-    seen = f"{len(all_rows)} worked logs, {laws.logs} with {laws.places} places and {laws.faults} faults for the laws"
+    seen = f"{len(all_rows)} worked logs, {len(proved)} that are proved, {laws.logs} with {laws.places} places and {laws.faults} faults for the laws"
     print(f"further: {seen}, {len(wrong)} wrong, in {time.monotonic() - begun:.0f} s")
     return 1 if wrong else 0

@@ -5,9 +5,11 @@ others do.
 The logs are those of hostile_logs.py: sessions in which the tested end does right, others, the same changed, and garbage; a third
 of them are of version 2, with moments of any kind, and records that are cut inside their heads. `check`, as text and as JSON, is
 compared with reference.py; `check --coverage`, on a third of the logs, with occasions.py; `check --why`, on another third, with
-because.py; `show` and `packet` with reference.py's reading and, where there is rustc, with the plain program of this folder. A log
-in which the tested end does right must pass. A divergence is printed with its seed, its number, and a log that is made as short as
-it can be, which is also written to a file. The last line says how many there were, and how many logs it tried a minute.
+because.py; `check --all` with reference.py and further.py, on a sixth of them with --coverage, and on another with --why; `show` and
+`packet` with reference.py's reading and, where there is rustc, with the plain program of this folder. A log in which the tested end
+does right must pass, also with --all. A divergence is printed with its seed, its number, and a log that is made as short as it can
+be, which is also written to a file. The last lines say how many logs put each further statement to the test, how many divergences
+there were, and how many logs it tried a minute.
 
 With --seconds it ends after that time, and says how many logs it has tried; with --only it tries the log of one number.
 --self-test tries programs, and plain ones, that each have one flaw, and checks that it is found.
@@ -36,11 +38,14 @@ from pathlib import Path
 
 sys.dont_write_bytecode = True  # the repository stays as it is
 import check_forms
+import further
 import hostile_logs
 import occasions
+import on_request
 import reference
 import showing
 from asking import Answer, Memory, Runner, Server
+from further_table import JUDGED
 from hostile_logs import Made
 from judges import BUILT, STATUSES
 from program import CAPTURE_HINT, GZIP_HINT
@@ -54,9 +59,12 @@ BATCH = 100  # logs that a worker gets at once, at most
 PORTION = 10_000  # logs after which it says how many there were
 HERE = Path(__file__).resolve().parent
 FOUND = Path(tempfile.gettempdir()) / "mqjudge-fuzz"
-LOG_TASKS = ("check", "check --json", "show")
+CHECK_ALL = "check --all"
+LOG_TASKS = ("check", CHECK_ALL, "check --json", "show")
 COVERAGE, WHY = "check --coverage", "check --why"
-SELDOM = 3  # of so many logs what was tested is compared in one, and what faults conflict with in the next
+ALL_COVERAGE, ALL_WHY = "check --coverage --all", "check --all --why"
+# In turn: what was tested, and what faults conflict with. Of the further statements too it is every sixth log.
+SELDOM = (COVERAGE, WHY, ALL_COVERAGE, COVERAGE, WHY, ALL_WHY)
 MOST_SELDOM = 10_000  # bytes of such a log, since occasions.py and because.py take time by the square of it
 PACKET = "packet"
 # The bytes that captures begin with (pcap in microseconds and nanoseconds, of both byte orders, and pcapng), and those of gzip.
@@ -82,9 +90,9 @@ def read(log: bytes) -> Recording:
     return Recording(log)
 
 
-@lru_cache(maxsize=2)
-def report_of(log: bytes) -> str:
-    return reference.reported(read(log))
+@lru_cache(maxsize=4)
+def report_of(log: bytes, with_all: bool = False) -> str:
+    return on_request.with_further(report_of(log), read(log)) if with_all else reference.reported(read(log))
 
 
 def by_reference(task: str, data: bytes) -> Answer:
@@ -93,11 +101,12 @@ def by_reference(task: str, data: bytes) -> Answer:
         return (*showing.packet(data), "")
     if task == "show":
         return (*showing.shown(read(data)), hint(data))
-    text = report_of(data)
-    if task == COVERAGE:
-        text = occasions.covering(text, occasions.lines(read(data)))
-    if task == WHY and verdict(text) == "fail":
-        text = check_forms.reasoned(read(data))
+    with_all = "--all" in task
+    text = report_of(data, with_all)
+    if "--coverage" in task:
+        text = occasions.covering(text, (on_request.tested if with_all else occasions.lines)(read(data)))
+    if "--why" in task and verdict(text) == "fail":
+        text = check_forms.reasoned(read(data), with_all)
     return STATUSES[verdict(text)], check_forms.as_json(text) if "--json" in task else text, hint(data)
 
 
@@ -111,7 +120,7 @@ class Programs:
     def __init__(self, program: Path, plain: Path | None):
         self.program, self.plain = str(program), Server(plain) if plain else None
         self.log = Memory("log")
-        self.runners = {task: Runner() for task in (*LOG_TASKS, COVERAGE, WHY, PACKET)}
+        self.runners = {task: Runner() for task in (*LOG_TASKS, *SELDOM, PACKET)}
         signal.signal(signal.SIGALRM, lambda *_: self.kill())
 
     def command(self, task: str, packet: bytes) -> list[str]:
@@ -162,11 +171,13 @@ class Tally:
     seconds: float = 0  # of the run
     files: list[Path] = field(default_factory=list)  # of the divergences
     verdicts: Counter[str] = field(default_factory=Counter)
+    tested: Counter[str] = field(default_factory=Counter)  # the further statements, of those logs of which that is found
 
     def add(self, other: "Tally") -> None:
         self.logs += other.logs
         self.files += other.files
         self.verdicts += other.verdicts
+        self.tested += other.tested
 
 
 @dataclass(frozen=True)
@@ -198,12 +209,13 @@ def work(plan: Plan) -> Tally:
             break
         made = hostile_logs.made(plan.seed, number)
         tally.logs += 1
-        seldom = {0: [COVERAGE], 1: [WHY]}.get(number % SELDOM, []) if len(made.log) < MOST_SELDOM else []
+        seldom = [SELDOM[number % len(SELDOM)]] if len(made.log) < MOST_SELDOM else []
         tasks = (*LOG_TASKS, *seldom, PACKET)
         found = programs.divergences(tasks, made.log, made.packet)
-        word = verdict(report_of(made.log))
-        tally.verdicts[word] += 1
-        is_unpassed = made.kind == hostile_logs.HONEST and word != "pass"
+        tally.verdicts[verdict(report_of(made.log))] += 1
+        if seldom:
+            tally.tested.update(tested_further(made.log))
+        is_unpassed = made.kind == hostile_logs.HONEST and verdict(report_of(made.log, True)) != "pass"
         if found or is_unpassed:
             with found_by_all:
                 found_by_all.value += 1
@@ -211,11 +223,17 @@ def work(plan: Plan) -> Tally:
     return tally
 
 
+def tested_further(log: bytes) -> list[str]:
+    """The further statements that a log puts to the test."""
+    events = further.log_of(read(log))
+    return [code for code in JUDGED if further.places(events, code)]
+
+
 def tell_unpassed(plan: Plan, number: int, log: bytes) -> Path:
     """Prints a log that should pass, and writes it to a file."""
     path = plan.out / f"{plan.seed}-{number}.log"
     path.write_bytes(log)
-    lines = [f"{words(log):.2000}", f"in {path}", *report_of(log).splitlines()]
+    lines = [f"{words(log):.2000}", f"in {path}", *report_of(log, True).splitlines()]
     said = f"seed {plan.seed}, log {number}: the tested end does right, and the log doesn't pass"
     print("\n  ".join([said, *lines]), flush=True)
     return path
@@ -284,6 +302,10 @@ def run(given: argparse.Namespace) -> Tally:
 # What is wrong in a program, as sed sees its answer, and how long the log that shows it may be, in bytes.
 FLAWS = {
     "a fault that isn't reported": ("/ S01 /d", 120),
+    "a further fault that isn't reported": ("/^fault .* F05 /d", 120),
+    "a further fault at another place": (r"s/^fault \([0-9]*\) A02 /fault \11 A02 /", 120),
+    "a place of a further statement too many": (r"s/^\(tested F06 .* places\) 0$/\1 1/", 40),
+    "a further fault's event": (r"s/^\(because .* A02 event\) 2$/\1 1/", 120),
     "a decided position in JSON": (r's/"decided":\([0-9]*\),/"decided":1\1,/', 40),
     "DUP as it is shown": ("s/dup 1/dup 0/", 40),
     "a place too many": (r"s/^\(tested .* places\) 1$/\1 2/", 40),
@@ -369,6 +391,7 @@ def main() -> int:
         return self_test(given.program, given.seed)
     tally = run(given)
     verdicts = ", ".join(f"{count} {word}" for word, count in sorted(tally.verdicts.items()))
+    print("logs with a place of further statements:", ", ".join(f"{code} {tally.tested[code]}" for code in JUDGED))
     speed = f"{tally.logs} logs in {tally.seconds:.0f} s, {tally.logs / tally.seconds * 60:.0f} a minute"
     print(f"seed {given.seed}: {speed} ({verdicts}), {len(tally.files)} divergences")
     return 1 if tally.files else 0

@@ -5,8 +5,9 @@ same bytes.
 A log has one to six connections of a client or of a server. They are accepted, with a new session or the one before, or refused,
 or closed without a CONNACK, which may have begun a session all the same. There are messages of all QoS in both directions, PUBLISHes
 and PUBRELs that are sent again, at once or one after the other, PUBLISHes that a connection's end cuts off, or that a bound of the
-peer forbids, subscriptions, Topic Aliases, what the peer announces, packets before the CONNACK, also where that then says of the
-session what the client didn't expect, RELEASEs and RESTs; and packets are split over records anywhere. A judge must pass each log:
+peer forbids, subscriptions, Topic Aliases, what the peer announces, Wills, which a server doesn't take if it can't, enhanced
+authentication, if the CONNECT names a method, packets before the CONNACK, also where that then says of the session what the client
+didn't expect, RELEASEs and RESTs; and packets are split over records anywhere. A judge must pass each log, also with `--all`:
 `bench/fuzz.py` looks at that, and at what it says of these logs when changed. A third of the logs are of version 2.
 
 usage: bench/honest_logs.py SEED NUMBER > FILE
@@ -19,7 +20,7 @@ from itertools import accumulate
 
 sys.dont_write_bytecode = True  # the repository stays as it is
 from make_log import CLOSE, OPEN, PINGREQ, PINGRESP, RECV, REST, SENT, record, varint
-from random_logs import EXPLANATIONS, Type
+from random_logs import EXPLANATIONS, Type, will_flags
 from session_logs import CLIENT, RELEASE, SERVER, number, packet, text
 from versions import in_some_version
 
@@ -31,6 +32,7 @@ FILTERS |= {"$x/#": ("$x/y",)}
 LONGEST = 64  # no PUBLISH or SUBSCRIBE with a payload of one byte is larger: the smallest Maximum Packet Size
 PAYLOADS = (0, 1, 1, 1, 1, 1, 1, 300)
 EXPIRY_0, EXPIRY_60 = b"\x11\0\0\0\0", b"\x11\0\0\0\x3c"  # Session Expiry Interval, in seconds
+AUTHENTICATION_METHOD = b"\x15\0\1m"
 ANSWERS = {1: Type.PUBACK, 2: Type.PUBREC}
 Answer = tuple[Type, int]
 
@@ -98,6 +100,8 @@ class Line:
     is_early: bool = True  # before the CONNACK
     is_accepted: bool = True
     may_explain: bool = True  # in Reason Strings and User Properties
+    will: tuple[int, bool] | None = None  # the QoS and Will Retain of the client's Will, if it has one
+    method: bytes = b""  # the property of the CONNECT that names one
     used: int = 0  # of the send quota
     pings: int = 0
     again: list[Message] = field(default_factory=list)  # what the tested end has to send again
@@ -234,7 +238,8 @@ class Honest:
         """The connection isn't accepted. What the ends make of what was sent on it the log can't tell."""
         self.is_kept = was_kept
         if fate == "refused":
-            self._say(SERVER, packet(0x20, bytes([0, self.draw.choice((0x80, 0x87, 0x97)), 0])))
+            codes = (0x80, 0x87, 0x9A, 0x9B) if self.line.will else (0x80, 0x87, 0x97)
+            self._say(SERVER, packet(0x20, bytes([0, self.draw.choice(codes), 0])))
             takes_in = self.role == CLIENT and wants_session
         else:
             may_begin = not wants_session or (self.role == SERVER and self.line.is_filled)
@@ -271,9 +276,12 @@ class Honest:
             properties += limits.properties()
             self.line.limits, self.line.may_explain = limits, not is_terse
         properties += (b"\x17\0" if is_terse else b"") + (b"\x19\1" if wants_information else b"")
+        self.line.method = AUTHENTICATION_METHOD if self.chance(0.2) else b""
+        properties += self.line.method
         flags, rest = 2 * is_clean, b""
-        if self.chance(0.1):
-            flags, rest = flags | 0x0C, b"\0" + text("will") + text("gone")
+        if self.chance(0.3):
+            qos, retain = self.line.will = self.draw.randrange(3), self.chance(0.4)
+            flags, rest = flags | will_flags(qos, retain), b"\0" + text("will") + text("gone")
         if self.chance(0.1):
             flags, rest = flags | 0xC0, rest + text("user") + text("word")
         name = text("me" if self.is_named else "")
@@ -285,6 +293,8 @@ class Honest:
         steps = [self._publish, self._request, self._ping, self._send_again, self._send_again, self._auth, self._answer_before]
         if self.role == SERVER:
             steps = [self._peer_publish, self._request, self._ping, self._auth]
+        elif self.line.method:
+            steps = [self._auth]  # nothing else may come before the CONNACK
         steps += [] if is_misled else [self._release, self._release_left]
         for _ in range(self.draw.randint(1, 6) if has_much or self.chance(0.4) else 0):
             self.draw.choice(steps)()
@@ -314,9 +324,18 @@ class Honest:
         if self.role == CLIENT:
             properties += limits.properties()
             self.line.limits = limits
+        else:
+            properties += self._announced()
+        properties += self.line.method
         properties += b"\x1a" + text("i") if wants_information and self.chance(0.5) else b""
         self._say(SERVER, packet(0x20, bytes([resumes, 0]) + listed(properties)))
         self.line.is_early = False
+
+    def _announced(self) -> bytes:
+        """What the tested server says that it hasn't got. It has accepted the Will."""
+        qos, retain = self.line.will or (0, False)
+        found = bytes([0x24, self.draw.randrange(qos, 2)]) if qos < 2 and self.chance(0.3) else b""
+        return found + (b"\x25\0" if not retain and self.chance(0.3) else b"")
 
     def _close(self, may_change: bool) -> None:
         """The connection ends. A client whose CONNECT kept the session may change that in its DISCONNECT."""
@@ -386,7 +405,9 @@ class Honest:
             self._mark(REST)
 
     def _auth(self) -> None:
-        self._own(packet(0xF0, b""))
+        """Without a method in the CONNECT there is none."""
+        if self.line.method:
+            self._own(packet(0xF0, b"\x18" + listed(self.line.method) if self.chance(0.7) else b""))
 
     def _ping(self) -> None:
         self._say(CLIENT, PINGREQ)

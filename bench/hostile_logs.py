@@ -171,6 +171,14 @@ def change_session(draw: random.Random, parts: Parts) -> None:
         parts[at] = parts[at][:flag] + bytes([parts[at][flag] ^ (2 if flag == 14 else 1)]) + parts[at][flag + 1 :]
 
 
+def change_will(draw: random.Random, parts: Parts) -> None:
+    """The Will of a CONNECT has another QoS or Will Retain, or there is none any more."""
+    places = [n for n, part in enumerate(parts) if part[5:6] == b"\x10" and len(part) > 14 and part[14] & 0x04]
+    if places:
+        at = draw.choice(places)
+        parts[at] = parts[at][:14] + bytes([parts[at][14] ^ draw.choice((0x08, 0x10, 0x18, 0x20, 0x20, 0x04))]) + parts[at][15:]
+
+
 def break_off(draw: random.Random, parts: Parts) -> None:
     """A connection ends in the middle of a packet: one that is sent last, or one more."""
     ends = [n for n, part in enumerate(parts) if part[0] == CLOSE]
@@ -205,7 +213,7 @@ def cut(draw: random.Random, parts: Parts) -> None:
 GENTLE: tuple[Callable[[random.Random, Parts], None], ...] = (
     drop, drop, drop, double, double, move, swap, swap, swap_alike, swap_alike, put_mark, put_packet, put_packet, put_packet,
     put_disconnect, turn, cut_record, change_packet, change_packet, change_identifier, change_identifier, change_flags, change_session,
-    change_session, break_off,
+    change_session, change_will, break_off,
 )
 ROUGH = (change_body, put_remaining_length, put_length, cut)
 

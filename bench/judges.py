@@ -1,5 +1,6 @@
 """Those that judge a log: reference.py, and a built program beside it."""
 import subprocess
+import tempfile
 from collections.abc import Callable
 from pathlib import Path
 
@@ -21,6 +22,14 @@ def judge_by(program: Path, *words: str) -> Judge:
         return report if STATUSES.get(word) == ran.returncode else f"{report}status {ran.returncode}\n"
 
     return judge
+
+
+def judge_on(program: Path, log: bytes, *words: str) -> str:
+    """The same of a log that is in a file, which `--why` may read twice."""
+    with tempfile.NamedTemporaryFile(prefix="mqjudge-", suffix=".log") as file:
+        file.write(log)
+        file.flush()
+        return judge_by(program, *words, file.name)(b"")
 
 
 def judges(program: Path | None) -> dict[str, Judge]:

@@ -525,8 +525,8 @@ FOREIGN = {"client": {"W20"}, "server": {"W15", "W16", "W17", "W18", "W19"}}
 
 
 def binds(role: str, releases: bool, rule: str) -> bool:
-    """Whether a statement is judged for an end at all, in a log that records releases or doesn't."""
-    return role in CITATIONS[rule] and (rule[0] != "L" or releases)
+    """Whether a statement is judged for an end at all, in a log that records releases or doesn't. A further one isn't, unasked."""
+    return role in CITATIONS.get(rule, ()) and (rule[0] != "L" or releases)
 
 
 def places(log: Log, rule: str) -> list[int]:

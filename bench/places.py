@@ -2,13 +2,13 @@
 """Says of logs at how many positions each statement is put to the test, its places, and what isn't judged.
 
 It is a part of the second opinion that reference.py gives, and no part of the program: occasions.py has the statements, and
-gaps.py what isn't judged.
+gaps.py what isn't judged. With --all the further statements that the program judges on request are listed too, as further.py has them.
 
 For each log it prints a line for each statement that can be judged for its end, how many of these have a place, and a line for
 each thing that isn't judged. A statement on packets that only the other end sends is left out if it has none. With --self-test it
 checks worked logs and those of the suite, and laws on these and many others.
 
-usage: bench/places.py LOG..
+usage: bench/places.py [--all] LOG..
        bench/places.py --self-test [--made 200]
 """
 import argparse
@@ -23,6 +23,7 @@ import check_rows
 import gaps
 import hostile_logs
 import honest_logs
+import on_request
 import random_logs
 import suite
 import worked_places
@@ -40,7 +41,7 @@ SHORT = 5_000  # bytes of a worked log on which the laws are checked
 
 def wrong_worked(worked: list[worked_places.Worked]) -> Iterator[str]:
     for one in worked:
-        found = places(one.log, one.rule)
+        found = on_request.places(one.log, one.rule) if one.is_asked else places(one.log, one.rule)
         if found != one.places:
             yield f"{one.name}: wanted {one.places}, found {found}"
 
@@ -54,7 +55,7 @@ def wrong_gaps() -> Iterator[str]:
 
 def wrong_suite(logs: list[tuple[suite.Row, Log]]) -> Iterator[str]:
     """Each statement has to be tested by its own two logs."""
-    yield from (f"{row.code} {row.which}: it doesn't test its statement" for row, log in logs if not places(log, row.code))
+    yield from (f"{row.code} {row.which}: it doesn't test its statement" for row, log in logs if not on_request.places(log, row.code))
 
 
 def made(count: int) -> Iterator[tuple[str, bytes]]:
@@ -126,6 +127,7 @@ def self_test(count: int) -> int:
 def main() -> int:
     arguments = argparse.ArgumentParser(description="Says of logs at how many positions each statement is put to the test.")
     arguments.add_argument("logs", nargs="*", type=Path, metavar="LOG")
+    arguments.add_argument("--all", action="store_true", help="list the further statements too that the program judges")
     arguments.add_argument("--self-test", action="store_true", help="check worked logs, the suite and laws")
     arguments.add_argument("--made", type=int, default=200, help="how many logs of each kind it makes")
     given = arguments.parse_args()
@@ -137,7 +139,8 @@ def main() -> int:
         recording = Recording(path.read_bytes())
         if len(given.logs) > 1:
             print(f"{path}:")
-        print(*([recording.refusal.text()] if recording.refusal else lines(recording)), sep="\n")
+        tested = on_request.tested if given.all else lines
+        print(*([recording.refusal.text()] if recording.refusal else tested(recording)), sep="\n")
     return 0
 
 

@@ -17,6 +17,10 @@ from pathlib import Path
 
 sys.dont_write_bytecode = True  # the repository stays as it is
 import occasions
+from command_texts import (
+    CHECK_HELP, CONVERT_HELP, FOR_CHECK_ALONE, FURTHER_OPERAND, HELP, NO_OPERAND, NO_OUT, NO_WORD, RULES_HELP, SHOW_HELP, TWICE,
+    UNKNOWN_WORD, VERSION,
+)
 
 HERE = Path(__file__).resolve().parent
 PROGRAM = HERE.parent / "crates" / "mq_cli" / "out" / "mq_cli"
@@ -46,6 +50,10 @@ PING_RECORD = b"\x02" + (2 * PINGS).to_bytes(4, "big") + b"\xc0\x00" * PINGS
 MANY = HEADER + OPEN + CONNECT + CONNACK + PING_RECORD
 CONNECTED_2 = HEADER_2 + timed(OPEN) + timed(CONNECT) + timed(CONNACK)
 GOOD_2 = CONNECTED_2 + timed(PUBLISH)
+# The session with an AUTH in it, though the CONNECT has no Authentication Method; and the faulty one with it.
+AUTH = b"\x02\x00\x00\x00\x02\xf0\x00"
+UNASKED = GOOD + AUTH
+FAULTY_TWICE = FAULTY + AUTH
 MANY_2 = CONNECTED_2 + timed(PING_RECORD)
 
 # The faulty one in version 2, with moments; and one whose body is longer than it may be in version 1.
@@ -70,6 +78,12 @@ REASONED_JSON = (
     '{"events":5,"faults":[{"because":4,"citation":"MQTT-2.2.1-3","code":"S01","decided":5,"numbers":[],"offset":null,"position":5,'
     '"record":5}],"verdict":"fail"}\n'
 )
+ASKED = "fault 5 A02 MQTT-4.12.0-7 decided 5 record 5 offset -\nfail 1 faults 5 events\n"
+ASKED_REASONED = ASKED.replace("\nfail", "\nbecause 5 A02 event 2\nfail")
+ASKED_JSON = (
+    '{"events":5,"faults":[{"citation":"MQTT-4.12.0-7","code":"A02","decided":5,"offset":null,"position":5,"record":5}],"verdict":"fail"}\n'
+)
+ASKED_TWICE = FAIL.replace("fail 1 faults 5", "fault 6 A02 MQTT-4.12.0-7 decided 6 record 6 offset -\nfail 2 faults 6")
 SUMMARY = "S01 MQTT-2.2.1-3 faults 1 first 5 record 5\nfail 1 faults 5 events\n"
 LONG_FAIL = FAIL.replace(" 5 events", " 115 events")
 REFUSED = "refused 7 Nested at 13\n"
@@ -78,6 +92,13 @@ REFUSED = "refused 7 Nested at 13\n"
 def covering(report: str, publishes: int) -> str:
     """The report on a client with so many PUBLISHes under one identifier, with what was tested."""
     return occasions.covering(report, occasions.of_publishes(publishes))
+
+
+def covering_all(report: str, publishes: int, auths: int) -> str:
+    """The same of one that also sends so many AUTHs, with the further statements too. (An AUTH tests what a PINGREQ does, and A02.)"""
+    *rows, _, gap = occasions.of_publishes(publishes, pings=auths)
+    rows.append(f"tested A02 MQTT-4.12.0-7 places {auths}")
+    return occasions.covering(report, [*rows, occasions.sum_of(rows), gap])
 
 
 FIRST_LINES = "1 record 1 OPEN\n2 record 2 SENT CONNECT size 15\n3 record 3 RECV CONNACK size 5\n"
@@ -94,6 +115,11 @@ NEAR_LINES = """\
 5 record 5 SENT PUBLISH size 9 qos 1 dup 0 id 1
   fault S01 MQTT-2.2.1-3 A new PUBLISH, SUBSCRIBE or UNSUBSCRIBE takes no Packet Identifier that is in use. (because of event 4: it holds the identifier)
 """
+ASKED_LINES = """\
+..
+5 record 5 SENT AUTH size 2
+  fault A02 MQTT-4.12.0-7 Without an Authentication Method in CONNECT there is no enhanced authentication. (because of event 2: the CONNECT, without an Authentication Method)
+"""
 TIMED_LINES = """\
 1 record 1 moment 0 OPEN
 2 record 2 moment 1764176601123456 SENT CONNECT size 15
@@ -109,15 +135,24 @@ WRITE_FAILED = "mqjudge: write failed\n"
 NO_FILE = "mqjudge: --faults reads the log more than once, so it needs a FILE, not standard input\n"
 SAME_FILE = "mqjudge: OUT has to be another file than IN\n"
 NO_FAULTS = "mqjudge: --around needs --faults\n"
+NO_FAULTS_FOR_ALL = "mqjudge: --all needs --faults\n"
 CODES = (
     [f"W{n:02}" for n in range(1, 22)]
     + [f"C{n:02}" for n in range(1, 24)]
     + [f"S{n:02}" for n in range(1, 8)]
     + "E1A E1R E1O E2A E2R E2O E3A E3R E3O E4A E4R E5A E5R E6A E6R E7R L1 L2 L3 B01 B02 B03 B04".split()
 )
+# Those that are judged only on request, and named all the same.
+FURTHER = ["F05", "F06", "A02"]
+FURTHER_ROWS = """\
+F05 server MQTT-3.2.2-12 A Will QoS above the announced Maximum QoS is refused.
+F06 server MQTT-3.2.2-13 A Will with Will Retain 1 is refused where Retain Available is 0.
+A02 both MQTT-4.12.0-7;MQTT-4.12.0-6 Without an Authentication Method in CONNECT there is no enhanced authentication.
+"""
+OF_CLIENT = "A02 both MQTT-4.12.0-7 Without an Authentication Method in CONNECT there is no enhanced authentication.\n"
 NO_X99 = f"""\
 mqjudge: no statement X99
-mqjudge: there are {" ".join(CODES)}, and citations such as MQTT-4.4.0-1: see mqjudge rules
+mqjudge: there are {" ".join(CODES + FURTHER)}, and citations such as MQTT-4.4.0-1: see mqjudge rules
 """
 NO_BROKER = "mqjudge: no role broker\nmqjudge: there are client and server\n"
 CAPTURE_HINT = "mqjudge: it is a capture: recorders/from-capture makes logs of it\n"
@@ -127,143 +162,6 @@ TWO_REPORTS = "mqjudge: --why and --coverage are two reports: ask for one at a t
 CHANGED = "mqjudge: the log changed between two readings\n"
 NOT_UTF8 = "a word isn't UTF-8; give a file of that name on standard input: mqjudge check < FILE"
 LONG_NAME = 300 * "x" + ".log"
-
-HELP = """\
-Judges the log of one end of an MQTT 5.0 session
-
-Usage: mqjudge <COMMAND>
-
-Commands:
-  check    Judges a log and reports each fault
-  show     Shows each event of a log
-  packet   Says which packet some bytes are
-  rules    Lists the statements
-  explain  Explains a statement, or those with a citation
-  convert  Converts a log of version 1 into one of version 2
-  help     Print this message or the help of the given subcommand(s)
-
-Options:
-  -h, --help     Print help
-  -V, --version  Print version
-
-Statuses: 0 for a pass, 1 for faults, 2 for a refused log, 3 for misuse,
-4 if reading or writing failed or memory ran out.
-Example: mqjudge check session.log
-The log's format: docs/LOG_FORMAT.md
-"""
-CHECK_HELP = """\
-Judges a log and reports each fault
-
-Usage: mqjudge check [OPTIONS] [FILE]
-
-Arguments:
-  [FILE]  The log; standard input if it is missing or `-`
-
-Options:
-      --json      Report as one line of JSON, also with --summary
-      --summary   Report a line for each statement that has faults
-      --coverage  Say how often each statement was put to the test
-      --why       Say what each fault conflicts with; reads FILE twice if it has faults
-  -h, --help      Print help
-
-Statuses: 0 for no fault, 1 for faults, 2 for a refused log, 3 for misuse,
-4 if reading or writing failed or memory ran out.
-Example: mqjudge check --json session.log
-The log's format: docs/LOG_FORMAT.md
-"""
-SHOW_HELP = """\
-Shows each event of a log
-
-Usage: mqjudge show [OPTIONS] [FILE]
-
-Arguments:
-  [FILE]  The log; standard input if it is missing or `-`
-
-Options:
-      --long        Show the other fields and the properties of each packet
-      --faults      Show the faults under their events; reads FILE more than once
-      --around <N>  With --faults: only the events within N positions of a fault
-  -h, --help        Print help
-
-Statuses: 0 if the log was shown, 2 for a refused log, 3 for misuse,
-4 if reading or writing failed or memory ran out.
-Example: mqjudge show --faults --around 3 session.log
-The log's format: docs/LOG_FORMAT.md
-"""
-CONVERT_HELP = """\
-Converts a log of version 1 into one of version 2
-
-Usage: mqjudge convert [OPTIONS] <IN> <OUT>
-
-Arguments:
-  <IN>   The log of version 1; standard input if it is `-`
-  <OUT>  The file that is made, which isn't there yet; another one than IN
-
-Options:
-      --force  Empty and write OUT if it is there
-  -h, --help   Print help
-
-Statuses: 0 if the log was converted, 2 for a refused log, 3 for misuse,
-4 if reading or writing failed or memory ran out.
-Example: mqjudge convert session.log session-2.log
-The log's format: docs/LOG_FORMAT.md
-"""
-VERSION = "mqjudge 0.1.0 (reads log versions 1 and 2, judges 74 statements)\n"
-FURTHER_OPERAND = """\
-error: unexpected argument 'b' found
-
-Usage: mqjudge check [OPTIONS] [FILE]
-
-For more information, try '--help'.
-mqjudge: check takes one log; recorders/judge takes many
-"""
-FOR_CHECK_ALONE = """\
-error: unexpected argument '--coverage' found
-
-  tip: to pass '--coverage' as a value, use '-- --coverage'
-
-Usage: mqjudge show [OPTIONS] [FILE]
-
-For more information, try '--help'.
-"""
-TWICE = """\
-error: the argument '--coverage' cannot be used multiple times
-
-Usage: mqjudge check [OPTIONS] [FILE]
-
-For more information, try '--help'.
-"""
-UNKNOWN_WORD = """\
-error: unrecognized subcommand 'judge'
-
-Usage: mqjudge <COMMAND>
-
-For more information, try '--help'.
-"""
-NO_WORD = """\
-error: 'mqjudge' requires a subcommand but one was not provided
-  [subcommands: check, show, packet, rules, explain, convert, help]
-
-Usage: mqjudge <COMMAND>
-
-For more information, try '--help'.
-"""
-NO_OPERAND = """\
-error: the following required arguments were not provided:
-  <HEX>...
-
-Usage: mqjudge packet <HEX>...
-
-For more information, try '--help'.
-"""
-NO_OUT = """\
-error: the following required arguments were not provided:
-  <OUT>
-
-Usage: mqjudge convert <IN> <OUT>
-
-For more information, try '--help'.
-"""
 
 
 def unread(place: str, reason: str) -> str:
@@ -317,6 +215,7 @@ GZIPPED = gzip.compress(GOOD)
 FILES = {"good.log": GOOD, "faulty.log": FAULTY, "nested.log": NESTED, "short.log": GOOD[:-1], "many.log": MANY, "-": FAULTY}
 FILES |= {"timed.log": TIMED, "long.log": LONG, "short-moment.log": TIMED[:20]}
 FILES |= {"a.pcap": PCAP, "fine.pcap": FINE_PCAP, "a.pcapng": PCAPNG, "good.log.gz": GZIPPED, "short.gz": GZIPPED[:2], "two.log": b"MQ"}
+FILES |= {"unasked.log": UNASKED, "twice.log": FAULTY_TWICE}
 FILES |= {"unfinished.log": CUT, "good-2.log": GOOD_2, "old.log": MANY, "dash.log": MANY, "kept.log": MANY, "copy.log": GOOD}
 
 RUNS = [
@@ -374,6 +273,30 @@ RUNS = [
     Run(["check", "--why", "/dev/stdin"], 0, PASS, stdin=GOOD),
     Run(["check", "--why", "/dev/stdin"], 4, errors=CHANGED, stdin=FAULTY),
     Run(["show", "--faults", "/dev/stdin"], 4, errors=CHANGED, stdin=FAULTY),
+    # Further statements are judged only if that is asked for.
+    Run(["check", "unasked.log"], 0, "pass 5 events\n", stdin=FAULTY),
+    Run(["check", "--all", "unasked.log"], 1, ASKED, stdin=GOOD),
+    Run(["check", "--all"], 1, ASKED, stdin=UNASKED),
+    Run(["check", "--all", "good.log"], 0, PASS, stdin=UNASKED),
+    Run(["check", "faulty.log", "--all"], 1, FAIL, stdin=GOOD),
+    Run(["check", "--all", "twice.log"], 1, ASKED_TWICE, stdin=GOOD),
+    Run(["check", "--json", "--all", "unasked.log"], 1, ASKED_JSON),
+    Run(["check", "--all", "--summary", "unasked.log"], 1, "A02 MQTT-4.12.0-7 faults 1 first 5 record 5\nfail 1 faults 5 events\n"),
+    Run(["check", "--all", "--coverage", "unasked.log"], 1, covering_all(ASKED, 1, 1), stdin=GOOD),
+    Run(["check", "--coverage", "--all"], 1, covering_all(FAIL, 2, 0), stdin=FAULTY),
+    Run(["check", "--all", "--why", "unasked.log"], 1, ASKED_REASONED, stdin=GOOD),
+    Run(["check", "--why", "unasked.log"], 0, "pass 5 events\n", stdin=FAULTY),
+    Run(["check", "--all", "nested.log"], 2, REFUSED, stdin=GOOD),
+    Run(["check", "--all", "missing.log"], 4, errors=missing("missing.log"), stdin=GOOD),
+    Run(["check", "--all", "--why"], 3, errors=NO_FILE_FOR_WHY, stdin=UNASKED),
+    Run(["check", "--why", "--coverage", "--all", "unasked.log"], 3, errors=TWO_REPORTS),
+    Run(["show", "--faults", "--all", "--around", "0", "unasked.log"], 0, ASKED_LINES, stdin=GOOD),
+    Run(["show", "--faults", "--around", "0", "unasked.log"], 0, "..\n", stdin=GOOD),
+    Run(["show", "--all", "unasked.log"], 3, errors=NO_FAULTS_FOR_ALL),
+    Run(["show", "--all", "--long"], 3, errors=NO_FAULTS_FOR_ALL, stdin=GOOD),
+    Run(["show", "--all", "--around", "1", "unasked.log"], 3, errors=NO_FAULTS),
+    Run(["show", "--all", "--faults"], 3, errors=NO_FILE, stdin=GOOD),
+    Run(["check", "--all", "--all", "good.log"], 3, errors=TWICE.replace("--coverage", "--all")),
     # Without a file, or with `-`, standard input is.
     Run(["check"], 0, PASS, stdin=GOOD),
     Run(["check"], 1, FAIL, stdin=FAULTY),
@@ -397,6 +320,7 @@ RUNS = [
     Run(["show", "--faults"], 3, errors=NO_FILE, stdin=GOOD),
     Run(["show", "--faults", "-"], 3, errors=NO_FILE, stdin=Path("good.log")),
     Run(["show", "--around", "1", "good.log"], 3, errors=NO_FAULTS),
+    Run(["show", "--all", "good.log"], 3, errors=NO_FAULTS_FOR_ALL),
     Run(["show", "--faults", "--around", "x", "good.log"], 3, errors="mqjudge: no number x\n"),
     # The file is taken for the number.
     Run(["show", "--faults", "--around", "bad.log"], 3, errors="mqjudge: no number bad.log\n"),
@@ -505,6 +429,7 @@ RUNS = [
     Run(["help"], 0, HELP),
     Run(["check", "--help"], 0, CHECK_HELP),
     Run(["show", "--help"], 0, SHOW_HELP),
+    Run(["rules", "--help"], 0, RULES_HELP),
     Run(["convert", "--help"], 0, CONVERT_HELP),
     Run(["--version"], 0, VERSION),
     Run(["-V"], 0, VERSION),
@@ -522,6 +447,7 @@ UNWRITTEN = [
     ["check", "--coverage", "nested.log"],
     ["check", "faulty.log"],
     ["check", "--why", "faulty.log"],
+    ["check", "--all", "unasked.log"],
     ["check", "nested.log"],
     ["show", "good.log"],
     ["show", "nested.log"],
@@ -533,7 +459,9 @@ UNWRITTEN = [
     ["packet", "40020001"],
     ["packet", "41020001"],
     ["rules"],
+    ["rules", "--all"],
     ["explain", "S01"],
+    ["explain", "F05"],
     ["--help"],
     ["--version"],
 ]
@@ -673,8 +601,8 @@ def kept(path: Path) -> tuple[bytes, int, int, int]:
 
 
 # Nothing but `convert` changes a file; these read one.
-CHECKS = [["check"], ["check", "--json"], ["check", "--summary"], ["check", "--coverage"]]
-READING = [*CHECKS, ["check", "--why"], ["show"], ["show", "--long"], ["show", "--faults"]]
+CHECKS = [["check"], ["check", "--json"], ["check", "--summary"], ["check", "--coverage"], ["check", "--all"]]
+READING = [*CHECKS, ["check", "--why"], ["show"], ["show", "--long"], ["show", "--faults"], ["show", "--faults", "--all"]]
 
 
 def changes(program: Path) -> Iterator[tuple[str, tuple, tuple]]:
@@ -691,6 +619,21 @@ def changes(program: Path) -> Iterator[tuple[str, tuple, tuple]]:
         status, _, _ = run(program, ["convert", name, f"whole-{name}"], b"")
         yield f"convert {name}: OUT has the whole log", (status, str(held(Path(f"whole-{name}")) == wanted)), (0, "True")
         yield f"convert {name}: IN stays as it was", (str(kept(Path(name)) == before),), ("True",)
+
+
+def listed(program: Path) -> Iterator[tuple[str, tuple, tuple]]:
+    """Of the further statements: what is found in the list of statements, and in what explains one, and what is wanted."""
+    for words, more in (([], FURTHER_ROWS), (["--role", "client"], OF_CLIENT)):
+        plain = run(program, ["rules", *words], b"")
+        wanted = (0, plain[1] + more, "")
+        named = [line[:3] for line in more.splitlines() if line[:3] in plain[1].split()]
+        yield f"rules {words} names no further statement", (str(named),), ("[]",)
+        yield f"rules --all {words}", run(program, ["rules", "--all", *words], b""), wanted
+    for row in FURTHER_ROWS.splitlines():
+        code, ends, citation, sentence = row.split(" ", 3)
+        for word in (code, code.lower(), *citation.split(";")):
+            status, text, errors = run(program, ["explain", word], b"")
+            yield f"explain {word}", (status, text[: text.find("\n\n")], errors), (0, f"{code} {ends} {citation}\n{sentence}", "")
 
 
 def held(path: Path) -> bytes | None:
@@ -713,7 +656,7 @@ def main() -> int:
             tally.compare(f"{case.words}", found, (case.status, case.output, case.errors))
             for name, data in case.files.items():
                 tally.compare(f"{case.words}: {name}", (held(Path(name)),), (data,))
-        for name, found, wanted in changes(program):
+        for name, found, wanted in (*changes(program), *listed(program)):
             tally.compare(name, found, wanted)
         tally.compare("a file that may not be read", *unpermitted(program))
         tally.compare("a reader that ends", *cut_short(program))

@@ -6,8 +6,8 @@ packets are changed in a byte or cut over records. In about half of the sessions
 connections that are then accepted, refused or closed without a CONNACK, or that end with the log. In the others only what belongs
 to no session comes before it. On some connections little happens: the client leaves at once, or the tested end comes to rest with
 nothing or one thing done, or the connection ends in the middle of a PUBLISH. And some sessions are calm: most are resumed on each
-connection after the first one, and what the tested end has in flight is sent again, or not. `bench/check_random.py` compares the
-reports on them.
+connection after the first one, and what the tested end has in flight is sent again, or not. Clients often have a Will, or name an
+Authentication Method, whatever the server can do. `bench/check_random.py` compares the reports on them.
 
 `streams` are for `bench/compare.py`, which looks at what is shown: packets of all kinds, those of packets.txt, in records that are
 cut anywhere. `crowded` gives both as many events before a CONNACK as there may be, and one more.
@@ -104,6 +104,7 @@ OF_CONNECT: Choices = ((b"\x17\0", b"\x17\1"), (b"\x19\0", b"\x19\1"), RECEIVE_M
 MAXIMUM_QOS = (b"\x24\0", b"\x24\1")
 RETAIN_AVAILABLE = (b"\x25\0", b"\x25\0", b"\x25\1")
 OF_CONNACK: Choices = ((b"\x12\0\1c",), (b"\x1a\0\1i",), RECEIVE_MAXIMUM, TOPIC_ALIAS_MAXIMUM)
+AUTHENTICATION_METHOD = (b"\x15\0\1m", b"\x15\0\1m", b"\x15\0\1n")
 BOUNDS: Choices = (MAXIMUM_QOS, RETAIN_AVAILABLE, RETAIN_AVAILABLE, MAXIMUM_PACKET_SIZE)  # a CONNACK has at most one of them
 OF_PUBLISH: Choices = ((b"\2\0\0\0\x3c",), (b"\x0b\1",), (b"\x23\0\1", b"\x23\0\2"))
 
@@ -160,6 +161,7 @@ class Session:
         self.is_broken = self.chance(0.3)
         self.takes_all = False  # any packet may come now
         self.is_left = False  # the connection, by the client
+        self.has_will = False  # the last CONNECT
         self.shares = self.chance(0.1)
         self.retains = draw.choice((0.1, 0.1, 0.9))  # how often a PUBLISH has RETAIN 1
         self.tape = Tape(draw, self.role, self.has_releases)
@@ -349,7 +351,7 @@ class Session:
             case Type.DISCONNECT:
                 return self._disconnect()
             case Type.AUTH:
-                return packet(0xF0, b"")
+                return packet(0xF0, b"" if self.chance(0.5) else b"\x18" + self._properties(0.8, AUTHENTICATION_METHOD))
 
     def _owe(self, end: int, kind: Type, identifier: int = 0, amount: int = 0) -> None:
         if self.chance(0.9):
@@ -367,13 +369,19 @@ class Session:
         return varint(len(chosen)) + chosen
 
     def _connect(self, is_clean: bool) -> bytes:
-        properties = self._chosen(0.8, SESSION_EXPIRY_INTERVAL) + self._chosen(0.15, *OF_CONNECT)
-        return connect(is_clean, properties, "c" if self.chance(0.9) else "")
+        properties = self._chosen(0.8, SESSION_EXPIRY_INTERVAL) + self._chosen(0.15, *OF_CONNECT, AUTHENTICATION_METHOD)
+        self.has_will = self.chance(0.4)
+        will = (self.draw.randrange(3), self.chance(0.5)) if self.has_will else None
+        return connect(is_clean, properties, "c" if self.chance(0.9) else "", will)
 
     def _connack(self, session_present: bool) -> bytes:
-        code = 0x87 if self.chance(0.1) else 0x00
-        chosen = self._chosen(0.12, SESSION_EXPIRY_INTERVAL, *OF_CONNACK)
-        chosen += self._chosen(0.4 if session_present else 0.25, self.draw.choice(BOUNDS))
+        refusals = (0x87, 0x9A, 0x9B) if self.has_will else (0x87,)
+        code = self.draw.choice(refusals) if self.chance(0.1) else 0x00
+        chosen = self._chosen(0.12, SESSION_EXPIRY_INTERVAL, *OF_CONNACK, AUTHENTICATION_METHOD)
+        if self.has_will and self.role == SERVER:
+            chosen += self._chosen(0.5, MAXIMUM_QOS, RETAIN_AVAILABLE)
+        else:
+            chosen += self._chosen(0.4 if session_present else 0.25, self.draw.choice(BOUNDS))
         return packet(0x20, bytes([session_present, code]) + varint(len(chosen)) + chosen)
 
     def _publish(self, end: int, identifier: int, qos: int, dup: bool) -> bytes:
@@ -422,9 +430,18 @@ class Session:
         return packet(0xE0, b"" if self.chance(0.5) else b"\0" + self._properties(0.5, SESSION_EXPIRY_INTERVAL))
 
 
-def connect(is_clean: bool, properties: bytes, name: str = "c") -> bytes:
-    flags = bytes([2 if is_clean else 0])
-    return packet(0x10, text("MQTT") + b"\5" + flags + number(60) + varint(len(properties)) + properties + text(name))
+def connect(is_clean: bool, properties: bytes, name: str = "c", will: tuple[int, bool] | None = None) -> bytes:
+    """A CONNECT. Of a Will are given its QoS and Will Retain."""
+    flags, rest = 2 if is_clean else 0, b""
+    if will is not None:
+        qos, retain = will
+        flags, rest = flags | will_flags(qos, retain), b"\0" + text("w") + text("x")
+    return packet(0x10, text("MQTT") + bytes([5, flags]) + number(60) + varint(len(properties)) + properties + text(name) + rest)
+
+
+def will_flags(qos: int, retain: bool) -> int:
+    """The Connect Flags that a Will has."""
+    return 0x04 | qos << 3 | retain << 5
 
 
 def session(seed: int, which: int) -> bytes:

@@ -1,14 +1,15 @@
 #!/usr/bin/env python3
-"""Checks that the table of statements in docs/STATEMENTS.md is the one that the program has, that the number of statements in
-README.md and docs/STATEMENTS.md is the number of its rows, and that docs/STANDARD.md names the statements where it should.
+"""Checks that the tables of statements in docs/STATEMENTS.md are those that the program has, that the number of statements in
+README.md and docs/STATEMENTS.md is the number of those that are always judged, that docs/STANDARD.md names the statements where it
+should, and that the second opinion has the same further statements, in the same words.
 
 The rows are those of `TABLE` in crates/mq_rules/src/table.rt, and what each statement says is its doc comment in
 crates/mq_rules/src/rule.rt, which is also its sentence in `Rule::sentence` of crates/mq_rules/src/naming.rt. In the
-document the table is between the lines `<!-- rules -->` and `<!-- /rules -->`. If it differs, the first line that does is
-printed, and the status is 1; with --write the table is written instead. The two pages are the only ones that say how many
-statements there are: each has to say it, and nowhere another number, or the status is 1, with --write too. What is asked of
-docs/STANDARD.md is in standard_page.py; --write writes the numbers of its rows into it. Each run without --write first looks whether
-flaws in it would be found.
+document the table is between the lines `<!-- rules -->` and `<!-- /rules -->`, and that of the further statements, which are judged on
+request, between `<!-- further -->` and `<!-- /further -->`. If one differs, the first line that does is printed, and the status is 1;
+with --write the tables are written instead. The two pages are the only ones that say how many statements there are: each has to say
+it, and nowhere another number, or the status is 1, with --write too. What is asked of docs/STANDARD.md is in standard_page.py; --write
+writes the numbers of its rows into it. Each run without --write first looks whether flaws in it would be found.
 
 usage: bench/rules_table.py [--write]
 """
@@ -18,6 +19,7 @@ import sys
 from pathlib import Path
 
 sys.dont_write_bytecode = True  # the repository stays as it is
+import further_table
 import standard_page
 
 TOP = Path(__file__).resolve().parent.parent
@@ -27,9 +29,10 @@ STANDARD = TOP / "docs" / "STANDARD.md"
 COUNTING = (README, DOCUMENT)
 COUNT = re.compile(r"\b(\d+)\s+(?:statements|rules)\b")
 SOURCES = TOP / "crates" / "mq_rules" / "src"
-BEGIN, END = "<!-- rules -->\n", "<!-- /rules -->\n"
+RULES, FURTHER = "rules", "further"  # the names of the two tables in the document
+ON_REQUEST, WITH_RELEASES = "OnRequest", "WithReleases"
 HEAD = ["| Code | A statement of the tested end | Citation for a client | For a server |", "|---|---|---|---|"]
-ROW = re.compile(r'\(\s*(\w+),\s*"(\w+)",\s*(\w+),\s*"([^"]*)",\s*"([^"]*)",\s*(true|false),?\s*\)')
+ROW = re.compile(r'\(\s*(\w+),\s*"(\w+)",\s*(\w+),\s*"([^"]*)",\s*"([^"]*)",\s*(Always|WithReleases|OnRequest),?\s*\)')
 SENTENCE = re.compile(r'Rule::(\w+) =>\s*"([^"]*)",')
 VALUE = re.compile(r"((?:^ +///.*\n)+)^ +(\w+),$", re.MULTILINE)
 SECTION = re.compile(r" \(MQTT 5\.0, sections? [^()]*\)\.$")
@@ -49,7 +52,8 @@ def sentences() -> dict[str, str]:
     return said
 
 
-def table() -> str:
+def tables() -> dict[str, str]:
+    """The table of the statements that are always judged, and that of the further ones."""
     source = (SOURCES / "table.rt").read_text()
     size = re.search(r"pub const TABLE: \[Row; (\d+)\]", source)
     rows = ROW.findall(source)
@@ -59,11 +63,27 @@ def table() -> str:
     printed = SENTENCE.findall((SOURCES / "naming.rt").read_text())
     if printed != [(name, text + ".") for name, text in said.items()]:
         sys.exit("rules_table.py: the sentences aren't the comments of the enum's values, in their order")
+    lines = {RULES: HEAD.copy(), FURTHER: HEAD.copy()}
+    for name, code, _, client, server, when in rows:
+        condition = ", if the log records releases" if when == WITH_RELEASES else ""
+        row = f"| {code} | {said[name]}{condition} | {client or '-'} | {server or '-'} |"
+        lines[FURTHER if when == ON_REQUEST else RULES].append(row)
+    return {name: "\n".join(rows) + "\n" for name, rows in lines.items()}
+
+
+def unlike_further(table: str) -> list[str]:
+    """What the second opinion says otherwise of the further statements."""
     lines = HEAD.copy()
-    for name, code, _, client, server, needs_releases in rows:
-        condition = ", if the log records releases" if needs_releases == "true" else ""
-        lines.append(f"| {code} | {said[name]}{condition} | {client or '-'} | {server or '-'} |")
-    return "\n".join(lines) + "\n"
+    for code in further_table.JUDGED:
+        cited = [further_table.CITATIONS[code].get(role, "-") for role in ("client", "server")]
+        lines.append(f"| {code} | {further_table.SENTENCES[code]} | {' | '.join(cited)} |")
+    return difference("bench/further_table.py", "\n".join(lines) + "\n", table)
+
+
+def difference(who: str, there: str, wanted: str) -> list[str]:
+    """The first line in which a table isn't the program's."""
+    pairs = zip([*there.splitlines(), ""], [*wanted.splitlines(), ""])
+    return next(([f"{who} has:  {have}", f"the program has:   {want}"] for have, want in pairs if have != want), [])
 
 
 def citations() -> standard_page.Statements:
@@ -90,22 +110,27 @@ def miscounted(page: Path, count: int) -> list[str]:
     return [f"{name} says that there are {number} statements: there are {count}" for number in said if int(number) != count]
 
 
+def in_document(name: str, wanted: str, write: bool) -> list[str]:
+    """In what the document's table of this name isn't the wanted one, unless that is written."""
+    document, begin, end = DOCUMENT.read_text(), f"<!-- {name} -->\n", f"<!-- /{name} -->\n"
+    if document.count(begin) != 1 or document.count(end) != 1:
+        sys.exit(f"rules_table.py: the document must have one place for the table of {name}")
+    before, rest = document.split(begin)
+    there, after = rest.split(end)
+    if not write:
+        return difference("the document", there, wanted)
+    DOCUMENT.write_text(before + begin + wanted + end + after)
+    return []
+
+
 def main() -> None:
     options = argparse.ArgumentParser(description="Checks the tables in docs/STATEMENTS.md and docs/STANDARD.md.")
-    options.add_argument("--write", action="store_true", help="write the table and the numbers into the documents")
+    options.add_argument("--write", action="store_true", help="write the tables and the numbers into the documents")
     write = options.parse_args().write
-    document = DOCUMENT.read_text()
-    if document.count(BEGIN) != 1 or document.count(END) != 1:
-        sys.exit("rules_table.py: the document must have one place for the table")
-    before, rest = document.split(BEGIN)
-    there, after = rest.split(END)
-    wanted = table()
-    wrong = [line for page in COUNTING for line in miscounted(page, wanted.count("\n") - len(HEAD))]
-    if write:
-        DOCUMENT.write_text(before + BEGIN + wanted + END + after)
-    elif there != wanted:
-        pairs = zip(there.splitlines() + [""], wanted.splitlines() + [""])
-        wrong += next([f"the document has:  {have}", f"the program has:   {want}"] for have, want in pairs if have != want)
+    found = tables()
+    wrong = [line for page in COUNTING for line in miscounted(page, found[RULES].count("\n") - len(HEAD))]
+    wrong += [line for name, table in found.items() for line in in_document(name, table, write)]
+    wrong += unlike_further(found[FURTHER])
     wrong += on_the_standard(write)
     for line in wrong:
         print(line)

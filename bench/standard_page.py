@@ -2,7 +2,8 @@
 
 It is a part of rules_table.py, which knows the statements and their citations. Whether a row says the truth of its demand is for its
 reader. What is compared are names and numbers: a statement has a row that it judges; each of its citations has a row that names it; no row
-names a statement that isn't there; and the numbers at the page's top, and those in README.md, are those of its rows.
+names a statement that isn't there; and the numbers at the page's top, and those in README.md, are those of its rows. A row is judged
+on request if a further statement judges it, and no other row names one.
 
 `unfound` alters the page in many ways, each of which has to be found: it is the self-test of all this.
 """
@@ -11,6 +12,8 @@ from collections import Counter
 from collections.abc import Iterator
 from typing import NamedTuple
 
+from further_table import JUDGED as FURTHER
+
 BEGIN, END = "<!-- counts -->\n", "<!-- /counts -->\n"
 HEAD = ("| Demand | What it asks | Of | Here | By which statements, or why not |", "|---|---|---|---|---|")
 CELL = re.compile(r" *\| *")
@@ -18,10 +21,10 @@ CITATION = re.compile(r"(?:MQTT-\d+\.\d+\.\d+-\d+|sec-\d+(?:\.\d+)*)(?: \?)?")
 NAMED = re.compile(r"MQTT-[\d.]+-\d+|sec-[\d.]*\d")
 CODE = re.compile(r"(?<![\w.])(?:[A-Z]\d\d|E\d[A-Z]|L\d)(?!\w)")
 ENDS = ("client", "server", "both")
-JUDGED, IN_PART, SEE = "judged", "in part", "see"
-WORDS = (JUDGED, IN_PART, "not yet", "times", "unseen", "nothing")  # those that are counted
-NAMING = (JUDGED, IN_PART, SEE)  # the rows that name statements
-SENTENCE = re.compile(r"Of the (\d+) numbered demands of the standard (\d+) are judged and (\d+) in part")
+JUDGED, IN_PART, ON_REQUEST, SEE = "judged", "in part", "on request", "see"
+WORDS = (JUDGED, IN_PART, ON_REQUEST, "not yet", "times", "unseen", "nothing")  # those that are counted
+NAMING = (JUDGED, IN_PART, ON_REQUEST, SEE)  # the rows that name statements
+SENTENCE = re.compile(r"Of the (\d+) numbered demands of the standard (\d+) are judged, (\d+) in part, and (\d+) on request")
 
 Statements = dict[str, set[str]]  # the citations of each, by its code
 
@@ -83,6 +86,8 @@ def wrong_names(page: str, all_rows: list[Row], statements: Statements) -> Itera
     for row in all_rows:
         if (row.here in NAMING) != bool(row.codes):
             yield f"{row.citation} ({row.here}) names {'a' if row.codes else 'no'} statement"
+        if any((code in FURTHER) != (row.here == ON_REQUEST) for code in row.codes):
+            yield f"{row.citation} ({row.here}) names a statement that is judged on request, or isn't"
         if row.here == SEE:
             yield from wrong_pointer(row, all_rows)
 
@@ -112,10 +117,11 @@ def wrong_counts(page: str, all_rows: list[Row], readme: str) -> Iterator[str]:
     elif page.partition(BEGIN)[2].partition(END)[0] != counts(all_rows):
         yield "the counts aren't those of the rows: bench/rules_table.py --write writes them"
     numbered = [row.here for row in all_rows if row.is_numbered]
-    right = tuple(str(number) for number in (len(numbered), numbered.count(JUDGED), numbered.count(IN_PART)))
+    right = (str(len(numbered)), *(str(numbered.count(word)) for word in (JUDGED, IN_PART, ON_REQUEST)))
     said = SENTENCE.findall(" ".join(readme.split()))
     if said != [right]:
-        yield f"README.md has to say once how many demands are judged: of {right[0]}, {right[1]} are, and {right[2]} in part"
+        counted = f"of {right[0]}, {right[1]} are, {right[2]} in part, and {right[3]} on request"
+        yield f"README.md has to say once how many demands are judged: {counted}"
 
 
 def wrong(page: str, readme: str, statements: Statements) -> list[str]:
@@ -160,6 +166,8 @@ def flawed(page: str, readme: str, statements: Statements) -> Iterator[tuple[str
         (f"| {JUDGED} | W", "| known | W", "no word of the list"),
         (f"| {JUDGED} | W", "| unseen | W", "names a statement"),
         (f"| {JUDGED} | W", f"| {IN_PART} | W", "the counts aren't those of the rows"),
+        (f"| {ON_REQUEST} | ", f"| {JUDGED} | ", "names a statement that is judged on request"),
+        (f"| {JUDGED} | W", f"| {ON_REQUEST} | W", "names a statement that is judged on request"),
         ("| unseen | ", f"| {JUDGED} | ", "names no statement"),
         (there, f"| {SEE} | {astray} |", "which has no row with"),
         (there, f"| {SEE} | {' '.join(pointer.codes)} |", "names no other row"),

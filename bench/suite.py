@@ -3,10 +3,12 @@
 and one that keeps it, each with its exact report as text and as JSON.
 
 The logs and their reports are the rows of `tests/statements/suite.rt` of mq_worked, whose tests judge them too: what the row shows, the
-log in words, and the report, with a semicolon between its lines. The reports were written from the statements' words before any
-program judged the logs. The two logs of a statement differ in one record, which is changed, added or missing.
+log in words, and the report, with a semicolon between its lines. Those of the further statements that the program judges on request
+are the rows of further_suite.txt: their reports are those of `check --all`. The reports were written from the statements' words before
+any program judged the logs. The two logs of a statement differ in one record, which is changed, added or missing.
 
-What each log tests is written by occasions.py: each has to test its own statement, also if it keeps it.
+What each log tests is written by occasions.py, and of a further statement by further.py: each has to test its own statement, also if
+it keeps it.
 
 With --check (or without options) it compares the files with the rows, byte by byte, and the reports with reference.py's. With
 --program that program has to give the same reports for the files, as text, as JSON and with what was tested, with the right status. The logs are of
@@ -25,18 +27,23 @@ from pathlib import Path
 
 sys.dont_write_bytecode = True  # the repository stays as it is
 import check_rows
+import further_table
+import further_worked
 import occasions
+import on_request
 import reading
 import reference
 import statements
 from check_forms import as_json
 from converting import converted
+from further_table import JUDGED
 from judges import STATUSES
 from shortening import KINDS
 from versions import HEAD_SIZES, HEADER_SIZE, records
 
 HERE = Path(__file__).resolve().parent
-ROWS = check_rows.FOLDER / "suite.rt"
+ROWS, FURTHER_ROWS = check_rows.FOLDER / "suite.rt", HERE / "further_suite.txt"
+CITATIONS = statements.CITATIONS | {code: further_table.CITATIONS[code] for code in JUDGED}
 FOLDER = HERE.parent / "examples/suite"
 BROKEN, KEPT = "broken", "kept"
 # Words, and which file has the report.
@@ -56,11 +63,14 @@ to the test, and they differ in one record. Each log has its exact report beside
 | `CODE-broken.json`, `CODE-kept.json` | the same as one line of JSON: what `mqjudge check --json FILE` prints |
 | `CODE-broken.places`, `CODE-kept.places` | the report with what was tested: what `mqjudge check --coverage FILE` prints |
 
+F05, F06 and A02 are further statements, which are judged only on request: each of these commands
+has `--all` too, and the reports of these logs are what it prints then.
+
 Each broken log has one fault, that of its statement, and each kept log passes. All packets are
 valid, except for the one that breaks a statement on a packet's bytes (W01 to W21). The reports were
 written from the statements' words, not by a program; what was tested was counted by
-`bench/occasions.py`, a second opinion in Python. [docs/STATEMENTS.md](../../docs/STATEMENTS.md)
-has all statements, with their citations.
+`bench/occasions.py` and `bench/further.py`, a second opinion in Python.
+[docs/STATEMENTS.md](../../docs/STATEMENTS.md) has all statements, with their citations.
 
 ## A log
 
@@ -117,17 +127,24 @@ class Row:
     log: bytes
     report: str
 
+    @property
+    def options(self) -> list[str]:
+        """The words with which its reports are asked for, beside those of the form."""
+        return ["--all"] if self.code in JUDGED else []
+
     def files(self) -> dict[str, bytes]:
         """What is in its files, by their names."""
-        tested = occasions.with_lines(self.report, occasions.lines(reading.Recording(self.log)))
+        counting = on_request.tested if self.code in JUDGED else occasions.lines
+        tested = occasions.with_lines(self.report, counting(reading.Recording(self.log)))
         texts = {"report": self.report, "json": as_json(self.report), "places": tested}
         name = f"{self.code}-{self.which}"
         return {f"{name}.log": self.log} | {f"{name}.{kind}": text.encode() for kind, text in texts.items()}
 
 
 def rows() -> Iterator[Row]:
-    names = check_rows.packets()
-    for line in "\n".join(check_rows.TABLE.findall(ROWS.read_text())).split("\n"):
+    names = further_worked.packets()
+    lines = "\n".join(check_rows.TABLE.findall(ROWS.read_text())).split("\n")
+    for line in [*lines, *FURTHER_ROWS.read_text().splitlines()]:
         head, words, report = (part.strip() for part in line.split("|"))
         first, _, what = head.partition(": ")
         code, which, role = first.replace(",", "").split()
@@ -202,11 +219,11 @@ def write() -> None:
 
 def wrong_pairs() -> Iterator[str]:
     """All statements in order, each for an end that it binds. Its fault is the only one in the broken log; the kept log passes."""
-    wanted = [(code, which) for code in statements.CITATIONS for which in (BROKEN, KEPT)]
+    wanted = [(code, which) for code in CITATIONS for which in (BROKEN, KEPT)]
     if [(row.code, row.which) for row in rows()] != wanted:
         yield "the rows aren't those of all statements, in their order, broken and kept"
     for broken, kept in pairs():
-        if broken.role != kept.role or broken.role not in statements.CITATIONS[broken.code]:
+        if broken.role != kept.role or broken.role not in CITATIONS[broken.code]:
             yield f"{broken.code}: {broken.role} and {kept.role} aren't one end that it binds"
         if difference(broken.log, kept.log) is None:
             yield f"{broken.code}: the logs don't differ in one record"
@@ -216,13 +233,15 @@ def wrong_pairs() -> Iterator[str]:
 
 def wrong_reports() -> Iterator[str]:
     for row in rows():
-        said = reference.report(row.log)
-        if said != row.report:
-            yield f"{row.code} {row.which}: wanted {row.report!r}, reference.py says {said!r}"
-        if (said := reference.report(in_second_version(row))) != row.report:
-            yield f"{row.code} {row.which}, version 2: wanted {row.report!r}, reference.py says {said!r}"
         recording = reading.Recording(row.log)
-        if not occasions.places(occasions.log_of(recording), row.code):
+        judge = (on_request if row.code in JUDGED else reference).reported
+        if (said := judge(recording)) != row.report:
+            yield f"{row.code} {row.which}: wanted {row.report!r}, {judge.__module__}.py says {said!r}"
+        if (said := judge(reading.Recording(in_second_version(row)))) != row.report:
+            yield f"{row.code} {row.which}, version 2: wanted {row.report!r}, {judge.__module__}.py says {said!r}"
+        if row.code in JUDGED and not (said := reference.reported(recording)).startswith("pass "):
+            yield f"{row.code} {row.which}: without --all it has to pass, reference.py says {said!r}"
+        if not on_request.places(occasions.log_of(recording), row.code):
             yield f"{row.code} {row.which}: it doesn't test its statement"
         may_break = row.code[0] == "W" and row.which == BROKEN
         for event in recording.events:
@@ -254,7 +273,8 @@ def wrong_answers(program: Path) -> Iterator[str]:
             path = FOLDER / f"{row.code}-{row.which}.log"
             second.write_bytes(in_second_version(row))
             for log, words, kind in ((log, *form) for log in (path, second) for form in FORMS):
-                ran = subprocess.run([program, "check", *words, log], stdin=subprocess.DEVNULL, capture_output=True, check=False)
+                command = [program, "check", *row.options, *words, log]
+                ran = subprocess.run(command, stdin=subprocess.DEVNULL, capture_output=True, check=False)
                 said = path.with_suffix(f".{kind}").read_text()
                 wanted = (STATUSES[row.report.splitlines()[-1].split()[0]], said.encode(), b"")
                 if (ran.returncode, ran.stdout, ran.stderr) != wanted:

@@ -7,15 +7,17 @@ import time
 from collections.abc import Iterator
 
 import check_rows
+import further_worked
 import hostile_logs
 import honest_logs
 import random_logs
 import suite
 from because import evidence, line
+from on_request import decided, faults
 from reading import Event, NAMES, RECV, RELEASE, REST, Recording, SENT
-from reference import beginning, decided, fails, faults
+from reference import beginning, fails
 from sessions import Log
-from statements import CITATIONS, type_of
+from statements import type_of
 
 SHORT = 5_000  # bytes of a worked log of the 74 statements on which the laws are checked
 LENGTHS = 3  # of each fault, in which its evidence is the same
@@ -95,7 +97,10 @@ L3 7 event 4
 B01 6 event - numbers 1
 B02 6 event 4 numbers 2 1
 B03 5 event 4 numbers 1 2
-B04 5 event 4 numbers 1 2"""
+B04 5 event 4 numbers 1 2
+F05 3 event 2
+F06 3 event 2
+A02 3 event 2"""
 
 # A statement, a log in the words of check_rows.py, and the evidence of all its faults there. The log may have faults of others.
 KEPT = "client OPEN >CONNECT-KEPT <CONNACK"  # a session that may be resumed
@@ -222,18 +227,23 @@ B02 | server OPEN <CONNECT >CONNACK <SUBSCRIBE-1:1 >SUBACK-1:1 <SUBSCRIBE-ALL:1 
 B02 | server OPEN <CONNECT >CONNACK <SUBSCRIBE-0:1 >PUBLISH1:1 >SUBACK-0:1 >PUBLISH2:2 | 5 event 4 numbers 1 0; 7 event 4 numbers 2 0
 B03 | server OPEN <CONNECT >CONNACK <SUBSCRIBE:1 <820B0001000001610100016201 >90050001000102 | 6 event 4 numbers 1 2
 B03 | server OPEN <CONNECT >CONNACK <SUBSCRIBE:1 >9003000100 | 5 event 4 numbers 1 0
-B04 | server OPEN <CONNECT >CONNACK <UNSUBSCRIBE:1 <A209000100000161000162 >B0050001000000 | 6 event 4 numbers 1 2"""
+B04 | server OPEN <CONNECT >CONNACK <UNSUBSCRIBE:1 <A209000100000161000162 >B0050001000000 | 6 event 4 numbers 1 2
+F05 | server OPEN <CONNECT-WILL-2 <CONNECT >CONNACK-QOS-1 >CONNACK-QOS-1 | 4 event 2; 5 event 2
+F05 | server OPEN <CONNECT-WILL-1 >CONNACK-QOS-1 CLOSE OPEN <PINGREQ <CONNECT-WILL-2 >CONNACK-QOS-1 | 8 event 7
+F06 | server OPEN <CONNECT-WILL-RETAINED >CONNACK-NO-RETAIN CLOSE OPEN <CONNECT-WILL-RETAINED >CONNACK-NO-RETAIN | 3 event 2; 7 event 6
+A02 | client OPEN >CONNECT >CONNECT-M <CONNACK >AUTH >AUTH-M | 5 event 2; 6 event 2
+A02 | server OPEN <PINGREQ <CONNECT >AUTH >CONNACK-M | 4 event 3; 5 event 3"""
 
 
 # ---- what holds of all evidence
 
 # Statements whose faults always have an event, and those whose faults never have one. Of the others it depends on the log.
 ALWAYS = """C03 C06 C07 C10 C11 C12 C13 C14 C17 C20 C21 C22 C23 S01 S03 S04 S05 S06 E1R E2R E3R E4R E5R E6R E1O E2O E3O E7R L2 L3 B02
-B03 B04""".split()
+B03 B04 F05 F06 A02""".split()
 NEVER = [*(f"W{number:02}" for number in range(1, 22)), *"C01 C02 C04 C05 C09 C16 C18 C19 B01".split()]
 # Those whose event, if there is one, is on the connection of the fault; those which a later REST shows, whose event may come after it.
 HERE = """C03 C06 C07 C10 C11 C12 C13 C14 C15 C17 C20 C21 C22 C23 S03 S05 S07 E1R E2R E3R E4R E5R E6R E1O E2O E3O E7R B03
-B04""".split()
+B04 F05 F06 A02""".split()
 SHOWN_LATER = "S06 E1R E2R E3R E4R E5R E6R".split()
 COUNTS = {"C14": 2, "C15": 2, "C16": 1, "C17": 2, "C20": 1, "S05": 2, "S07": 2, "E7R": 2, "B01": 1, "B02": 2, "B03": 2, "B04": 2}
 
@@ -245,7 +255,8 @@ S01 =>PUBLISH =>SUBSCRIBE =>UNSUBSCRIBE | S02 =<PUBACK =<PUBREC =<PUBCOMP <CONNA
 S05 >PUBLISH | S06 <CONNACK >CONNACK | S07 <CONNECT <CONNACK | E1A =>PUBACK <CONNACK >CONNACK | E2A =>PUBREC <CONNACK >CONNACK
 E3A =>PUBREL =<PUBREC <CONNACK >CONNACK | E4A =>PUBCOMP <CONNACK >CONNACK | E5A =>SUBACK >CONNACK | E6A =>UNSUBACK >CONNACK
 E1R REST | E2R REST | E3R REST | E4R REST | E5R REST | E6R REST | E1O <PUBLISH | E2O <PUBLISH | E3O <PUBREC | E7R <PINGREQ
-L1 =>PUBREC =>PUBCOMP <CONNACK >CONNACK | L2 =RELEASE | L3 =<PUBLISH | B02 <SUBSCRIBE | B03 =<SUBSCRIBE | B04 =<UNSUBSCRIBE"""
+L1 =>PUBREC =>PUBCOMP <CONNACK >CONNACK | L2 =RELEASE | L3 =<PUBLISH | B02 <SUBSCRIBE | B03 =<SUBSCRIBE | B04 =<UNSUBSCRIBE
+F05 <CONNECT | F06 <CONNECT | A02 >CONNECT <CONNECT"""
 KINDS = {words[0]: words[1:] for words in (one.split() for row in EVENTS.split("\n") for one in row.split("|"))}
 WAYS = {SENT: ">", RECV: "<"}
 MARKS = {REST: "REST", RELEASE: "RELEASE"}
@@ -314,10 +325,10 @@ def log_of(bytes: bytes) -> Log:
 def worked() -> Iterator[tuple[str, Log, str, str]]:
     """Each with a name, a statement, and the evidence of its faults."""
     wanted = dict(one.split(" ", 1) for one in SUITE.split("\n"))
-    assert list(wanted) == list(CITATIONS), "the table of the suite doesn't have all statements in order"
+    assert list(wanted) == list(suite.CITATIONS), "the table of the suite doesn't have all statements in order"
     for row in suite.rows():
         yield f"{row.code} {row.which}", log_of(row.log), row.code, wanted[row.code] if row.which == suite.BROKEN else ""
-    names = check_rows.packets()
+    names = further_worked.packets()
     for row in ROWS.split("\n"):
         rule, words, rest = (part.strip() for part in row.split("|"))
         yield row, log_of(check_rows.log_of(words, names)), rule, rest

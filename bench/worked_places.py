@@ -1,13 +1,14 @@
 """Worked logs, with all places of one statement in each, for places.py.
 
 Those of mq_rules_tests are read from its source: there their places are computed from the definitions, in proofs. They have all
-statements but W01 to W21. The rows here have these, and more of the others; they were written from the words.
+statements but W01 to W21, and the further ones that the program judges on request. The rows here have these, and more of the others;
+they were written from the words.
 
 Their events are written in the words of crates/mq_rules/specs/Worked.antt, each of which is a function here. A packet
 has 10 bytes there, if nothing else is said.
 """
 import re
-from collections.abc import Callable, Iterator
+from collections.abc import Callable, Container, Iterator
 from dataclasses import dataclass, replace
 from pathlib import Path
 
@@ -19,7 +20,8 @@ from reading import (
 from sessions import Log
 
 PROVED = Path(__file__).resolve().parent.parent / "crates/mq_rules_tests/src/worked_places.rt"
-CLAUSE = re.compile(r"ensures (\w+) \{ applying (\w+) (\w+) \((.*)\) ≡ (.*) \}")
+PROVED_FAULTS = PROVED.parent / "worked.rt"
+CLAUSE = re.compile(r"ensures (\w+) \{ (?:applying|failing) (\w+) (\w+) \((.*)\) ≡ (.*) \}")
 TOKEN = re.compile(r"[()]|[^()\s]+")
 CONS, NIL = "∷", "[]"
 
@@ -138,6 +140,7 @@ class Worked:
     rule: str
     log: Log
     places: list[int]
+    is_asked: bool = False  # for the further statements too
 
 
 # ---- the words of events and packets: of each a function of its arguments
@@ -154,6 +157,8 @@ IDENTIFIERS = {
     "retain": 0x25,
     "size": 0x27,
 }
+METHOD = (0x15, b"m")
+QUALITIES = ("quality.AtMostOnce", "quality.AtLeastOnce", "quality.ExactlyOnce")
 
 
 def packet(kind: int, **fields: object) -> Packet:
@@ -208,6 +213,8 @@ WORDS: dict[str, Callable] = {
     "lasting": lambda: connect(True),
     "again": lambda: connect(False),
     "unnamed": lambda: connect(True, None, named=False),
+    "with_will": lambda qos, retain: replace(connect(True), will_qos=qos, will_retain=retain),
+    "with_method": lambda: replace(connect(True), properties=[METHOD]),
     "asking": lambda problem, response, receive, aliases, size: connect(
         True, problem=problem, response=response, receive=receive, aliases=aliases, size=size
     ),
@@ -218,6 +225,8 @@ WORDS: dict[str, Callable] = {
         present, receive=receive, aliases=aliases, qos=qos, size=size
     ),
     "retaining": lambda available: connack(True, retain=available),
+    "announcing": lambda code, qos, retain: connack(False, code, qos=qos, retain=retain),
+    "naming_method": lambda: replace(connack(False), properties=[METHOD]),
     "assigning": lambda: connack(False, 0, 0x12),
     "informing": lambda: connack(False, 0, 0x1A),
     "leaving": lambda expiry: packet(DISCONNECT, properties=given(expiry=expiry)),
@@ -240,7 +249,14 @@ WORDS: dict[str, Callable] = {
     "Pingresp": lambda: packet(PINGRESP),
     "Auth": lambda: packet(AUTH),
 }
-ENDS = {"client": ("client", True), "server": ("server", True), "client_unrecorded": ("client", False)}
+# Whether it is a client, whether it records releases, and whether it is judged by the further statements too.
+ENDS = {
+    "client": ("client", True, False),
+    "server": ("server", True, False),
+    "client_unrecorded": ("client", False, False),
+    "client_asked": ("client", True, True),
+    "server_asked": ("server", True, True),
+}
 
 # ---- reading what is written in these words
 
@@ -272,6 +288,8 @@ def argument(tokens: list[str]) -> object:
         return token.partition(".")[2]
     if token == NIL:
         return []
+    if token in QUALITIES:
+        return QUALITIES.index(token)
     word = WORDS[token]
     return word() if word.__code__.co_argcount == 0 else word
 
@@ -282,14 +300,15 @@ def read(text: str) -> list:
     return found
 
 
-def proved() -> Iterator[Worked]:
-    """The worked logs of mq_rules_tests."""
-    text = PROVED.read_text()
+def proved(source: Path = PROVED, rules: Container[str] | None = None) -> Iterator[Worked]:
+    """The worked logs of mq_rules_tests, or those of these statements. In its file on faults the places are those of faults."""
+    text = source.read_text()
     clauses = CLAUSE.findall(text)
     assert len(clauses) == text.count(" ensures "), "a worked log that can't be read"
     for name, end, rule, events, places in clauses:
-        role, releases = ENDS[end]
-        yield Worked(f"{name}, {rule}", rule, Log(read(events), role, releases), sorted(read(places)))
+        if rules is None or rule in rules:
+            role, releases, is_asked = ENDS[end]
+            yield Worked(f"{name}, {rule}", rule, Log(read(events), role, releases), sorted(read(places)), is_asked)
 
 
 def worked_gaps() -> Iterator[tuple[str, Log, list[str]]]:
