@@ -26,7 +26,7 @@ from testing import TOP
 sys.path.append(str(TOP / "bench"))
 import because as second_opinion
 import worked_because
-from reference import faults
+from on_request import faults
 
 OPENING = ["OPEN", 'SENT CONNECT size 15 client "me" clean-start 1 keep-alive 60',
            "RECV CONNACK size 8 code 0x00 session-present 0 receive-maximum 1"]

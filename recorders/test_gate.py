@@ -23,7 +23,8 @@ CHECKED = [
     "bench/rules_table.py", "bench/places.py --self-test", "bench/because.py --self-test", "bench/further.py --self-test",
     "bench/check_docs.py", "bench/wrong_bodies.py --check",
 ]
-SHOWN = [f"bench/program.py {BUILT}", f"bench/check_rows.py --mqjudge {BUILT}", f"bench/check_forms.py {BUILT}"]
+SHOWN = [f"bench/program.py {BUILT}", f"bench/check_rows.py --mqjudge {BUILT}"]
+SHOWN += [f"bench/check_further.py --mqjudge {BUILT}", f"bench/check_forms.py {BUILT}"]
 SUITE = f"bench/suite.py --check --program {BUILT}"
 CONVERTED = f"bench/check_convert.py --mqjudge {BUILT}"
 REFUSED = "bench/refusing.py"
@@ -35,8 +36,8 @@ BEFORE = [*CHECKED, *SHOWN, SUITE, CONVERTED]
 AFTER = [*FUZZED, *LAST]
 TRIED = [*BEFORE, REFUSED, *AFTER]
 SCRIPTS = (
-    "rules_table", "places", "because", "further", "check_docs", "wrong_bodies", "program", "check_rows", "check_forms", "suite",
-    "check_convert", "fuzz", "enduring", "reads", "terminal", "run",
+    "rules_table", "places", "because", "further", "check_docs", "wrong_bodies", "program", "check_rows", "check_further", "check_forms",
+    "suite", "check_convert", "fuzz", "enduring", "reads", "terminal", "run",
 )
 NO_LIBRARY = "examples/live/test isn't run: it needs the library, which this builds: (cd crates/mq_ffi && rt lib)"
 LIBRARY_FOLDERS = ("crates/mq_ffi/out", "crates/mq_trace/src", "crates/mq_cli/src", "crates/mq_trace/out/src")

@@ -51,6 +51,9 @@ WORDS = (  # of statements: what the event is, with its numbers; and what is sai
     ("B01", "", "{0} filters stand, and none matches"),
     ("B02", "QoS {0}, at most {1} granted", ""),
     ("B03 B04", "{0} filters, {1} Reason Codes", ""),
+    ("F05", "the CONNECT, with a Will QoS above the announced maximum", ""),
+    ("F06", "the CONNECT, with Will Retain 1", ""),
+    ("A02", "the CONNECT, without an Authentication Method", ""),
 )
 CASES = {code: (event, none) for codes, event, none in WORDS for code in codes.split()}
 OF_EVENTS = {"S05"}  # the numbers are positions

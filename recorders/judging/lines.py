@@ -15,6 +15,7 @@ def json_line(verdict: Verdict) -> str:
         "verdict": WORDS[verdict.status],
         "end": verdict.end,
         "events": verdict.events,
+        "all": True if verdict.is_of_all else None,
         "has-rest": verdict.has_rest,
         "judged-bytes": verdict.whole,
     }

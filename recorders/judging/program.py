@@ -18,6 +18,7 @@ from judging.excerpt import AROUND, GAP, sentence_in
 from judging.looking import look_at
 from judging.places import what_else
 from judging.resends import TAKEN, Resends
+from judging.statements import ALL
 from judging.story import Teller, choose, end_of, is_brief
 from judging.texts import mark_texts
 from judging.verdict import FAILED, FAULTS, REFUSED, TOO_SHORT, Verdict, show
@@ -41,14 +42,16 @@ class Judge:
 
     def __init__(
         self, program: str, most: int, weigh: Callable[[Verdict], None], keeps: bool = False, tells: bool = False,
-        covers: bool = False,
+        covers: bool = False, is_of_all: bool = False,
     ) -> None:
         """Of each log at most so many lines are kept; and each fault, and a story of what happened, if it is wanted.
 
-        So is how often each statement was tested, which the program has to know.
+        So is how often each statement was tested, and whether logs are judged by the further statements too. The
+        program has to know the options for both.
         """
         self._program, self._most, self._weigh = program, most, weigh
         self._keeps, self._tells, self._covers = keeps, tells, covers
+        self._all = [ALL] if is_of_all else []
         self._says_why = True  # until the program doesn't know that option
         self._running: set[subprocess.Popen[bytes]] = set()
         self._lock = threading.Lock()  # for what runs
@@ -130,8 +133,8 @@ class Judge:
 
     def _ask(self, path: Path, log: Path) -> Verdict:
         """What the program says of a log, under the name that it has. It has failed where it ends oddly."""
-        verdict = Verdict(path, keeps=self._keeps)
-        words = ["check", "--coverage"] if self._covers else ["check"]
+        verdict = Verdict(path, keeps=self._keeps, is_of_all=bool(self._all))
+        words = ["check", *(["--coverage"] if self._covers else []), *self._all]
 
         def take(line: str) -> None:
             if not line.startswith(HINT):
@@ -164,7 +167,7 @@ class Judge:
                 found.setdefault(*because)
 
         try:
-            status = self._read(take, "check", "--why", log=log)
+            status = self._read(take, "check", "--why", *self._all, log=log)
         except OSError:
             return {}
         if status == MISUSE:
@@ -198,7 +201,7 @@ class Judge:
                     excerpts[code].append(line)
 
         try:
-            status = self._read(take, "show", "--long", "--faults", "--around", str(AROUND), log=log)
+            status = self._read(take, "show", "--long", "--faults", "--around", str(AROUND), *self._all, log=log)
         except OSError:
             return {}
         if status == 0:

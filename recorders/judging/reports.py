@@ -62,8 +62,10 @@ def write_reports(
     empty: Sequence[Path] = (),
     missing: Sequence[str] = (),
     coverage: Coverage | None = None,
+    asked: str = "",
 ) -> None:
-    """Writes the reports. The last remark is the summary.
+    """Writes the reports. The last remark is the summary; what is said of further statements, if they are asked for, is
+    one of the others.
 
     Folders without logs, and lines on what else is missing, are errors in JUnit XML. What the logs test is in all of
     them, where it is known.
@@ -87,6 +89,6 @@ def write_reports(
             places.html.write_text(page, "utf-8", "replace")
     if places.sarif:
         number = version.split()[1] if len(version.split()) > 1 else ""
-        text = json.dumps(sarif(verdicts, explanations, number, coverage), indent=1) + "\n"
+        text = json.dumps(sarif(verdicts, explanations, number, coverage, asked), indent=1) + "\n"
         with writing(places.sarif):
             places.sarif.write_text(text, "utf-8")

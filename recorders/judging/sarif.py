@@ -26,11 +26,13 @@ NOT_TESTED: Json = {
 
 
 def sarif(
-    verdicts: list[Verdict], explanations: dict[str, Explanation], version: str, coverage: Coverage | None = None
+    verdicts: list[Verdict], explanations: dict[str, Explanation], version: str, coverage: Coverage | None = None,
+    asked: str = "",
 ) -> Json:
     """One run. What is ignored is a result that is suppressed; what isn't judged is a notification of the tool.
 
-    What isn't tested as a line of a file requires is a result at that line, and other coverage a notification.
+    What isn't tested as a line of a file requires is a result at that line, and other coverage a notification. So is
+    what is said of further statements that were asked for.
     """
     codes = sorted(explanations)
     numbers = {code: number for number, code in enumerate(codes)}
@@ -41,7 +43,8 @@ def sarif(
     if version:
         driver["version"] = version
     notices = [notice(verdict) for verdict in verdicts if verdict.status in LEVELS]
-    notices += [{"level": "note", "message": {"text": line}} for line in (coverage.lines if coverage else [])]
+    remarks = [*([asked] if asked else []), *(coverage.lines if coverage else [])]
+    notices += [{"level": "note", "message": {"text": line}} for line in remarks]
     notices += [{"level": "error", "message": {"text": f"not tested: {short.text}"}}
                 for short in shortfalls if short.line is None]
     invocation: Json = {"executionSuccessful": not any(verdict.status == FAILED for verdict in verdicts)}

@@ -1,14 +1,15 @@
-"""The statements that a program judges by, as its `rules` lists them."""
+"""The statements that a program judges by, as its `rules` lists them, and those that it judges on request."""
 from __future__ import annotations
 
 import re
 import subprocess
-from dataclasses import dataclass
+from dataclasses import dataclass, replace
 
 CLIENT, SERVER = "client", "server"
 ENDS = (CLIENT, SERVER)
 BOTH = "both"
 CODE = re.compile("[A-Z][0-9A-Z]{1,3}")
+ALL = "--all"  # the option that asks for the further statements too
 SECONDS = 60
 
 
@@ -19,15 +20,17 @@ class Statement:
     code: str
     ends: str  # which it binds: client, server or both
     sentence: str = ""
+    is_further: bool = False  # it is judged only with `--all`
 
     def binds(self, end: str) -> bool:
         return self.ends in (end, BOTH)
 
 
-def statements_of(program: str) -> list[Statement]:
-    """The statements that the program judges by; none where it doesn't list them."""
+def statements_of(program: str, *words: str) -> list[Statement]:
+    """The statements that the program judges by; none where it doesn't list them. The words are options of `rules`."""
+    command = [program, "rules", *words]
     try:
-        answer = subprocess.run([program, "rules"], stdin=subprocess.DEVNULL, capture_output=True, timeout=SECONDS)
+        answer = subprocess.run(command, stdin=subprocess.DEVNULL, capture_output=True, timeout=SECONDS)
     except (OSError, subprocess.TimeoutExpired):
         return []
     lines = [line.split(None, 3) for line in answer.stdout.decode("utf-8", "replace").splitlines() if line.split()]
@@ -36,11 +39,27 @@ def statements_of(program: str) -> list[Statement]:
     return [Statement(words[0], "".join(words[1:2]), "".join(words[3:4])) for words in lines]
 
 
+def every_statement_of(program: str) -> list[Statement]:
+    """The same, and after them the further ones, if the program knows any."""
+    always = statements_of(program)
+    codes = {one.code for one in always}
+    further = [one for one in statements_of(program, ALL) if one.code not in codes] if always else []
+    return always + [replace(one, is_further=True) for one in further]
+
+
 def counts_places(program: str) -> bool:
-    """Whether the program's `check` knows `--coverage`: then it refuses an empty log, and doesn't call it misuse."""
+    return knows(program, "--coverage")
+
+
+def judges_further(program: str) -> bool:
+    return knows(program, ALL)
+
+
+def knows(program: str, option: str) -> bool:
+    """Whether the program's `check` knows an option: then it refuses an empty log, and doesn't call it misuse."""
+    command = [program, "check", option]
     try:
-        answer = subprocess.run([program, "check", "--coverage"], stdin=subprocess.DEVNULL, capture_output=True,
-                                timeout=SECONDS)
+        answer = subprocess.run(command, stdin=subprocess.DEVNULL, capture_output=True, timeout=SECONDS)
     except (OSError, subprocess.TimeoutExpired):
         return False
     return answer.stdout.startswith(b"refused ")

@@ -106,6 +106,7 @@ class Verdict:
     causes: dict[int, str] = field(default_factory=dict)  # the lines of what the first fault of each code conflicts with
     resent: dict[int, int] = field(default_factory=dict)  # of PUBLISHes under an identifier in use: which each repeats
     keeps: bool = False  # whether each fault is kept, for a report that names all
+    is_of_all: bool = False  # whether it is on the further statements too
     found: list[Fault] = field(default_factory=list)  # all faults, where they are kept
     overlooked: dict[str, str] = field(default_factory=dict)  # the codes that are ignored, and by which option
     end: str = ""  # which end is tested, where that is to be shown
