@@ -7,9 +7,10 @@ use Rattle.serde_json.specs.View.{items_of}
 use Rattle.serde_json.specs.Written.{has_float, items_have_float}
 use Rattle.mq_log.specs.declared.place.Place3.{Place3}
 use Rattle.mq_trace.specs.Writing.{AppendsBeginning, LeavesToWrite}
+use Rattle.mq_report.specs.declared.report.unjudged.Begun.{Begun}
 use Rattle.mq_report.specs.declared.report.unjudged.Gap.{Gap}
 use Rattle.mq_report.specs.Report.{line}
-use Rattle.mq_report.specs.Unjudged.{gap_text, gap_lines, gap_place, gap_what, gap_why, gap_data, gap_data_at, gap_items}
+use Rattle.mq_report.specs.Unjudged.{gap_text, gap_lines, gap_begun, gap_place, gap_what, gap_why, gap_data, gap_data_by, gap_items}
 use Rattle.mq_trace.proofs.Exports.{piece-written, stopped-in-piece}
 
 next_gap : (e : Gap) (gaps : List Gap) (i : ℕ) → i < length gaps → drop i gaps ≡ get_or gaps i e ∷ drop (i + 1) gaps
@@ -47,10 +48,12 @@ gap_values_end view values gaps i h so_far =
     ap items_of (sym (append-nil (map view values)) ∙ ap (λ (l : List Gap). map view values ++ map gap_data l) (sym (drop_all i gaps h)) ∙ so_far)
 
 -- no value of a gap holds a float
-gap_unfloating : (place : Option Place3) (what why : List ℕ) → has_float (gap_data_at place what why) ≡ false
-gap_unfloating None what why = refl
-gap_unfloating (Some place) what why = refl
+gap_unfloating : (begun : Option Begun) (place : Option Place3) (what why : List ℕ) → has_float (gap_data_by begun place what why) ≡ false
+gap_unfloating None None what why = refl
+gap_unfloating None (Some place) what why = refl
+gap_unfloating (Some begun) None what why = refl
+gap_unfloating (Some begun) (Some place) what why = refl
 
 pub gaps_unfloating : (gaps : List Gap) → items_have_float (gap_items gaps) ≡ false
 gaps_unfloating [] = refl
-gaps_unfloating (gap ∷ gaps) = rw (gap_unfloating (gap_place gap) (gap_what gap) (gap_why gap)) (gaps_unfloating gaps)
+gaps_unfloating (gap ∷ gaps) = rw (gap_unfloating (gap_begun gap) (gap_place gap) (gap_what gap) (gap_why gap)) (gaps_unfloating gaps)

@@ -10,6 +10,7 @@ mod lines;
 mod long_packet;
 mod report;
 mod sentences;
+mod types;
 
 pub use display::annotated::Extent;
 pub use display::{show, show_faults, show_long};
@@ -25,7 +26,7 @@ pub use report::coverage::Covered;
 pub use report::json::{write_covered_json, write_json, write_reasoned_json};
 pub use report::summary::{write_covered_summary, write_summary};
 pub use report::text::{write_covered_text, write_reasoned_text, write_text};
-pub use report::unjudged::Gap;
+pub use report::unjudged::{Begun, Gap};
 pub use report::{
     Form, Outcome, RunFault, Verdict, write_covered_report, write_reasoned_report, write_refused,
     write_report,

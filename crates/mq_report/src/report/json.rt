@@ -1,5 +1,5 @@
 //! Reports as JSON. Each is built as a value, and written as one line without spaces.
-ghost use Rattle.std.specs.Prelude.{◌≡◌, false, length, IfOk, IfErr, OnOk};
+ghost use Rattle.std.specs.Prelude.{◌≡◌, false, length, Some, IfOk, IfErr, OnOk};
 ghost use Rattle.std.specs.FinMap as map;
 ghost use Rattle.std.specs.Io.KnownBytes.{Appends};
 ghost use Rattle.serde_json.specs.Data.{array};
@@ -8,13 +8,13 @@ ghost use Rattle.serde_json.specs.Written.{compact_text, has_float};
 ghost use Rattle.mq_report.specs.declared.report.Form.TheVariants.{Json};
 ghost use Rattle.mq_report.specs.Report.{line, fault_data, fault_items, verdict_word, report_data, refused_data, refused_report, report_on, FailsToReport};
 ghost use Rattle.mq_report.specs.Coverage.{places_data, places_items, covered_data, covered_report_on};
-ghost use Rattle.mq_report.specs.Unjudged.{gap_data, gap_items};
+ghost use Rattle.mq_report.specs.Unjudged.{gap_begun, gap_data, gap_items};
 ghost use Rattle.mq_report.specs.Reasons.{event_data, number_items, with_member, reasoned, reasoned_data, reasoned_items, reasoned_report_data, reasoned_report_on};
 
 use super::coverage::Covered;
 use super::line::write_bytes;
 use super::reasons::{first_reason, later_reasons};
-use super::unjudged::Gap;
+use super::unjudged::{Begun, Gap};
 use super::{RunFault, Verdict};
 use mq_evidence::{Evidence, Numbers};
 use mq_log::{Place3, Refusal};
@@ -224,6 +224,9 @@ fn gap_values(alloc: Global, gaps: &[Gap]) -> Result<Vec<Value>, AllocError>
 fn gap_value(alloc: Global, gap: Gap) -> Result<Value, AllocError>
     ensures { IfOk result (λ value. view value ≡ gap_data gap) }
 {
+    if let Some(begun) = gap.begun() {
+        return begun_value(alloc, gap, begun);
+    }
     match gap.place() {
         Some(
             Place3 {
@@ -238,6 +241,34 @@ fn gap_value(alloc: Global, gap: Gap) -> Result<Value, AllocError>
             "why": gap.why()
         }),
         None => json!(in alloc; {
+            "what": gap.what(),
+            "why": gap.why()
+        }),
+    }
+}
+
+// The same, if it is a packet that was begun.
+fn begun_value(alloc: Global, gap: Gap, begun: Begun) -> Result<Value, AllocError>
+    ensures { gap_begun gap ≡ Some begun → IfOk result (λ value. view value ≡ gap_data gap) }
+{
+    match gap.place() {
+        Some(
+            Place3 {
+                position,
+                record_no,
+                ..
+            },
+        ) => json!(in alloc; {
+            "bytes": begun.bytes,
+            "event": position,
+            "record": record_no,
+            "type": begun.type_name(),
+            "what": gap.what(),
+            "why": gap.why()
+        }),
+        None => json!(in alloc; {
+            "bytes": begun.bytes,
+            "type": begun.type_name(),
             "what": gap.what(),
             "why": gap.why()
         }),

@@ -4,14 +4,33 @@ ghost use Rattle.std.specs.FinMap as map;
 ghost use Rattle.std.specs.Io.KnownBytes.{Appends};
 ghost use Rattle.mq_trace.specs.Writing.{AppendsBeginning};
 ghost use Rattle.mq_report.specs.Coverage.{unjudged_ending};
-ghost use Rattle.mq_report.specs.Unjudged.{gap_what, gap_why, gap_place, gap_text, gap_lines};
+ghost use Rattle.mq_report.specs.Unjudged.{begun_name, gap_what, gap_why, gap_begun, gap_place, gap_text, gap_lines};
 
 use super::super::lines::Lines;
 use super::line::write_line;
 use super::{RunFault, Verdict, write_verdict};
+use crate::types::type_of;
 use mq_log::{Direction, Place3};
 use std::fmt;
 use std::io::Write;
+
+/// A packet of which only a beginning came.
+#[derive(Clone, Copy, Debug, PartialEq, Eq)]
+pub struct Begun {
+    /// Its first byte, which has its type in the high four bits (MQTT 5.0, section 2.1.2).
+    pub first: u8,
+    /// How many bytes of it came.
+    pub bytes: usize,
+}
+
+impl Begun {
+    /// The name of its type, as `show --long` has it.
+    pub fn type_name(&self) -> &'static str
+        ensures { result.now ≡ begun_name self.now }
+    {
+        type_of(self.first)
+    }
+}
 
 /// What in a log wasn't judged, and why.
 #[derive(Clone, Copy, Debug, PartialEq, Eq)]
@@ -21,6 +40,9 @@ pub enum Gap {
     /// The CONNACK at this event resumed a session that the log can't tell: no statement on sessions
     /// on that connection.
     UnknownSession(Place3),
+    /// A direction had begun this packet (MQTT 5.0, section 2.1), and the rest of it never came. The
+    /// CLOSE at this place dropped its bytes, or the log's end did: no statement on a packet.
+    Unfinished(Direction, Begun, Option<Place3>),
     /// The connection that begins with this event has no CONNACK and no CLOSE: the same.
     UndecidedSession(Place3),
     /// The SUBSCRIBE at this event asked for a shared subscription: B01 and B02 after it in its
@@ -38,8 +60,8 @@ impl Gap {
         ensures { result.now ≡ gap_what self.now }
     {
         match self {
-            Gap::Lost(Direction::Sent, _) => "sent",
-            Gap::Lost(Direction::Recv, _) => "received",
+            Gap::Lost(Direction::Sent, _) | Gap::Unfinished(Direction::Sent, ..) => "sent",
+            Gap::Lost(Direction::Recv, _) | Gap::Unfinished(Direction::Recv, ..) => "received",
             Gap::UnknownSession(_) | Gap::UndecidedSession(_) => "session",
             Gap::Shared(_) => "B01 B02",
             Gap::NoRest => "answers",
@@ -54,6 +76,7 @@ impl Gap {
         match self {
             Gap::Lost(..) => "lost",
             Gap::UnknownSession(_) => "unknown",
+            Gap::Unfinished(..) => "unfinished",
             Gap::UndecidedSession(_) => "undecided",
             Gap::Shared(_) => "shared",
             Gap::NoRest => "no-rest",
@@ -61,7 +84,17 @@ impl Gap {
         }
     }
 
-    /// The event from which on it wasn't judged, if it is one event.
+    /// The packet that was begun, if it is one.
+    pub fn begun(&self) -> Option<Begun>
+        ensures { result ≡ gap_begun self.now }
+    {
+        match self {
+            Gap::Unfinished(_, begun, _) => Some(*begun),
+            _ => None,
+        }
+    }
+
+    /// The event from which on it wasn't judged, or with which it was dropped, if it is one event.
     pub fn place(&self) -> Option<Place3>
         ensures { result ≡ gap_place self.now }
     {
@@ -70,6 +103,7 @@ impl Gap {
             | Gap::UnknownSession(place)
             | Gap::UndecidedSession(place)
             | Gap::Shared(place) => Some(*place),
+            Gap::Unfinished(_, _, place) => *place,
             Gap::NoRest | Gap::NoReleases => None,
         }
     }
@@ -81,18 +115,37 @@ impl fmt::Display for Gap {
     fn fmt<W: fmt::Write>(&self, f: &mut fmt::Formatter<W>) -> fmt::Result {
         let what = self.what();
         let why = self.why();
-        match self.place() {
-            Some(
-                Place3 {
-                    position,
-                    record_no,
-                    ..
-                },
-            ) => write!(
-                f,
-                "unjudged {what} {why} event {position} record {record_no}"
-            ),
-            None => write!(f, "unjudged {what} {why}"),
+        match self.begun() {
+            Some(begun) => {
+                let name = begun.type_name();
+                let bytes = begun.bytes;
+                match self.place() {
+                    Some(
+                        Place3 {
+                            position,
+                            record_no,
+                            ..
+                        },
+                    ) => write!(
+                        f,
+                        "unjudged {what} {why} {name} bytes {bytes} event {position} record {record_no}"
+                    ),
+                    None => write!(f, "unjudged {what} {why} {name} bytes {bytes}"),
+                }
+            }
+            None => match self.place() {
+                Some(
+                    Place3 {
+                        position,
+                        record_no,
+                        ..
+                    },
+                ) => write!(
+                    f,
+                    "unjudged {what} {why} event {position} record {record_no}"
+                ),
+                None => write!(f, "unjudged {what} {why}"),
+            },
         }
     }
 }

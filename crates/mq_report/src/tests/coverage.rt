@@ -1,7 +1,7 @@
 //! Reports that say how often each statement was put to the test, and what wasn't judged, written
 //! out.
 use crate::report::coverage::Covered;
-use crate::report::unjudged::Gap;
+use crate::report::unjudged::{Begun, Gap};
 use crate::report::{Form, Verdict, write_covered_report};
 use mq_log::{Direction, Place3};
 use mq_rules::{Fault, FaultKey, Faults, Role, Rule};
@@ -30,12 +30,18 @@ fn place(position: u32, record_no: u32) -> Place3 {
     }
 }
 
+fn begun(first: u8, bytes: usize) -> Begun {
+    Begun { first, bytes }
+}
+
 // One of each kind.
-fn unjudged() -> [Gap; 7] {
+fn unjudged() -> [Gap; 9] {
     [
         Gap::Lost(Direction::Sent, place(14, 9)),
         Gap::Lost(Direction::Recv, place(15, 10)),
         Gap::UnknownSession(place(22, 21)),
+        Gap::Unfinished(Direction::Sent, begun(0x3D, 12), Some(place(24, 23))),
+        Gap::Unfinished(Direction::Recv, begun(0x0F, 1), None),
         Gap::UndecidedSession(place(30, 29)),
         Gap::Shared(place(12, 13)),
         Gap::NoRest,
@@ -117,6 +123,8 @@ fn words_say_what_was_not_judged(rt: HostRuntime) {
         unjudged sent lost event 14 record 9\n\
         unjudged received lost event 15 record 10\n\
         unjudged session unknown event 22 record 21\n\
+        unjudged sent unfinished PUBLISH bytes 12 event 24 record 23\n\
+        unjudged received unfinished Reserved bytes 1\n\
         unjudged session undecided event 30 record 29\n\
         unjudged B01 B02 shared event 12 record 13\n\
         unjudged answers no-rest\n\
@@ -132,6 +140,8 @@ fn json_says_what_was_not_judged(rt: HostRuntime) {
         {\"event\":14,\"record\":9,\"what\":\"sent\",\"why\":\"lost\"},\
         {\"event\":15,\"record\":10,\"what\":\"received\",\"why\":\"lost\"},\
         {\"event\":22,\"record\":21,\"what\":\"session\",\"why\":\"unknown\"},\
+        {\"bytes\":12,\"event\":24,\"record\":23,\"type\":\"PUBLISH\",\"what\":\"sent\",\"why\":\"unfinished\"},\
+        {\"bytes\":1,\"type\":\"Reserved\",\"what\":\"received\",\"why\":\"unfinished\"},\
         {\"event\":30,\"record\":29,\"what\":\"session\",\"why\":\"undecided\"},\
         {\"event\":12,\"record\":13,\"what\":\"B01 B02\",\"why\":\"shared\"},\
         {\"what\":\"answers\",\"why\":\"no-rest\"},\

@@ -3,7 +3,7 @@
 
 ghost use Rattle.std.specs.Prelude.{◌≡◌, ◌<◌, ◌≤◌, ◌^◌, [], ◌∷◌};
 ghost use Rattle.std.specs.List.{flat_map};
-ghost use Rattle.mq_report.specs.Details.{broken_words, gap_words, hex_digits, hex_words, mark_words, marked, name_beside, shown_from, type_names, type_words, words_around, words_from};
+ghost use Rattle.mq_report.specs.Details.{broken_words, gap_words, hex_digits, hex_words, mark_words, marked, shown_from, type_words, words_around, words_from};
 ghost use Rattle.mq_report.specs.ItemText.{with_spaces};
 ghost use Rattle.mq_report.specs.Marking.{between};
 ghost use Rattle.mq_report.specs.Outgoing.{Puts};
@@ -11,6 +11,7 @@ ghost use Rattle.mq_report.specs.Outgoing.{Puts};
 use super::super::outgoing::Outgoing;
 use super::marking::marked_at;
 use super::quoting::put_hex_digits;
+use crate::types::type_of;
 use mq_packet::PacketRule;
 use std::io::Write;
 
@@ -59,35 +60,9 @@ pub fn put_type<W: Write>(out: &mut Outgoing<'_, W>, bytes: &[u8])
     match bytes {
         [first, ..] => {
             out.put(" type ");
-            out.put(type_name(*first / 16));
+            out.put(type_of(*first));
         }
         [] => {}
-    }
-}
-
-// The name of the type of this number (MQTT 5.0, section 2.1.2).
-fn type_name(number: u8) -> &'static str
-    requires { number < 16 }
-    ensures { result.now ≡ name_beside number type_names }
-{
-    match number {
-        0 => "Reserved",
-        1 => "CONNECT",
-        2 => "CONNACK",
-        3 => "PUBLISH",
-        4 => "PUBACK",
-        5 => "PUBREC",
-        6 => "PUBREL",
-        7 => "PUBCOMP",
-        8 => "SUBSCRIBE",
-        9 => "SUBACK",
-        10 => "UNSUBSCRIBE",
-        11 => "UNSUBACK",
-        12 => "PINGREQ",
-        13 => "PINGRESP",
-        14 => "DISCONNECT",
-        15 => "AUTH",
-        _ => unreachable!(),
     }
 }
 

@@ -7,4 +7,4 @@ returns-in-empty g c = puts_no_type g.W.Write.contents c.args.out.now c.args.byt
 
 pub returns-in-len1-up : goal.returns-in-len1-up
 returns-in-len1-up g c =
-    puts_type g.W.Write.contents _ _ _ c.type_name.result.now c.args.bytes.now (omega (arith, c.in-len1-up.len_at_least)) c.put.ensures c.put-in-len1-up.ensures c.type_name.ensures
+    puts_type g.W.Write.contents _ _ _ c.type_of.result.now c.args.bytes.now (omega (arith, c.in-len1-up.len_at_least)) c.put.ensures c.put-in-len1-up.ensures c.type_of.ensures
