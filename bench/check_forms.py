@@ -175,11 +175,14 @@ def as_json(text: str) -> str:
 def gap_as_json(line: str) -> str:
     """The item of JSON for a line on what wasn't judged."""
     words = line.removeprefix("unjudged ").split()
-    place = ""
+    place = bytes = type = ""
     if "event" in words:
         *words, _, event, _, record = words
         place = f'"event":{event},"record":{record},'
-    return f'{{{place}"what":"{" ".join(words[:-1])}","why":"{words[-1]}"}}'
+    if "bytes" in words:
+        *words, name, _, count = words
+        bytes, type = f'"bytes":{count},', f'"type":"{name}",'
+    return f'{{{bytes}{place}{type}"what":"{" ".join(words[:-1])}","why":"{words[-1]}"}}'
 
 
 def in_short(text: str) -> str:

@@ -6,21 +6,23 @@ those of crates/mq_judge/specs/Unjudged.antt. Like statements.py it looks at the
 from collections.abc import Iterator
 from dataclasses import dataclass
 
-from reading import Lost, OPEN, SUBSCRIBE
+from reading import CLOSE, Lost, NAMES, OPEN, SUBSCRIBE
 from sessions import Log
 
 
 @dataclass(frozen=True)
 class Gap:
-    """What isn't judged, why, and from which position on, if it is one."""
+    """What isn't judged, why, from which position on, if it is one, and the bytes of a packet that was begun."""
 
     what: str
     why: str
     at: int | None = None
+    begun: bytes = b""
 
     def line(self, log: Log) -> str:
+        begun = f" {NAMES[self.begun[0] >> 4] or 'Reserved'} bytes {len(self.begun)}" if self.begun else ""
         place = "" if self.at is None else f" event {self.at} record {log.event(self.at).record}"
-        return f"unjudged {self.what} {self.why}{place}"
+        return f"unjudged {self.what} {self.why}{begun}{place}"
 
 
 def given_up(log: Log) -> Iterator[Gap]:
@@ -34,6 +36,13 @@ def given_up(log: Log) -> Iterator[Gap]:
 def unknown(log: Log) -> Iterator[Gap]:
     """A CONNACK resumes a session, and the log can't tell which."""
     return (Gap("session", "unknown", log.first_connacks[c]) for c, is_unknown in enumerate(log.are_unknown) if is_unknown)
+
+
+def unfinished(log: Log) -> Iterator[Gap]:
+    """A direction has begun a packet, and a CLOSE, or the log's end, drops its bytes."""
+    closes = [(k, log.event(k).unfinished) for k in range(1, log.last + 1) if log.event(k).kind == CLOSE]
+    for k, packets in [*closes, (None, log.left)]:
+        yield from (Gap(what, "unfinished", k, begun) for what, begun in zip(("sent", "received"), packets, strict=True) if begun)
 
 
 def undecided(log: Log) -> Iterator[Gap]:
@@ -57,9 +66,9 @@ def binds(log: Log, t: int) -> bool:
 
 
 def gaps(log: Log) -> list[Gap]:
-    """All of these: first what events show, in their order."""
+    """All of these: first what events show, in their order, and then what CLOSEs and the log's end drop, in theirs."""
     found = sorted([*given_up(log), *unknown(log)], key=lambda gap: gap.at or 0)
-    found += [*undecided(log), *shared(log)]
+    found += [*unfinished(log), *undecided(log), *shared(log)]
     if not any(binds(log, t) for t in range(1, log.last + 1)):
         found.append(Gap("answers", "no-rest"))
     if not log.releases:

@@ -542,7 +542,7 @@ def all_places(log: Log) -> dict[str, list[int]]:
 
 def log_of(recording: Recording) -> Log:
     """The events of a log, up to where it is refused."""
-    return Log(recording.events, recording.role, recording.releases)
+    return Log(recording.events, recording.role, recording.releases, recording.left)
 
 
 def coverage(log: Log, found: dict[str, list[int]]) -> list[str]:

@@ -464,6 +464,15 @@ class Recording:
         except Refusal as refusal:
             self.refusal = refusal.with_traceback(None)
 
+    def unfinished(self) -> tuple[bytes, bytes]:
+        """The bytes so far of the packet that the tested end has begun to send on the latest connection, and not ended, and to receive."""
+        return bytes(self.streams.get(SENT) or b""), bytes(self.streams.get(RECV) or b"")
+
+    @property
+    def left(self) -> tuple[bytes, bytes]:
+        """Those that the log's end leaves unfinished."""
+        return self.unfinished() if self.is_open else (b"", b"")
+
     def check_end(self, end: int) -> None:
         """Whether there are so many bytes."""
         if end > len(self.log):
@@ -517,7 +526,7 @@ class Recording:
             self.is_open, self.has_connack, self.begun_after = True, False, len(self.events)
             self.streams = {SENT: bytearray(), RECV: bytearray()}
         released = int.from_bytes(self.log[begin:end], "big")
-        unfinished = (bytes(self.streams[SENT] or b""), bytes(self.streams[RECV] or b"")) if kind == CLOSE else (b"", b"")
+        unfinished = self.unfinished() if kind == CLOSE else (b"", b"")
         self.add(Event(kind, record, None, released, unfinished), end - 1)
         if kind == CLOSE:
             self.is_open = False

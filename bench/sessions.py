@@ -17,10 +17,10 @@ DEFAULTS = {0x21: 65_535, 0x22: 0, 0x24: 2, 0x25: 1, 0x27: None, 0x17: 1, 0x19: 
 
 
 class Log:
-    """A list of events, whose positions count from 1."""
+    """A list of events, whose positions count from 1, and the bytes of the packets that it leaves unfinished, sent and received."""
 
-    def __init__(self, events: list[Event], role: str, releases: bool):
-        self.events, self.role, self.releases = events, role, releases
+    def __init__(self, events: list[Event], role: str, releases: bool, left: tuple[bytes, bytes] = (b"", b"")):
+        self.events, self.role, self.releases, self.left = events, role, releases, left
         self.last = len(events)
         # What is at each position, from 1 on.
         self.items_sent = [None, *[e.item if e.kind == SENT else None for e in events]]

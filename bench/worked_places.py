@@ -102,27 +102,28 @@ B03 | server OPEN <CONNECT >CONNACK <SUBSCRIBE:1 >UNSUBACK:1 >900400020002 >SUBA
 B04 | server OPEN <CONNECT >CONNACK <UNSUBSCRIBE:1 >SUBACK:1 >UNSUBACK:1 >UNSUBACK:1 | 6"""
 
 
-# A log in the same words, and what isn't judged of it: what, why, and the event from which on, if it is one. Each record is an event.
+# A log in the same words, and what isn't judged of it: what, why, and the event from which on, if it is one, with its record, if that
+# has another number.
 GAPS = """\
 client OPEN >CONNECT <CONNACK REST CLOSE |
 client OPEN >CONNECT <CONNACK REST CLOSE RELEASE:1 |
 client | answers no-rest
-client OPEN >CONNECT <CONNACK >LOST CLOSE | sent lost 4, answers no-rest
-client OPEN >CONNECT <CONNACK REST <LOST >PINGREQ | received lost 5
-server OPEN <CONNECT >CONNACK REST <LOST >LOST CLOSE | received lost 5, sent lost 6
-client OPEN >CONNECT <LOST CLOSE OPEN >CONNECT <CONNACK REST CLOSE | received lost 3
-client OPEN >CONNECT | session undecided 1, answers no-rest
-client OPEN >CONNECT <CONNACK REST CLOSE OPEN >CONNECT REST | session undecided 6
+client OPEN >CONNECT <CONNACK >LOST CLOSE | sent lost @4, answers no-rest
+client OPEN >CONNECT <CONNACK REST <LOST >PINGREQ | received lost @5
+server OPEN <CONNECT >CONNACK REST <LOST >LOST CLOSE | received lost @5, sent lost @6
+client OPEN >CONNECT <LOST CLOSE OPEN >CONNECT <CONNACK REST CLOSE | received lost @3
+client OPEN >CONNECT | session undecided @1, answers no-rest
+client OPEN >CONNECT <CONNACK REST CLOSE OPEN >CONNECT REST | session undecided @6
 client OPEN >CONNECT <CONNACK REST CLOSE OPEN >CONNECT <CONNACK-REFUSED |
-server OPEN <CONNECT >CONNACK REST CLOSE OPEN | session undecided 6
-client OPEN >CONNECT-KEPT <CONNACK REST CLOSE OPEN >CONNECT CLOSE OPEN >RECONNECT <CONNACK-RESUMED CLOSE | session unknown 11
+server OPEN <CONNECT >CONNACK REST CLOSE OPEN | session undecided @6
+client OPEN >CONNECT-KEPT <CONNACK REST CLOSE OPEN >CONNECT CLOSE OPEN >RECONNECT <CONNACK-RESUMED CLOSE | session unknown @11
 client OPEN >CONNECT-KEPT <CONNACK REST CLOSE OPEN >RECONNECT CLOSE OPEN >RECONNECT <CONNACK-RESUMED CLOSE |
 client OPEN >CONNECT-KEPT <CONNACK REST CLOSE OPEN >CONNECT CLOSE OPEN >CONNECT <CONNACK CLOSE |
 client OPEN >RECONNECT CLOSE OPEN >CONNECT CLOSE OPEN >RECONNECT <CONNACK-RESUMED REST CLOSE |
-client OPEN >CONNECT-KEPT <CONNACK CLOSE OPEN >CONNECT CLOSE OPEN >RECONNECT <CONNACK-RESUMED REST CLOSE | session unknown 10, answers no-rest
-server OPEN <CONNECT >CONNACK REST <SHARE CLOSE | B01 B02 shared 5
-server OPEN <CONNECT >CONNACK REST <SUBSCRIBE:1 <SHARE <SHARE CLOSE | B01 B02 shared 6
-server OPEN <CONNECT <SHARE CLOSE | B01 B02 shared 3, answers no-rest
+client OPEN >CONNECT-KEPT <CONNACK CLOSE OPEN >CONNECT CLOSE OPEN >RECONNECT <CONNACK-RESUMED REST CLOSE | session unknown @10, answers no-rest
+server OPEN <CONNECT >CONNACK REST <SHARE CLOSE | B01 B02 shared @5
+server OPEN <CONNECT >CONNACK REST <SUBSCRIBE:1 <SHARE <SHARE CLOSE | B01 B02 shared @6
+server OPEN <CONNECT <SHARE CLOSE | B01 B02 shared @3, answers no-rest
 client OPEN >CONNECT <CONNACK REST <SHARE >SHARE CLOSE |
 client OPEN >CONNECT REST <CONNACK | answers no-rest
 client OPEN >CONNECT <CONNACK >DISCONNECT REST CLOSE | answers no-rest
@@ -130,7 +131,17 @@ client OPEN >CONNECT <CONNACK <DISCONNECT REST CLOSE OPEN >CONNECT <CONNACK REST
 server OPEN <CONNECT >CONNACK >D100 REST CLOSE | answers no-rest
 server OPEN <CONNECT >CONNACK-REFUSED REST CLOSE | answers no-rest
 silent-client OPEN >CONNECT <CONNACK REST | L1 L2 L3 no-releases
-silent-client OPEN >CONNECT <CONNACK <LOST | received lost 4, answers no-rest, L1 L2 L3 no-releases"""
+silent-client OPEN >CONNECT <CONNACK <LOST | received lost @4, answers no-rest, L1 L2 L3 no-releases
+client OPEN >CONNECT <CONNACK REST >30 CLOSE | sent unfinished PUBLISH bytes 1 @5/6
+client OPEN >CONNECT <CONNACK REST >3209000161 <40 >0001 CLOSE | sent unfinished PUBLISH bytes 7 @5/8, received unfinished PUBACK bytes 1 @5/8
+client OPEN >CONNECT <CONNACK REST <D0 CLOSE OPEN >CONNECT <CONNACK >C0 | received unfinished PINGRESP bytes 1 @5/6, sent unfinished PINGREQ bytes 1
+client OPEN >CONNECT <CONNACK REST CLOSE OPEN >10 <20 | sent unfinished CONNECT bytes 1, received unfinished CONNACK bytes 1, session undecided @6
+client OPEN >CONNECT <CONNACK REST >C0 >00 <40 <020001 CLOSE |
+client OPEN >CONNECT <CONNACK REST >LOST >30 CLOSE | sent lost @5
+client OPEN >CONNECT <CONNACK REST >30FF7F <LOST CLOSE | received lost @5/6, sent unfinished PUBLISH bytes 3 @6/7
+server OPEN <CONNECT >CONNACK REST <82050001 <0000 CLOSE | received unfinished SUBSCRIBE bytes 6 @5/7
+server OPEN <CONNECT >CONNACK REST >00 CLOSE OPEN >F00118 <LOST | received lost @8/9, sent unfinished Reserved bytes 1 @5/6, session undecided @6/7
+silent-client OPEN >CONNECT <CONNACK >E0 | sent unfinished DISCONNECT bytes 1, answers no-rest, L1 L2 L3 no-releases"""
 SHARE = "821000010000" + "0A" + b"$share/g/a".hex() + "00"
 
 
@@ -318,12 +329,14 @@ def worked_gaps() -> Iterator[tuple[str, Log, list[str]]]:
         words, wanted = (part.strip() for part in line.split("|"))
         recording = Recording(check_rows.log_of(words.replace("SHARE", SHARE), names))
         assert recording.refusal is None, line
-        yield line, Log(recording.events, recording.role, recording.releases), [gap_line(one) for one in wanted.split(", ") if one]
+        log = Log(recording.events, recording.role, recording.releases, recording.left)
+        yield line, log, [gap_line(one) for one in wanted.split(", ") if one]
 
 
 def gap_line(words: str) -> str:
-    gap, _, at = words.rpartition(" ")
-    return f"unjudged {gap} event {at} record {at}" if at.isdecimal() else f"unjudged {words}"
+    gap, _, at = words.partition(" @")
+    event, _, record = at.partition("/")
+    return f"unjudged {gap} event {event} record {record or event}" if at else f"unjudged {gap}"
 
 
 def rows() -> Iterator[Worked]:
