@@ -102,17 +102,21 @@ class Printed(Case):
 
     def test_what_is_not_judged(self) -> None:
         gaps = ["unjudged sent lost event 14 record 9", "unjudged sent lost event 20 record 15",
-                "unjudged B01 B02 shared event 12 record 13", "unjudged sent unfinished PUBLISH bytes 12 record 20",
-                "unjudged answers no-rest"]
+                "unjudged sent unfinished PUBLISH bytes 12 event 24 record 20", "unjudged sent unfinished Reserved bytes 1",
+                "unjudged B01 B02 shared event 12 record 13", "unjudged sent unread 12 record 20", "unjudged answers no-rest"]
         self.add("a", CLIENT, *tested(W01=2, S01=1), *gaps, *PASS)
         self.add("b", CLIENT, *tested(W01=2, S01=1), gaps[-1], *PASS)
         self.add("c", SERVER, *tested(W01=1), *PASS)
         _, printed, _ = self.judged(self.logs, "--coverage")
         self.assertIn("tested: client 2 of 2 statements\nnot judged: client answers no-rest in 2 of 2 logs, sent lost in 1 of"
-                      " 2 logs, B01 B02 shared in 1 of 2 logs\ntested: server 1 of 1 statements\n\n", printed)
+                      " 2 logs, sent unfinished in 1 of 2 logs, B01 B02 shared in 1 of 2 logs\ntested: server 1 of 1 statements\n\n",
+                      printed)
         lines = [json.loads(line) for line in self.judged(self.logs, "--coverage", "--json")[1].splitlines()]
         place = {"event": 14, "record": 9}
         self.assertEqual(lines[0]["unjudged"][0], place | {"what": "sent", "why": "lost"})
+        unfinished = {"what": "sent", "why": "unfinished"}
+        self.assertEqual(lines[0]["unjudged"][2], unfinished | {"bytes": 12, "type": "PUBLISH", "event": 24, "record": 20})
+        self.assertEqual(lines[0]["unjudged"][3], unfinished | {"bytes": 1, "type": "Reserved"})
         self.assertEqual(lines[1]["unjudged"], [{"what": "answers", "why": "no-rest"}])
         self.assertNotIn("unjudged", lines[2])
         self.assertNotIn("unjudged", self.judged(self.logs, "--json")[1])

@@ -26,7 +26,7 @@ FAULT = re.compile(r"fault (\d+) (\S+) (\S+) decided (\d+) record (\d+) offset (
 ENDING = re.compile(r"(?:pass|fail \d+ faults) (\d+) events")
 TESTED = re.compile(r"tested (\w+ \S+) places (\d+)")
 COVERED = re.compile(r"covered \d+ of \d+ statements")
-UNJUDGED = re.compile(r"unjudged (.+) ([a-z-]+?)(?: event (\d+) record (\d+))?")
+UNJUDGED = re.compile(r"unjudged (.+?) ([a-z-]+)(?: (\w+) bytes (\d+))?(?: event (\d+) record (\d+))?")
 
 NO_REST = "answers no-rest"
 
@@ -61,10 +61,13 @@ def fault_of(found: re.Match[str]) -> Fault:
 
 
 class Gap(NamedTuple):
-    """What of a log wasn't judged, why, and from which event and record on, if it is one event."""
+    """What of a log wasn't judged, why, of which type is a packet that was begun, and how many bytes of it came, and from which event and
+    record on, if it is one event."""
 
     what: str
     why: str
+    type: str | None
+    bytes: str | None
     event: str | None
     record: str | None
 
@@ -75,8 +78,9 @@ class Gap(NamedTuple):
     @property
     def data(self) -> dict[str, Any]:
         """It as the program says it in JSON."""
+        begun = {} if self.type is None else {"bytes": int(self.bytes or 0), "type": self.type}
         place = {} if self.event is None else {"event": int(self.event), "record": int(self.record or 0)}
-        return place | {"what": self.what, "why": self.why}
+        return begun | place | {"what": self.what, "why": self.why}
 
 
 @dataclass
