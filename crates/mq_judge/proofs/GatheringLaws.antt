@@ -1,10 +1,12 @@
 -- What is kept to say what isn't judged, with one event more.
-use Rattle.std.proofs.Common.{◌≡◌, ℕ, Bool, true, false, cond, List, ◌∷◌, Option, Some, None, is_some, refl, sym, ap, ◌∙◌, ◌&&◌, ◌||◌, not}
+use Rattle.std.proofs.Common.{◌≡◌, ℕ, Bool, true, false, cond, List, ◌∷◌, ◌++◌, Option, Some, None, is_some, refl, sym, ap, subst, ◌∙◌, ◌&&◌, ◌||◌, not}
 use Rattle.std.specs.Prelude.{is_none, option_map}
 use Rattle.std.specs.Option.{option_or}
 use Rattle.mq_log.specs.declared.kind.Direction.{Direction}
 use Rattle.mq_log.specs.declared.kind.Direction.TheVariants as directions
 use Rattle.mq_log.specs.declared.place.Place3.{Place3}
+use Rattle.mq_log.specs.Events.{Item, Placed, UnfinishedPackets}
+use Rattle.mq_log.specs.Flows.{item_event}
 use Rattle.mq_rules.specs.declared.bare.Bare.{Bare}
 use Rattle.mq_rules.specs.declared.bare.BareFields.{BareFields}
 use Rattle.mq_rules.specs.declared.bare.BareFields.TheVariants as bares
@@ -27,8 +29,9 @@ use Rattle.mq_rules.proofs.Exports.{latest_fate-same, option_or-none, some-next}
 use Rattle.mq_books.specs.Pingings.{ends_by}
 use Rattle.mq_report.specs.declared.report.unjudged.Gap.{Gap}
 use Rattle.mq_report.specs.declared.report.unjudged.Gap.TheVariants.{UnknownSession, UndecidedSession, NoRest}
-use Rattle.mq_judge.specs.Unjudged.{place, lost_at, is_unknown, turns_unknown, shown_at, with_last, shown_in, latest_open, undecided_in, first_sharing, shared_by, shared_in, unrested_in, unreleased, unjudged_among}
-use Rattle.mq_judge.specs.Gathering.{Gathers}
+use Rattle.mq_judge.specs.Unjudged.{place, lost_at, is_unknown, turns_unknown, shown_at, with_last, shown_in, latest_open, first_sharing, shared_by, shared_in, unrested_in, unreleased, unfinished_of, with_unfinished, with_dropped, with_whole}
+use Rattle.mq_judge.specs.Gathering.{Gathers, IsShown}
+use Rattle.mq_judge.specs.declared.shown.Shown.{Shown}
 use Rattle.mq_judge.specs.declared.unjudged.Unjudged.{Unjudged}
 
 -- where the latest connection begins, with one event more
@@ -38,13 +41,6 @@ open-next e past = go (is_open e.note)
     go : (b : Bool) → option_map place (cond b (Some (newest e past)) (latest (λ m. is_open (note m)) (moments past))) ≡ cond b (Some e.place) (latest_open past)
     go true = refl
     go false = refl
-
--- what an event shows comes after what was shown before it
-shown-more : (before lacking : Bool) (old new shown : List Gap) (gap : Option Gap) → (lacking ≡ false → (before ≡ false) × (new ≡ with_last old gap)) → (before ≡ false → old ≡ shown)
-    → lacking ≡ false → new ≡ with_last shown gap
-shown-more before lacking old new shown gap says was here =
-    let now = says here in
-    now.1 ∙ ap (λ (gaps : List Gap). with_last gaps gap) (was now.0)
 
 -- a REST binds by what is kept
 binds-kept : (role : Role) (e : Seen) (past : List Seen) (before : Option Fate) (ended : Bool) → before ≡ latest_fate role past → ended ≡ some ends_binding (connection past)
@@ -56,12 +52,12 @@ binds-kept role e past before ended fate over =
 -- one event more was taken in
 pub gathered-next : (tested : Tested) (e : Seen) (past : List Seen) (before after : Option Fate) (old new : Unjudged)
     → before ≡ latest_fate tested.role past → after ≡ latest_fate tested.role (e ∷ past)
-    → (new.is_lacking ≡ false → (old.is_lacking ≡ false) × (new.shown.items ≡ with_last old.shown.items (option_or (lost_at e.place e.note) (only (is_none before && is_some_and is_unknown after) (Some (UnknownSession e.place))))))
+    → ((gaps : List Gap) → IsShown old.shown gaps → IsShown new.shown (with_last gaps (option_or (lost_at e.place e.note) (only (is_none before && is_some_and is_unknown after) (Some (UnknownSession e.place))))))
     → new.opened ≡ cond (is_open e.note) (Some e.place) old.opened → new.shared ≡ option_or old.shared (only (asks_to_share (newest e past)) (Some e.place))
     → new.rested ≡ ((is_rest e.note && (accepted before && not old.ended)) || old.rested) → new.ended ≡ (ends_by e.note || (not (is_open e.note) && old.ended))
     → Gathers old tested past → Gathers new tested (e ∷ past)
 gathered-next tested e past before after old new fate fates shows opens shares rests ends was = record {
-  shown = λ here. shown-more old.is_lacking new.is_lacking old.shown.items new.shown.items (shown_in tested.role past) _ shows was.shown here ∙ ap (λ (gap : Option Gap). with_last (shown_in tested.role past) gap) same;
+  shown = λ here. shows (shown_in tested.role past) was.shown here ∙ ap (λ (gap : Option Gap). with_last (shown_in tested.role past) gap) same;
   opened = opens ∙ ap (λ (o : Option Place3). cond (is_open e.note) (Some e.place) o) was.opened ∙ sym (open-next e past);
   shared = shares ∙ ap (λ (o : Option Place3). option_or o (only (asks_to_share (newest e past)) (Some e.place))) was.shared;
   rested = rests ∙ ap (λ (b : Bool). b || old.rested) (binds-kept tested.role e past before old.ended fate was.ended) ∙ ap (λ (b : Bool). is_binding tested.role (newest e past) || b) was.rested;
@@ -73,21 +69,48 @@ gathered-next tested e past before after old new fate fates shows opens shares r
         ap (λ (o : Option Fate). option_or (lost_at e.place e.note) (only (is_none o && is_some_and is_unknown after) (Some (UnknownSession e.place)))) fate
         ∙ ap (λ (o : Option Fate). option_or (lost_at e.place e.note) (only (is_none (latest_fate tested.role past) && is_some_and is_unknown o) (Some (UnknownSession e.place)))) fates
 
--- ---- all of it
+-- ---- what they show together
 
--- what is listed is what isn't judged of the events, each part after those before it
-pub gaps-all : (tested : Tested) (past : List Seen) (fate : Option Fate) (kept : Unjudged) (shown one two three whole : List Gap) (undecided shared unrested unreleasing : Option Gap)
-    → fate ≡ latest_fate tested.role past → Gathers kept tested past → kept.is_lacking ≡ false → shown ≡ kept.shown.items
+-- what is added is what the events show together, each part after those before it
+pub whole-all : (tested : Tested) (past : List Seen) (fate : Option Fate) (kept : Unjudged) (shown one two three whole : List Gap) (undecided shared unrested unreleasing : Option Gap)
+    → fate ≡ latest_fate tested.role past → Gathers kept tested past
     → one ≡ with_last shown undecided → undecided ≡ only (is_none fate) (option_map UndecidedSession kept.opened)
     → two ≡ with_last one shared → shared ≡ shared_by tested.role kept.shared
     → three ≡ with_last two unrested → unrested ≡ only (not kept.rested) (Some NoRest)
-    → whole ≡ with_last three unreleasing → unreleasing ≡ unreleased tested → whole ≡ unjudged_among tested past
-gaps-all tested past fate kept shown one two three whole undecided shared unrested unreleasing fates was here are first says second asks third rests last kept_so =
+    → whole ≡ with_last three unreleasing → unreleasing ≡ unreleased tested → whole ≡ with_whole shown tested past
+whole-all tested past fate kept shown one two three whole undecided shared unrested unreleasing fates was first says second asks third rests last kept_so =
     last ∙ ap (with_last three) kept_so ∙ ap (λ (gaps : List Gap). with_last gaps (unreleased tested))
     (third ∙ ap (with_last two) (rests ∙ ap (λ (b : Bool). only {A = Gap} (not b) (Some NoRest)) was.rested) ∙ ap (λ (gaps : List Gap). with_last gaps (unrested_in tested.role past))
     (second ∙ ap (with_last one) (asks ∙ ap (shared_by tested.role) was.shared) ∙ ap (λ (gaps : List Gap). with_last gaps (shared_in tested.role past))
-    (first ∙ ap (with_last shown) (says ∙ ap (λ (o : Option Fate). only (is_none o) (option_map UndecidedSession kept.opened)) fates ∙ ap (λ (o : Option Place3). only (is_none (latest_fate tested.role past)) (option_map UndecidedSession o)) was.opened)
-    ∙ ap (λ (gaps : List Gap). with_last gaps (undecided_in tested.role past)) (are ∙ was.shown here))))
+    (first ∙ ap (with_last shown) (says ∙ ap (λ (o : Option Fate). only (is_none o) (option_map UndecidedSession kept.opened)) fates ∙ ap (λ (o : Option Place3). only (is_none (latest_fate tested.role past)) (option_map UndecidedSession o)) was.opened))))
+
+-- ---- what is dropped
+
+-- a packet that came is no CLOSE, and drops nothing
+nothing-dropped : (direction : Direction) (item : Item) (gaps : List Gap) (at : Place3) → with_dropped gaps at (item_event direction item) ≡ gaps
+nothing-dropped directions.Sent item gaps at = refl
+nothing-dropped directions.Recv item gaps at = refl
+
+pub dropped-still : (direction : Direction) (item : Item) (p : Placed) (kept : Shown) (gaps : List Gap) → p.event ≡ item_event direction item → IsShown kept gaps
+    → IsShown kept (with_dropped gaps p.place p.event)
+dropped-still direction item p kept gaps is was = λ here. was here ∙ sym (ap (with_dropped gaps p.place) is ∙ nothing-dropped direction item gaps p.place)
+
+-- what both directions leave unfinished is kept
+pub both-kept : (old now new : Shown) (at : Option Place3) (packets : UnfinishedPackets) (gaps : List Gap) (one two : Option Gap)
+    → IsShown old gaps → (IsShown old gaps → IsShown now (with_last gaps one)) → one ≡ unfinished_of directions.Sent at packets.sent
+    → (IsShown now (with_last gaps one) → IsShown new (with_last (with_last gaps one) two)) → two ≡ unfinished_of directions.Recv at packets.received
+    → IsShown new (with_unfinished gaps at packets)
+both-kept old now new at packets gaps one two was first sent second received =
+    subst (λ (o : Option Gap). IsShown new (with_last (with_last gaps (unfinished_of directions.Sent at packets.sent)) o)) received
+    (subst (λ (o : Option Gap). IsShown new (with_last (with_last gaps o) two)) sent (second (first was)))
+
+-- what CLOSEs dropped was added, and then what the log's end leaves unfinished
+pub dropped-all : (start now one two dropped : List Gap) (packets : UnfinishedPackets) (left came : Option Gap)
+    → now ≡ start ++ dropped → one ≡ with_last now left → left ≡ unfinished_of directions.Sent None packets.sent
+    → two ≡ with_last one came → came ≡ unfinished_of directions.Recv None packets.received → two ≡ with_unfinished (start ++ dropped) None packets
+dropped-all start now one two dropped packets left came added first sent second received =
+    second ∙ ap (with_last one) received ∙ ap (λ (gaps : List Gap). with_last gaps (unfinished_of directions.Recv None packets.received))
+    (first ∙ ap (with_last now) sent ∙ ap (λ (gaps : List Gap). with_last gaps (unfinished_of directions.Sent None packets.sent)) added)
 
 -- ---- an event that shows nothing of this
 

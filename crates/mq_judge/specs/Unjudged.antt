@@ -1,8 +1,11 @@
 -- What in a log isn't judged. The list of events has the newest one first.
-use Rattle.std.specs.Prelude.{ℕ, Bool, true, false, ◌&&◌, not, List, [], ◌∷◌, ◌++◌, Option, Some, None, is_none, option_map}
+use Rattle.std.specs.Prelude.{ℕ, Bool, true, false, ◌&&◌, not, List, [], ◌∷◌, ◌++◌, length, map, Option, Some, None, is_none, option_map}
 use Rattle.std.specs.Option.{option_or}
+use Rattle.mq_log.specs.declared.kind.Direction.{Direction}
 use Rattle.mq_log.specs.declared.kind.Direction.TheVariants as directions
 use Rattle.mq_log.specs.declared.place.Place3.{Place3}
+use Rattle.mq_log.specs.Events.{UnfinishedPackets, Event, Placed, closed, events}
+use Rattle.mq_trace.specs.Tracing.{left_at_end}
 use Rattle.mq_rules.specs.declared.fate.Fate.{Fate}
 use Rattle.mq_rules.specs.declared.fate.Fate.TheVariants.{Unknown}
 use Rattle.mq_rules.specs.declared.note.ItemNote.{ItemNote}
@@ -14,12 +17,12 @@ use Rattle.mq_rules.specs.declared.role.Role.{Role}
 use Rattle.mq_rules.specs.declared.role.Role.TheVariants.{Client, Server}
 use Rattle.mq_rules.specs.declared.role.Tested.{Tested}
 use Rattle.mq_rules.specs.Words.{only, is_some_and}
-use Rattle.mq_rules.specs.Notes.{is_open, tested_by, seen_in}
+use Rattle.mq_rules.specs.Notes.{is_open, tested_by, seen}
 use Rattle.mq_rules.specs.Moments.{Moment, newest, note, moments, some, latest, first_given}
 use Rattle.mq_rules.specs.Connections.{latest_fate, is_binding}
 use Rattle.mq_rules.specs.Subscriptions.{asks_to_share}
 use Rattle.mq_report.specs.declared.report.unjudged.Gap.{Gap}
-use Rattle.mq_report.specs.declared.report.unjudged.Gap.TheVariants.{Lost, UnknownSession, UndecidedSession, Shared, NoRest, NoReleases}
+use Rattle.mq_report.specs.declared.report.unjudged.Gap.TheVariants.{Lost, UnknownSession, Unfinished, UndecidedSession, Shared, NoRest, NoReleases}
 
 -- where an event is
 abbrev pub place : Moment → Place3
@@ -60,6 +63,28 @@ abbrev pub shown_in : Role → List Seen → List Gap
 shown_in role [] = []
 shown_in role (e ∷ past) = with_last (shown_in role past) (shown_at role (newest e past))
 
+-- ---- packets that never were whole
+
+-- The packet of which a direction has begun these bytes, if there are any: no later byte completes it, since the CLOSE at that place drops them, or the log's end
+-- (MQTT 5.0, section 2.1).
+abbrev pub unfinished_of : Direction → Option Place3 → List ℕ → Option Gap
+unfinished_of direction at [] = None
+unfinished_of direction at (first ∷ others) = Some (Unfinished direction (record { first = first; bytes = length (first ∷ others) }) at)
+
+-- with those of both directions at the end
+abbrev pub with_unfinished : List Gap → Option Place3 → UnfinishedPackets → List Gap
+with_unfinished gaps at packets = with_last (with_last gaps (unfinished_of directions.Sent at packets.sent)) (unfinished_of directions.Recv at packets.received)
+
+-- with what an event drops: a CLOSE what its connection leaves unfinished
+abbrev pub with_dropped : List Gap → Place3 → Event → List Gap
+with_dropped gaps at (closed packets) = with_unfinished gaps (Some at) packets
+with_dropped gaps at _ = gaps
+
+-- what the events drop, in the order of the log
+abbrev pub dropped_in : List Placed → List Gap
+dropped_in [] = []
+dropped_in (p ∷ past) = with_dropped (dropped_in past) p.place p.event
+
 -- ---- what the whole log shows
 
 -- where the latest connection begins
@@ -92,12 +117,18 @@ unreleased tested = only (not tested.releases) (Some NoReleases)
 
 -- ---- what is reported
 
--- What isn't judged of these events: what they show one by one; then, each if there is such a thing, the connection that is undecided, the first shared subscription, that no REST
--- binds, and that no releases are recorded.
-abbrev pub unjudged_among : Tested → List Seen → List Gap
-unjudged_among tested past =
-    with_last (with_last (with_last (with_last (shown_in tested.role past) (undecided_in tested.role past)) (shared_in tested.role past)) (unrested_in tested.role past)) (unreleased tested)
+-- with what all these events show together: each if there is such a thing, the connection that is undecided, the first shared subscription, that no REST binds, and that no
+-- releases are recorded
+abbrev pub with_whole : List Gap → Tested → List Seen → List Gap
+with_whole gaps tested past =
+    with_last (with_last (with_last (with_last gaps (undecided_in tested.role past)) (shared_in tested.role past)) (unrested_in tested.role past)) (unreleased tested)
+
+-- What isn't judged of these events, if a log that leaves these packets unfinished ends with them: what they show one by one; what they drop, and what the log's end does;
+-- and what they show together.
+abbrev pub unjudged_among : Tested → List Placed → UnfinishedPackets → List Gap
+unjudged_among tested received left =
+    with_whole (with_unfinished (shown_in tested.role (map seen received) ++ dropped_in received) None left) tested (map seen received)
 
 -- what isn't judged of a log
 unfoldable pub unjudged_of : Bool → List ℕ → List Gap
-unjudged_of further log = unjudged_among (tested_by further log) (seen_in log)
+unjudged_of further log = unjudged_among (tested_by further log) (events log) (left_at_end log)

@@ -2,7 +2,6 @@
 use Rattle.std.specs.Prelude.{◌≡◌, ◌+◌, ℕ, Bool, true, List, ◌∷◌, length, map}
 use Rattle.mq_log.specs.declared.place.Place3.{Place3}
 use Rattle.mq_log.specs.Events.{Event, Placed}
-use Rattle.mq_rules.specs.ByteTallies.{CountsBytes}
 use Rattle.mq_rules.specs.Notes.{seen as seen_of}
 use Rattle.mq_books.specs.Kinds.{is_counting}
 use Rattle.mq_rules.specs.declared.role.Tested.{Tested}
@@ -14,7 +13,7 @@ use Rattle.mq_rules.specs.FaultKeys.{fault_at}
 use Rattle.mq_rules.specs.Faults.{fault_in}
 use Rattle.mq_rules.specs.Under.{Follows, seen}
 use Rattle.mq_books.specs.contracts.watchers.WatchersWatch.TheImpl as watchers
-use Rattle.mq_judge.specs.Gathering.{Gathers}
+use Rattle.mq_judge.specs.Gathering.{Gathers, Tallies}
 use Rattle.mq_judge.specs.declared.watching.Watching.{Watching}
 
 -- The faults are those of these events, the newest first, each with where it was decided; and so many events there are.
@@ -47,11 +46,11 @@ LeavesOut old new place n = (past : List Seen) → MayCome old.tested (seen plac
 
 -- ---- where places are counted
 
--- The counts of the statements on a packet's bytes are those of these events, the newest first, if places are counted.
+-- What is kept of these events themselves, the newest first, if places are counted.
 abbrev pub IsTallying : Watching → List Placed → Type 0
-IsTallying w received = is_counting w.watchers ≡ true → CountsBytes w.tally w.tested received
+IsTallying w received = is_counting w.watchers ≡ true → Tallies w.tally w.tested received
 
--- Nothing was counted on a packet's bytes, and places are counted if they were before.
+-- Nothing was kept of the event itself, and places are counted if they were before.
 abbrev pub CountsNothing : Watching → Watching → Type 0
 CountsNothing old new = (is_counting new.watchers ≡ is_counting old.watchers) × (new.tally ≡ old.tally)
 

@@ -265,7 +265,8 @@ impl Judge {
     fn gaps(&self, alloc: Global) -> Option<Vec<Gap>>
         ensures { (log : List ℕ) → is_counting self.now ≡ true → Follows self.now log → 8 ≤ length log → IfSome result (λ gaps. gaps.items ≡ unjudged_of self.now.further log) }
     {
-        match self.judging.watching.gaps(alloc) {
+        let left = self.tracer.unfinished();
+        match self.judging.watching.gaps(alloc, &left) {
             Ok(gaps) => Some(gaps),
             Err(Memory) => None,
         }

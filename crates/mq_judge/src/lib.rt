@@ -7,6 +7,8 @@ mod judge;
 mod laws;
 mod progress;
 mod runner;
+mod shown;
+mod tally;
 mod telling;
 mod unjudged;
 mod watching;
@@ -15,7 +17,7 @@ pub use judge::{Judge, Options};
 pub use laws::known_faults_stay;
 pub use mq_log::Refusal;
 pub use mq_report::{
-    Covered, Evidence, Extent, Form, Gap, Numbers, Outcome, RunFault, Verdict,
+    Begun, Covered, Evidence, Extent, Form, Gap, Numbers, Outcome, RunFault, Verdict,
     converted_logs_have_the_same_report, dates_are_exact, show, show_faults, show_long,
     worked_times, write_json, write_long_packet, write_packet, write_refused, write_summary,
     write_text,

@@ -1,5 +1,5 @@
 //! What isn't judged of the events so far, kept in one pass.
-ghost use Rattle.std.specs.Prelude.{◌≡◌, ◌∷◌, ◌&&◌, ◌||◌, [], false, List, Some, is_none, not, cond, option_map, IfOk, OnOk};
+ghost use Rattle.std.specs.Prelude.{◌≡◌, ◌∷◌, ◌++◌, ◌&&◌, ◌||◌, [], List, Some, is_none, not, cond, option_map, OnOk};
 ghost use Rattle.std.specs.Option.{option_or};
 ghost use Rattle.std.specs.List.{list_any};
 ghost use Rattle.mq_rules.specs.declared.note.Seen.{Seen as TheSeen};
@@ -10,22 +10,21 @@ ghost use Rattle.mq_rules.specs.Connections.{accepted, latest_fate};
 ghost use Rattle.mq_rules.specs.Subscriptions.{is_shared};
 ghost use Rattle.mq_rules.specs.Under.{seen};
 ghost use Rattle.mq_judge.specs.Unjudged as unjudged;
-ghost use Rattle.mq_judge.specs.Unjudged.{lost_at, with_last, unjudged_among};
+ghost use Rattle.mq_judge.specs.Unjudged.{lost_at, shown_in, with_whole};
 ghost use Rattle.mq_judge.specs.Gathering.{Gathers};
 
+use super::shown::{Shown, add};
 use mq_books::{asks_for_shared, ended_after};
 use mq_log::{Direction, Place3};
 use mq_report::Gap;
 use mq_rules::{Fate, ItemNote, Memory, Note, Role, Tested};
 use std::alloc::Global;
 
-/// What isn't judged of the events so far.
+/// What isn't judged of the events so far, by their notes.
 #[derive(Drop)]
 pub struct Unjudged {
-    /// What they show one by one, in their order.
-    shown: Vec<Gap>,
-    /// Whether there was no memory for all of that.
-    is_lacking: bool,
+    /// What they show one by one.
+    shown: Shown,
     /// The place of the latest OPEN.
     opened: Option<Place3>,
     /// The place of the first SUBSCRIBE that came and asks for a shared subscription.
@@ -42,8 +41,7 @@ impl Unjudged {
         ensures { (tested : TheTested) → Gathers result tested [] }
     {
         Unjudged {
-            shown: Vec::new(alloc),
-            is_lacking: false,
+            shown: Shown::new(alloc),
             opened: None,
             shared: None,
             rested: false,
@@ -59,60 +57,40 @@ impl Unjudged {
         self.ended = ended_after(self.ended, note);
         self.opened = opened_after(place, note, self.opened);
         self.shared = self.shared.or(shared_at(place, note));
-        self.show(shown_at(place, note, before, after));
+        self.shown.keep(shown_at(place, note, before, after));
     }
 
-    // Keeps what an event shows, if it shows something.
-    fn show(&mut self, gap: Option<Gap>)
-        ensures shown { self.new.is_lacking ≡ false → (self.old.is_lacking ≡ false) × (self.new.shown.items ≡ with_last self.old.shown.items gap) }
-        ensures same { self.new ≡ record self.old { shown = self.new.shown; is_lacking = self.new.is_lacking } }
-    {
-        let Some(gap) = gap else {
-            return;
-        };
-        match self.shown.push(gap) {
-            Ok(()) => {}
-            Err(_) => self.is_lacking = true,
-        }
-    }
-
-    /// What isn't judged of the events so far, of which these are of this end, and this became of
-    /// the latest connection.
+    /// Adds what they show one by one to these gaps.
     ///
     /// # Errors
     ///
     /// `Memory` if there is no memory for it, or there was none when an event showed it.
-    pub fn gaps(
+    pub fn add_shown(&self, gaps: &mut Vec<Gap>) -> Result<(), Memory>
+        ensures { (tested : TheTested) (past : List TheSeen) → Gathers self.now tested past → OnOk result (gaps.new.items ≡ gaps.old.items ++ shown_in tested.role past) }
+    {
+        self.shown.add_to(gaps)
+    }
+
+    /// Adds what they show together, of which these are of this end, and this became of the latest
+    /// connection.
+    ///
+    /// # Errors
+    ///
+    /// `Memory` if there is no memory for it.
+    pub fn add_whole(
         &self,
-        alloc: Global,
+        gaps: &mut Vec<Gap>,
         tested: Tested,
         fate: Option<Fate>,
-    ) -> Result<Vec<Gap>, Memory>
-        ensures { (past : List TheSeen) → fate ≡ latest_fate tested.role past → Gathers self.now tested past → IfOk result (λ gaps. gaps.items ≡ unjudged_among tested past) }
+    ) -> Result<(), Memory>
+        ensures { (past : List TheSeen) → fate ≡ latest_fate tested.role past → Gathers self.now tested past → OnOk result (gaps.new.items ≡ with_whole gaps.old.items tested past) }
     {
-        if self.is_lacking {
-            return Err(Memory);
-        }
-        let mut gaps = Vec::new(alloc);
-        gaps.extend_from_slice(self.shown.as_slice())?;
-        add(&mut gaps, undecided(fate, self.opened))?;
-        add(&mut gaps, shared_by(tested.role, self.shared))?;
-        add(&mut gaps, unrested(self.rested))?;
-        add(&mut gaps, unreleased(tested))?;
-        Ok(gaps)
+        add(gaps, undecided(fate, self.opened))?;
+        add(gaps, shared_by(tested.role, self.shared))?;
+        add(gaps, unrested(self.rested))?;
+        add(gaps, unreleased(tested))?;
+        Ok(())
     }
-}
-
-// Adds a gap, if there is one.
-//
-// Errors: `Memory` if there is no memory for it.
-fn add(gaps: &mut Vec<Gap>, gap: Option<Gap>) -> Result<(), Memory>
-    ensures { OnOk result (gaps.new.items ≡ with_last gaps.old.items gap) }
-{
-    if let Some(gap) = gap {
-        gaps.push(gap)?;
-    }
-    Ok(())
 }
 
 // ---- what an event shows

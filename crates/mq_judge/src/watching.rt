@@ -7,9 +7,9 @@ ghost use Rattle.mq_packet.specs.Reading.{view};
 ghost use Rattle.mq_packet.specs.declared.packet.Packet.TheVariants as packets;
 ghost use Rattle.mq_log.specs.Events.{Placed, packet as packet_item};
 ghost use Rattle.mq_log.specs.Flows.{item_event};
-ghost use Rattle.mq_log.specs.Reception.{event_of, placed_at};
+ghost use Rattle.mq_log.specs.Reception.{event_of, packets_of, placed_at};
 ghost use Rattle.mq_packet.specs.Entries.{Entry};
-ghost use Rattle.mq_rules.specs.ByteTallies.{CountsBytes, IsTriedAs};
+ghost use Rattle.mq_rules.specs.ByteTallies.{IsTriedAs};
 ghost use Rattle.mq_rules.specs.Notes.{tested_as, note_of, note_of_bare};
 ghost use Rattle.mq_rules.specs.Weights.{in_word};
 ghost use Rattle.mq_rules.specs.declared.role.Tested.{Tested as TheTested};
@@ -17,20 +17,19 @@ ghost use Rattle.mq_rules.specs.declared.fate.Fate.TheVariants.{Void};
 ghost use Rattle.mq_judge.specs.Watching.{IsWatching, IsTallying, TalliesNext, TakesIn, LeavesOut, CountsNothing, watchers_weigh};
 ghost use Rattle.mq_judge.specs.Coverage.{places_among};
 ghost use Rattle.mq_judge.specs.Unjudged.{unjudged_among};
-ghost use Rattle.mq_judge.specs.Gathering.{Gathers};
+ghost use Rattle.mq_judge.specs.Gathering.{Gathers, Tallies};
 ghost use Rattle.mq_rules.specs.declared.fate.Fate.{Fate as TheFate};
 ghost use Rattle.mq_rules.specs.Connections.{latest_fate};
 ghost use Rattle.mq_rules.specs.Under.{seen as seen_at};
 ghost use Rattle.mq_rules.specs.Notes.{seen as seen_of};
 
+use super::tally::Tally;
 use super::unjudged::Unjudged;
 use mq_books::Watchers;
-use mq_log::{Direction, Event, Header, Item, Place3, Refusal, item_event};
+use mq_log::{Direction, Event, Header, Item, Place3, Refusal, UnfinishedPackets, item_event};
 use mq_packet::{Packet, Publish};
 use mq_report::Gap;
-use mq_rules::{
-    Bare, BareFields, Brisk, ByteTally, Fate, Faults, Memory, Note, Rule, Tested, Watch, is_bare,
-};
+use mq_rules::{Bare, BareFields, Brisk, Fate, Faults, Memory, Note, Rule, Tested, Watch, is_bare};
 use mq_trace::Sink;
 use std::alloc::Global;
 use std::marker::{Brand, PhantomData};
@@ -43,9 +42,9 @@ pub struct Watching {
     /// The end that is judged: that of the log's header once an event has come.
     tested: Tested,
     watchers: Watchers,
-    /// How often the statements on a packet's bytes were put to the test, if places are counted.
-    tally: ByteTally,
-    /// What isn't judged, if places are counted.
+    /// What is kept of the events themselves, if places are counted.
+    tally: Tally,
+    /// What isn't judged, by their notes, if places are counted.
     unjudged: Unjudged,
     /// The faults of the events so far.
     pub faults: Faults,
@@ -66,7 +65,7 @@ impl Watching {
             alloc,
             tested,
             watchers,
-            tally: ByteTally::new(),
+            tally: Tally::new(alloc),
             unjudged: Unjudged::new(alloc),
             faults: Faults::new(alloc),
             events: 0,
@@ -98,16 +97,21 @@ impl Watching {
         }
     }
 
-    /// What isn't judged of the events so far, where places are counted.
+    /// What isn't judged of the events so far, where places are counted, if the log ends with them
+    /// and leaves these packets unfinished.
     ///
     /// # Errors
     ///
     /// `Memory` if there is no memory for it, or there was none when an event showed it.
-    pub fn gaps(&self, alloc: Global) -> Result<Vec<Gap>, Memory>
-        ensures { (past : List TheSeen) → counts self.now.watchers ≡ true → IsWatching self.now past → IfOk result (λ gaps. gaps.items ≡ unjudged_among self.now.tested past) }
+    pub fn gaps(&self, alloc: Global, left: &UnfinishedPackets<'_>) -> Result<Vec<Gap>, Memory>
+        ensures { (events : List Placed) → counts self.now.watchers ≡ true → IsWatching self.now (map seen_of events) → IsTallying self.now events → IfOk result (λ gaps. gaps.items ≡ unjudged_among self.now.tested events (packets_of left.now)) }
     {
-        self.unjudged
-            .gaps(alloc, self.tested, self.watchers.latest_fate())
+        let mut gaps = Vec::new(alloc);
+        self.unjudged.add_shown(&mut gaps)?;
+        self.tally.add_to(&mut gaps, left)?;
+        let fate = self.watchers.latest_fate();
+        self.unjudged.add_whole(&mut gaps, self.tested, fate)?;
+        Ok(gaps)
     }
 
     /// Judges the end that the log's header names, once the header is whole, and before any event: by
@@ -371,25 +375,25 @@ fn watch(alloc: Global, tested: Tested, counting: bool) -> Watchers
     Watchers::new(alloc, tested)
 }
 
-// Counts the statements on a packet's bytes that an event puts to the test, if places are counted.
-fn tally_event(tally: &mut ByteTally, counting: bool, place: Place3, event: &Event<'_>)
-    ensures { (tested : TheTested) (events : List Placed) → place.position ≡ length events + 1 → (counting ≡ true → CountsBytes tally.old tested events) → counting ≡ true → CountsBytes tally.new tested (placed_at place event.now ∷ events) }
+// Takes in what is kept of an event itself, if places are counted.
+fn tally_event(tally: &mut Tally, counting: bool, place: Place3, event: &Event<'_>)
+    ensures { (tested : TheTested) (events : List Placed) → place.position ≡ length events + 1 → (counting ≡ true → Tallies tally.old tested events) → counting ≡ true → Tallies tally.new tested (placed_at place event.now ∷ events) }
 {
     if counting {
-        tally.count_event(place.position, event);
+        tally.count_event(place, event);
     }
 }
 
 // The same of a packet of this size, which went this way.
 fn tally_packet(
-    tally: &mut ByteTally,
+    tally: &mut Tally,
     counting: bool,
     position: u32,
     direction: Direction,
     size: u32,
     packet: &Packet<'_>,
 )
-    ensures { (tested : TheTested) (p : Placed) (events : List Placed) → p.event ≡ item_event direction (packet_item size (view packet.now)) → position ≡ length events + 1 → (counting ≡ true → CountsBytes tally.old tested events) → counting ≡ true → CountsBytes tally.new tested (p ∷ events) }
+    ensures { (tested : TheTested) (p : Placed) (events : List Placed) → p.event ≡ item_event direction (packet_item size (view packet.now)) → position ≡ length events + 1 → (counting ≡ true → Tallies tally.old tested events) → counting ≡ true → Tallies tally.new tested (p ∷ events) }
 {
     if counting {
         tally.count_packet(position, direction, size, packet);

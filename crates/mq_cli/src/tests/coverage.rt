@@ -64,12 +64,22 @@ static PLACES: [(&str, &str, u32, u32); 53] = [
     ("L3", "sec-4.3.3", 0, 0),
 ];
 
-// A client whose log has no releases receives bytes that no packet begins with, before its CONNACK.
+// A client whose log has no releases receives bytes that no packet begins with, before its CONNACK,
+// and then sends one byte of its CONNECT.
 static GIVEN_UP: &[u8] = b"MQTR\x01\x00\x00\x00\
     \x01\x00\x00\x00\x00\
-    \x03\x00\x00\x00\x05\x20\xff\xff\xff\xff";
+    \x03\x00\x00\x00\x05\x20\xff\xff\xff\xff\
+    \x02\x00\x00\x00\x01\x10";
 
-// The lines on what `GIVEN_UP` puts to the test: nothing.
+// A client whose log has no releases sends one byte of its CONNECT and receives two of a CONNACK, and
+// the connection closes.
+static BROKEN_OFF: &[u8] = b"MQTR\x01\x00\x00\x00\
+    \x01\x00\x00\x00\x00\
+    \x02\x00\x00\x00\x01\x10\
+    \x03\x00\x00\x00\x02\x20\x03\
+    \x04\x00\x00\x00\x00";
+
+// The lines on what these two put to the test: nothing.
 fn untested_lines(alloc: Global) -> Result<String, Fail> {
     let mut text = String::new(alloc);
     for (code, citation, _, _) in PLACES {
@@ -120,6 +130,7 @@ fn says_what_was_not_judged(rt: HostRuntime) -> Result<(), Fail> {
     text.push_str(
         "covered 0 of 50 statements\n\
         unjudged received lost event 2 record 2\n\
+        unjudged sent unfinished CONNECT bytes 1\n\
         unjudged session undecided event 1 record 1\n\
         unjudged answers no-rest\n\
         unjudged L1 L2 L3 no-releases\n\
@@ -133,6 +144,23 @@ fn says_what_was_not_judged(rt: HostRuntime) -> Result<(), Fail> {
         let mut desk = Desk::of(rt.alloc(), words, GIVEN_UP, b"");
         assert!(rt; does(&mut desk, 0, text.as_str(), ""), "{words:?}");
     }
+    Ok(())
+}
+
+#[test]
+fn says_what_a_close_dropped(rt: HostRuntime) -> Result<(), Fail> {
+    let mut text = untested_lines(rt.alloc())?;
+    text.push_str(
+        "covered 0 of 50 statements\n\
+        unjudged sent unfinished CONNECT bytes 1 event 2 record 4\n\
+        unjudged received unfinished CONNACK bytes 2 event 2 record 4\n\
+        unjudged answers no-rest\n\
+        unjudged L1 L2 L3 no-releases\n\
+        pass 2 events\n",
+    )?;
+    let words = &["mqjudge", "check", "--coverage", "a.log"];
+    let mut desk = Desk::of(rt.alloc(), words, BROKEN_OFF, b"");
+    assert!(rt; does(&mut desk, 0, text.as_str(), ""));
     Ok(())
 }
 

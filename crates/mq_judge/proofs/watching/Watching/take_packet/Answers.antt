@@ -1,7 +1,7 @@
 use Rattle.std.proofs.Common.{subst, sym, ◌∙◌, ◌∷◌}
 use Rattle.mq_rules.specs.declared.role.Tested.{Tested}
-use Rattle.mq_rules.specs.ByteTallies.{CountsBytes}
-use Rattle.mq_rules.specs.declared.byte_tally.ByteTally.{ByteTally}
+use Rattle.mq_judge.specs.Gathering.{Tallies}
+use Rattle.mq_judge.specs.declared.tally.Tally.{Tally}
 use Rattle.mq_judge.proofs.watching.Watching.take_packet.Goals as goal
 
 -- taking in keeps nothing of the packet itself, and what is kept after that is the packet's
@@ -9,7 +9,7 @@ pub returns-in-Ok-take_in-clause-tallies : goal.returns-in-Ok-take_in-clause-tal
 returns-in-Ok-take_in-clause-tallies c = λ p received is at was on.
     let old = c.args.self.now in
     let none = c.in-Ok-take_in.ensures.counts in
-    subst (λ (t : Tested). CountsBytes c.tally_packet.new.tally t (p ∷ received)) (sym c.take_in.ensures.tested)
+    subst (λ (t : Tested). Tallies c.tally_packet.new.tally t (p ∷ received)) (sym c.take_in.ensures.tested)
     (c.tally_packet.ensures old.tested p received is at
-    (λ counting. subst (λ (tally : ByteTally). CountsBytes tally old.tested received) (sym none.1) (was (sym none.0 ∙ sym c.is_counting-counting.ensures ∙ counting)))
+    (λ counting. subst (λ (tally : Tally). Tallies tally old.tested received) (sym none.1) (was (sym none.0 ∙ sym c.is_counting-counting.ensures ∙ counting)))
     (c.is_counting-counting.ensures ∙ on))
