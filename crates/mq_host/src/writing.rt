@@ -5,6 +5,7 @@ ghost use Rattle.mq_trace.specs.Writing.{AppendsBeginning};
 ghost use Rattle.mq_host.specs.Streams.{AppendsPart};
 
 use crate::failure::Failure;
+use mq_trace::{WriteFault, write_bytes};
 use std::io::Write;
 
 /// Writes the text, and flushes the writer.
@@ -28,14 +29,10 @@ fn write_text<W: Write>(text: &str, writer: &mut W) -> Result<(), Failure>
     ensures failed { IfErr result (λ failure. failure ≡ Failure.Write) }
     ensures begun { IfErr result (λ _. AppendsBeginning (W.contents writer.old) (W.contents writer.new) text.now) }
 {
-    let mut rest = text.as_bytes();
-    while !rest.is_empty() {
-        match writer.write(rest) {
-            Ok(0) | Err(_) => return Err(Failure::Write),
-            Ok(taken) => rest = &rest[taken..],
-        }
+    match write_bytes(text.as_bytes(), writer) {
+        Ok(()) => Ok(()),
+        Err(WriteFault::Write) => Err(Failure::Write),
     }
-    Ok(())
 }
 
 /// Flushes the writer.

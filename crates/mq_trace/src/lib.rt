@@ -25,4 +25,4 @@ pub use feeding::{Feed, Halt, feed_all};
 pub use mq_log::{Direction, Event, Header, Item, Place3, Refusal, UnfinishedPackets};
 pub use sink::Sink;
 pub use tracer::Tracer;
-pub use writer::{TraceWriter, WriteFault};
+pub use writer::{TraceWriter, WriteFault, write_bytes};

@@ -124,8 +124,8 @@ impl Reading {
         }
     }
 
-    // As `consume_record`, in two steps: the head, and then the body, whose bytes are this and don't
-    // begin with a whole packet. It is a function of its own, since those of most bodies do.
+    // As `consume_record`, in two steps: the head, and then the body, whose bytes are this and
+    // don't begin with a whole packet. It is a function of its own, since those of most bodies do.
     //
     // Errors: As `consume`.
     #[inline(never)]
@@ -672,7 +672,8 @@ impl Reading {
         self.leave(direction, length);
     }
 
-    // Sets the state, which is that inside of a record, with `left` bytes of its body still to come.
+    // Sets the state, which is that inside of a record, with `left` bytes of its body still to
+    // come.
     #[inline(always)]
     fn leave(&mut self, direction: Direction, left: u32)
         requires numbered { self.old.records < 4294967295 }

@@ -174,8 +174,9 @@ impl Tracer {
         Ok(())
     }
 
-    /// What the log leaves unfinished, if it ends after the bytes that were taken in: nothing, if no
-    /// connection is open. After a refusal it is what is kept of the bytes before the refused one.
+    /// What the log leaves unfinished, if it ends after the bytes that were taken in: nothing, if
+    /// no connection is open. After a refusal it is what is kept of the bytes before the refused
+    /// one.
     pub fn unfinished(&self) -> UnfinishedPackets<'_>
         ensures follows { (log : List ℕ) → IsTracedTo self.now log → packets_of result ≡ left_at_end log }
         ensures kept { packets_of result ≡ left_if self.now.reading.connections.connected (unfinished_by self.now.reading) }

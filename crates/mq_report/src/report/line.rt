@@ -6,6 +6,7 @@ ghost use Rattle.mq_report.specs.Report.{line};
 
 use super::super::lines::Lines;
 use super::RunFault;
+use mq_trace::WriteFault;
 use std::fmt;
 use std::fmt::{Display, Write as _};
 use std::io::Write;
@@ -21,14 +22,10 @@ pub fn write_bytes<W: Write>(bytes: &[u8], writer: &mut W) -> Result<(), RunFaul
     ensures write { IfErr result (λ fault. (fault ≡ RunFault.Write)
         × AppendsBeginning (W.contents writer.old) (W.contents writer.new) bytes.now) }
 {
-    let mut rest = bytes;
-    while !rest.is_empty() {
-        match writer.write(rest) {
-            Ok(0) | Err(_) => return Err(RunFault::Write),
-            Ok(taken) => rest = &rest[taken..],
-        }
+    match mq_trace::write_bytes(bytes, writer) {
+        Ok(()) => Ok(()),
+        Err(WriteFault::Write) => Err(RunFault::Write),
     }
-    Ok(())
 }
 
 /// Writes a value as a line of its own, which is built in a buffer in place of what waited there.
