@@ -1,5 +1,5 @@
-//! What the tests of the judge share: logs made of parts, a reader that gives a log in pieces, and a
-//! writer that fails. It is for tests alone.
+//! What the tests of the judge share: logs made of parts, a reader that gives a log in pieces, and
+//! a writer that fails. It is for tests alone.
 #![tactic(auto)]
 
 use mq_judge::{Form, Judge, Options, Outcome, RunFault, run, write_refused};

@@ -225,7 +225,8 @@ impl Judge {
         judge.take_verdict()
     }
 
-    /// The same, how often each statement that is listed was put to the test, and what wasn't judged.
+    /// The same, how often each statement that is listed was put to the test, and what wasn't
+    /// judged.
     ///
     /// # Errors
     ///
@@ -260,8 +261,8 @@ impl Judge {
         }
     }
 
-    // What isn't judged of the log so far, where places are counted. Nothing if there is no memory for
-    // it.
+    // What isn't judged of the log so far, where places are counted. Nothing if there is no memory
+    // for it.
     fn gaps(&self, alloc: Global) -> Option<Vec<Gap>>
         ensures { (log : List ℕ) → is_counting self.now ≡ true → Follows self.now log → 8 ≤ length log → IfSome result (λ gaps. gaps.items ≡ unjudged_of self.now.further log) }
     {
@@ -272,8 +273,8 @@ impl Judge {
         }
     }
 
-    // Ends the log, and takes the faults out. A function that owns a judge has to drop it at each of
-    // its exits, which is much: so this one borrows it.
+    // Ends the log, and takes the faults out. A function that owns a judge has to drop it at each
+    // of its exits, which is much: so this one borrows it.
     //
     // Errors: As `finish`.
     fn take_verdict(&mut self) -> Result<(Verdict, Role), Refusal>

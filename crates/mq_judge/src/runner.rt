@@ -74,8 +74,8 @@ pub fn run_watched<R: Read, W: Write, P: Progress>(
 }
 
 /// Judges the log that a reader gives, by the further statements too or not, and writes the report
-/// on it in this form. It reads at most `turns` times, counting interrupted reads, and at most 8,192
-/// bytes each time.
+/// on it in this form. It reads at most `turns` times, counting interrupted reads, and at most
+/// 8,192 bytes each time.
 ///
 /// # Errors
 ///
@@ -121,8 +121,9 @@ fn run_all<R: Read, W: Write, P: Progress>(
     Ok(outcome(&verdict))
 }
 
-/// Judges the log that a reader gives, by the further statements too or not, and returns the verdict
-/// on it and the role of the end that was judged. It reads at most 4,294,967,295 times, and at most 8,192 bytes each time.
+/// Judges the log that a reader gives, by the further statements too or not, and returns the
+/// verdict on it and the role of the end that was judged. It reads at most 4,294,967,295 times, and
+/// at most 8,192 bytes each time.
 ///
 /// # Errors
 ///

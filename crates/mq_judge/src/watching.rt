@@ -114,8 +114,8 @@ impl Watching {
         Ok(gaps)
     }
 
-    /// Judges the end that the log's header names, once the header is whole, and before any event: by
-    /// the further statements too or not.
+    /// Judges the end that the log's header names, once the header is whole, and before any event:
+    /// by the further statements too or not.
     pub fn begin(&mut self, header: Option<Header>, further: bool)
         ensures first { self.old.events ≡ 0 → IfSome header (λ named. (self.new.tested ≡ tested_as further named) × IsWatching self.new [] × IsTallying self.new []) }
         ensures kind { counts self.new.watchers ≡ counts self.old.watchers }
@@ -190,8 +190,8 @@ impl Watching {
         }
     }
 
-    // The same where places are counted. It counts the statements on a packet's bytes too. A call of
-    // its own, so that nothing of it stands where no places are counted.
+    // The same where places are counted. It counts the statements on a packet's bytes too. A call
+    // of its own, so that nothing of it stands where no places are counted.
     #[inline(never)]
     fn count_bare(&mut self, at: Place3, bare: Bare<'_>) -> Result<(), Memory>
         ensures tested { self.new.tested ≡ self.old.tested }
@@ -253,9 +253,9 @@ impl Watching {
         }
     }
 
-    // Makes a note of a packet, and takes it in. If places are counted, it counts the statements on a
-    // packet's bytes that it puts to the test. It takes the packet by value: one that a call looks at
-    // lies in memory on all ways to it.
+    // Makes a note of a packet, and takes it in. If places are counted, it counts the statements on
+    // a packet's bytes that it puts to the test. It takes the packet by value: one that a call
+    // looks at lies in memory on all ways to it.
     #[inline(never)]
     fn take_packet(
         &mut self,
@@ -400,8 +400,8 @@ fn tally_packet(
     }
 }
 
-// Takes in what an event leaves unjudged, if places are counted. Before it this became of the latest
-// connection; the watchers have taken it in.
+// Takes in what an event leaves unjudged, if places are counted. Before it this became of the
+// latest connection; the watchers have taken it in.
 fn gather(
     unjudged: &mut Unjudged,
     watchers: &Watchers,

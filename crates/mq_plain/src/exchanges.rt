@@ -30,8 +30,8 @@ pub trait Exchange {
     ghost asked: { Rule };
     // The statement that each cause is answered before a REST.
     ghost settled: { Rule };
-    // Whether an answer may be sent before the CONNACK, by an end that can't know yet which session it
-    // will have.
+    // Whether an answer may be sent before the CONNACK, by an end that can't know yet which session
+    // it will have.
     ghost early: { Bool };
 
     /// The Packet Identifier under which an event is a cause.
@@ -46,8 +46,8 @@ pub trait Exchange {
     fn asked_rule() -> Rule
         ensures { result ≡ asked };
 
-    /// Whether an answer may be sent before the CONNACK, by an end that can't know yet which session it
-    /// will have (MQTT 5.0, section 3.1.4).
+    /// Whether an answer may be sent before the CONNACK, by an end that can't know yet which
+    /// session it will have (MQTT 5.0, section 3.1.4).
     fn may_be_early() -> bool
         ensures { result ≡ early };
 

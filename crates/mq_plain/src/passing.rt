@@ -95,8 +95,8 @@ pub fn is_passed_over(
     false
 }
 
-/// Whether what is open under an identifier may have been discarded, if the latest connection has this
-/// fate: its latest opener was passed over, and no PUBREC below 0x80 came since.
+/// Whether what is open under an identifier may have been discarded, if the latest connection has
+/// this fate: its latest opener was passed over, and no PUBREC below 0x80 came since.
 pub fn may_be_discarded(role: Role, fate: Fate, identifier: u16, before: &[Seen]) -> bool
     ensures { result ≡ may_be_discarded_after role fate identifier (reverse before.now) }
 {

@@ -38,7 +38,7 @@ fn is_content_type(cursor: &mut Cursor) -> bool
     cursor.plain_text().is_some()
 }
 
-// A plain text has no wildcard.
+// Whether a Response Topic is next, and is plain: it then has no wildcard (MQTT 5.0, 3.3.2.3.5).
 #[inline(always)]
 fn is_response_topic(cursor: &mut Cursor) -> bool
     ensures { IsTrue result → HasValue response_topic cursor.old cursor.new }
@@ -54,7 +54,8 @@ fn is_correlation_data(cursor: &mut Cursor) -> bool
     cursor.binary().is_ok()
 }
 
-// Of one byte.
+// Whether a Subscription Identifier of one byte is next, which is from 1 to 127 (MQTT 5.0,
+// 3.3.2.3.8).
 #[inline(always)]
 fn is_subscription_identifier(cursor: &mut Cursor) -> bool
     ensures { IsTrue result → HasValue subscription_identifier cursor.old cursor.new }

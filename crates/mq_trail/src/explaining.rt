@@ -69,8 +69,9 @@ fn explain_as<R: Read, K: Wanted>(
     explain_by(alloc, reader, tested, watcher, verdict)
 }
 
-// Explains the faults of the verdict by this watcher, which is before any event, if there was memory
-// for it. It is of any type, so that what it consists of and frees needn't be spelled out here.
+// Explains the faults of the verdict by this watcher, which is before any event, if there was
+// memory for it. It is of any type, so that what it consists of and frees needn't be spelled out
+// here.
 fn explain_by<R: Read, W: Answers + Drop>(
     alloc: Global,
     reader: &mut R,

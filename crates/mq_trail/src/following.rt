@@ -103,8 +103,8 @@ impl<W: Follower, K> Following<W, K> {
         Ok(())
     }
 
-    // What makes a note is a call of its own: a note that a function makes lies in memory on all ways
-    // through it.
+    // What makes a note is a call of its own: a note that a function makes lies in memory on all
+    // ways through it.
 
     // Makes a note of an event, and takes it in.
     #[inline(never)]

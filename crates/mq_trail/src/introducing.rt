@@ -1,5 +1,5 @@
-//! A watcher that explains the faults of the statements on connections, and keeps the CONNACK of each
-//! REST that shows one of S06.
+//! A watcher that explains the faults of the statements on connections, and keeps the CONNACK of
+//! each REST that shows one of S06.
 ghost use Rattle.std.specs.Prelude.{◌≡◌, ◌∷◌, ◌+◌, [], false, refl, List, Some, length};
 ghost use Rattle.mq_rules.specs.declared.role.Tested.{Tested as TheTested};
 ghost use Rattle.mq_rules.specs.declared.fate.Fate.TheVariants.{Void};
@@ -13,7 +13,8 @@ use mq_log::Place3;
 use mq_rules::{Faults, Memory, Note, Watch};
 use std::marker::PhantomData;
 
-/// Explains faults as their events come, whatever becomes of the connection. It judges no statement.
+/// Explains faults as their events come, whatever becomes of the connection. It judges no
+/// statement.
 ///
 /// No code uses `K`. It is there for the proofs: by it `agrees` can say which faults are explained.
 pub struct Introducing<K> {

@@ -35,8 +35,8 @@ pub struct Reviewing<K> {
     wanted: PhantomData<K>,
 }
 
-// A function of its own, so that whoever drops it needn't spell out all that is freed. Nor does this
-// one: what is much to free is passed to `drop`.
+// A function of its own, so that whoever drops it needn't spell out all that is freed. Nor does
+// this one: what is much to free is passed to `drop`.
 impl<K> Drop for Reviewing<K> {
     #[inline(never)]
     fn drop(self) {

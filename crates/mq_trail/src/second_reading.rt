@@ -75,8 +75,8 @@ pub fn follow_reader<R: Read, W: Follower + Drop>(
     follow_as::<R, W, Brand>(alloc, reader, tested, watcher)
 }
 
-// Drives a watcher over the log that a reader gives. The tested end is the one that is picked: which
-// it is, the watcher knows, and the code asks it only for the statements that are judged.
+// Drives a watcher over the log that a reader gives. The tested end is the one that is picked:
+// which it is, the watcher knows, and the code asks it only for the statements that are judged.
 fn follow_as<R: Read, W: Follower + Drop, K: Watched>(
     alloc: Global,
     reader: &mut R,

@@ -47,8 +47,8 @@ impl<K: Wanted> Explainer for Early<Reviewing<K>> {
     ghost adds_none = { λ tested e past k r. refl };
 }
 
-/// Drives a watcher that explains faults up to the event with which the last of them was decided. What
-/// comes after that can't explain any.
+/// Drives a watcher that explains faults up to the event with which the last of them was decided.
+/// What comes after that can't explain any.
 ///
 /// No code uses `K`. It is there for the proofs: by it `agrees` can say which faults are explained.
 #[derive(Drop)]

@@ -1,5 +1,5 @@
-//! The judge on logs, each with its report, worked out by hand from the statements, and compared with
-//! evaluators that look back.
+//! The judge on logs, each with its report, worked out by hand from the statements, and compared
+//! with evaluators that look back.
 
 mod hostile;
 mod memory;

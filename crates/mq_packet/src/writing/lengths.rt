@@ -86,7 +86,8 @@ fn identifier_len_if_there(identifier: Option<u16>) -> usize
     }
 }
 
-// The properties, the topic and the payload of a Will, if there is one.
+// How many bytes the properties, the topic and the payload of a Will have, each with its length
+// before it; 0 if there is no Will (MQTT 5.0, section 3.1.3).
 #[tactic(auto, using(crate::proofs::SizeLaws::will_length))]
 fn will_lens(will: &Option<Will<'_>>) -> (usize, usize, usize)
     ensures { result.0 + result.1 + result.2 ≡ length (spelling_if will_spelling (option_map will_view will.now)) }
@@ -101,7 +102,8 @@ fn will_lens(will: &Option<Will<'_>>) -> (usize, usize, usize)
     }
 }
 
-// A Reason Code and properties, each only if it is needed.
+// How many bytes a Reason Code and properties have at a packet's end: a Reason Code of 0x00 is left
+// out if no properties follow, and an empty list always (MQTT 5.0, sections 3.4.2.1 and 3.4.2.2.1).
 #[tactic(auto, using(crate::proofs::ReasonLaws::reason_by))]
 fn reason_len(code: u8, list: &Props<'_>) -> usize
     ensures { result ≡ length (reason_spelling code list.now.items) }

@@ -1,5 +1,5 @@
-//! Which rules packets put to the test, by the bytes of each. The rules that each packet tries (W02,
-//! W03 and W06) stand in no row.
+//! Which rules packets put to the test, by the bytes of each. The rules that each packet tries
+//! (W02, W03 and W06) stand in no row.
 
 use super::harness::{MAX_BODY, whole};
 use mq_packet::*;

@@ -65,8 +65,8 @@ fn is_cut_off(role: Role, fate: Fate, before: &[Seen]) -> bool
         || some_in_session(role, Some(fate), &CutsPublish, before)
 }
 
-// Whether a session begins by an event, and a PUBLISH under the identifier was sent before it on its
-// connection.
+// Whether a session begins by an event, and a PUBLISH under the identifier was sent before it on
+// its connection.
 fn begins_after_delivery(identifier: u16, event: &Seen, before: &[Seen]) -> bool
     ensures { result ≡ began_with identifier (newest event.now (reverse before.now)) }
 {

@@ -142,8 +142,8 @@ pub fn report_of(alloc: Global, lines: &'static str) -> Result<String, AllocErro
     Ok(report)
 }
 
-// Whether the judge and the plain evaluators find the same faults in the log of these words, and the
-// report on it is that of these lines.
+// Whether the judge and the plain evaluators find the same faults in the log of these words, and
+// the report on it is that of these lines.
 fn is_judged_so(alloc: Global, words: &'static str, lines: &'static str) -> Result<bool, Fail> {
     let log = log_of(alloc, &[], words)?;
     let report = report_of(alloc, lines)?;

@@ -1,5 +1,5 @@
-//! What a REST shows to be owed (S06), and what isn't: retained messages where the server takes none,
-//! and the rest while an answer is awaited.
+//! What a REST shows to be owed (S06), and what isn't: retained messages where the server takes
+//! none, and the rest while an answer is awaited.
 
 pub const ROWS: &str = "\
 retained, a retained PUBLISH that a server with Retain Available 0 must not get | client OPEN >CONNECT-KEPT <CONNACK >330700016100010078 CLOSE OPEN >RECONNECT <20050100022500 REST | pass 9 events

@@ -1,5 +1,5 @@
-//! What an end can't know before the CONNACK, and which session a connection has where the log can't
-//! tell: first a log that keeps the statement so, and then its neighbours.
+//! What an end can't know before the CONNACK, and which session a connection has where the log
+//! can't tell: first a log that keeps the statement so, and then its neighbours.
 
 pub const ROWS: &str = "\
 unknown, client: a Clean Start 1 without a CONNACK between | client OPEN >CONNECT-KEPT <CONNACK >PUBLISH1:1 CLOSE OPEN >CONNECT-KEPT CLOSE OPEN >RECONNECT <CONNACK-RESUMED >PUBLISH1:1 | pass 12 events
