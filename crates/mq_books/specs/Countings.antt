@@ -102,7 +102,7 @@ unsubscribes = record { exchange = unsubscribe_unsuback; request = unsubscribe_r
 
 subscribe-names : (o : Option PacketFields) (i : ℕ) → is_id i (option_and_then subscribe_in o) ≡ names i (option_map subscription_count (option_and_then subscription_in o))
 subscribe-names None i = refl
-subscribe-names (Some (Subscribe identifier filters)) i = refl
+subscribe-names (Some (Subscribe identifier filters wishes)) i = refl
 subscribe-names (Some _) i = refl
 
 suback-names : (o : Option PacketFields) (i : ℕ) → is_id i (option_and_then suback_in o) ≡ names i (option_map grant_count (option_and_then grant_in o))

@@ -34,7 +34,7 @@ closed_if b old = cond b None old
 abbrev pub opened_if : Bool → Bool → Bool → Place3 → Option Entry → Option Entry
 opened_if b exactly_once retained place old = cond b (Some (opened_by exactly_once retained place)) old
 
--- the event sends a PUBLISH of QoS 2; one with RETAIN 1 and a QoS above 0
+-- the event sends a PUBLISH of QoS 2; one with RETAIN 1
 abbrev pub sends_exactly_once : Note → Bool
 sends_exactly_once n = is_some_and (λ p. is_exactly_once p.qos) (sent_publish n)
 

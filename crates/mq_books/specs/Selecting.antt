@@ -48,7 +48,7 @@ answers_request (Disconnect note) = true
 answers_request _ = false
 
 abbrev pub asks_by_request : PacketFields → Bool
-asks_by_request (Subscribe identifier filters) = true
+asks_by_request (Subscribe identifier filters wishes) = true
 asks_by_request (Unsubscribe identifier count) = true
 asks_by_request (Disconnect note) = true
 asks_by_request _ = false
@@ -79,7 +79,7 @@ delivers_or_grants bound (Unsuback identifier count) = true
 delivers_or_grants bound _ = false
 
 abbrev pub subscribes_or_not : PacketFields → Bool
-subscribes_or_not (Subscribe identifier filters) = true
+subscribes_or_not (Subscribe identifier filters wishes) = true
 subscribes_or_not (Unsubscribe identifier count) = true
 subscribes_or_not _ = false
 
@@ -91,7 +91,7 @@ may_concern_subscriptions bound = selects (delivers_or_grants bound) subscribes_
 abbrev pub uses_identifier : PacketFields → Bool
 uses_identifier (Publish p) = is_acknowledged p.qos
 uses_identifier (Pubrel identifier code) = true
-uses_identifier (Subscribe identifier filters) = true
+uses_identifier (Subscribe identifier filters wishes) = true
 uses_identifier (Unsubscribe identifier count) = true
 uses_identifier (Disconnect note) = true
 uses_identifier _ = false

@@ -16,7 +16,7 @@ ghost use Rattle.mq_books.specs.Askings as keeping;
 ghost use Rattle.mq_books.specs.Askings.{IsAsked, answered_by};
 ghost use Rattle.mq_books.specs.Concerns.{concerns_asked};
 
-use crate::counting::{Asks, places_after};
+use crate::counting::Asks;
 use crate::exchange::Exchange;
 use crate::fated::Fated;
 use crate::known::{excuse, judge_by};
@@ -24,6 +24,7 @@ use crate::selective::{Discerning, Selective};
 use mq_log::Place3;
 use mq_rules::{
     Bare, Brisk, CountedByIdentifier, Fate, Faults, Memory, Note, NoteRef, Rule, Tested, Watch,
+    places_after,
 };
 use std::alloc::Global;
 use std::marker::PhantomData;

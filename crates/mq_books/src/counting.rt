@@ -91,17 +91,6 @@ pub struct Counting<W: Asks> {
     fate: Fate,
 }
 
-/// One place more, or none: there are fewer than events.
-#[inline(always)]
-pub fn places_after(here: bool, old: u32, position: u32) -> u32
-    ensures { old < position → result ≡ cond here 1 0 + old }
-{
-    if here && old < position {
-        return old + 1;
-    }
-    old
-}
-
 /// One of two numbers.
 pub fn pick(first: bool, a: u32, b: u32) -> u32
     ensures { result ≡ cond first a b }

@@ -22,13 +22,14 @@ ghost use Rattle.mq_books.specs.Weights.{counts_weighs};
 ghost use Rattle.mq_books.specs.Placings.{on_session};
 ghost use Rattle.mq_books.specs.Countings.{Counting, IsCounting, IsCounted, counted_next, differs, answers_one, answers_kept, B03_asks, B04_asks, subscribes, unsubscribes, subscribe_request as the_subscribe, suback_reply as the_suback, unsubscribe_request as the_unsubscribe, unsuback_reply as the_unsuback, subscribes_so, unsubscribes_so};
 
-use crate::counting::{Asks, places_after};
+use crate::counting::Asks;
 use crate::fated::Fated;
 use crate::known::judge_by;
 use crate::selective::{Discerning, Selective};
 use mq_log::Place3;
 use mq_rules::{
     CountedByIdentifier, Fate, Faults, Memory, Note, NoteRef, PacketFields, Rule, Tested, Watch,
+    places_after,
 };
 use std::alloc::Global;
 use std::marker::PhantomData;
@@ -275,6 +276,7 @@ fn subscribe_request(note: &Note) -> Option<Counted>
             PacketFields::Subscribe {
                 identifier,
                 filters,
+                ..
             },
         ) => Some(Counted {
             identifier: *identifier,

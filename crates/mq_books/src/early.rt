@@ -167,8 +167,8 @@ impl<W> Early<W> {
         self.fate
     }
 
-    // Whether a packet without properties goes on to the watcher, and changes nothing here: the latest
-    // connection is decided, so that no events are held, and its history stays as it is.
+    // Whether a packet without properties goes on to the watcher, and changes nothing here: the
+    // latest connection is decided, so that no events are held, and its history stays as it is.
     #[inline(always)]
     fn goes_on(&self, bare: Bare<'_>) -> bool
         ensures { result ≡ (is_left_by self.now.history (note_of_bare bare.entry) && (is_some self.now.fate && is_nothing self.now.held.items)) }

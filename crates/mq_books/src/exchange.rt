@@ -23,8 +23,8 @@ pub trait Exchange {
     ghost settled: { Rule };
     // The statement on the order of answers, if there is one.
     ghost ordered: { Option Rule };
-    // Whether an answer may be sent before the CONNACK, by an end that can't know yet which session it
-    // will have.
+    // Whether an answer may be sent before the CONNACK, by an end that can't know yet which session
+    // it will have.
     ghost early: { Bool };
 
     /// The Packet Identifier under which an event is a cause.
@@ -39,8 +39,8 @@ pub trait Exchange {
     fn asked_rule() -> Rule
         ensures { result ≡ asked };
 
-    /// Whether an answer may be sent before the CONNACK, by an end that can't know yet which session it
-    /// will have (MQTT 5.0, section 3.1.4).
+    /// Whether an answer may be sent before the CONNACK, by an end that can't know yet which
+    /// session it will have (MQTT 5.0, section 3.1.4).
     fn may_be_early() -> bool
         ensures { result ≡ early };
 

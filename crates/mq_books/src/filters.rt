@@ -108,6 +108,7 @@ fn take_request(
             PacketFields::Subscribe {
                 identifier,
                 filters,
+                ..
             },
         ) => {
             let request = Request::of(alloc, filters.as_slice())?;

@@ -82,7 +82,8 @@ pub struct Inflight {
     earlier: Earlier,
     /// Those of SUBSCRIBE packets that were sent on the connection that is open, and not answered.
     subscribing: IndexSet<u16>,
-    /// Those of UNSUBSCRIBE packets that were sent on the connection that is open, and not answered.
+    /// Those of UNSUBSCRIBE packets that were sent on the connection that is open, and not
+    /// answered.
     unsubscribing: IndexSet<u16>,
     /// The greatest position of an opener whose PUBLISH was sent again on the connection.
     resent: u32,
@@ -96,8 +97,9 @@ pub struct Inflight {
     in_flight: u64,
     /// What the peer announced of what may be sent.
     bounds: Option<Bounds>,
-    /// The position of the OPEN of the latest connection before this one that passes over what isn't
-    /// sent there: it was resumed, and the peer announced a Maximum Packet Size or a Maximum QoS.
+    /// The position of the OPEN of the latest connection before this one that passes over what
+    /// isn't sent there: it was resumed, and the peer announced a Maximum Packet Size or a Maximum
+    /// QoS.
     bounded: u32,
 }
 

@@ -93,8 +93,7 @@ impl Fated for Messages {
 impl Brisk for Messages {
     #[inline(always)]
     fn step_bare(&mut self, at: Place3, bare: Bare<'_>, faults: &mut Faults) -> Result<(), Memory> {
-        self.watchers.step_bare(at, bare, faults)?;
-        Ok(())
+        self.watchers.step_bare(at, bare, faults)
     }
 }
 

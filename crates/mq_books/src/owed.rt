@@ -20,7 +20,7 @@ ghost use Rattle.mq_books.specs.Orderings as passing;
 ghost use Rattle.mq_books.specs.Orderings.{looked_at, chooses};
 ghost use Rattle.mq_books.specs.Concerns.{concerns_owed};
 
-use crate::counting::{Asks, pick, places_after};
+use crate::counting::{Asks, pick};
 use crate::exchange::Exchange;
 use crate::fated::Fated;
 use crate::ordering::{Debt, judge_order, passes_over, take_queue, tidy};
@@ -29,7 +29,7 @@ use crate::selective::{Discerning, Selective};
 use mq_log::Place3;
 use mq_rules::{
     Bare, Brisk, CountedByIdentifier, Fate, Fault, FaultKey, Faults, Memory, Note, NoteRef, Rule,
-    Tested, Watch,
+    Tested, Watch, places_after,
 };
 use std::alloc::Global;
 use std::collections::VecDeque;

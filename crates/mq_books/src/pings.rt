@@ -14,7 +14,7 @@ ghost use Rattle.mq_books.specs.Concerns.{concerns_pings};
 ghost use Rattle.mq_rules.specs.Notes.{note_in, note_of_bare};
 ghost use Rattle.mq_books.specs.Selecting as selecting;
 
-use crate::counting::{Asks, places_after};
+use crate::counting::Asks;
 use crate::fated::Fated;
 use crate::known::judge_by;
 use crate::quota::more;
@@ -22,7 +22,7 @@ use crate::selective::{Discerning, Selective};
 use mq_log::{Direction, Place3};
 use mq_rules::{
     Bare, BareFields, Brisk, Fate, Faults, ItemNote, Memory, Note, NoteRef, PacketFields, Role,
-    Rule, Tested, Watch,
+    Rule, Tested, Watch, places_after,
 };
 
 /// Watches E7R.

@@ -18,7 +18,7 @@ ghost use Rattle.mq_books.specs.Concerns.{concerns_quota};
 ghost use Rattle.mq_rules.specs.Notes.{note_in, note_of_bare};
 ghost use Rattle.mq_books.specs.Selecting as selecting;
 
-use crate::counting::{Asks, places_after};
+use crate::counting::Asks;
 use crate::fated::Fated;
 use crate::known::judge_by;
 use crate::messages::is_acknowledged;
@@ -27,7 +27,7 @@ use mq_log::{Direction, Place3};
 use mq_packet::Qos;
 use mq_rules::{
     Bare, BareFields, Brisk, Fate, Faults, ItemNote, Memory, Note, NoteRef, PacketFields, Role,
-    Rule, Tested, Watch,
+    Rule, Tested, Watch, places_after,
 };
 
 /// The Receive Maximum of a peer that announces none.

@@ -133,8 +133,7 @@ impl Fated for Sessions {
 impl Brisk for Sessions {
     #[inline(always)]
     fn step_bare(&mut self, at: Place3, bare: Bare<'_>, faults: &mut Faults) -> Result<(), Memory> {
-        self.watchers.step_bare(at, bare, faults)?;
-        Ok(())
+        self.watchers.step_bare(at, bare, faults)
     }
 }
 

@@ -20,12 +20,12 @@ use super::broken::is_taken;
 use super::entry::Entry;
 use super::resends::passed_since;
 use super::resuming::{ResumedPlaces, count_resumed};
-use crate::counting::{Asks, pick, places_after};
+use crate::counting::{Asks, pick};
 use crate::known::excuse;
 use crate::selective::Discerning;
 use indexmap::{IndexMap, IndexSet};
 use mq_log::Place3;
-use mq_rules::{Fate, NoteRef, Rule};
+use mq_rules::{Fate, NoteRef, Rule, places_after};
 
 /// How often S01 to S05 were put to the test.
 #[derive(Drop)]

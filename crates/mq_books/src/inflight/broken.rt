@@ -46,8 +46,8 @@ pub fn all_excused(fate: Fate, known: bool, broken: Broken) -> Broken
     }
 }
 
-/// Whether what is open is in use, or may have been discarded: it was passed over, by connections that
-/// began up to `since`, and not confirmed.
+/// Whether what is open is in use, or may have been discarded: it was passed over, by connections
+/// that began up to `since`, and not confirmed.
 pub fn is_taken(entry: &Entry, since: u32) -> bool
     ensures { result ≡ taken since entry.now }
 {
@@ -77,8 +77,8 @@ fn is_busy(
     is_held(entries, since, i) || (subscribing.contains(&i) || unsubscribing.contains(&i))
 }
 
-/// Whether an event takes an identifier that is busy, where connections that passed over began up to
-/// `since`.
+/// Whether an event takes an identifier that is busy, where connections that passed over began up
+/// to `since`.
 pub fn takes(
     fate: Fate,
     role: Role,

@@ -44,7 +44,7 @@ fn is_sent_exactly_once(note: &Note) -> bool
     }
 }
 
-// Whether a PUBLISH with RETAIN 1 and a QoS above 0 is sent.
+// Whether a PUBLISH with RETAIN 1 is sent.
 fn is_sent_retained(note: &Note) -> bool
     ensures { result ≡ sends_retained note.now }
 {
@@ -54,8 +54,8 @@ fn is_sent_retained(note: &Note) -> bool
     }
 }
 
-// Takes in that a PUBLISH is sent under an identifier, where connections before this one that passed
-// over began up to `bounded`.
+// Takes in that a PUBLISH is sent under an identifier, where connections before this one that
+// passed over began up to `bounded`.
 fn send(entries: &mut IndexMap<u16, Entry>, identifier: Option<u16>, bounded: u32, position: u32)
     ensures entries { (i : ℕ) → get nat_eq entries.new i ≡ sent_if (is_id i identifier) bounded position (get nat_eq entries.old i) }
     ensures unique { IsUnique nat_eq entries.old → IsUnique nat_eq entries.new }
@@ -69,8 +69,8 @@ fn send(entries: &mut IndexMap<u16, Entry>, identifier: Option<u16>, bounded: u3
     }
 }
 
-/// Takes in that a PUBREL is sent under an identifier, where connections before this one that passed
-/// over began up to `bounded`.
+/// Takes in that a PUBREL is sent under an identifier, where connections before this one that
+/// passed over began up to `bounded`.
 #[inline(always)]
 pub fn release(
     entries: &mut IndexMap<u16, Entry>,
@@ -167,8 +167,8 @@ fn take_in(
     Ok(())
 }
 
-/// Takes in an event of a connection that has this fate, where connections before it that passed over
-/// began up to `bounded`.
+/// Takes in an event of a connection that has this fate, where connections before it that passed
+/// over began up to `bounded`.
 pub fn take_entries(
     entries: &mut IndexMap<u16, Entry>,
     alloc: Global,

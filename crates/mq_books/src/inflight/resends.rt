@@ -95,8 +95,8 @@ fn refuses_retained(bounds: Option<Bounds>) -> bool
     }
 }
 
-/// The position of the OPEN of the latest connection that passes over what isn't sent there: this one,
-/// whose OPEN is at `opened`, or one before it, as `bounded` says.
+/// The position of the OPEN of the latest connection that passes over what isn't sent there: this
+/// one, whose OPEN is at `opened`, or one before it, as `bounded` says.
 pub fn passed_since(fate: Fate, bounds: Option<Bounds>, opened: u32, bounded: u32) -> u32
     ensures { result ≡ resending.passed_since fate bounds opened bounded }
 {
@@ -375,8 +375,8 @@ fn blame_confirmed(
     Ok(())
 }
 
-// Adds the faults of what is due at a REST that binds, where this is excused by itself. What is known
-// not to be due isn't looked for: so an identifier that isn't due is looked at once.
+// Adds the faults of what is due at a REST that binds, where this is excused by itself. What is
+// known not to be due isn't looked for: so an identifier that isn't due is looked at once.
 #[tactic(auto, using(crate::proofs::BlameLaws::keeps_same))]
 fn settle_all(
     resent: Resent,

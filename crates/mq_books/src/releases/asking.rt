@@ -10,12 +10,12 @@ ghost use Rattle.mq_books.specs.Placings.{is_on_sessions, on_either, on_one};
 ghost use Rattle.mq_books.specs.Releasing.{has_id};
 
 use super::Releases;
-use crate::counting::{Asks, pick, places_after};
+use crate::counting::{Asks, pick};
 use crate::fated::Fated;
 use crate::known::{is_placed, place};
 use crate::selective::Discerning;
 use mq_log::Place3;
-use mq_rules::{CountedByIdentifier, Fate, NoteRef, Rule};
+use mq_rules::{CountedByIdentifier, Fate, NoteRef, Rule, places_after};
 
 /// How often the statements on releases were put to the test.
 #[derive(Drop)]

@@ -10,13 +10,13 @@ ghost use Rattle.mq_books.specs.Standings.{delivers_so};
 ghost use Rattle.mq_books.specs.Placings.{is_on_sessions, on_either, on_one};
 
 use super::{Deliveries, judged_topic};
-use crate::counting::{Asks, pick, places_after};
+use crate::counting::{Asks, pick};
 use crate::fated::Fated;
 use crate::messages::is_acknowledged;
 use crate::selective::Discerning;
 use indexmap::IndexMap;
 use mq_log::Place3;
-use mq_rules::{Fate, Note, NoteRef, Rule, Text};
+use mq_rules::{Fate, Note, NoteRef, Rule, Text, places_after};
 
 /// How often the statements on deliveries were put to the test.
 #[derive(Drop)]
