@@ -1,5 +1,5 @@
-//! Showing a log with the faults at its events, and what each conflicts with. The log is read twice,
-//! and once more if it has faults.
+//! Showing a log with the faults at its events, and what each conflicts with. The log is read
+//! twice, and once more if it has faults.
 ghost use Rattle.std.specs.Prelude.{◌≡◌, ◌⊎◌, ◌==◌, false, Some, Ok, Err, IfErr, IfOk, IfSome, option_map, slice_index, string_bytes};
 ghost use Rattle.std.specs.FinMap as map;
 ghost use Rattle.std.specs.Io.KnownBytes.{Appends, Keeps, prepend_known};
@@ -46,10 +46,10 @@ pub struct Plan<'a> {
 /// `output`, and the faults at it after it, each with what it conflicts with: 0. If the log is
 /// refused, only the line on the refusal is written, since nothing is known of its faults: 2. Words
 /// that name no file, or no number after `--around`, or don't ask for faults are a misuse, which is
-/// reported on `error`: 3. If reading or writing failed, memory ran out, or the file changed between
-/// the first two readings, that is reported on `error`: 4; what was written until then is part of
-/// what would have been, and nothing if the file changed. For a refused log whose first bytes show
-/// that it is another kind of file, a line on `error` says what to do with it.
+/// reported on `error`: 3. If reading or writing failed, memory ran out, or the file changed
+/// between the first two readings, that is reported on `error`: 4; what was written until then is
+/// part of what would have been, and nothing if the file changed. For a refused log whose first
+/// bytes show that it is another kind of file, a line on `error` says what to do with it.
 pub fn review<H: Host, W: Output, E: ErrorStream>(
     alloc: Global,
     host: &H,
@@ -87,8 +87,8 @@ fn plan_of(asked: &Review) -> Result<Plan<'_>, Misuse<'_>>
     }
 }
 
-// Why there is nothing to show if no faults are asked for: a number of positions, or else the further
-// statements, need them.
+// Why there is nothing to show if no faults are asked for: a number of positions, or else the
+// further statements, need them.
 fn unfaulty<'a>(around: &Option<String>) -> Misuse<'a>
     ensures { misuse_line result ≡ unfaulty_line (option_map string_bytes around.now) }
 {
@@ -261,9 +261,9 @@ fn show_on<R: Read + Drop, W: Output, E: ErrorStream>(
 }
 
 /// Judges the log from one reader; if it has faults, reads the log from the next one for what each
-/// conflicts with; shows the log from the last one with these; and returns the status. The three are
-/// one log, unless its file changed between the readings. `releases` says what the header of the
-/// first one says of releases.
+/// conflicts with; shows the log from the last one with these; and returns the status. The three
+/// are one log, unless its file changed between the readings. `releases` says what the header of
+/// the first one says of releases.
 ///
 /// # Errors
 ///

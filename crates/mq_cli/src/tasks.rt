@@ -61,16 +61,16 @@ pub enum EventView<'a> {
 /// A check judges the log that `input` gives, and writes the report, or the line on a refused log,
 /// to `output`: 0 for no fault, 1 for faults, 2 for a refused log. Showing a log writes a line for
 /// each event to `output`: 0, or 2 for a refused log, with the line on the refusal after those of
-/// the preceding events. A packet's line is written to `output`: 0 if the bytes are one packet, and 1
-/// if they aren't. The lines of the statements, or the explanations of those that a word names, are
-/// written to `output`: 0.
+/// the preceding events. A packet's line is written to `output`: 0 if the bytes are one packet, and
+/// 1 if they aren't. The lines of the statements, or the explanations of those that a word names,
+/// are written to `output`: 0.
 ///
 /// # Errors
 ///
 /// `Failed` if reading or writing failed or memory ran out: what was written until then is part of
-/// what would have been. `Misused` if the digits of a packet spell no bytes, or there are too many of
-/// them, if the word isn't an end, or if it is neither a statement's code nor a citation: nothing was
-/// written.
+/// what would have been. `Misused` if the digits of a packet spell no bytes, or there are too many
+/// of them, if the word isn't an end, or if it is neither a statement's code nor a citation:
+/// nothing was written.
 pub fn attempt<'a, R: Read, W: Write, P: Progress>(
     alloc: Global,
     task: &'a Task,

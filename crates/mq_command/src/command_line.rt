@@ -210,12 +210,11 @@ pub enum EarlyExit {
     Memory,
 }
 
-/// Reads the words of a command line,
-/// `mqjudge check [--json] [--summary] [--coverage] [--why] [--all] [FILE]`,
-/// `mqjudge show [--long] [--faults] [--around N] [--all] [FILE]`,
-/// `mqjudge packet [--long] HEX..`, `mqjudge rules [--role ROLE] [--all]`, `mqjudge explain CODE` or
-/// `mqjudge convert [--force] IN OUT`, of which the first is the program's name. A request for help
-/// or the version is returned as a `EarlyExit`, and so are words that aren't such a command line.
+/// Reads the words of a command line, `mqjudge check [--json] [--summary] [--coverage] [--why]
+/// [--all] [FILE]`, `mqjudge show [--long] [--faults] [--around N] [--all] [FILE]`, `mqjudge packet
+/// [--long] HEX..`, `mqjudge rules [--role ROLE] [--all]`, `mqjudge explain CODE` or `mqjudge
+/// convert [--force] IN OUT`, of which the first is the program's name. A request for help or the
+/// version is returned as a `EarlyExit`, and so are words that aren't such a command line.
 pub fn parse<S: AsStr>(alloc: Global, words: &[S]) -> Result<Work, EarlyExit>
     ensures taken { IfOk result (λ _. word_faults (map S.text words.now) ≡ []) }
     ensures work { IfOk result (λ work.

@@ -82,7 +82,7 @@ unasking-pubrel (Pubrel i code) h = absurd (cc)
 unasking-pubrel _ h = refl
 
 unasking-subscribe : (f : PacketFields) → not (asks f) ≡ true → subscribe_in f ≡ None
-unasking-subscribe (Subscribe i filters) h = absurd (cc)
+unasking-subscribe (Subscribe i filters wishes) h = absurd (cc)
 unasking-subscribe _ h = refl
 
 unasking-unsubscribe : (f : PacketFields) → not (asks f) ≡ true → unsubscribe_in f ≡ None

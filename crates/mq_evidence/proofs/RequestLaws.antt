@@ -67,7 +67,7 @@ earliest_since-passes starts ends (m ∷ ms) at h = go (starts m) refl (ends m) 
 subscribed : (i : ℕ) (o : Option PacketFields) → is_id i (option_and_then subscribe_in o) ≡ true
     → option_map (λ s. length s.filters) (option_and_then subscription_in o) ≡ Some (unwrap_or (option_map (λ s. length s.filters) (option_and_then subscription_in o)) 0)
 subscribed i None h = absurd (cc)
-subscribed i (Some (Subscribe identifier filters)) h = refl
+subscribed i (Some (Subscribe identifier filters wishes)) h = refl
 subscribed i (Some _) h = absurd (cc)
 
 unsubscribed : (i : ℕ) (o : Option PacketFields) → is_id i (option_and_then unsubscribe_in o) ≡ true

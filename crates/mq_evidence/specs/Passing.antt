@@ -17,7 +17,7 @@ abbrev pub asks : PacketFields → Bool
 asks (Publish p) = is_acknowledged p.qos
 asks (Pubrec identifier code) = true
 asks (Pubrel identifier code) = true
-asks (Subscribe identifier filters) = true
+asks (Subscribe identifier filters wishes) = true
 asks (Unsubscribe identifier filters) = true
 asks _ = false
 

@@ -112,8 +112,8 @@ fn add(alloc: Global, kept: &mut Vec<Asked>, filter: &str, ceiling: u8) -> Resul
     Ok(())
 }
 
-// Adds a filter of the SUBSCRIBE at a position with its Reason Code, unless that refuses it. Without
-// a code it keeps its ceiling.
+// Adds a filter of the SUBSCRIBE at a position with its Reason Code, unless that refuses it.
+// Without a code it keeps its ceiling.
 fn add_granted(
     alloc: Global,
     settled: &mut Settled,
@@ -443,6 +443,7 @@ fn take_request(
             PacketFields::Subscribe {
                 identifier,
                 filters,
+                ..
             },
         ) => wait(alloc, waiting, position, *identifier, filters.as_slice()),
         _ => Ok(()),

@@ -85,6 +85,10 @@ impl ConnectionTrail {
             Rule::C17 => Some(handshake.qos(note)),
             Rule::C20 => Some(handshake.expiry(note)),
             Rule::C23 => Some(handshake.last()),
+            Rule::F01 => Some(handshake.connack()),
+            Rule::F02 => Some(handshake.connack()),
+            Rule::F03 => Some(handshake.connack()),
+            Rule::F04 => Some(handshake.connack()),
             Rule::A02 => Some(handshake.connect()),
             _ => None,
         }

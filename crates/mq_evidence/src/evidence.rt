@@ -13,8 +13,8 @@ pub enum Numbers {
     Two(u64, u64),
 }
 
-/// What a fault conflicts with: the event because of which its position is at fault, and the numbers
-/// that its statement compares.
+/// What a fault conflicts with: the event because of which its position is at fault, and the
+/// numbers that its statement compares.
 #[derive(Clone, Copy, Debug, PartialEq, Eq)]
 pub struct Evidence {
     /// The position of the event; `None` if no event is to blame.

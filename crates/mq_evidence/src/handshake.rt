@@ -397,7 +397,7 @@ impl Handshake {
         it(self.sent.refusal)
     }
 
-    /// The server's CONNACK: C13, and S06 at the REST that shows it.
+    /// The server's CONNACK: C13, F01 to F04, and S06 at the REST that shows it.
     pub fn connack(&self) -> Evidence
         ensures { (role : TheRole) (s : Stretches) → IsHandshake self.now role s → result ≡ evidence.it (earliest (evidence.is_connack role) s.connection) }
     {

@@ -37,8 +37,8 @@ pub struct Resend {
     opened: u32,
 }
 
-/// PUBLISHes that were sent again on the connection while they were open. Of these it keeps each one
-/// that was first sent later than all before it.
+/// PUBLISHes that were sent again on the connection while they were open. Of these it keeps each
+/// one that was first sent later than all before it.
 #[derive(Drop)]
 pub struct Overtaking {
     alloc: Global,

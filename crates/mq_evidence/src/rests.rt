@@ -1,5 +1,5 @@
-//! The RESTs that show the faults of S06, and the CONNACK of each one's connection (MQTT 5.0, section
-//! 4.4): what wasn't sent again had to be, since that CONNACK resumed the session.
+//! The RESTs that show the faults of S06, and the CONNACK of each one's connection (MQTT 5.0,
+//! section 4.4): what wasn't sent again had to be, since that CONNACK resumed the session.
 ghost use Rattle.std.specs.Prelude.{◌≡◌, ◌&&◌, ℕ, Some, cond, is_some, nat_eq, IfOk};
 ghost use Rattle.std.specs.List.{list_any};
 ghost use Rattle.std.specs.FinMap as map;

@@ -205,9 +205,9 @@ impl Senders {
         later(position_of(&self.in_session.held, i), waiting)
     }
 
-    /// What became of a PUBLISH that is sent again under an identifier: what acknowledged it last in
-    /// this session, if it was sent in it; else, if it was sent in an earlier one, the CONNACK that
-    /// began this one, which is at `begun`.
+    /// What became of a PUBLISH that is sent again under an identifier: what acknowledged it last
+    /// in this session, if it was sent in it; else, if it was sent in an earlier one, the CONNACK
+    /// that began this one, which is at `begun`.
     pub fn end_of_sent(&self, begun: Option<u32>, i: u16) -> Option<u32>
         ensures { (s : Stretches) → IsSenders self.now s → result ≡ cond (is_some (latest (has_id opener_of i) s.session)) (option_map position (latest (has_id closer_of i) s.session))
             (only (some_session (has_id opener_of i) s.earlier) begun) }

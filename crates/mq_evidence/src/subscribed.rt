@@ -41,8 +41,8 @@ impl Model for Request {
     ghost view = { λ r. r.filters.items };
 }
 
-/// The SUBSCRIBEs that wait under one Packet Identifier, the earliest first. There is one, unless the
-/// client uses the identifier again too early.
+/// The SUBSCRIBEs that wait under one Packet Identifier, the earliest first. There is one, unless
+/// the client uses the identifier again too early.
 #[derive(Drop)]
 pub struct Requests {
     requests: Vec<Request>,
@@ -325,6 +325,7 @@ fn take_request(
             PacketFields::Subscribe {
                 identifier,
                 filters,
+                ..
             },
         ) => {
             raise_all(alloc, counts, filters.as_slice())?;

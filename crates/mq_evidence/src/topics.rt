@@ -1,5 +1,5 @@
-//! The topic of what is sent, by its Topic Name or its Topic Alias (MQTT 5.0, section 3.3.2.3.4): for
-//! the evidence of B02.
+//! The topic of what is sent, by its Topic Name or its Topic Alias (MQTT 5.0, section 3.3.2.3.4):
+//! for the evidence of B02.
 ghost use Rattle.std.specs.Prelude.{◌≡◌, ◌==◌, nat_eq, ℕ, Option, Some, length, not, option_map, OnOk};
 ghost use Rattle.std.specs.Option.{option_or};
 ghost use Rattle.indexmap.specs.IndexMap.{get};
@@ -81,8 +81,8 @@ impl Topics {
         Ok(())
     }
 
-    /// The topic of a PUBLISH that comes next on the connection: its Topic Name, or if that is empty
-    /// the one that was last set for its Topic Alias.
+    /// The topic of a PUBLISH that comes next on the connection: its Topic Name, or if that is
+    /// empty the one that was last set for its Topic Alias.
     pub fn topic<'a>(&'a self, publish: &'a PublishNote) -> Option<&'a str>
         ensures { (s : Stretches) → IsTopics self.now s → option_map (λ topic. topic.now) result ≡ topic_by (λ alias. last_set alias s.connection) publish.now }
     {

@@ -57,14 +57,14 @@ pub struct SessionTrail {
     waiting: Waiting,
     received: Received,
     overtaking: Overtaking,
-    /// The Topic Filters of the session, and the topics of what is sent. They are much, and only the
-    /// evidence of B01 and B02 needs them: a trail that isn't asked for it keeps none.
+    /// The Topic Filters of the session, and the topics of what is sent. They are much, and only
+    /// the evidence of B01 and B02 needs them: a trail that isn't asked for it keeps none.
     subscriptions: Option<Subscriptions>,
 }
 
 impl SessionTrail {
-    /// Before any event, for this tested end. It finds evidence of B01 and B02 only if it is to keep
-    /// Topic Filters.
+    /// Before any event, for this tested end. It finds evidence of B01 and B02 only if it is to
+    /// keep Topic Filters.
     pub fn new(alloc: Global, tested: Tested, keeps_filters: bool) -> Self
         ensures agrees { IsTrail result tested (Some Void) [] }
         ensures keeps { is_some result.subscriptions ≡ keeps_filters }
@@ -287,9 +287,9 @@ impl SessionTrail {
         }
     }
 
-    /// What a fault of this statement at an event conflicts with, if it is one of those whose evidence
-    /// it finds: those on sessions, B01 and B02 only if it keeps Topic Filters. It is asked before the
-    /// event is taken in.
+    /// What a fault of this statement at an event conflicts with, if it is one of those whose
+    /// evidence it finds: those on sessions, B01 and B02 only if it keeps Topic Filters. It is
+    /// asked before the event is taken in.
     ///
     /// # Errors
     ///

@@ -11,8 +11,8 @@ fn is_on_filters(rule: Rule) -> bool
     matches!(rule, Rule::B01 | Rule::B02)
 }
 
-/// Whether the evidence of one of these faults needs the Topic Filters that stand, or wait for their
-/// SUBACK.
+/// Whether the evidence of one of these faults needs the Topic Filters that stand, or wait for
+/// their SUBACK.
 pub fn any_on_filters(wanted: &Faults) -> bool
     ensures { result ≡ any_needs wanted.now }
 {

@@ -95,8 +95,15 @@ pub fn explanation(rule: Rule) -> &'static str
         Rule::B02 => deliveries::B02,
         Rule::B03 => deliveries::B03,
         Rule::B04 => deliveries::B04,
+        Rule::F01 => further::F01,
+        Rule::F02 => further::F02,
+        Rule::F03 => further::F03,
+        Rule::F04 => further::F04,
         Rule::F05 => further::F05,
         Rule::F06 => further::F06,
+        Rule::V03 => further::V03,
+        Rule::V04 => further::V04,
+        Rule::V06 => further::V06,
         Rule::A02 => further::A02,
     }
 }

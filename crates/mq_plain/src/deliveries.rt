@@ -244,6 +244,7 @@ fn subscribes_in(topic: &str, least: u8, fields: &PacketFields, later: &[Seen]) 
         PacketFields::Subscribe {
             identifier,
             filters,
+            ..
         } => any_allows(
             topic,
             least,

@@ -24,8 +24,8 @@ use std::io::Write;
 
 /// Writes the line that `write_packet` writes of these bytes, and after it what else there is to
 /// say, each line after two spaces: of a packet its other fields and its properties, as `show_long`
-/// writes them; of one that breaks a rule its type, its bytes around the one that is wrong, which is
-/// in brackets, and the statement's code and sentence. Returns whether they are a packet.
+/// writes them; of one that breaks a rule its type, its bytes around the one that is wrong, which
+/// is in brackets, and the statement's code and sentence. Returns whether they are a packet.
 ///
 /// # Errors
 ///

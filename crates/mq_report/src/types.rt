@@ -2,8 +2,8 @@
 ghost use Rattle.std.specs.Prelude.{◌≡◌, ◌<◌, ◌/◌};
 ghost use Rattle.mq_report.specs.Details.{name_beside, type_names};
 
-/// The name of the type that the first byte of a packet has in its high four bits (MQTT 5.0, section
-/// 2.1.2): that of 0, which no packet may have, is `Reserved`.
+/// The name of the type that the first byte of a packet has in its high four bits (MQTT 5.0,
+/// section 2.1.2): that of 0, which no packet may have, is `Reserved`.
 pub fn type_of(first: u8) -> &'static str
     ensures { result.now ≡ name_beside (first / 16) type_names }
 {

@@ -1,5 +1,5 @@
 -- Notes of packets without properties.
-use Rattle.std.proofs.Common.{◌≡◌, ◌&&◌, ℕ, List, [], Bool, false, None, is_some, refl, ap, sym, ◌∙◌}
+use Rattle.std.proofs.Common.{◌≡◌, ℕ, List, [], Bool, false, None, is_some, refl, ap, sym, ◌∙◌}
 use Rattle.mq_props.specs.Values.{Property}
 use Rattle.mq_props.specs.First.{first_two_bytes, first_four_bytes, first_varint, first_text, first_pair}
 use Rattle.mq_packet.specs.Entries.{PublishFields, publish, pingreq, pingresp}
@@ -13,9 +13,9 @@ use Rattle.mq_rules.specs.declared.packet_note.PacketNote.{PacketNote}
 use Rattle.mq_rules.specs.declared.packet_note.PacketFields.TheVariants.{Publish, Pingreq, Pingresp}
 use Rattle.mq_rules.specs.declared.bare.Bare.{Bare}
 use Rattle.mq_rules.specs.declared.packet_note.PacketFields.{PacketFields}
-use Rattle.mq_rules.specs.Notes.{only_list, is_sent_direction, is_acknowledged, bare_publish_note, bare_fields, bare_note, note_of_bare, note_of, sent_fault, is_open}
+use Rattle.mq_rules.specs.Notes.{only_list, is_sent_direction, bare_publish_note, bare_fields, bare_note, note_of_bare, note_of, sent_fault, is_open}
 
--- what is noted of a PUBLISH, if these are its properties, and its RETAIN at a QoS above 0
+-- what is noted of a PUBLISH, if these are its properties, and its RETAIN
 abbrev noted : Direction → ℕ → PublishFields → Bool → List Property → PacketNote
 noted direction size p retained properties = record {
   size = size;
@@ -33,12 +33,12 @@ noted direction size p retained properties = record {
   });
 }
 
-pub bare_publish : (direction : Direction) (size : ℕ) (p : PublishFields) → p.properties.items ≡ [] → (p.retain && is_acknowledged p.qos) ≡ false
+pub bare_publish : (direction : Direction) (size : ℕ) (p : PublishFields) → p.properties.items ≡ [] → p.retain ≡ false
     → bare_note direction size (Publish (bare_publish_note direction p.identifier p.qos p.duplicate p.topic)) ≡ note_of (item_event direction (packet size (publish p)))
 bare_publish Sent size p none plain =
-    sym (ap (λ properties. notes.Sent (items.Packet (noted Sent size p (p.retain && is_acknowledged p.qos) properties))) none ∙ ap (λ r. notes.Sent (items.Packet (noted Sent size p r []))) plain)
+    sym (ap (λ properties. notes.Sent (items.Packet (noted Sent size p p.retain properties))) none ∙ ap (λ r. notes.Sent (items.Packet (noted Sent size p r []))) plain)
 bare_publish Recv size p none plain =
-    sym (ap (λ properties. notes.Recv (items.Packet (noted Recv size p (p.retain && is_acknowledged p.qos) properties))) none ∙ ap (λ r. notes.Recv (items.Packet (noted Recv size p r []))) plain)
+    sym (ap (λ properties. notes.Recv (items.Packet (noted Recv size p p.retain properties))) none ∙ ap (λ r. notes.Recv (items.Packet (noted Recv size p r []))) plain)
 
 pub bare_pingreq : (direction : Direction) (size : ℕ) → bare_note direction size Pingreq ≡ note_of (item_event direction (packet size pingreq))
 bare_pingreq Sent size = refl

@@ -199,19 +199,21 @@ harmless-places C22 tested e past one is = found-places C22 (λ role. applies_C2
 harmless-places C23 tested e past one is = found-places C23 applies_C23 trying.tries_C23 (λ role. refl) trying.C23_tried tested e past false (not-C23 tested.role (kept tested.role past) e.note is)
 harmless-places _ tested e past one is = absurd (cc)
 
--- one harmless event more
-pub tally-harmless : (rule : Rule) → is_tallied rule ≡ true → (tested : Tested) (e : Seen) (past : List Seen) (tests : HarmlessTests) (here : Bool) (old new at : ℕ)
-    → is_harmless (send_bounds tested.role (kept tested.role past)) e.note ≡ true → tests ≡ harmless_tests tested.role (kept tested.role past) e.note → here ≡ tried_by_harmless tests rule
-    → at ≡ length past + 1 → old ≡ places tested past rule → (old < at → new ≡ cond here 1 0 + old) → new ≡ places tested (e ∷ past) rule
-tally-harmless rule one tested e past tests here old new at harmless are is placed was more =
+-- one harmless event more, which is counted elsewhere
+pub tally-passes : (rule : Rule) → is_tallied rule ≡ true → (before after : Rule → ℕ) (tested : Tested) (e : Seen) (past : List Seen) (n : ℕ) → is_harmless (send_bounds tested.role (kept tested.role past)) e.note ≡ true
+    → ((one : Rule) → before one < length past + 1 → after one ≡ cond (tried_by_harmless (harmless_tests tested.role (kept tested.role past) e.note) one) 1 0 + before one)
+    → n + before rule ≡ places tested past rule → n + after rule ≡ places tested (e ∷ past) rule
+tally-passes rule one before after tested e past n harmless more was =
     let most = places-most tested past rule in
-    more (omega arith)
-    ∙ ap (λ n. cond here 1 0 + n) was
-    ∙ ap (λ b. cond b 1 0 + places tested past rule) (is ∙ ap (λ t. tried_by_harmless t rule) are)
-    ∙ sym (harmless-places rule tested e past one (known tested.role (kept tested.role past) e.note harmless))
+    beside (tried_by_harmless (harmless_tests tested.role (kept tested.role past) e.note) rule) n (before rule) (after rule) (places tested past rule) (places tested (e ∷ past) rule)
+    (more rule (omega (arith, most, was))) (harmless-places rule tested e past one (known tested.role (kept tested.role past) e.note harmless)) was
+  where
+    beside : (here : Bool) (n old new were are : ℕ) → new ≡ cond here 1 0 + old → are ≡ cond here 1 0 + were → n + old ≡ were → n + new ≡ are
+    beside true n old new were are more next was = omega (arith, more, next, was)
+    beside false n old new were are more next was = omega (arith, more, next, was)
 
 -- nothing that is received is put to the test
-none-received : (role : Role) (s : ConnectionState) (n : Note) (rule : Rule) → is_harmless (send_bounds role s) n ≡ true → is_some (sent_packet n) ≡ false → tried_by_harmless (harmless_tests role s n) rule ≡ false
+pub none-received : (role : Role) (s : ConnectionState) (n : Note) (rule : Rule) → is_harmless (send_bounds role s) n ≡ true → is_some (sent_packet n) ≡ false → tried_by_harmless (harmless_tests role s n) rule ≡ false
 none-received role s (notes.Sent (items.Packet p)) rule t none = absurd (cc)
 none-received role s (notes.Recv (items.Packet p)) rule t none = each role rule
   where
@@ -222,16 +224,9 @@ none-received role s (notes.Recv (items.Packet p)) rule t none = each role rule
     each Server _ = refl
 none-received role s _ rule t none = absurd (cc)
 
-none_more : (n : ℕ) → n ≡ 0 + n
-none_more n = omega arith
-
-pub tally_passes : (rule : Rule) → is_tallied rule ≡ true → (tested : Tested) (e : Seen) (past : List Seen) (n : ℕ)
-    → is_harmless (send_bounds tested.role (kept tested.role past)) e.note ≡ true → is_some (sent_packet e.note) ≡ false → n ≡ places tested past rule → n ≡ places tested (e ∷ past) rule
-tally_passes rule one tested e past n harmless none was =
-    was
-    ∙ none_more (places tested past rule)
-    ∙ ap (λ b. cond b 1 0 + places tested past rule) (sym (none-received tested.role (kept tested.role past) e.note rule harmless none))
-    ∙ sym (harmless-places rule tested e past one (known tested.role (kept tested.role past) e.note harmless))
+pub none-more : (here : Bool) (n : ℕ) → here ≡ false → n ≡ cond here 1 0 + n
+none-more true n is = absurd (cc)
+none-more false n is = omega arith
 
 -- what is harmless by the bounds of a watcher
 pub harmless-here : (conn : Conn) (tested : Tested) (taken : Option Fate) (past : List Seen) (n : Note) → IsConn conn tested taken past → is_harmless conn.bounds n ≡ true → is_harmless (send_bounds tested.role (kept tested.role past)) n ≡ true

@@ -6,6 +6,7 @@ pub mod StepLaws
 pub mod DecidedLaws
 pub mod LateLaws
 mod MannersLaws
+mod WishesLaws
 pub mod FindLaws
 pub mod GrowLaws
 pub mod JudgeLaws

@@ -1,46 +1,35 @@
--- By the CONNECT that is kept, which further statements on the past of a connection are false at the next event, and which it puts to the test.
-use Rattle.std.proofs.Common.{◌≡◌, ℕ, ◌+◌, ◌<◌, ◌==◌, Bool, true, false, cond, ◌&&◌, ◌||◌, ◌⊎◌, inl, inr, not, length, List, [], ◌∷◌, Option, Some, None, is_some, refl, ap, sym, subst, ◌∙◌, arith}
+-- By the CONNECT and the CONNACK that are kept, which further statements on the past of a connection are false at the next event, and which it puts to the test.
+use Rattle.std.proofs.Common.{◌≡◌, ℕ, ◌+◌, ◌<◌, Bool, true, false, cond, ◌&&◌, ◌||◌, ◌⊎◌, inl, inr, length, List, [], ◌∷◌, Option, Some, None, refl, ap, sym, subst, ◌∙◌, arith}
 use Rattle.std.specs.Option.{option_or}
 use denote.Enum.Bare.{same_true}
-use Rattle.mq_log.specs.declared.kind.Direction.{Direction}
-use Rattle.mq_log.specs.declared.kind.Direction.TheVariants as directions
-use Rattle.mq_log.specs.declared.place.Place3.{Place3}
 use Rattle.mq_rules.specs.declared.role.Role.{Role}
 use Rattle.mq_rules.specs.declared.role.Role.TheVariants.{Client, Server}
 use Rattle.mq_rules.specs.declared.role.Tested.{Tested}
 use Rattle.mq_rules.specs.declared.rule.Rule.{Rule}
 use Rattle.mq_rules.specs.contracts.rule.Rule.{the_type}
-use Rattle.mq_rules.specs.declared.rule.Rule.TheVariants.{W01, F05, F06, A02}
+use Rattle.mq_rules.specs.declared.rule.Rule.TheVariants.{W01, F01, F02, F03, F04, F05, F06, V03, V04, V06, A02}
 use Rattle.mq_rules.specs.declared.fate.Fate.{Fate}
-use Rattle.mq_rules.specs.declared.fate.Fate.TheVariants.{Void}
-use Rattle.mq_rules.specs.declared.note.Note.{Note}
 use Rattle.mq_rules.specs.declared.note.Seen.{Seen}
-use Rattle.mq_rules.specs.declared.bare.Bare.{Bare}
-use Rattle.mq_rules.specs.declared.bare.BareFields.{BareFields}
-use Rattle.mq_rules.specs.declared.bare.BareFields.TheVariants as bares
-use Rattle.mq_rules.specs.declared.packet_note.ConnectNote.{ConnectNote}
 use Rattle.mq_rules.specs.declared.manners.Manners.{Manners}
 use Rattle.mq_rules.specs.declared.manners.MannersPlaces.{MannersPlaces}
-use Rattle.mq_rules.specs.Notes.{is_open, connect_of, sent_connack, sends_auth, bare_note, bare_fields, note_of_bare}
+use Rattle.mq_rules.specs.Notes.{connack_of, connect_of}
 use Rattle.mq_rules.specs.Moments.{Moment, newest}
-use Rattle.mq_rules.specs.Connections.{connection, first_connect, latest_fate}
-use Rattle.mq_rules.specs.FurtherPasts.{breaks_F05, breaks_F06, breaks_A02, applies_F05, applies_F06, applies_A02, lacks_method, will_in}
-use Rattle.mq_rules.specs.Words.{is_id, is_some_and}
+use Rattle.mq_rules.specs.Connections.{connection, first_connack, first_connect}
+use Rattle.mq_rules.specs.FurtherPasts.{breaks_F01, breaks_F02, breaks_F03, breaks_F04, breaks_F05, breaks_F06, breaks_V03, breaks_V04, breaks_V06, breaks_A02, applies_F01, applies_F02, applies_F03, applies_F04, applies_F05, applies_F06, applies_V03, applies_V04, applies_V06, applies_A02}
 use Rattle.mq_rules.specs.Rules.{binds, found_line, is_further, line_of, lines, same_rule}
-use Rattle.mq_rules.specs.Statements.{Statement, on_past, statement, is_by_past, is_on_further}
+use Rattle.mq_rules.specs.Statements.{on_past, statement, is_by_past, is_on_further}
 use Rattle.mq_rules.specs.Steps.{shows, turns}
-use Rattle.mq_rules.specs.Under.{Follows, seen}
+use Rattle.mq_rules.specs.Under.{Follows}
 use Rattle.mq_rules.specs.Growing.{added, at_place, Gains, GainsWithin, Judges, JudgesWithin, news}
 use Rattle.mq_rules.specs.Occasions.{occasion, places}
-use Rattle.mq_rules.specs.Keeping.{is_among, is_any_broken}
-use Rattle.mq_rules.specs.Manners.{connect_after, finds_F05, finds_F06, further_verdicts, tries_F05, tries_F06, tries_A02, CountsManners, IsManners}
+use Rattle.mq_rules.specs.Keeping.{is_among}
+use Rattle.mq_rules.specs.Manners.{connack_after, connect_after, further_verdicts, tries_F01, tries_F02, tries_F03, tries_F04, tries_F05, tries_F06, tries_shares, tries_V06, tries_A02, CountsManners, IsManners}
 use Rattle.mq_rules.specs.FaultKeys.{FaultMap, fault_at}
-use Rattle.mq_rules.proofs.BoolLaws.{and_false, option_or-none}
+use Rattle.mq_rules.proofs.BoolLaws.{and_false}
 use Rattle.mq_rules.proofs.ConnLaws.{first_found-next}
 use Rattle.mq_rules.proofs.FindLaws.{among-picked, found_news, past_says, pick, picked, client, server}
 use Rattle.mq_rules.proofs.GainLaws.{gains_nothing}
-use Rattle.mq_rules.proofs.GrowLaws.{judges-unbroken}
-use Rattle.mq_rules.proofs.PlacesLaws.{from-zero, places-most, places-past, places-start, places-unbound}
+use Rattle.mq_rules.proofs.PlacesLaws.{places-most, places-past, places-start, places-unbound}
 
 -- ---- what is found
 
@@ -49,59 +38,73 @@ last true = refl
 last false = refl
 
 client-further : (releases : Bool) (e : Seen) (past : List Seen) (rule : Rule)
-    → picked (further_verdicts Client (first_connect Client (connection past)) e.note) rule ≡ ((is_further rule && past_says (statement Client rule) (newest e past)) && binds rule (client releases true))
-unfolding picked pick past_says found_line lines line_of breaks_F05 breaks_F06 breaks_A02
+    → picked (further_verdicts Client (first_connect Client (connection past)) (first_connack Client (connection past)) e.note) rule ≡ ((is_further rule && past_says (statement Client rule) (newest e past)) && binds rule (client releases true))
+unfolding picked pick past_says found_line lines line_of breaks_F01 breaks_F02 breaks_F03 breaks_F04 breaks_F05 breaks_F06 breaks_V03 breaks_V04 breaks_V06 breaks_A02
+client-further releases e past F01 = last (breaks_F01 (newest e past))
+client-further releases e past F02 = last (breaks_F02 (newest e past))
+client-further releases e past F03 = last (breaks_F03 (newest e past))
+client-further releases e past F04 = last (breaks_F04 (newest e past))
 client-further releases e past F05 = sym (and_false (breaks_F05 (newest e past)))
 client-further releases e past F06 = sym (and_false (breaks_F06 (newest e past)))
+client-further releases e past V03 = last (breaks_V03 (newest e past))
+client-further releases e past V04 = last (breaks_V04 (newest e past))
+client-further releases e past V06 = last (breaks_V06 Client (newest e past))
 client-further releases e past A02 = last (breaks_A02 Client (newest e past))
 client-further releases e past _ = refl
 
 server-further : (releases : Bool) (e : Seen) (past : List Seen) (rule : Rule)
-    → picked (further_verdicts Server (first_connect Server (connection past)) e.note) rule ≡ ((is_further rule && past_says (statement Server rule) (newest e past)) && binds rule (server releases true))
-unfolding picked pick past_says found_line lines line_of breaks_F05 breaks_F06 breaks_A02
+    → picked (further_verdicts Server (first_connect Server (connection past)) (first_connack Server (connection past)) e.note) rule ≡ ((is_further rule && past_says (statement Server rule) (newest e past)) && binds rule (server releases true))
+unfolding picked pick past_says found_line lines line_of breaks_F01 breaks_F02 breaks_F03 breaks_F04 breaks_F05 breaks_F06 breaks_V03 breaks_V04 breaks_V06 breaks_A02
+server-further releases e past F01 = sym (and_false (breaks_F01 (newest e past)))
+server-further releases e past F02 = sym (and_false (breaks_F02 (newest e past)))
+server-further releases e past F03 = sym (and_false (breaks_F03 (newest e past)))
+server-further releases e past F04 = sym (and_false (breaks_F04 (newest e past)))
 server-further releases e past F05 = last (breaks_F05 (newest e past))
 server-further releases e past F06 = last (breaks_F06 (newest e past))
+server-further releases e past V03 = sym (and_false (breaks_V03 (newest e past)))
+server-further releases e past V04 = sym (and_false (breaks_V04 (newest e past)))
+server-further releases e past V06 = last (breaks_V06 Server (newest e past))
 server-further releases e past A02 = last (breaks_A02 Server (newest e past))
 server-further releases e past _ = refl
 
--- by the CONNECT that is kept, exactly the further statements that are false at an event are found there
+-- by what is kept, exactly the further statements that are false at an event are found there
 finds : (tested : Tested) (e : Seen) (past : List Seen) (rule : Rule) → tested.further ≡ true
-    → is_among (further_verdicts tested.role (first_connect tested.role (connection past)) e.note) rule ≡ ((is_further rule && past_says (statement tested.role rule) (newest e past)) && binds rule tested)
+    → is_among (further_verdicts tested.role (first_connect tested.role (connection past)) (first_connack tested.role (connection past)) e.note) rule ≡ ((is_further rule && past_says (statement tested.role rule) (newest e past)) && binds rule tested)
 finds tested e past rule asked =
-    among-picked (further_verdicts tested.role (first_connect tested.role (connection past)) e.note) rule
+    among-picked (further_verdicts tested.role (first_connect tested.role (connection past)) (first_connack tested.role (connection past)) e.note) rule
     ∙ go tested.role tested.releases
     ∙ ap (λ f. (is_further rule && past_says (statement tested.role rule) (newest e past)) && binds rule (record { role = tested.role; releases = tested.releases; further = f })) (sym asked)
   where
-    go : (role : Role) (releases : Bool) → picked (further_verdicts role (first_connect role (connection past)) e.note) rule
+    go : (role : Role) (releases : Bool) → picked (further_verdicts role (first_connect role (connection past)) (first_connack role (connection past)) e.note) rule
         ≡ ((is_further rule && past_says (statement role rule) (newest e past)) && binds rule (record { role = role; releases = releases; further = true }))
     go Client releases = client-further releases e past rule
     go Server releases = server-further releases e past rule
 
 -- the same of a watcher
 found_by : (m : Manners) (tested : Tested) (taken : Option Fate) (e : Seen) (past : List Seen) (rule : Rule) → m.further ≡ true → IsManners m tested taken past
-    → is_among (further_verdicts m.role m.connect e.note) rule ≡ ((is_further rule && past_says (statement tested.role rule) (newest e past)) && binds rule tested)
+    → is_among (further_verdicts m.role m.connect m.connack e.note) rule ≡ ((is_further rule && past_says (statement tested.role rule) (newest e past)) && binds rule tested)
 found_by m tested taken e past rule asked here =
-    (λ i. is_among (further_verdicts (here.same_role i) (here.same_connect asked i) e.note) rule) ∙ finds tested e past rule (sym here.same_further ∙ asked)
+    (λ i. is_among (further_verdicts (here.same_role i) (here.same_connect asked i) (here.same_connack asked i) e.note) rule) ∙ finds tested e past rule (sym here.same_further ∙ asked)
 
 at_place-further : (m : Manners) (tested : Tested) (taken : Option Fate) (e : Seen) (past : List Seen) (k : ℕ) (rule : Rule) → m.further ≡ true → e.place.position ≡ length past + 1 → IsManners m tested taken past
-    → at_place e.place k (is_among (further_verdicts m.role m.connect e.note) rule) ≡ news (is_on_further tested) tested e past k rule
+    → at_place e.place k (is_among (further_verdicts m.role m.connect m.connack e.note) rule) ≡ news (is_on_further tested) tested e past k rule
 unfolding turns
 at_place-further m tested taken e past k rule asked placed here =
-    found_news (statement tested.role rule) (is_further rule) (binds rule tested) (is_among (further_verdicts m.role m.connect e.note) rule) tested.role e past k placed (found_by m tested taken e past rule asked here)
+    found_news (statement tested.role rule) (is_further rule) (binds rule tested) (is_among (further_verdicts m.role m.connect m.connack e.note) rule) tested.role e past k placed (found_by m tested taken e past rule asked here)
 
 pub further-gains : (m : Manners) (tested : Tested) (taken : Option Fate) (e : Seen) (past : List Seen) (old new : FaultMap) → m.further ≡ true → Follows tested e past → IsManners m tested taken past
-    → Judges (is_among (further_verdicts m.role m.connect e.note)) e.place old new
+    → Judges (is_among (further_verdicts m.role m.connect m.connack e.note)) e.place old new
     → Gains (λ k r. is_on_further tested r && turns tested e past k r) tested (e ∷ past) (length past + 1) old new
 further-gains m tested taken e past old new asked follows here h = record {
   each = λ k rule. h.each k rule ∙ ap (option_or (fault_at old k rule)) (at_place-further m tested taken e past k rule asked follows.placed.0 here);
 }
 
 pub further-within : (m : Manners) (tested : Tested) (taken : Option Fate) (e : Seen) (past : List Seen) (old new : FaultMap) → m.further ≡ true → Follows tested e past → IsManners m tested taken past
-    → JudgesWithin (is_among (further_verdicts m.role m.connect e.note)) e.place old new
+    → JudgesWithin (is_among (further_verdicts m.role m.connect m.connack e.note)) e.place old new
     → GainsWithin (λ k r. is_on_further tested r && turns tested e past k r) tested (e ∷ past) (length past + 1) old new
 further-within m tested taken e past old new asked follows here h = record { each = λ k rule. go k rule (h.each k rule) }
   where
-    go : (k : ℕ) (rule : Rule) → (fault_at new k rule ≡ fault_at old k rule) ⊎ (fault_at new k rule ≡ option_or (fault_at old k rule) (at_place e.place k (is_among (further_verdicts m.role m.connect e.note) rule)))
+    go : (k : ℕ) (rule : Rule) → (fault_at new k rule ≡ fault_at old k rule) ⊎ (fault_at new k rule ≡ option_or (fault_at old k rule) (at_place e.place k (is_among (further_verdicts m.role m.connect m.connack e.note) rule)))
         → (fault_at new k rule ≡ fault_at old k rule) ⊎ (fault_at new k rule ≡ option_or (fault_at old k rule) (added (λ k r. is_on_further tested r && turns tested e past k r) tested (e ∷ past) (length past + 1) k rule))
     go k rule (inl same) = inl same
     go k rule (inr more) = inr (more ∙ ap (option_or (fault_at old k rule)) (at_place-further m tested taken e past k rule asked follows.placed.0 here))
@@ -133,100 +136,44 @@ unasked-gains tested e past m off = gains_nothing (λ k r. is_on_further tested 
 -- ---- what is kept with one event more
 
 pub manners-next : (old new : Manners) (tested : Tested) (taken after : Option Fate) (e : Seen) (past : List Seen) → IsManners old tested taken past → new.role ≡ old.role → new.further ≡ old.further
-    → (old.further ≡ true → new.connect ≡ connect_after old.role old.connect e.note) → IsManners new tested after (e ∷ past)
-manners-next old new tested taken after e past here role further connect = record {
+    → (old.further ≡ true → new.connect ≡ connect_after old.role old.connect e.note) → (old.further ≡ true → new.connack ≡ connack_after old.role old.connack e.note)
+    → IsManners new tested after (e ∷ past)
+manners-next old new tested taken after e past here role further connect connack = record {
   same_role = role ∙ here.same_role;
   same_further = further ∙ here.same_further;
   same_connect = λ asked.
       let was = sym further ∙ asked in
       connect was ∙ (λ i. connect_after (here.same_role i) (here.same_connect was i) e.note) ∙ sym (first_found-next (connect_of tested.role) e past);
+  same_connack = λ asked.
+      let was = sym further ∙ asked in
+      connack was ∙ (λ i. connack_after (here.same_role i) (here.same_connack was i) e.note) ∙ sym (first_found-next (connack_of tested.role) e past);
 }
 
--- ---- packets without properties
-
--- none is a CONNECT, a CONNACK or an AUTH
-record IsOther (n : Note) : Type 0 where
-  inside : is_open n ≡ false
-  connect : (role : Role) → connect_of role n ≡ None
-  connack : sent_connack n ≡ None
-  auth : sends_auth n ≡ false
-
-no_connect : (role : Role) (d : Direction) (size : ℕ) (f : BareFields) → connect_of role (bare_note d size (bare_fields d f)) ≡ None
-no_connect Client directions.Sent size (bares.Publish identifier qos duplicate topic) = refl
-no_connect Client directions.Sent size (bares.Puback identifier code) = refl
-no_connect Client directions.Sent size (bares.Pubrec identifier code) = refl
-no_connect Client directions.Sent size (bares.Pubrel identifier code) = refl
-no_connect Client directions.Sent size (bares.Pubcomp identifier code) = refl
-no_connect Client directions.Sent size bares.Pingreq = refl
-no_connect Client directions.Sent size bares.Pingresp = refl
-no_connect Client directions.Recv size (bares.Publish identifier qos duplicate topic) = refl
-no_connect Client directions.Recv size (bares.Puback identifier code) = refl
-no_connect Client directions.Recv size (bares.Pubrec identifier code) = refl
-no_connect Client directions.Recv size (bares.Pubrel identifier code) = refl
-no_connect Client directions.Recv size (bares.Pubcomp identifier code) = refl
-no_connect Client directions.Recv size bares.Pingreq = refl
-no_connect Client directions.Recv size bares.Pingresp = refl
-no_connect Server directions.Sent size (bares.Publish identifier qos duplicate topic) = refl
-no_connect Server directions.Sent size (bares.Puback identifier code) = refl
-no_connect Server directions.Sent size (bares.Pubrec identifier code) = refl
-no_connect Server directions.Sent size (bares.Pubrel identifier code) = refl
-no_connect Server directions.Sent size (bares.Pubcomp identifier code) = refl
-no_connect Server directions.Sent size bares.Pingreq = refl
-no_connect Server directions.Sent size bares.Pingresp = refl
-no_connect Server directions.Recv size (bares.Publish identifier qos duplicate topic) = refl
-no_connect Server directions.Recv size (bares.Puback identifier code) = refl
-no_connect Server directions.Recv size (bares.Pubrec identifier code) = refl
-no_connect Server directions.Recv size (bares.Pubrel identifier code) = refl
-no_connect Server directions.Recv size (bares.Pubcomp identifier code) = refl
-no_connect Server directions.Recv size bares.Pingreq = refl
-no_connect Server directions.Recv size bares.Pingresp = refl
-
-other : (d : Direction) (size : ℕ) (f : BareFields) → IsOther (bare_note d size (bare_fields d f))
-other directions.Sent size (bares.Publish identifier qos duplicate topic) = record { inside = refl; connect = λ role. no_connect role directions.Sent size (bares.Publish identifier qos duplicate topic); connack = refl; auth = refl }
-other directions.Sent size (bares.Puback identifier code) = record { inside = refl; connect = λ role. no_connect role directions.Sent size (bares.Puback identifier code); connack = refl; auth = refl }
-other directions.Sent size (bares.Pubrec identifier code) = record { inside = refl; connect = λ role. no_connect role directions.Sent size (bares.Pubrec identifier code); connack = refl; auth = refl }
-other directions.Sent size (bares.Pubrel identifier code) = record { inside = refl; connect = λ role. no_connect role directions.Sent size (bares.Pubrel identifier code); connack = refl; auth = refl }
-other directions.Sent size (bares.Pubcomp identifier code) = record { inside = refl; connect = λ role. no_connect role directions.Sent size (bares.Pubcomp identifier code); connack = refl; auth = refl }
-other directions.Sent size bares.Pingreq = record { inside = refl; connect = λ role. no_connect role directions.Sent size bares.Pingreq; connack = refl; auth = refl }
-other directions.Sent size bares.Pingresp = record { inside = refl; connect = λ role. no_connect role directions.Sent size bares.Pingresp; connack = refl; auth = refl }
-other directions.Recv size (bares.Publish identifier qos duplicate topic) = record { inside = refl; connect = λ role. no_connect role directions.Recv size (bares.Publish identifier qos duplicate topic); connack = refl; auth = refl }
-other directions.Recv size (bares.Puback identifier code) = record { inside = refl; connect = λ role. no_connect role directions.Recv size (bares.Puback identifier code); connack = refl; auth = refl }
-other directions.Recv size (bares.Pubrec identifier code) = record { inside = refl; connect = λ role. no_connect role directions.Recv size (bares.Pubrec identifier code); connack = refl; auth = refl }
-other directions.Recv size (bares.Pubrel identifier code) = record { inside = refl; connect = λ role. no_connect role directions.Recv size (bares.Pubrel identifier code); connack = refl; auth = refl }
-other directions.Recv size (bares.Pubcomp identifier code) = record { inside = refl; connect = λ role. no_connect role directions.Recv size (bares.Pubcomp identifier code); connack = refl; auth = refl }
-other directions.Recv size bares.Pingreq = record { inside = refl; connect = λ role. no_connect role directions.Recv size bares.Pingreq; connack = refl; auth = refl }
-other directions.Recv size bares.Pingresp = record { inside = refl; connect = λ role. no_connect role directions.Recv size bares.Pingresp; connack = refl; auth = refl }
-
-is-other : (b : Bare) → IsOther (note_of_bare b)
-unfolding note_of_bare
-is-other b = other b.direction b.size b.fields
-
--- at such a packet none is false
-any-found : (role : Role) (connect : Option ConnectNote) (n : Note) → IsOther n → is_any_broken (further_verdicts role connect n) ≡ false
-any-found Client connect n is = λ i. (is.auth i && lacks_method connect) || false
-any-found Server connect n is = λ i.
-    finds_F05 connect (is.connack i) || (finds_F06 connect (is.connack i) || (((is.auth i || is_some_and (λ c. c.has_authentication_method) (is.connack i)) && lacks_method connect) || false))
-
-pub bare-gains : (m : Manners) (tested : Tested) (taken : Option Fate) (place : Place3) (b : Bare) (past : List Seen) (faults : FaultMap) → Follows tested (seen place (note_of_bare b)) past → IsManners m tested taken past
-    → Gains (λ k r. is_on_further tested r && turns tested (seen place (note_of_bare b)) past k r) tested (seen place (note_of_bare b) ∷ past) (length past + 1) faults faults
-bare-gains m tested taken place b past faults follows here = go m.further refl
-  where
-    go : (f : Bool) → m.further ≡ f → Gains (λ k r. is_on_further tested r && turns tested (seen place (note_of_bare b)) past k r) tested (seen place (note_of_bare b) ∷ past) (length past + 1) faults faults
-    go true asked = further-gains m tested taken (seen place (note_of_bare b)) past faults faults asked follows here
-        (judges-unbroken (further_verdicts m.role m.connect (note_of_bare b)) place faults (any-found m.role m.connect (note_of_bare b) (is-other b)))
-    go false off = unasked-gains tested (seen place (note_of_bare b)) past faults (sym here.same_further ∙ off)
-
--- nor is anything kept of it
-pub bare-stays : (m : Manners) (tested : Tested) (taken after : Option Fate) (place : Place3) (b : Bare) (past : List Seen) → IsManners m tested taken past → IsManners m tested after (seen place (note_of_bare b) ∷ past)
-bare-stays m tested taken after place b past here =
-    manners-next m m tested taken after (seen place (note_of_bare b)) past here refl refl
-    (λ asked. sym ((λ i. option_or (cond ((is-other b).inside i) None m.connect) ((is-other b).connect m.role i)) ∙ option_or-none m.connect))
+-- where they aren't asked for, nothing is kept
+pub unasked-stays : (m : Manners) (tested : Tested) (taken after : Option Fate) (e : Seen) (past : List Seen) → m.further ≡ false → IsManners m tested taken past → IsManners m tested after (e ∷ past)
+unasked-stays m tested taken after e past off here = manners-next m m tested taken after e past here refl refl (λ asked. absurd (cc)) (λ asked. absurd (cc))
 
 -- ---- how often each is put to the test
 
--- none more
-stays-none : (n : ℕ) → n ≡ cond false 1 0 + n
-stays-none n = omega arith
+tried-F01 : (role : Role) (releases : Bool) (e : Seen) (past : List Seen) → (binds F01 (record { role = role; releases = releases; further = true }) && applies_F01 (newest e past)) ≡ tries_F01 role (first_connack role (connection past)) e.note
+unfolding found_line lines line_of applies_F01
+tried-F01 Client releases e past = refl
+tried-F01 Server releases e past = refl
+
+tried-F02 : (role : Role) (releases : Bool) (e : Seen) (past : List Seen) → (binds F02 (record { role = role; releases = releases; further = true }) && applies_F02 (newest e past)) ≡ tries_F02 role (first_connack role (connection past)) e.note
+unfolding found_line lines line_of applies_F02
+tried-F02 Client releases e past = refl
+tried-F02 Server releases e past = refl
+
+tried-F03 : (role : Role) (releases : Bool) (e : Seen) (past : List Seen) → (binds F03 (record { role = role; releases = releases; further = true }) && applies_F03 (newest e past)) ≡ tries_F03 role (first_connack role (connection past)) e.note
+unfolding found_line lines line_of applies_F03
+tried-F03 Client releases e past = refl
+tried-F03 Server releases e past = refl
+
+tried-F04 : (role : Role) (releases : Bool) (e : Seen) (past : List Seen) → (binds F04 (record { role = role; releases = releases; further = true }) && applies_F04 (newest e past)) ≡ tries_F04 role (first_connack role (connection past)) e.note
+unfolding found_line lines line_of applies_F04
+tried-F04 Client releases e past = refl
+tried-F04 Server releases e past = refl
 
 tried-F05 : (role : Role) (releases : Bool) (e : Seen) (past : List Seen) → (binds F05 (record { role = role; releases = releases; further = true }) && applies_F05 (newest e past)) ≡ tries_F05 role (first_connect role (connection past)) e.note
 unfolding found_line lines line_of applies_F05
@@ -237,6 +184,21 @@ tried-F06 : (role : Role) (releases : Bool) (e : Seen) (past : List Seen) → (b
 unfolding found_line lines line_of applies_F06
 tried-F06 Client releases e past = refl
 tried-F06 Server releases e past = refl
+
+tried-V03 : (role : Role) (releases : Bool) (e : Seen) (past : List Seen) → (binds V03 (record { role = role; releases = releases; further = true }) && applies_V03 (newest e past)) ≡ tries_shares role e.note
+unfolding found_line lines line_of applies_V03
+tried-V03 Client releases e past = refl
+tried-V03 Server releases e past = refl
+
+tried-V04 : (role : Role) (releases : Bool) (e : Seen) (past : List Seen) → (binds V04 (record { role = role; releases = releases; further = true }) && applies_V04 (newest e past)) ≡ tries_shares role e.note
+unfolding found_line lines line_of applies_V04
+tried-V04 Client releases e past = refl
+tried-V04 Server releases e past = refl
+
+tried-V06 : (role : Role) (releases : Bool) (e : Seen) (past : List Seen) → (binds V06 (record { role = role; releases = releases; further = true }) && applies_V06 role (newest e past)) ≡ tries_V06 role e.note
+unfolding found_line lines line_of applies_V06
+tried-V06 Client releases e past = refl
+tried-V06 Server releases e past = refl
 
 tried-A02 : (role : Role) (releases : Bool) (e : Seen) (past : List Seen) → (binds A02 (record { role = role; releases = releases; further = true }) && applies_A02 role (newest e past)) ≡ tries_A02 role (first_connect role (connection past)) e.note
 unfolding found_line lines line_of applies_A02
@@ -256,16 +218,42 @@ counted tested rule test tries e past old new at says is placed was more =
 asked-for : (tested : Tested) → tested.further ≡ true → tested ≡ record { role = tested.role; releases = tested.releases; further = true }
 asked-for tested asked = ap (λ f. record { role = tested.role; releases = tested.releases; further = f }) asked
 
+-- what is counted at an event
+pub record Counted (m : Manners) (old new : MannersPlaces) (e : Seen) : Type 0 where
+  pub f01 : old.f01 < e.place.position → new.f01 ≡ cond (tries_F01 m.role m.connack e.note) 1 0 + old.f01
+  pub f02 : old.f02 < e.place.position → new.f02 ≡ cond (tries_F02 m.role m.connack e.note) 1 0 + old.f02
+  pub f03 : old.f03 < e.place.position → new.f03 ≡ cond (tries_F03 m.role m.connack e.note) 1 0 + old.f03
+  pub f04 : old.f04 < e.place.position → new.f04 ≡ cond (tries_F04 m.role m.connack e.note) 1 0 + old.f04
+  pub f05 : old.f05 < e.place.position → new.f05 ≡ cond (tries_F05 m.role m.connect e.note) 1 0 + old.f05
+  pub f06 : old.f06 < e.place.position → new.f06 ≡ cond (tries_F06 m.role m.connect e.note) 1 0 + old.f06
+  pub v03 : old.v03 < e.place.position → new.v03 ≡ cond (tries_shares m.role e.note) 1 0 + old.v03
+  pub v04 : old.v04 < e.place.position → new.v04 ≡ cond (tries_shares m.role e.note) 1 0 + old.v04
+  pub v06 : old.v06 < e.place.position → new.v06 ≡ cond (tries_V06 m.role e.note) 1 0 + old.v06
+  pub a02 : old.a02 < e.place.position → new.a02 ≡ cond (tries_A02 m.role m.connect e.note) 1 0 + old.a02
+
 pub counts-next : (m : Manners) (old new : MannersPlaces) (tested : Tested) (taken : Option Fate) (e : Seen) (past : List Seen) → m.further ≡ true → Follows tested e past → IsManners m tested taken past → CountsManners old tested past
-    → (old.f05 < e.place.position → new.f05 ≡ cond (tries_F05 m.role m.connect e.note) 1 0 + old.f05) → (old.f06 < e.place.position → new.f06 ≡ cond (tries_F06 m.role m.connect e.note) 1 0 + old.f06)
-    → (old.a02 < e.place.position → new.a02 ≡ cond (tries_A02 m.role m.connect e.note) 1 0 + old.a02) → CountsManners new tested (e ∷ past)
-counts-next m old new tested taken e past asked follows here was f05 f06 a02 = record {
+    → Counted m old new e → CountsManners new tested (e ∷ past)
+counts-next m old new tested taken e past asked follows here was more = record {
+  f01 = counted tested F01 applies_F01 (tries_F01 m.role m.connack e.note) e past old.f01 new.f01 e.place.position refl
+      (ap (λ t. binds F01 t && applies_F01 (newest e past)) whole ∙ tried-F01 tested.role tested.releases e past ∙ sym (λ i. tries_F01 (here.same_role i) (here.same_connack asked i) e.note)) follows.placed.0 was.f01 more.f01;
+  f02 = counted tested F02 applies_F02 (tries_F02 m.role m.connack e.note) e past old.f02 new.f02 e.place.position refl
+      (ap (λ t. binds F02 t && applies_F02 (newest e past)) whole ∙ tried-F02 tested.role tested.releases e past ∙ sym (λ i. tries_F02 (here.same_role i) (here.same_connack asked i) e.note)) follows.placed.0 was.f02 more.f02;
+  f03 = counted tested F03 applies_F03 (tries_F03 m.role m.connack e.note) e past old.f03 new.f03 e.place.position refl
+      (ap (λ t. binds F03 t && applies_F03 (newest e past)) whole ∙ tried-F03 tested.role tested.releases e past ∙ sym (λ i. tries_F03 (here.same_role i) (here.same_connack asked i) e.note)) follows.placed.0 was.f03 more.f03;
+  f04 = counted tested F04 applies_F04 (tries_F04 m.role m.connack e.note) e past old.f04 new.f04 e.place.position refl
+      (ap (λ t. binds F04 t && applies_F04 (newest e past)) whole ∙ tried-F04 tested.role tested.releases e past ∙ sym (λ i. tries_F04 (here.same_role i) (here.same_connack asked i) e.note)) follows.placed.0 was.f04 more.f04;
   f05 = counted tested F05 applies_F05 (tries_F05 m.role m.connect e.note) e past old.f05 new.f05 e.place.position refl
-      (ap (λ t. binds F05 t && applies_F05 (newest e past)) whole ∙ tried-F05 tested.role tested.releases e past ∙ sym (λ i. tries_F05 (here.same_role i) (here.same_connect asked i) e.note)) follows.placed.0 was.f05 f05;
+      (ap (λ t. binds F05 t && applies_F05 (newest e past)) whole ∙ tried-F05 tested.role tested.releases e past ∙ sym (λ i. tries_F05 (here.same_role i) (here.same_connect asked i) e.note)) follows.placed.0 was.f05 more.f05;
   f06 = counted tested F06 applies_F06 (tries_F06 m.role m.connect e.note) e past old.f06 new.f06 e.place.position refl
-      (ap (λ t. binds F06 t && applies_F06 (newest e past)) whole ∙ tried-F06 tested.role tested.releases e past ∙ sym (λ i. tries_F06 (here.same_role i) (here.same_connect asked i) e.note)) follows.placed.0 was.f06 f06;
+      (ap (λ t. binds F06 t && applies_F06 (newest e past)) whole ∙ tried-F06 tested.role tested.releases e past ∙ sym (λ i. tries_F06 (here.same_role i) (here.same_connect asked i) e.note)) follows.placed.0 was.f06 more.f06;
+  v03 = counted tested V03 applies_V03 (tries_shares m.role e.note) e past old.v03 new.v03 e.place.position refl
+      (ap (λ t. binds V03 t && applies_V03 (newest e past)) whole ∙ tried-V03 tested.role tested.releases e past ∙ sym (λ i. tries_shares (here.same_role i) e.note)) follows.placed.0 was.v03 more.v03;
+  v04 = counted tested V04 applies_V04 (tries_shares m.role e.note) e past old.v04 new.v04 e.place.position refl
+      (ap (λ t. binds V04 t && applies_V04 (newest e past)) whole ∙ tried-V04 tested.role tested.releases e past ∙ sym (λ i. tries_shares (here.same_role i) e.note)) follows.placed.0 was.v04 more.v04;
+  v06 = counted tested V06 (applies_V06 tested.role) (tries_V06 m.role e.note) e past old.v06 new.v06 e.place.position refl
+      (ap (λ t. binds V06 t && applies_V06 tested.role (newest e past)) whole ∙ tried-V06 tested.role tested.releases e past ∙ sym (λ i. tries_V06 (here.same_role i) e.note)) follows.placed.0 was.v06 more.v06;
   a02 = counted tested A02 (applies_A02 tested.role) (tries_A02 m.role m.connect e.note) e past old.a02 new.a02 e.place.position refl
-      (ap (λ t. binds A02 t && applies_A02 tested.role (newest e past)) whole ∙ tried-A02 tested.role tested.releases e past ∙ sym (λ i. tries_A02 (here.same_role i) (here.same_connect asked i) e.note)) follows.placed.0 was.a02 a02;
+      (ap (λ t. binds A02 t && applies_A02 tested.role (newest e past)) whole ∙ tried-A02 tested.role tested.releases e past ∙ sym (λ i. tries_A02 (here.same_role i) (here.same_connect asked i) e.note)) follows.placed.0 was.a02 more.a02;
 }
   where
     whole : tested ≡ record { role = tested.role; releases = tested.releases; further = true }
@@ -275,8 +263,15 @@ counts-next m old new tested taken e past asked follows here was f05 f06 a02 = r
 pub counts-unasked : (p : MannersPlaces) (tested : Tested) (e : Seen) (past : List Seen) → tested.further ≡ false → CountsManners p tested past → CountsManners p tested (e ∷ past)
 unfolding line_of found_line lines
 counts-unasked p tested e past off was = record {
+  f01 = was.f01 ∙ none F01 past refl ∙ sym (none F01 (e ∷ past) refl);
+  f02 = was.f02 ∙ none F02 past refl ∙ sym (none F02 (e ∷ past) refl);
+  f03 = was.f03 ∙ none F03 past refl ∙ sym (none F03 (e ∷ past) refl);
+  f04 = was.f04 ∙ none F04 past refl ∙ sym (none F04 (e ∷ past) refl);
   f05 = was.f05 ∙ none F05 past refl ∙ sym (none F05 (e ∷ past) refl);
   f06 = was.f06 ∙ none F06 past refl ∙ sym (none F06 (e ∷ past) refl);
+  v03 = was.v03 ∙ none V03 past refl ∙ sym (none V03 (e ∷ past) refl);
+  v04 = was.v04 ∙ none V04 past refl ∙ sym (none V04 (e ∷ past) refl);
+  v06 = was.v06 ∙ none V06 past refl ∙ sym (none V06 (e ∷ past) refl);
   a02 = was.a02 ∙ none A02 past refl ∙ sym (none A02 (e ∷ past) refl);
 }
   where
@@ -286,49 +281,65 @@ counts-unasked p tested e past off was = record {
     none : (r : Rule) (log : List Seen) → is_further r ≡ true → places tested log r ≡ 0
     none r log is = places-unbound tested log r (bound r is)
 
--- nor at a packet without properties
-pub counts-bare : (m : Manners) (p : MannersPlaces) (tested : Tested) (taken : Option Fate) (place : Place3) (b : Bare) (past : List Seen) → Follows tested (seen place (note_of_bare b)) past → IsManners m tested taken past → CountsManners p tested past
-    → CountsManners p tested (seen place (note_of_bare b) ∷ past)
-counts-bare m p tested taken place b past follows here was = go m.further refl
-  where
-    n : Note
-    n = note_of_bare b
-
-    f05-not : (role : Role) (connect : Option ConnectNote) → tries_F05 role connect n ≡ false
-    f05-not Client connect = refl
-    f05-not Server connect = λ i. is_some_and (λ c. is_some c.maximum_qos || (c.code == 155)) ((is-other b).connack i) && is_some (will_in connect)
-
-    f06-not : (role : Role) (connect : Option ConnectNote) → tries_F06 role connect n ≡ false
-    f06-not Client connect = refl
-    f06-not Server connect = λ i. is_some_and (λ c. is_id 0 c.retain_available || (c.code == 154)) ((is-other b).connack i) && is_some (will_in connect)
-
-    a02-not : (role : Role) (connect : Option ConnectNote) → tries_A02 role connect n ≡ false
-    a02-not Client connect = λ i. (is-other b).auth i && is_some connect
-    a02-not Server connect = λ i. ((is-other b).auth i && is_some connect) || (is_some ((is-other b).connack i) && lacks_method connect)
-
-    go : (f : Bool) → m.further ≡ f → CountsManners p tested (seen place n ∷ past)
-    go true asked = counts-next m p p tested taken (seen place n) past asked follows here was
-        (λ below. stays-none p.f05 ∙ ap (λ b. cond b 1 0 + p.f05) (sym (f05-not m.role m.connect)))
-        (λ below. stays-none p.f06 ∙ ap (λ b. cond b 1 0 + p.f06) (sym (f06-not m.role m.connect)))
-        (λ below. stays-none p.a02 ∙ ap (λ b. cond b 1 0 + p.a02) (sym (a02-not m.role m.connect)))
-    go false off = counts-unasked p tested (seen place n) past (sym here.same_further ∙ off) was
-
-pub counts-start : (p : MannersPlaces) (tested : Tested) → p.f05 ≡ 0 → p.f06 ≡ 0 → p.a02 ≡ 0 → CountsManners p tested []
-counts-start p tested f05 f06 a02 = record {
-  f05 = f05 ∙ sym (places-start tested F05);
-  f06 = f06 ∙ sym (places-start tested F06);
-  a02 = a02 ∙ sym (places-start tested A02);
+pub counts-start : (tested : Tested) → CountsManners (record { f01 = 0; f02 = 0; f03 = 0; f04 = 0; f05 = 0; f06 = 0; v03 = 0; v04 = 0; v06 = 0; a02 = 0 }) tested []
+counts-start tested = record {
+  f01 = sym (places-start tested F01);
+  f02 = sym (places-start tested F02);
+  f03 = sym (places-start tested F03);
+  f04 = sym (places-start tested F04);
+  f05 = sym (places-start tested F05);
+  f06 = sym (places-start tested F06);
+  v03 = sym (places-start tested V03);
+  v04 = sym (places-start tested V04);
+  v06 = sym (places-start tested V06);
+  a02 = sym (places-start tested A02);
 }
 
--- F05, F06 and A02 are the further statements on the past of a connection
-pub is-whole : (role : Role) (rule : Rule) → (is_by_past (statement role rule) && is_further rule) ≡ (same_rule rule F05 || (same_rule rule F06 || same_rule rule A02))
+-- these are the further statements on the past of a connection
+pub is-whole : (role : Role) (rule : Rule) → (is_by_past (statement role rule) && is_further rule) ≡ (same_rule rule F01 || (same_rule rule F02 || (same_rule rule F03 || (same_rule rule F04 || (same_rule rule F05 || (same_rule rule F06 || (same_rule rule V03 || (same_rule rule V04 || (same_rule rule V06 || same_rule rule A02)))))))))
 unfolding found_line lines line_of
 is-whole role W01 = refl
 is-whole role _ = refl
 
-is-one : (role : Role) → (is_by_past (statement role F05) && is_further F05 ≡ true) × (is_by_past (statement role F06) && is_further F06 ≡ true) × (is_by_past (statement role A02) && is_further A02 ≡ true)
+is-F01 : (role : Role) → (is_by_past (statement role F01) && is_further F01) ≡ true
 unfolding found_line lines line_of
-is-one role = (refl, refl, refl)
+is-F01 role = refl
+
+is-F02 : (role : Role) → (is_by_past (statement role F02) && is_further F02) ≡ true
+unfolding found_line lines line_of
+is-F02 role = refl
+
+is-F03 : (role : Role) → (is_by_past (statement role F03) && is_further F03) ≡ true
+unfolding found_line lines line_of
+is-F03 role = refl
+
+is-F04 : (role : Role) → (is_by_past (statement role F04) && is_further F04) ≡ true
+unfolding found_line lines line_of
+is-F04 role = refl
+
+is-F05 : (role : Role) → (is_by_past (statement role F05) && is_further F05) ≡ true
+unfolding found_line lines line_of
+is-F05 role = refl
+
+is-F06 : (role : Role) → (is_by_past (statement role F06) && is_further F06) ≡ true
+unfolding found_line lines line_of
+is-F06 role = refl
+
+is-V03 : (role : Role) → (is_by_past (statement role V03) && is_further V03) ≡ true
+unfolding found_line lines line_of
+is-V03 role = refl
+
+is-V04 : (role : Role) → (is_by_past (statement role V04) && is_further V04) ≡ true
+unfolding found_line lines line_of
+is-V04 role = refl
+
+is-V06 : (role : Role) → (is_by_past (statement role V06) && is_further V06) ≡ true
+unfolding found_line lines line_of
+is-V06 role = refl
+
+is-A02 : (role : Role) → (is_by_past (statement role A02) && is_further A02) ≡ true
+unfolding found_line lines line_of
+is-A02 role = refl
 
 -- what is counted of a statement, where that one is asked for
 counted-there : (tested : Tested) (rule one : Rule) (past : List Seen) (n : ℕ) → same_rule rule one ≡ true → n ≡ places tested past one → is_on_further tested one ≡ true
@@ -337,16 +348,38 @@ counted-there tested rule one past n same is on =
     subst (λ r. Some n ≡ cond (is_on_further tested r) (Some (places tested past r)) None) (sym (same_true the_type tt rule one same))
     (ap Some is ∙ ap (λ (b : Bool). cond b (Some (places tested past one)) None) (sym on))
 
+pub counted-F01 : (tested : Tested) (rule : Rule) (past : List Seen) (p : MannersPlaces) → same_rule rule F01 ≡ true → CountsManners p tested past → Some p.f01 ≡ cond (is_on_further tested rule) (Some (places tested past rule)) None
+counted-F01 tested rule past p same was = counted-there tested rule F01 past p.f01 same was.f01 (is-F01 tested.role)
+
+pub counted-F02 : (tested : Tested) (rule : Rule) (past : List Seen) (p : MannersPlaces) → same_rule rule F02 ≡ true → CountsManners p tested past → Some p.f02 ≡ cond (is_on_further tested rule) (Some (places tested past rule)) None
+counted-F02 tested rule past p same was = counted-there tested rule F02 past p.f02 same was.f02 (is-F02 tested.role)
+
+pub counted-F03 : (tested : Tested) (rule : Rule) (past : List Seen) (p : MannersPlaces) → same_rule rule F03 ≡ true → CountsManners p tested past → Some p.f03 ≡ cond (is_on_further tested rule) (Some (places tested past rule)) None
+counted-F03 tested rule past p same was = counted-there tested rule F03 past p.f03 same was.f03 (is-F03 tested.role)
+
+pub counted-F04 : (tested : Tested) (rule : Rule) (past : List Seen) (p : MannersPlaces) → same_rule rule F04 ≡ true → CountsManners p tested past → Some p.f04 ≡ cond (is_on_further tested rule) (Some (places tested past rule)) None
+counted-F04 tested rule past p same was = counted-there tested rule F04 past p.f04 same was.f04 (is-F04 tested.role)
+
 pub counted-F05 : (tested : Tested) (rule : Rule) (past : List Seen) (p : MannersPlaces) → same_rule rule F05 ≡ true → CountsManners p tested past → Some p.f05 ≡ cond (is_on_further tested rule) (Some (places tested past rule)) None
-counted-F05 tested rule past p same was = counted-there tested rule F05 past p.f05 same was.f05 (is-one tested.role).0
+counted-F05 tested rule past p same was = counted-there tested rule F05 past p.f05 same was.f05 (is-F05 tested.role)
 
 pub counted-F06 : (tested : Tested) (rule : Rule) (past : List Seen) (p : MannersPlaces) → same_rule rule F06 ≡ true → CountsManners p tested past → Some p.f06 ≡ cond (is_on_further tested rule) (Some (places tested past rule)) None
-counted-F06 tested rule past p same was = counted-there tested rule F06 past p.f06 same was.f06 (is-one tested.role).1
+counted-F06 tested rule past p same was = counted-there tested rule F06 past p.f06 same was.f06 (is-F06 tested.role)
+
+pub counted-V03 : (tested : Tested) (rule : Rule) (past : List Seen) (p : MannersPlaces) → same_rule rule V03 ≡ true → CountsManners p tested past → Some p.v03 ≡ cond (is_on_further tested rule) (Some (places tested past rule)) None
+counted-V03 tested rule past p same was = counted-there tested rule V03 past p.v03 same was.v03 (is-V03 tested.role)
+
+pub counted-V04 : (tested : Tested) (rule : Rule) (past : List Seen) (p : MannersPlaces) → same_rule rule V04 ≡ true → CountsManners p tested past → Some p.v04 ≡ cond (is_on_further tested rule) (Some (places tested past rule)) None
+counted-V04 tested rule past p same was = counted-there tested rule V04 past p.v04 same was.v04 (is-V04 tested.role)
+
+pub counted-V06 : (tested : Tested) (rule : Rule) (past : List Seen) (p : MannersPlaces) → same_rule rule V06 ≡ true → CountsManners p tested past → Some p.v06 ≡ cond (is_on_further tested rule) (Some (places tested past rule)) None
+counted-V06 tested rule past p same was = counted-there tested rule V06 past p.v06 same was.v06 (is-V06 tested.role)
 
 pub counted-A02 : (tested : Tested) (rule : Rule) (past : List Seen) (p : MannersPlaces) → same_rule rule A02 ≡ true → CountsManners p tested past → Some p.a02 ≡ cond (is_on_further tested rule) (Some (places tested past rule)) None
-counted-A02 tested rule past p same was = counted-there tested rule A02 past p.a02 same was.a02 (is-one tested.role).2
+counted-A02 tested rule past p same was = counted-there tested rule A02 past p.a02 same was.a02 (is-A02 tested.role)
 
 -- another statement isn't counted here
-pub counted-elsewhere : (tested : Tested) (rule : Rule) (past : List Seen) → same_rule rule F05 ≡ false → same_rule rule F06 ≡ false → same_rule rule A02 ≡ false → None ≡ cond (is_on_further tested rule) (Some (places tested past rule)) None
-counted-elsewhere tested rule past a b c =
-    sym (ap (λ (t : Bool). cond t (Some (places tested past rule)) None) (is-whole tested.role rule ∙ (λ i. a i || (b i || c i))))
+pub counted-elsewhere : (tested : Tested) (rule : Rule) (past : List Seen) → same_rule rule F01 ≡ false → same_rule rule F02 ≡ false → same_rule rule F03 ≡ false → same_rule rule F04 ≡ false → same_rule rule F05 ≡ false → same_rule rule F06 ≡ false → same_rule rule V03 ≡ false → same_rule rule V04 ≡ false → same_rule rule V06 ≡ false → same_rule rule A02 ≡ false
+    → None ≡ cond (is_on_further tested rule) (Some (places tested past rule)) None
+counted-elsewhere tested rule past f01 f02 f03 f04 f05 f06 v03 v04 v06 a02 =
+    sym (ap (λ (t : Bool). cond t (Some (places tested past rule)) None) (is-whole tested.role rule ∙ (λ i. (f01 i || (f02 i || (f03 i || (f04 i || (f05 i || (f06 i || (v03 i || (v04 i || (v06 i || a02 i))))))))))))

@@ -63,7 +63,7 @@ success-session (Pubcomp i code) h = refl
 success-session _ h = absurd (cc)
 
 subscribe-session : (p : PacketFields) → is_some (subscribe_in p) ≡ true → is_session_packet p ≡ true
-subscribe-session (Subscribe i filters) h = refl
+subscribe-session (Subscribe i filters wishes) h = refl
 subscribe-session _ h = absurd (cc)
 
 unsubscribe-session : (p : PacketFields) → is_some (unsubscribe_in p) ≡ true → is_session_packet p ≡ true

@@ -1,5 +1,5 @@
 -- How often the statements on the past of a connection are put to the test, by what is kept of it.
-use Rattle.std.proofs.Common.{◌≡◌, ℕ, ◌+◌, ◌<◌, ◌==◌, arith, Bool, true, cond, ◌&&◌, ◌||◌, not, List, [], ◌∷◌, length, Some, refl, ap, sym, ◌∙◌}
+use Rattle.std.proofs.Common.{◌≡◌, ℕ, ◌+◌, ◌<◌, ◌≤◌, ◌==◌, arith, Bool, true, false, cond, ◌&&◌, ◌||◌, not, List, [], ◌∷◌, length, Some, refl, ap, sym, subst, ◌∙◌}
 use denote.Enum.Bare.{same_true}
 use Rattle.mq_packet.specs.Canonical.{type_number}
 use Rattle.mq_rules.specs.contracts.rule.Rule.{the_type}
@@ -22,24 +22,34 @@ use Rattle.mq_rules.specs.Trying.{Tries}
 use Rattle.mq_rules.proofs.PlacesLaws.{places-start, places-most, places-past}
 
 -- no event has put anything to the test
-pub none_yet : (tested : Tested) (rule : Rule) → 0 ≡ places tested [] rule
-none_yet tested rule = sym (places-start tested rule)
+pub none-yet : (tested : Tested) (rule : Rule) (beside : ℕ) → beside ≡ 0 → 0 + beside ≡ places tested [] rule
+none-yet tested rule beside zero = let none = places-start tested rule in omega (arith, zero, none)
 
 -- what is counted of a statement, and asked of the same one
-pub tally-same : (tested : Tested) (log : List Seen) (one rule : Rule) (n : ℕ) → n ≡ places tested log one → same_rule rule one ≡ true → n ≡ places tested log rule
-tally-same tested log one rule n is same = is ∙ ap (places tested log) (sym (same_true the_type tt rule one same))
+pub tally-same : (tested : Tested) (log : List Seen) (one rule : Rule) (beside : Rule → ℕ) (n : ℕ) → n + beside one ≡ places tested log one → same_rule rule one ≡ true → n + beside rule ≡ places tested log rule
+tally-same tested log one rule beside n is same = subst (λ r. n + beside r ≡ places tested log r) (sym (same_true the_type tt rule one same)) is
 
 -- one event more
 pub tally-next : (rule : Rule) (test : Role → Moment → Bool) (found : Role → ConnectionState → Note → Bool) → ((role : Role) → occasion role rule ≡ Some (on_past (test role))) → Tries rule test found
-    → (tested : Tested) (role : Role) (s : ConnectionState) (e : Seen) (past : List Seen) (here : Bool) (old new at : ℕ) → role ≡ tested.role → s ≡ kept tested.role past → at ≡ length past + 1 → here ≡ found role s e.note
-    → old ≡ places tested past rule → (old < at → new ≡ cond here 1 0 + old) → new ≡ places tested (e ∷ past) rule
-tally-next rule test found says finds tested role s e past here old new at end state placed is was more =
+    → (tested : Tested) (role : Role) (s : ConnectionState) (e : Seen) (past : List Seen) (here : Bool) (beside old new at : ℕ) → role ≡ tested.role → s ≡ kept tested.role past → at ≡ length past + 1 → here ≡ found role s e.note
+    → old + beside ≡ places tested past rule → (old < at → new ≡ cond here 1 0 + old) → new + beside ≡ places tested (e ∷ past) rule
+tally-next rule test found says finds tested role s e past here beside old new at end state placed is was more =
     let most = places-most tested past rule in
-    more (omega arith)
-    ∙ ap (λ n. cond here 1 0 + n) was
-    ∙ ap (λ b. cond b 1 0 + places tested past rule)
-    (is ∙ ap (λ r. found r s e.note) end ∙ ap (λ t. found tested.role t e.note) state ∙ sym (finds tested.role tested.releases tested.further e past))
-    ∙ sym (places-past tested rule (test tested.role) e past (says tested.role))
+    longer here beside old new (places tested past rule) (places tested (e ∷ past) rule) (more (omega (arith, most, was, placed))) next was
+  where
+    next : places tested (e ∷ past) rule ≡ cond here 1 0 + places tested past rule
+    next =
+        places-past tested rule (test tested.role) e past (says tested.role)
+        ∙ ap (λ b. cond b 1 0 + places tested past rule)
+        (finds tested.role tested.releases tested.further e past ∙ sym (is ∙ ap (λ r. found r s e.note) end ∙ ap (λ t. found tested.role t e.note) state))
+
+    longer : (here : Bool) (beside old new were are : ℕ) → new ≡ cond here 1 0 + old → are ≡ cond here 1 0 + were → old + beside ≡ were → new + beside ≡ are
+    longer true beside old new were are more next was = omega (arith, more, next, was)
+    longer false beside old new were are more next was = omega (arith, more, next, was)
+
+-- the counts together are below 2^32
+pub fits-sum : (n beside most : ℕ) → n + beside ≤ most → most < 4294967296 → n + beside < 4294967296
+fits-sum n beside most below short = omega (arith, below, short)
 
 -- a packet has a type from 1 to 15
 pub has_type : (fields : PacketFields) → true ≡ not (type_number (fields_type fields) == 0)
@@ -50,7 +60,7 @@ has_type (Puback identifier code) = refl
 has_type (Pubrec identifier code) = refl
 has_type (Pubrel identifier code) = refl
 has_type (Pubcomp identifier code) = refl
-has_type (Subscribe identifier filters) = refl
+has_type (Subscribe identifier filters wishes) = refl
 has_type (Suback identifier codes) = refl
 has_type (Unsubscribe identifier filters) = refl
 has_type (Unsuback identifier codes) = refl

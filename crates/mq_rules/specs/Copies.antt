@@ -10,7 +10,7 @@ use Rattle.mq_rules.specs.declared.note.Note.TheVariants.{Sent, Recv}
 -- a Topic Name of more than 30 bytes, some filters or some Reason Codes
 abbrev pub fields_own : PacketFields → Type 0
 fields_own (Publish p) = 30 < length p.topic
-fields_own (Subscribe identifier filters) = 0 < length filters
+fields_own (Subscribe identifier filters wishes) = 0 < length filters
 fields_own (Suback identifier codes) = 0 < length codes
 fields_own _ = ⊥
 

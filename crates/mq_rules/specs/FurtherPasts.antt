@@ -1,15 +1,16 @@
--- Further statements on the past of a connection (F05, F06 and A02). They are judged as C01 to C23 are, on every connection, but only if the further statements are asked
--- for. Only packets count.
-use Rattle.std.specs.Prelude.{◌==◌, nat_lt, Bool, ◌&&◌, ◌||◌, not, Option, is_some}
+-- Further statements on one packet and on the past of its connection (F01 to F06, V03, V04, V06 and A02). They are judged as C01 to C23 are, on every connection, but only
+-- if the further statements are asked for. Only packets count.
+use Rattle.std.specs.Prelude.{ℕ, ◌==◌, nat_le, nat_lt, Bool, ◌&&◌, ◌||◌, not, Option, is_some}
 use Rattle.std.specs.Option.{option_and_then}
 use Rattle.mq_rules.specs.declared.role.Role.{Role}
 use Rattle.mq_rules.specs.declared.role.Role.TheVariants.{Client, Server}
 use Rattle.mq_rules.specs.declared.packet_note.ConnectNote.{ConnectNote}
+use Rattle.mq_rules.specs.declared.packet_note.ConnackNote.{ConnackNote}
 use Rattle.mq_rules.specs.declared.packet_note.WillNote.{WillNote}
 use Rattle.mq_rules.specs.Words.{is_some_and, is_id}
-use Rattle.mq_rules.specs.Notes.{qos_number, sent_connack, sends_auth}
+use Rattle.mq_rules.specs.Notes.{qos_number, sent_connack, sent_disconnect, sent_publish, sent_receipt_code, sent_wishes, sends_auth}
 use Rattle.mq_rules.specs.Moments.{Moment, note}
-use Rattle.mq_rules.specs.Pasts.{accepts_so, connect_before}
+use Rattle.mq_rules.specs.Pasts.{connack_before, connect_before}
 
 -- ---- words
 
@@ -21,7 +22,62 @@ will_in connect = option_and_then (λ c. c.will) connect
 abbrev pub lacks_method : Option ConnectNote → Bool
 lacks_method connect = is_some_and (λ c. not c.has_authentication_method) connect
 
+-- There is a CONNACK, by which the server keeps no retained messages, or takes no wildcards, no Subscription Identifiers or no shared subscriptions (MQTT 5.0, sections
+-- 3.2.2.3.5 and 3.2.2.3.11 to 3.2.2.3.13).
+abbrev pub lacks_retain : Option ConnackNote → Bool
+lacks_retain connack = is_some_and (λ c. is_id 0 c.retain_available) connack
+
+abbrev pub lacks_wildcards : Option ConnackNote → Bool
+lacks_wildcards connack = is_some_and (λ c. is_id 0 c.wildcard_subscription_available) connack
+
+abbrev pub lacks_identifiers : Option ConnackNote → Bool
+lacks_identifiers connack = is_some_and (λ c. is_id 0 c.subscription_identifier_available) connack
+
+abbrev pub lacks_shares : Option ConnackNote → Bool
+lacks_shares connack = is_some_and (λ c. is_id 0 c.shared_subscription_available) connack
+
+-- Reason Codes of a DISCONNECT that only a server may send: 0x87, 0x89, 0x8B, 0x8D, 0x8E, 0x8F, and 0x9A to 0xA2; and the one that only a client may: 0x04 (MQTT 5.0,
+-- section 3.14.2.1)
+abbrev pub is_code_of_servers : ℕ → Bool
+is_code_of_servers code =
+    (code == 135) || ((code == 137) || ((code == 139) || ((code == 141) || ((code == 142) || ((code == 143) || (nat_le 154 code && nat_le code 162))))))
+
+abbrev pub is_code_of_clients : ℕ → Bool
+is_code_of_clients code = code == 4
+
+-- the Reason Code of a PUBACK or PUBREC that only a server may send: 0x10, No matching subscribers (MQTT 5.0, sections 3.4.2.1 and 3.5.2.1)
+abbrev pub is_receipt_of_servers : ℕ → Bool
+is_receipt_of_servers code = code == 16
+
 -- ---- the statements
+
+-- F01: whenever a PUBLISH with DUP 0 is sent after a CONNACK with Retain Available 0, it has RETAIN 0.
+unfoldable pub applies_F01 : Moment → Bool
+applies_F01 k = is_some_and (λ p. not p.duplicate) (sent_publish (note k)) && lacks_retain (connack_before Client k)
+
+unfoldable pub breaks_F01 : Moment → Bool
+breaks_F01 k = is_some_and (λ p. not p.duplicate && p.retain) (sent_publish (note k)) && lacks_retain (connack_before Client k)
+
+-- F02: whenever a SUBSCRIBE is sent after a CONNACK with Wildcard Subscription Available 0, no filter has a wildcard; one of a shared subscription has none after its name.
+unfoldable pub applies_F02 : Moment → Bool
+applies_F02 k = is_some (sent_wishes (note k)) && lacks_wildcards (connack_before Client k)
+
+unfoldable pub breaks_F02 : Moment → Bool
+breaks_F02 k = is_some_and (λ w. w.has_wildcard) (sent_wishes (note k)) && lacks_wildcards (connack_before Client k)
+
+-- F03: whenever a SUBSCRIBE is sent after a CONNACK with Subscription Identifier Available 0, it has no Subscription Identifier.
+unfoldable pub applies_F03 : Moment → Bool
+applies_F03 k = is_some (sent_wishes (note k)) && lacks_identifiers (connack_before Client k)
+
+unfoldable pub breaks_F03 : Moment → Bool
+breaks_F03 k = is_some_and (λ w. w.has_subscription_identifier) (sent_wishes (note k)) && lacks_identifiers (connack_before Client k)
+
+-- F04: whenever a SUBSCRIBE is sent after a CONNACK with Shared Subscription Available 0, no filter asks for a shared subscription.
+unfoldable pub applies_F04 : Moment → Bool
+applies_F04 k = is_some (sent_wishes (note k)) && lacks_shares (connack_before Client k)
+
+unfoldable pub breaks_F04 : Moment → Bool
+breaks_F04 k = is_some_and (λ w. w.has_share) (sent_wishes (note k)) && lacks_shares (connack_before Client k)
 
 -- F05: whenever a CONNACK with a Maximum QoS, or of code 0x9B (QoS not supported), answers a CONNECT with a Will, it accepts only a Will QoS up to that maximum.
 unfoldable pub applies_F05 : Moment → Bool
@@ -36,6 +92,29 @@ applies_F06 k = is_some_and (λ c. is_id 0 c.retain_available || (c.code == 154)
 
 unfoldable pub breaks_F06 : Moment → Bool
 breaks_F06 k = is_some_and (λ c. (c.code == 0) && is_id 0 c.retain_available) (sent_connack (note k)) && is_some_and (λ w. w.retain) (will_in (connect_before Server k))
+
+-- V03: whenever a SUBSCRIBE is sent that asks for a shared subscription, each has a name without wildcards and a filter after it.
+unfoldable pub applies_V03 : Moment → Bool
+applies_V03 k = is_some_and (λ w. w.has_share) (sent_wishes (note k))
+
+unfoldable pub breaks_V03 : Moment → Bool
+breaks_V03 k = is_some_and (λ w. w.has_share && w.has_misnamed_share) (sent_wishes (note k))
+
+-- V04: whenever a SUBSCRIBE is sent that asks for a shared subscription, none has No Local 1.
+unfoldable pub applies_V04 : Moment → Bool
+applies_V04 k = is_some_and (λ w. w.has_share) (sent_wishes (note k))
+
+unfoldable pub breaks_V04 : Moment → Bool
+breaks_V04 k = is_some_and (λ w. w.has_share && w.has_no_local_share) (sent_wishes (note k))
+
+-- V06: whenever a DISCONNECT is sent, or by a client a PUBACK or PUBREC, its Reason Code isn't one that only the other end may send.
+unfoldable pub applies_V06 : Role → Moment → Bool
+applies_V06 Client k = is_some (sent_disconnect (note k)) || is_some (sent_receipt_code (note k))
+applies_V06 Server k = is_some (sent_disconnect (note k))
+
+unfoldable pub breaks_V06 : Role → Moment → Bool
+breaks_V06 Client k = is_some_and (λ d. is_code_of_servers d.code) (sent_disconnect (note k)) || is_some_and is_receipt_of_servers (sent_receipt_code (note k))
+breaks_V06 Server k = is_some_and (λ d. is_code_of_clients d.code) (sent_disconnect (note k))
 
 -- A02: whenever an AUTH is sent after the CONNECT, or by a server a CONNACK with an Authentication Method, the CONNECT had a method.
 unfoldable pub applies_A02 : Role → Moment → Bool

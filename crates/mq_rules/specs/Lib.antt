@@ -1,6 +1,7 @@
 pub mod Words
 pub mod Texts
 pub mod Copies
+pub mod Wishes
 pub mod Notes
 pub mod Moments
 pub mod Connections

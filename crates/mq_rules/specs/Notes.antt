@@ -39,6 +39,7 @@ use Rattle.mq_rules.specs.declared.packet_note.ConnectNote.{ConnectNote}
 use Rattle.mq_rules.specs.declared.packet_note.ConnackNote.{ConnackNote}
 use Rattle.mq_rules.specs.declared.packet_note.PublishNote.{PublishNote}
 use Rattle.mq_rules.specs.declared.packet_note.DisconnectNote.{DisconnectNote}
+use Rattle.mq_rules.specs.declared.packet_note.WishesNote.{WishesNote}
 use Rattle.mq_rules.specs.declared.text.NotedFilter.{NotedFilter}
 use Rattle.mq_rules.specs.declared.bare.Bare.{Bare}
 use Rattle.mq_rules.specs.declared.bare.BareFields.{BareFields}
@@ -46,6 +47,7 @@ use Rattle.mq_rules.specs.declared.bare.BareFields.TheVariants as bares
 use Rattle.mq_rules.specs.declared.note_ref.NoteRef.{NoteRef}
 use Rattle.mq_rules.specs.declared.note_ref.NoteRef.TheVariants as refs
 use Rattle.mq_rules.specs.Words.{only, is_some_and, is_id}
+use Rattle.mq_rules.specs.Wishes.{nothing_wished, wishes_of}
 
 -- ---- the end that a log's header names
 
@@ -102,19 +104,22 @@ connack_note session_present code properties = record {
   topic_alias_maximum = first_two_bytes 34 properties;
   maximum_qos = first_byte 36 properties;
   retain_available = first_byte 37 properties;
+  wildcard_subscription_available = first_byte 40 properties;
+  subscription_identifier_available = first_byte 41 properties;
+  shared_subscription_available = first_byte 42 properties;
   maximum_packet_size = first_four_bytes 39 properties;
   has_assigned_identifier = is_some (first_text 18 properties);
   has_response_information = is_some (first_text 26 properties);
   has_authentication_method = is_some (first_text 21 properties);
 }
 
--- of a PUBLISH (MQTT 5.0, section 3.3); RETAIN is noted at a QoS above 0 alone
+-- of a PUBLISH (MQTT 5.0, section 3.3)
 abbrev pub publish_note : Direction → PublishFields → PublishNote
 publish_note direction p = record {
   identifier = p.identifier;
   qos = p.qos;
   duplicate = p.duplicate;
-  retain = p.retain && is_acknowledged p.qos;
+  retain = p.retain;
   topic = only_list (is_sent_direction direction) p.topic;
   topic_alias = first_two_bytes 35 p.properties.items;
   has_message_expiry = is_some (first_four_bytes 2 p.properties.items);
@@ -122,8 +127,8 @@ publish_note direction p = record {
 }
 
 -- of a DISCONNECT (MQTT 5.0, section 3.14)
-abbrev pub disconnect_note : List Property → DisconnectNote
-disconnect_note properties = record { session_expiry = first_four_bytes 17 properties }
+abbrev pub disconnect_note : ℕ → List Property → DisconnectNote
+disconnect_note code properties = record { code = code; session_expiry = first_four_bytes 17 properties }
 
 -- of PUBACK, PUBREC, PUBREL and PUBCOMP (MQTT 5.0, sections 3.4 to 3.7)
 abbrev pub acknowledgement_fields : AcknowledgementKind → ℕ → ℕ → PacketFields
@@ -136,10 +141,16 @@ acknowledgement_fields acknowledgements.Pubcomp identifier code = Pubcomp identi
 abbrev pub filter_note : AskedFilter → NotedFilter
 filter_note f = record { filter = f.filter; options = unwrap_or f.options 0 }
 
+-- of what a SUBSCRIBE that was sent asks for (MQTT 5.0, sections 3.8.2.1.2 and 3.8.3)
+abbrev pub wishes_note : Direction → List Property → List AskedFilter → WishesNote
+wishes_note directions.Sent properties filters = wishes_of (is_some (first_varint 11 properties)) filters
+wishes_note directions.Recv properties filters = nothing_wished
+
 -- of SUBSCRIBE and UNSUBSCRIBE (MQTT 5.0, sections 3.8 and 3.10)
-abbrev pub request_fields : Direction → RequestKind → ℕ → List AskedFilter → PacketFields
-request_fields direction requests.Subscribe identifier filters = Subscribe identifier (only_list (not (is_sent_direction direction)) (map filter_note filters))
-request_fields direction requests.Unsubscribe identifier filters = Unsubscribe identifier (length filters)
+abbrev pub request_fields : Direction → RequestKind → ℕ → List Property → List AskedFilter → PacketFields
+request_fields direction requests.Subscribe identifier properties filters =
+    Subscribe identifier (only_list (not (is_sent_direction direction)) (map filter_note filters)) (wishes_note direction properties filters)
+request_fields direction requests.Unsubscribe identifier properties filters = Unsubscribe identifier (length filters)
 
 -- of SUBACK and UNSUBACK (MQTT 5.0, sections 3.9 and 3.11)
 abbrev pub answer_fields : Direction → RequestKind → ℕ → List ℕ → PacketFields
@@ -152,11 +163,11 @@ packet_fields direction (connect fields) = Connect (connect_note fields)
 packet_fields direction (connack session_present code properties) = Connack (connack_note session_present code properties.items)
 packet_fields direction (publish fields) = Publish (publish_note direction fields)
 packet_fields direction (acknowledgement kind identifier code properties) = acknowledgement_fields kind identifier code
-packet_fields direction (request kind identifier properties filters) = request_fields direction kind identifier filters
+packet_fields direction (request kind identifier properties filters) = request_fields direction kind identifier properties.items filters
 packet_fields direction (answer kind identifier properties codes) = answer_fields direction kind identifier codes
 packet_fields direction pingreq = Pingreq
 packet_fields direction pingresp = Pingresp
-packet_fields direction (disconnect code properties) = Disconnect (disconnect_note properties.items)
+packet_fields direction (disconnect code properties) = Disconnect (disconnect_note code properties.items)
 packet_fields direction (auth code properties) = Auth
 
 -- a packet's own property list, if it has one (MQTT 5.0, section 2.2.2)
@@ -204,7 +215,7 @@ note_of (released identifier) = notes.Release identifier
 note_of (sent item) = notes.Sent (item_note directions.Sent item)
 note_of (received item) = notes.Recv (item_note directions.Recv item)
 
--- of a PUBLISH without properties, and with RETAIN 0 if its QoS is above 0
+-- of a PUBLISH without properties, and with RETAIN 0
 abbrev pub bare_publish_note : Direction → Option ℕ → Qos → Bool → List ℕ → PublishNote
 bare_publish_note direction identifier qos duplicate topic = record {
   identifier = identifier;
@@ -339,7 +350,7 @@ fields_type (Puback identifier code) = types.Puback
 fields_type (Pubrec identifier code) = types.Pubrec
 fields_type (Pubrel identifier code) = types.Pubrel
 fields_type (Pubcomp identifier code) = types.Pubcomp
-fields_type (Subscribe identifier filters) = types.Subscribe
+fields_type (Subscribe identifier filters wishes) = types.Subscribe
 fields_type (Suback identifier codes) = types.Suback
 fields_type (Unsubscribe identifier filters) = types.Unsubscribe
 fields_type (Unsuback identifier codes) = types.Unsuback
@@ -387,6 +398,17 @@ abbrev pub disconnect_in : PacketFields → Option DisconnectNote
 disconnect_in (Disconnect d) = Some d
 disconnect_in _ = None
 
+-- what a SUBSCRIBE asks for
+abbrev pub wishes_in : PacketFields → Option WishesNote
+wishes_in (Subscribe identifier filters wishes) = Some wishes
+wishes_in _ = None
+
+-- the Reason Code of a PUBACK or PUBREC (MQTT 5.0, sections 3.4.2.1 and 3.5.2.1)
+abbrev pub receipt_code_in : PacketFields → Option ℕ
+receipt_code_in (Puback identifier code) = Some code
+receipt_code_in (Pubrec identifier code) = Some code
+receipt_code_in _ = None
+
 abbrev pub is_auth : PacketFields → Bool
 is_auth Auth = true
 is_auth _ = false
@@ -402,6 +424,12 @@ sent_disconnect note = option_and_then disconnect_in (sent_fields note)
 
 abbrev pub sent_connack : Note → Option ConnackNote
 sent_connack note = option_and_then connack_in (sent_fields note)
+
+abbrev pub sent_wishes : Note → Option WishesNote
+sent_wishes note = option_and_then wishes_in (sent_fields note)
+
+abbrev pub sent_receipt_code : Note → Option ℕ
+sent_receipt_code note = option_and_then receipt_code_in (sent_fields note)
 
 abbrev pub sends_auth : Note → Bool
 sends_auth note = is_some_and is_auth (sent_fields note)
@@ -517,7 +545,7 @@ pubcomp_in (Pubcomp identifier code) = Some identifier
 pubcomp_in _ = None
 
 abbrev pub subscribe_in : PacketFields → Option ℕ
-subscribe_in (Subscribe identifier filters) = Some identifier
+subscribe_in (Subscribe identifier filters wishes) = Some identifier
 subscribe_in _ = None
 
 abbrev pub suback_in : PacketFields → Option ℕ
@@ -583,7 +611,7 @@ pub record Number : Type 0 where
   pub count : ℕ
 
 abbrev pub subscription_in : PacketFields → Option Subscription
-subscription_in (Subscribe identifier filters) = Some (record { identifier = identifier; filters = filters })
+subscription_in (Subscribe identifier filters wishes) = Some (record { identifier = identifier; filters = filters })
 subscription_in _ = None
 
 abbrev pub grant_in : PacketFields → Option Grant
@@ -633,7 +661,7 @@ keeps_text (Puback identifier code) = false
 keeps_text (Pubrec identifier code) = false
 keeps_text (Pubrel identifier code) = false
 keeps_text (Pubcomp identifier code) = false
-keeps_text (Subscribe identifier filters) = not (length filters == 0)
+keeps_text (Subscribe identifier filters wishes) = not (length filters == 0)
 keeps_text (Suback identifier codes) = not (length codes == 0)
 keeps_text (Unsubscribe identifier filters) = false
 keeps_text (Unsuback identifier codes) = false

@@ -1,5 +1,5 @@
 -- Which of C01 to C23 an event puts to the test, by what is kept of its connection.
-use Rattle.std.specs.Prelude.{◌≡◌, ◌==◌, Bool, true, false, ◌&&◌, ◌||◌, not, List, [], ◌∷◌, is_some, refl}
+use Rattle.std.specs.Prelude.{◌≡◌, ◌==◌, ℕ, Bool, true, false, ◌&&◌, ◌||◌, not, List, [], ◌∷◌, is_some, refl}
 use Rattle.std.proofs.Common.{ap, ◌∙◌}
 use Rattle.std.specs.Option.{option_and_then}
 use Rattle.mq_packet.specs.declared.packet.PacketType.TheVariants as types
@@ -11,6 +11,7 @@ use Rattle.mq_rules.specs.declared.note.Note.{Note}
 use Rattle.mq_rules.specs.declared.note.Seen.{Seen}
 use Rattle.mq_rules.specs.declared.conn.state.ConnectionState.{ConnectionState}
 use Rattle.mq_rules.specs.declared.conn.harmless_tests.HarmlessTests.{HarmlessTests}
+use Rattle.mq_rules.specs.declared.conn.harmless_tests.HarmlessPlaces.{HarmlessPlaces}
 use Rattle.mq_rules.specs.Words.{is_some_and, is_id}
 use Rattle.mq_rules.specs.Notes.{is_close, is_rest, is_typed, sent_item, sent_packet, sent_publish, sent_disconnect, sent_connack, type_number_in, sends_type, may_explain, resumed_by}
 use Rattle.mq_rules.specs.Moments.{Moment, newest, note, some}
@@ -145,6 +146,15 @@ tried_by_harmless tests C17 = tests.graded
 tried_by_harmless tests C18 = tests.published
 tried_by_harmless tests C21 = tests.silent
 tried_by_harmless tests _ = false
+
+-- how often such events have put a statement to the test
+abbrev pub harmless_places : HarmlessPlaces → Rule → ℕ
+harmless_places counts C01 = counts.sent
+harmless_places counts C14 = counts.limited
+harmless_places counts C17 = counts.graded
+harmless_places counts C18 = counts.published
+harmless_places counts C21 = counts.silent
+harmless_places counts _ = 0
 
 -- ---- they are those of the definitions
 

@@ -15,6 +15,7 @@ use Rattle.mq_rules.specs.declared.packet_note.PacketFields.{PacketFields}
 use Rattle.mq_rules.specs.declared.packet_note.PacketFields.TheVariants.{Connect, Connack, Publish, Subscribe, Disconnect}
 use Rattle.mq_rules.specs.declared.packet_note.ConnectNote.{ConnectNote}
 use Rattle.mq_rules.specs.Statements.{fails}
+use Rattle.mq_rules.specs.Wishes.{nothing_wished}
 use Rattle.mq_rules.specs.Occasions.{applies}
 
 -- ---- logs
@@ -141,7 +142,7 @@ with_method = Connect (record { clean_start = true; is_unnamed = false; session_
 
 -- with Session Present or not, and this Reason Code
 abbrev pub connack_with : Bool → ℕ → PacketFields
-connack_with present code = Connack (record { session_present = present; code = code; session_expiry = None; receive_maximum = None; topic_alias_maximum = None; maximum_qos = None; retain_available = None; maximum_packet_size = None; has_assigned_identifier = false; has_response_information = false; has_authentication_method = false })
+connack_with present code = Connack (record { session_present = present; code = code; session_expiry = None; receive_maximum = None; topic_alias_maximum = None; maximum_qos = None; retain_available = None; wildcard_subscription_available = None; subscription_identifier_available = None; shared_subscription_available = None; maximum_packet_size = None; has_assigned_identifier = false; has_response_information = false; has_authentication_method = false })
 
 abbrev pub accepting : PacketFields
 accepting = connack_with false 0
@@ -155,33 +156,45 @@ refusing = connack_with false 135
 
 -- with these: Session Present, Receive Maximum, Topic Alias Maximum, Maximum QoS, Maximum Packet Size
 abbrev pub limiting : Bool → Option ℕ → Option ℕ → Option ℕ → Option ℕ → PacketFields
-limiting present receive aliases qos size = Connack (record { session_present = present; code = 0; session_expiry = None; receive_maximum = receive; topic_alias_maximum = aliases; maximum_qos = qos; retain_available = None; maximum_packet_size = size; has_assigned_identifier = false; has_response_information = false; has_authentication_method = false })
+limiting present receive aliases qos size = Connack (record { session_present = present; code = 0; session_expiry = None; receive_maximum = receive; topic_alias_maximum = aliases; maximum_qos = qos; retain_available = None; wildcard_subscription_available = None; subscription_identifier_available = None; shared_subscription_available = None; maximum_packet_size = size; has_assigned_identifier = false; has_response_information = false; has_authentication_method = false })
 
 -- with Session Present, and this Retain Available
 abbrev pub retaining : Option ℕ → PacketFields
-retaining available = Connack (record { session_present = true; code = 0; session_expiry = None; receive_maximum = None; topic_alias_maximum = None; maximum_qos = None; retain_available = available; maximum_packet_size = None; has_assigned_identifier = false; has_response_information = false; has_authentication_method = false })
+retaining available = Connack (record { session_present = true; code = 0; session_expiry = None; receive_maximum = None; topic_alias_maximum = None; maximum_qos = None; retain_available = available; wildcard_subscription_available = None; subscription_identifier_available = None; shared_subscription_available = None; maximum_packet_size = None; has_assigned_identifier = false; has_response_information = false; has_authentication_method = false })
 
 -- with an Assigned Client Identifier, and with Response Information
 abbrev pub assigning : PacketFields
-assigning = Connack (record { session_present = false; code = 0; session_expiry = None; receive_maximum = None; topic_alias_maximum = None; maximum_qos = None; retain_available = None; maximum_packet_size = None; has_assigned_identifier = true; has_response_information = false; has_authentication_method = false })
+assigning = Connack (record { session_present = false; code = 0; session_expiry = None; receive_maximum = None; topic_alias_maximum = None; maximum_qos = None; retain_available = None; wildcard_subscription_available = None; subscription_identifier_available = None; shared_subscription_available = None; maximum_packet_size = None; has_assigned_identifier = true; has_response_information = false; has_authentication_method = false })
 
 abbrev pub informing : PacketFields
-informing = Connack (record { session_present = false; code = 0; session_expiry = None; receive_maximum = None; topic_alias_maximum = None; maximum_qos = None; retain_available = None; maximum_packet_size = None; has_assigned_identifier = false; has_response_information = true; has_authentication_method = false })
+informing = Connack (record { session_present = false; code = 0; session_expiry = None; receive_maximum = None; topic_alias_maximum = None; maximum_qos = None; retain_available = None; wildcard_subscription_available = None; subscription_identifier_available = None; shared_subscription_available = None; maximum_packet_size = None; has_assigned_identifier = false; has_response_information = true; has_authentication_method = false })
 
 -- with this Reason Code, Maximum QoS and Retain Available; and with an Authentication Method
 abbrev pub announcing : ℕ → Option ℕ → Option ℕ → PacketFields
-announcing code qos retain = Connack (record { session_present = false; code = code; session_expiry = None; receive_maximum = None; topic_alias_maximum = None; maximum_qos = qos; retain_available = retain; maximum_packet_size = None; has_assigned_identifier = false; has_response_information = false; has_authentication_method = false })
+announcing code qos retain = Connack (record { session_present = false; code = code; session_expiry = None; receive_maximum = None; topic_alias_maximum = None; maximum_qos = qos; retain_available = retain; wildcard_subscription_available = None; subscription_identifier_available = None; shared_subscription_available = None; maximum_packet_size = None; has_assigned_identifier = false; has_response_information = false; has_authentication_method = false })
+
+-- with these of 0 or 1: Retain Available, Wildcard Subscription Available, Subscription Identifier Available and Shared Subscription Available
+abbrev pub lacking : Option ℕ → Option ℕ → Option ℕ → Option ℕ → PacketFields
+lacking retain wildcards identifiers shares = Connack (record { session_present = false; code = 0; session_expiry = None; receive_maximum = None; topic_alias_maximum = None; maximum_qos = None; retain_available = retain; wildcard_subscription_available = wildcards; subscription_identifier_available = identifiers; shared_subscription_available = shares; maximum_packet_size = None; has_assigned_identifier = false; has_response_information = false; has_authentication_method = false })
 
 abbrev pub naming_method : PacketFields
-naming_method = Connack (record { session_present = false; code = 0; session_expiry = None; receive_maximum = None; topic_alias_maximum = None; maximum_qos = None; retain_available = None; maximum_packet_size = None; has_assigned_identifier = false; has_response_information = false; has_authentication_method = true })
+naming_method = Connack (record { session_present = false; code = 0; session_expiry = None; receive_maximum = None; topic_alias_maximum = None; maximum_qos = None; retain_available = None; wildcard_subscription_available = None; subscription_identifier_available = None; shared_subscription_available = None; maximum_packet_size = None; has_assigned_identifier = false; has_response_information = false; has_authentication_method = true })
 
 -- a DISCONNECT with this Session Expiry Interval
 abbrev pub leaving : Option ℕ → PacketFields
-leaving expiry = Disconnect (record { session_expiry = expiry })
+leaving expiry = Disconnect (record { code = 0; session_expiry = expiry })
+
+-- and with this Reason Code
+abbrev pub leaving_by : ℕ → PacketFields
+leaving_by code = Disconnect (record { code = code; session_expiry = None })
 
 -- a PUBLISH of QoS 0, 1 and 2 on the topic `a`; with DUP or not
 abbrev pub at_most_once : PacketFields
 at_most_once = Publish (record { identifier = None; qos = quality.AtMostOnce; duplicate = false; retain = false; topic = 97 ∷ []; topic_alias = None; has_message_expiry = false; has_subscription_identifier = false })
+
+-- the same with RETAIN 1
+abbrev pub retained_at_most_once : PacketFields
+retained_at_most_once = Publish (record { identifier = None; qos = quality.AtMostOnce; duplicate = false; retain = true; topic = 97 ∷ []; topic_alias = None; has_message_expiry = false; has_subscription_identifier = false })
 
 abbrev pub once : Bool → ℕ → PacketFields
 once dup i = Publish (record { identifier = Some i; qos = quality.AtLeastOnce; duplicate = dup; retain = false; topic = 97 ∷ []; topic_alias = None; has_message_expiry = false; has_subscription_identifier = false })
@@ -196,6 +209,10 @@ retained_once i = Publish (record { identifier = Some i; qos = quality.AtLeastOn
 abbrev pub retained_exactly : ℕ → PacketFields
 retained_exactly i = Publish (record { identifier = Some i; qos = quality.ExactlyOnce; duplicate = false; retain = true; topic = 97 ∷ []; topic_alias = None; has_message_expiry = false; has_subscription_identifier = false })
 
+-- that of QoS 1 with RETAIN 1, sent again
+abbrev pub retained_again : ℕ → PacketFields
+retained_again i = Publish (record { identifier = Some i; qos = quality.AtLeastOnce; duplicate = true; retain = true; topic = 97 ∷ []; topic_alias = None; has_message_expiry = false; has_subscription_identifier = false })
+
 -- one of QoS 2 that may expire
 abbrev pub expiring : ℕ → PacketFields
 expiring i = Publish (record { identifier = Some i; qos = quality.ExactlyOnce; duplicate = false; retain = false; topic = 97 ∷ []; topic_alias = None; has_message_expiry = true; has_subscription_identifier = false })
@@ -209,11 +226,31 @@ subscribed = Publish (record { identifier = None; qos = quality.AtMostOnce; dupl
 
 -- a SUBSCRIBE to `a`, and one to `b`, of a greatest QoS
 abbrev pub asks_a : ℕ → ℕ → PacketFields
-asks_a i qos = Subscribe i (record { filter = 97 ∷ []; options = qos } ∷ [])
+asks_a i qos = Subscribe i (record { filter = 97 ∷ []; options = qos } ∷ []) nothing_wished
 
 abbrev pub asks_b : ℕ → ℕ → PacketFields
-asks_b i qos = Subscribe i (record { filter = 98 ∷ []; options = qos } ∷ [])
+asks_b i qos = Subscribe i (record { filter = 98 ∷ []; options = qos } ∷ []) nothing_wished
 
 -- a SUBSCRIBE to the shared subscription `$share/g/a`
 abbrev pub asks_shared : ℕ → PacketFields
-asks_shared i = Subscribe i (record { filter = 36 ∷ 115 ∷ 104 ∷ 97 ∷ 114 ∷ 101 ∷ 47 ∷ 103 ∷ 47 ∷ 97 ∷ []; options = 0 } ∷ [])
+asks_shared i = Subscribe i (record { filter = 36 ∷ 115 ∷ 104 ∷ 97 ∷ 114 ∷ 101 ∷ 47 ∷ 103 ∷ 47 ∷ 97 ∷ []; options = 0 } ∷ []) nothing_wished
+
+-- a SUBSCRIBE that is sent: without any of what follows; with a wildcard; with a Subscription Identifier
+abbrev pub asks_plainly : PacketFields
+asks_plainly = Subscribe 1 [] nothing_wished
+
+abbrev pub asks_widely : PacketFields
+asks_widely = Subscribe 1 [] (record { has_wildcard = true; has_subscription_identifier = false; has_share = false; has_misnamed_share = false; has_no_local_share = false })
+
+abbrev pub asks_identified : PacketFields
+asks_identified = Subscribe 1 [] (record { has_wildcard = false; has_subscription_identifier = true; has_share = false; has_misnamed_share = false; has_no_local_share = false })
+
+-- one that asks for a shared subscription; whose name is a wildcard; with No Local 1
+abbrev pub asks_to_share : PacketFields
+asks_to_share = Subscribe 1 [] (record { has_wildcard = false; has_subscription_identifier = false; has_share = true; has_misnamed_share = false; has_no_local_share = false })
+
+abbrev pub asks_misnamed : PacketFields
+asks_misnamed = Subscribe 1 [] (record { has_wildcard = false; has_subscription_identifier = false; has_share = true; has_misnamed_share = true; has_no_local_share = false })
+
+abbrev pub asks_no_local : PacketFields
+asks_no_local = Subscribe 1 [] (record { has_wildcard = false; has_subscription_identifier = false; has_share = true; has_misnamed_share = false; has_no_local_share = true })

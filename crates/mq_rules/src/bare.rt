@@ -1,5 +1,5 @@
 //! Notes of packets without properties, most packets of most logs. They take no memory.
-ghost use Rattle.std.specs.Prelude.{◌≡◌, ◌≤◌, ◌&&◌, ℕ, [], false, length, is_some, IsTrue, IfSome};
+ghost use Rattle.std.specs.Prelude.{◌≡◌, ◌≤◌, ℕ, [], false, length, is_some, IsTrue, IfSome};
 ghost use Rattle.mq_packet.specs.Reading.{view};
 ghost use Rattle.mq_log.specs.Events.{packet as packet_item};
 ghost use Rattle.mq_log.specs.Flows.{item_event};
@@ -7,9 +7,9 @@ ghost use Rattle.mq_log.specs.declared.kind.Direction.{Direction as TheDirection
 ghost use Rattle.mq_rules.specs.ByteTallies.{IsTriedAs};
 ghost use Rattle.mq_rules.specs.declared.bare.BareFields.TheVariants as bares;
 ghost use Rattle.mq_rules.specs.declared.packet_note.PacketFields.TheVariants as fields_of;
-ghost use Rattle.mq_rules.specs.Notes.{is_acknowledged, fields_type, publish_in, bare_fields, bare_note, bare_publish_note, note_of, kept_topic, is_sent_direction, note_of_bare};
+ghost use Rattle.mq_rules.specs.Notes.{fields_type, publish_in, bare_fields, bare_note, bare_publish_note, note_of, kept_topic, is_sent_direction, note_of_bare};
 
-use crate::conversion::{is_retained, nonempty};
+use crate::conversion::nonempty;
 use crate::note::{ItemNote, Note};
 use crate::packet_note::{PacketFields, PacketNote, PublishNote};
 use crate::text::Text;
@@ -17,14 +17,14 @@ use mq_log::Direction;
 use mq_packet::{Packet, PacketType, Publish, Qos};
 
 /// Whether a PUBLISH has no properties, and a Topic Name that is short enough to lie in its note.
-/// One with RETAIN 1 and a QoS above 0 counts as one with properties.
+/// One with RETAIN 1 counts as one with properties.
 #[inline(always)]
 pub fn is_bare(publish: &Publish<'_>) -> bool
     ensures short { IsTrue result → length publish.now.topic.now ≤ 30 }
     ensures none { IsTrue result → publish.now.properties.items ≡ [] }
-    ensures unretained { IsTrue result → (publish.now.retain && is_acknowledged publish.now.qos) ≡ false }
+    ensures unretained { IsTrue result → publish.now.retain ≡ false }
 {
-    if is_retained(publish) {
+    if publish.retain {
         return false;
     }
     match nonempty(&publish.properties) {
@@ -51,8 +51,8 @@ impl Note {
         }
     }
 
-    /// The note of a PUBLISH in this direction that has these fields, a short Topic Name, RETAIN 0 if
-    /// its QoS is above 0, and no properties.
+    /// The note of a PUBLISH in this direction that has these fields, a short Topic Name, RETAIN 0
+    /// and no properties.
     #[inline(always)]
     pub fn of_bare_publish(
         direction: Direction,
@@ -135,8 +135,8 @@ pub enum BareFields<'a> {
 }
 
 impl BareFields<'_> {
-    /// The fields of a packet, if it acknowledges a PUBLISH and has no properties, or is a PINGREQ or
-    /// PINGRESP.
+    /// The fields of a packet, if it acknowledges a PUBLISH and has no properties, or is a PINGREQ
+    /// or PINGRESP.
     #[inline(always)]
     #[tactic(auto, using(crate::proofs::PartsLaws::acknowledgement_tried, crate::proofs::PartsLaws::pingreq_tried, crate::proofs::PartsLaws::pingresp_tried))]
     pub fn of_packet(packet: &Packet<'_>) -> Option<BareFields<'static>>
@@ -227,7 +227,7 @@ fn kept_topic<'a>(topic: &'a str) -> &'a str
 }
 
 impl<'a> Bare<'a> {
-    /// A PUBLISH that has a short Topic Name, and RETAIN 0 if its QoS is above 0.
+    /// A PUBLISH that has a short Topic Name, and RETAIN 0.
     #[inline(always)]
     pub fn of_publish(
         direction: Direction,

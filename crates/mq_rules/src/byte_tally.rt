@@ -144,9 +144,9 @@ impl Trial<'_, '_> {
 
 /// How often each of the statements on a packet's bytes was put to the test.
 ///
-/// Most packets have no properties, and few of their parts differ from one to the next. So of these,
-/// and of each PUBLISH, the parts are counted, and a rule that a part puts to the test has also the
-/// places of that part.
+/// Most packets have no properties, and few of their parts differ from one to the next. So of
+/// these, and of each PUBLISH, the parts are counted, and a rule that a part puts to the test has
+/// also the places of that part.
 #[derive(Drop)]
 pub struct ByteTally {
     // PUBLISHes, other packets without properties, and PUBLISHes with a Topic Name.

@@ -14,18 +14,17 @@ ghost use Rattle.mq_log.specs.Events.{packet, packet as packet_item};
 ghost use Rattle.mq_log.specs.Flows.{item_event};
 ghost use Rattle.mq_log.specs.Reception.{item_of, event_of};
 ghost use Rattle.mq_rules.specs.declared.packet_note.PacketFields.TheVariants as fields;
-ghost use Rattle.mq_rules.specs.Notes.{only_list, is_sent_direction, is_acknowledged, begins_acknowledged, cuts_acknowledged, will_note, connect_note, connack_note, publish_note, disconnect_note, packet_fields, properties_of, packet_note, item_note, note_of, request_fields, answer_fields, keeps_text, item_keeps_text, note_keeps_text};
+ghost use Rattle.mq_rules.specs.Notes.{only_list, is_sent_direction, begins_acknowledged, cuts_acknowledged, will_note, connect_note, connack_note, publish_note, disconnect_note, wishes_note, packet_fields, properties_of, packet_note, item_note, note_of, request_fields, answer_fields, keeps_text, item_keeps_text, note_keeps_text};
 
 use crate::faults::Memory;
 use crate::note::{ItemNote, Note};
 use crate::packet_note::{
     ConnackNote, ConnectNote, DisconnectNote, PacketFields, PacketNote, PublishNote, WillNote,
+    WishesNote,
 };
 use crate::text::{CodeList, FilterList, Text};
 use mq_log::{Direction, Event, Item};
-use mq_packet::{
-    Answer, Codes, Connack, Connect, Filters, Packet, Publish, Qos, ReasonPacket, Request, Will,
-};
+use mq_packet::{Answer, Codes, Connack, Connect, Packet, Publish, ReasonPacket, Request, Will};
 use mq_props::Props;
 use std::alloc::Global;
 
@@ -35,14 +34,6 @@ fn is_text(text: Option<&str>) -> bool
     ensures { result ≡ is_some (option_map (λ text. text.now) text.entry) }
 {
     text.is_some()
-}
-
-/// Whether RETAIN is 1 and the QoS is above 0.
-#[inline(always)]
-pub(crate) fn is_retained(publish: &Publish<'_>) -> bool
-    ensures { result ≡ (publish.now.retain && is_acknowledged publish.now.qos) }
-{
-    publish.retain && !matches!(publish.qos, Qos::AtMostOnce)
 }
 
 /// The list, if it has properties. In most packets it is empty, and then nothing needs to be looked
@@ -163,6 +154,9 @@ impl ConnackNote {
             topic_alias_maximum: properties.get_topic_alias_maximum(),
             maximum_qos: properties.get_maximum_qos(),
             retain_available: properties.get_retain_available(),
+            wildcard_subscription_available: properties.get_wildcard_subscription_available(),
+            subscription_identifier_available: properties.get_subscription_identifier_available(),
+            shared_subscription_available: properties.get_shared_subscription_available(),
             maximum_packet_size: properties.get_maximum_packet_size(),
             has_assigned_identifier: is_text(properties.get_assigned_client_identifier()),
             has_response_information: is_text(properties.get_response_information()),
@@ -174,9 +168,10 @@ impl ConnackNote {
 impl DisconnectNote {
     /// What the statements look at in this DISCONNECT.
     pub fn of(disconnect: &ReasonPacket<'_>) -> DisconnectNote
-        ensures { result ≡ disconnect_note disconnect.now.properties.items }
+        ensures { result ≡ disconnect_note disconnect.now.code disconnect.now.properties.items }
     {
         DisconnectNote {
+            code: disconnect.code,
             session_expiry: disconnect.properties.get_session_expiry_interval(),
         }
     }
@@ -223,7 +218,7 @@ impl PublishNote {
             identifier: publish.identifier,
             qos: publish.qos,
             duplicate: publish.duplicate,
-            retain: is_retained(publish),
+            retain: publish.retain,
             topic,
             topic_alias: topic_alias(properties),
             has_message_expiry: has_message_expiry(properties),
@@ -232,23 +227,36 @@ impl PublishNote {
     }
 }
 
-// What the statements look at in a SUBSCRIBE with these filters, which went this way.
+// What a SUBSCRIBE asks for, if it was sent.
+fn wishes_in(direction: Direction, request: &Request<'_>) -> WishesNote
+    ensures { result ≡ wishes_note direction request.now.properties.items request.now.filters }
+{
+    match direction {
+        Direction::Sent => {
+            let identified = request.properties.has_subscription_identifier();
+            WishesNote::of(identified, &request.filters)
+        }
+        Direction::Recv => WishesNote::nothing(),
+    }
+}
+
+// What the statements look at in this SUBSCRIBE, which went this way.
 fn subscribe_fields(
     alloc: Global,
     direction: Direction,
-    identifier: u16,
-    filters: &Filters<'_>,
+    request: &Request<'_>,
 ) -> Result<PacketFields, Memory>
-    ensures exact { IfOk result (λ fields. fields ≡ request_fields direction requests.Subscribe identifier filters.now) }
-    ensures needed { OnErr result (keeps_text (request_fields direction requests.Subscribe identifier filters.now) ≡ true) }
+    ensures exact { IfOk result (λ fields. fields ≡ request_fields direction requests.Subscribe request.now.identifier request.now.properties.items request.now.filters) }
+    ensures needed { OnErr result (keeps_text (request_fields direction requests.Subscribe request.now.identifier request.now.properties.items request.now.filters) ≡ true) }
 {
     let filters = match direction {
         Direction::Sent => FilterList::empty(alloc),
-        Direction::Recv => FilterList::of(alloc, filters)?,
+        Direction::Recv => FilterList::of(alloc, &request.filters)?,
     };
     Ok(PacketFields::Subscribe {
-        identifier,
+        identifier: request.identifier,
         filters,
+        wishes: wishes_in(direction, request),
     })
 }
 
@@ -331,12 +339,7 @@ impl PacketFields {
             Packet::Pingresp => Ok(PacketFields::Pingresp),
             Packet::Connect(connect) => Ok(PacketFields::Connect(ConnectNote::of(connect))),
             Packet::Connack(connack) => Ok(PacketFields::Connack(ConnackNote::of(connack))),
-            Packet::Subscribe(request) => subscribe_fields(
-                alloc,
-                direction,
-                request.identifier,
-                &request.filters,
-            ),
+            Packet::Subscribe(request) => subscribe_fields(alloc, direction, request),
             Packet::Suback(answer) => suback_fields(
                 alloc,
                 direction,

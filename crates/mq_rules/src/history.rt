@@ -33,8 +33,8 @@ pub struct History {
     /// Whether the tested end received a packet on the latest connection that changes what a server
     /// keeps of a session.
     pub changed: bool,
-    /// Whether the tested end sent something other than a DISCONNECT after the CONNACK of the latest
-    /// connection.
+    /// Whether the tested end sent something other than a DISCONNECT after the CONNACK of the
+    /// latest connection.
     pub gone_on: bool,
 }
 
@@ -173,8 +173,8 @@ impl History {
         note.is_close() && (self.answered().is_none() && self.may_change(role))
     }
 
-    // Whether the client closes the connection by this event, on which it has got a new session that
-    // it hadn't asked for, and used it for nothing.
+    // Whether the client closes the connection by this event, on which it has got a new session
+    // that it hadn't asked for, and used it for nothing.
     fn leaves(&self, role: Role, note: &Note) -> bool
         ensures { result ≡ histories.leaves_now role self.now note.now }
     {

@@ -34,6 +34,7 @@ mod table;
 mod table_laws;
 mod text;
 mod watch;
+mod wishes;
 
 pub use bare::{Bare, BareFields, is_bare};
 pub use by_identifier::{ByIdentifier, CountedByIdentifier};
@@ -50,6 +51,7 @@ pub use note_ref::NoteRef;
 pub use one_pass::plain_connections;
 pub use packet_note::{
     ConnackNote, ConnectNote, DisconnectNote, PacketFields, PacketNote, PublishNote, WillNote,
+    WishesNote,
 };
 pub use plain::{plain_c, plain_w};
 pub use qos::qos_number;

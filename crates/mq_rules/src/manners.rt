@@ -1,19 +1,21 @@
-//! The further statements on the past of a connection, in one pass: F05, F06 and A02.
+//! The further statements on one packet and on the past of its connection, in one pass: F01 to F06,
+//! V03, V04, V06 and A02.
 //!
-//! They look at the client's CONNECT, at CONNACKs and at AUTHs alone.
-ghost use Rattle.std.specs.Prelude.{◌≡◌, ◌∷◌, ◌+◌, ◌<◌, ◌&&◌, ◌||◌, ℕ, [], cond, length, List, Option, Some, None, OnOk, OnErr, nat_lt, option_map, is_some, ◌==◌};
+//! The client's CONNECT and the server's CONNACK are kept.
+ghost use Rattle.std.specs.Prelude.{◌≡◌, ◌∷◌, ◌+◌, ◌<◌, ◌&&◌, ◌||◌, not, ℕ, [], cond, length, List, Option, Some, None, OnOk, OnErr, nat_lt, option_map, is_some, ◌==◌};
 ghost use Rattle.mq_rules.specs.declared.role.Role.TheVariants as roles;
 ghost use Rattle.mq_rules.specs.declared.role.Tested.{Tested as TheTested};
 ghost use Rattle.mq_rules.specs.declared.fate.Fate.{Fate as TheFate};
 ghost use Rattle.mq_rules.specs.declared.fate.Fate.TheVariants.{Void};
 ghost use Rattle.mq_rules.specs.declared.note.Seen.{Seen as TheSeen};
 ghost use Rattle.mq_rules.specs.Words.{is_some_and, is_id};
-ghost use Rattle.mq_rules.specs.Notes.{sends_auth as sends_an_auth, sent_connack as connack_of, qos_number as number_of};
+ghost use Rattle.mq_rules.specs.Notes.{sends_auth as sends_an_auth, sent_connack as connack_of, sent_disconnect as disconnect_of, sent_publish as publish_of, sent_receipt_code as receipt_code_of, sent_wishes as wishes_of, qos_number as number_of};
+ghost use Rattle.mq_rules.specs.FurtherPasts as pasts;
 ghost use Rattle.mq_rules.specs.FurtherPasts.{will_in, lacks_method};
 ghost use Rattle.mq_rules.specs.Growing.{Judges, JudgesWithin};
 ghost use Rattle.mq_rules.specs.Keeping.{is_among};
 ghost use Rattle.mq_rules.specs.Manners as keeping;
-ghost use Rattle.mq_rules.specs.Manners.{CountsManners, IsManners, connect_after, further_verdicts};
+ghost use Rattle.mq_rules.specs.Manners.{CountsManners, IsManners, connack_after, connect_after, further_verdicts};
 ghost use Rattle.mq_rules.specs.Occasions.{places};
 ghost use Rattle.mq_rules.specs.Statements.{is_on_further};
 ghost use Rattle.mq_rules.specs.Steps.{turns};
@@ -27,7 +29,7 @@ use crate::packet_note::{ConnackNote, ConnectNote, PacketFields, WillNote};
 use crate::qos::qos_number;
 use crate::role::{Role, Tested};
 use crate::rule::Rule;
-use crate::watch::{Brisk, Watch};
+use crate::watch::{Brisk, Watch, step_apart};
 use mq_log::Place3;
 
 /// The Reason Code QoS not supported of a CONNACK (MQTT 5.0, section 3.2.2.2).
@@ -36,8 +38,15 @@ const QOS_NOT_SUPPORTED: u8 = 0x9B;
 /// The Reason Code Retain not supported of a CONNACK (MQTT 5.0, section 3.2.2.2).
 const RETAIN_NOT_SUPPORTED: u8 = 0x9A;
 
-/// Watches F05, F06 and A02, if the further statements are asked for. It takes in each event of a
-/// log.
+/// The Reason Code No matching subscribers of a PUBACK or PUBREC (MQTT 5.0, sections 3.4.2.1 and
+/// 3.5.2.1).
+const NO_MATCH: u8 = 0x10;
+
+/// The Reason Code Disconnect with Will Message of a DISCONNECT (MQTT 5.0, section 3.14.2.1).
+const WITH_WILL: u8 = 0x04;
+
+/// Watches F01 to F06, V03, V04, V06 and A02, if the further statements are asked for. It takes in
+/// each event of a log.
 #[derive(Drop)]
 pub struct Manners {
     role: Role,
@@ -45,6 +54,8 @@ pub struct Manners {
     further: bool,
     /// The client's first CONNECT on the latest connection.
     connect: Option<ConnectNote>,
+    /// The server's first CONNACK there.
+    connack: Option<ConnackNote>,
 }
 
 impl Manners {
@@ -56,25 +67,28 @@ impl Manners {
             role: tested.role,
             further: tested.further,
             connect: None,
+            connack: None,
         }
     }
 
     // Takes in an event.
     fn consume(&mut self, note: &Note)
-        ensures { self.new ≡ record { role = self.old.role; further = self.old.further; connect = connect_after self.old.role self.old.connect note.now } }
+        ensures { self.new ≡ record { role = self.old.role; further = self.old.further; connect = connect_after self.old.role self.old.connect note.now; connack = connack_after self.old.role self.old.connack note.now } }
     {
         if note.is_open() {
             self.connect = None;
+            self.connack = None;
         }
         self.connect = self.connect.or(note.connect(self.role).copied());
+        self.connack = self.connack.or(note.connack(self.role).copied());
     }
 
     // Judges an event, and then takes it in.
     #[inline(never)]
     fn take(&mut self, place: Place3, note: &Note, faults: &mut Faults) -> Result<(), Memory>
-        ensures kept { OnOk result (self.new ≡ record { role = self.old.role; further = self.old.further; connect = connect_after self.old.role self.old.connect note.now }) }
-        ensures ok { OnOk result (Judges (is_among (further_verdicts self.old.role self.old.connect note.now)) place faults.old faults.new) }
-        ensures memory { OnErr result (JudgesWithin (is_among (further_verdicts self.old.role self.old.connect note.now)) place faults.old faults.new) }
+        ensures kept { OnOk result (self.new ≡ record { role = self.old.role; further = self.old.further; connect = connect_after self.old.role self.old.connect note.now; connack = connack_after self.old.role self.old.connack note.now }) }
+        ensures ok { OnOk result (Judges (is_among (further_verdicts self.old.role self.old.connect self.old.connack note.now)) place faults.old faults.new) }
+        ensures memory { OnErr result (JudgesWithin (is_among (further_verdicts self.old.role self.old.connect self.old.connack note.now)) place faults.old faults.new) }
     {
         self.judge(place, note, faults)?;
         self.consume(note);
@@ -83,11 +97,14 @@ impl Manners {
 
     // Judges an event by what is kept.
     fn judge(&self, place: Place3, note: &Note, faults: &mut Faults) -> Result<(), Memory>
-        ensures ok { OnOk result (Judges (is_among (further_verdicts self.now.role self.now.connect note.now)) place faults.old faults.new) }
-        ensures memory { OnErr result (JudgesWithin (is_among (further_verdicts self.now.role self.now.connect note.now)) place faults.old faults.new) }
+        ensures ok { OnOk result (Judges (is_among (further_verdicts self.now.role self.now.connect self.now.connack note.now)) place faults.old faults.new) }
+        ensures memory { OnErr result (JudgesWithin (is_among (further_verdicts self.now.role self.now.connect self.now.connack note.now)) place faults.old faults.new) }
     {
         match self.role {
-            Role::Client => judge_each(place, &client_verdicts(self.connect, note), faults),
+            Role::Client => {
+                let verdicts = client_verdicts(self.connect, self.connack, note);
+                judge_each(place, &verdicts, faults)
+            }
             Role::Server => judge_each(place, &server_verdicts(self.connect, note), faults),
         }
     }
@@ -119,29 +136,209 @@ impl Watch for Manners {
 }
 
 impl Brisk for Manners {
-    // They are about no packet without properties.
     #[inline(always)]
-    fn step_bare(&mut self, _: Place3, _: Bare<'_>, _: &mut Faults) -> Result<(), Memory> {
+    fn step_bare(&mut self, at: Place3, bare: Bare<'_>, faults: &mut Faults) -> Result<(), Memory> {
+        if !self.further {
+            return Ok(());
+        }
+        step_apart(self, at, bare, faults)?;
         Ok(())
     }
 }
 
-// The statements on what a client sends, after this CONNECT.
-fn client_verdicts(connect: Option<ConnectNote>, note: &Note) -> [Verdict; 1]
-    ensures { result ≡ further_verdicts roles.Client connect note.now }
+// The statements on what a client sends, after this CONNECT and this CONNACK.
+fn client_verdicts(
+    connect: Option<ConnectNote>,
+    connack: Option<ConnackNote>,
+    note: &Note,
+) -> [Verdict; 8]
+    ensures { result ≡ further_verdicts roles.Client connect connack note.now }
 {
-    [(Rule::A02, sends_auth(note) && has_no_method(connect))]
+    [
+        (Rule::F01, retains_anew(note) && lacks_retain(connack)),
+        (Rule::F02, uses_wildcard(note) && lacks_wildcards(connack)),
+        (
+            Rule::F03,
+            uses_identifier(note) && lacks_identifiers(connack),
+        ),
+        (Rule::F04, asks_to_share(note) && lacks_shares(connack)),
+        (Rule::V03, misnames_share(note)),
+        (Rule::V04, shares_with_no_local(note)),
+        (Rule::V06, sends_code_of_servers(note)),
+        (Rule::A02, sends_auth(note) && has_no_method(connect)),
+    ]
 }
 
-// The statements on what a server sends, after this CONNECT.
-fn server_verdicts(connect: Option<ConnectNote>, note: &Note) -> [Verdict; 3]
-    ensures { result ≡ further_verdicts roles.Server connect note.now }
+// The statements on what a server sends, after this CONNECT. None looks at the CONNACK before.
+fn server_verdicts(connect: Option<ConnectNote>, note: &Note) -> [Verdict; 4]
+    ensures { result ≡ further_verdicts roles.Server connect None note.now }
 {
     [
         (Rule::F05, breaks_f05(connect, note)),
         (Rule::F06, breaks_f06(connect, note)),
+        (Rule::V06, sends_code_of_clients(note)),
         (Rule::A02, breaks_a02(connect, note)),
     ]
+}
+
+// Whether a PUBLISH with DUP 0 is sent.
+fn publishes_anew(note: &Note) -> bool
+    ensures { result ≡ is_some_and (λ p. not p.duplicate) (publish_of note.now) }
+{
+    match note.sent_publish() {
+        Some(publish) => !publish.duplicate,
+        None => false,
+    }
+}
+
+// F01: whether a PUBLISH with DUP 0 and RETAIN 1 is sent.
+fn retains_anew(note: &Note) -> bool
+    ensures { result ≡ is_some_and (λ p. not p.duplicate && p.retain) (publish_of note.now) }
+{
+    match note.sent_publish() {
+        Some(publish) => !publish.duplicate && publish.retain,
+        None => false,
+    }
+}
+
+// F02: whether a SUBSCRIBE with a wildcard is sent.
+fn uses_wildcard(note: &Note) -> bool
+    ensures { result ≡ is_some_and (λ w. w.has_wildcard) (wishes_of note.now) }
+{
+    match note.sent_wishes() {
+        Some(wishes) => wishes.has_wildcard,
+        None => false,
+    }
+}
+
+// F03: whether a SUBSCRIBE with a Subscription Identifier is sent.
+fn uses_identifier(note: &Note) -> bool
+    ensures { result ≡ is_some_and (λ w. w.has_subscription_identifier) (wishes_of note.now) }
+{
+    match note.sent_wishes() {
+        Some(wishes) => wishes.has_subscription_identifier,
+        None => false,
+    }
+}
+
+// F04, V03 and V04: whether a SUBSCRIBE is sent that asks for a shared subscription.
+fn asks_to_share(note: &Note) -> bool
+    ensures { result ≡ is_some_and (λ w. w.has_share) (wishes_of note.now) }
+{
+    match note.sent_wishes() {
+        Some(wishes) => wishes.has_share,
+        None => false,
+    }
+}
+
+// V03: whether it asks for one that has no valid name, or no filter.
+fn misnames_share(note: &Note) -> bool
+    ensures { result ≡ keeping.finds_V03 note.now }
+{
+    match note.sent_wishes() {
+        Some(wishes) => wishes.has_share && wishes.has_misnamed_share,
+        None => false,
+    }
+}
+
+// V04: whether it asks for one with No Local 1.
+fn shares_with_no_local(note: &Note) -> bool
+    ensures { result ≡ keeping.finds_V04 note.now }
+{
+    match note.sent_wishes() {
+        Some(wishes) => wishes.has_share && wishes.has_no_local_share,
+        None => false,
+    }
+}
+
+// Whether the server keeps no retained messages.
+fn lacks_retain(connack: Option<ConnackNote>) -> bool
+    ensures { result ≡ pasts.lacks_retain connack }
+{
+    match connack {
+        Some(connack) => connack.retain_available == Some(0),
+        None => false,
+    }
+}
+
+// Whether the server takes no wildcards.
+fn lacks_wildcards(connack: Option<ConnackNote>) -> bool
+    ensures { result ≡ pasts.lacks_wildcards connack }
+{
+    match connack {
+        Some(connack) => connack.wildcard_subscription_available == Some(0),
+        None => false,
+    }
+}
+
+// Whether the server takes no Subscription Identifiers.
+fn lacks_identifiers(connack: Option<ConnackNote>) -> bool
+    ensures { result ≡ pasts.lacks_identifiers connack }
+{
+    match connack {
+        Some(connack) => connack.subscription_identifier_available == Some(0),
+        None => false,
+    }
+}
+
+// Whether the server takes no shared subscriptions.
+fn lacks_shares(connack: Option<ConnackNote>) -> bool
+    ensures { result ≡ pasts.lacks_shares connack }
+{
+    match connack {
+        Some(connack) => connack.shared_subscription_available == Some(0),
+        None => false,
+    }
+}
+
+// Whether only a server may send this Reason Code in a DISCONNECT.
+fn is_code_of_servers(code: u8) -> bool
+    ensures { result ≡ pasts.is_code_of_servers code }
+{
+    code == 0x87
+        || code == 0x89
+        || code == 0x8B
+        || code == 0x8D
+        || code == 0x8E
+        || code == 0x8F
+        || (code >= 0x9A && code <= 0xA2)
+}
+
+// V06, of a client: whether a Reason Code is sent that only a server may send.
+fn sends_code_of_servers(note: &Note) -> bool
+    ensures { result ≡ keeping.finds_V06 roles.Client note.now }
+{
+    disconnects_as_server(note) || receives_as_server(note)
+}
+
+// Whether a DISCONNECT is sent with a Reason Code of servers.
+fn disconnects_as_server(note: &Note) -> bool
+    ensures { result ≡ is_some_and (λ d. pasts.is_code_of_servers d.code) (disconnect_of note.now) }
+{
+    match note.sent_disconnect() {
+        Some(disconnect) => is_code_of_servers(disconnect.code),
+        None => false,
+    }
+}
+
+// Whether a PUBACK or PUBREC is sent with the Reason Code of servers.
+fn receives_as_server(note: &Note) -> bool
+    ensures { result ≡ is_some_and pasts.is_receipt_of_servers (receipt_code_of note.now) }
+{
+    match note.sent_receipt_code() {
+        Some(code) => code == NO_MATCH,
+        None => false,
+    }
+}
+
+// V06, of a server: whether a DISCONNECT is sent with a Reason Code of clients.
+fn sends_code_of_clients(note: &Note) -> bool
+    ensures { result ≡ keeping.finds_V06 roles.Server note.now }
+{
+    match note.sent_disconnect() {
+        Some(disconnect) => disconnect.code == WITH_WILL,
+        None => false,
+    }
 }
 
 // F05: a CONNACK accepts, and announces a Maximum QoS below the Will QoS.
@@ -233,22 +430,122 @@ fn will(connect: Option<ConnectNote>) -> Option<WillNote>
 /// How often each further statement on the past of a connection was put to the test.
 #[derive(Clone, Copy, Debug, PartialEq, Eq)]
 struct MannersPlaces {
+    f01: u32,
+    f02: u32,
+    f03: u32,
+    f04: u32,
     f05: u32,
     f06: u32,
+    v03: u32,
+    v04: u32,
+    v06: u32,
     a02: u32,
 }
 
 impl MannersPlaces {
-    // Counts the statements that an event puts to the test, at an end of this role and after this
-    // CONNECT.
-    fn count(&mut self, role: Role, connect: Option<ConnectNote>, note: &Note, position: u32)
-        ensures f05 { self.old.f05 < position → self.new.f05 ≡ cond (keeping.tries_F05 role connect note.now) 1 0 + self.old.f05 }
-        ensures f06 { self.old.f06 < position → self.new.f06 ≡ cond (keeping.tries_F06 role connect note.now) 1 0 + self.old.f06 }
-        ensures a02 { self.old.a02 < position → self.new.a02 ≡ cond (keeping.tries_A02 role connect note.now) 1 0 + self.old.a02 }
+    // The counts of nothing.
+    fn none() -> MannersPlaces
+        ensures { result ≡ record { f01 = 0; f02 = 0; f03 = 0; f04 = 0; f05 = 0; f06 = 0; v03 = 0; v04 = 0; v06 = 0; a02 = 0 } }
     {
+        MannersPlaces {
+            f01: 0,
+            f02: 0,
+            f03: 0,
+            f04: 0,
+            f05: 0,
+            f06: 0,
+            v03: 0,
+            v04: 0,
+            v06: 0,
+            a02: 0,
+        }
+    }
+
+    // Counts the statements that an event puts to the test, by what is kept before it.
+    fn count(&mut self, manners: &Manners, note: &Note, position: u32)
+        ensures f01 { self.old.f01 < position → self.new.f01 ≡ cond (keeping.tries_F01 manners.now.role manners.now.connack note.now) 1 0 + self.old.f01 }
+        ensures f02 { self.old.f02 < position → self.new.f02 ≡ cond (keeping.tries_F02 manners.now.role manners.now.connack note.now) 1 0 + self.old.f02 }
+        ensures f03 { self.old.f03 < position → self.new.f03 ≡ cond (keeping.tries_F03 manners.now.role manners.now.connack note.now) 1 0 + self.old.f03 }
+        ensures f04 { self.old.f04 < position → self.new.f04 ≡ cond (keeping.tries_F04 manners.now.role manners.now.connack note.now) 1 0 + self.old.f04 }
+        ensures f05 { self.old.f05 < position → self.new.f05 ≡ cond (keeping.tries_F05 manners.now.role manners.now.connect note.now) 1 0 + self.old.f05 }
+        ensures f06 { self.old.f06 < position → self.new.f06 ≡ cond (keeping.tries_F06 manners.now.role manners.now.connect note.now) 1 0 + self.old.f06 }
+        ensures v03 { self.old.v03 < position → self.new.v03 ≡ cond (keeping.tries_shares manners.now.role note.now) 1 0 + self.old.v03 }
+        ensures v04 { self.old.v04 < position → self.new.v04 ≡ cond (keeping.tries_shares manners.now.role note.now) 1 0 + self.old.v04 }
+        ensures v06 { self.old.v06 < position → self.new.v06 ≡ cond (keeping.tries_V06 manners.now.role note.now) 1 0 + self.old.v06 }
+        ensures a02 { self.old.a02 < position → self.new.a02 ≡ cond (keeping.tries_A02 manners.now.role manners.now.connect note.now) 1 0 + self.old.a02 }
+    {
+        let role = manners.role;
+        let (connect, connack) = (manners.connect, manners.connack);
+        self.f01 = places_after(tries_f01(role, connack, note), self.f01, position);
+        self.f02 = places_after(tries_f02(role, connack, note), self.f02, position);
+        self.f03 = places_after(tries_f03(role, connack, note), self.f03, position);
+        self.f04 = places_after(tries_f04(role, connack, note), self.f04, position);
         self.f05 = places_after(tries_f05(role, connect, note), self.f05, position);
         self.f06 = places_after(tries_f06(role, connect, note), self.f06, position);
+        self.v03 = places_after(tries_shares(role, note), self.v03, position);
+        self.v04 = places_after(tries_shares(role, note), self.v04, position);
+        self.v06 = places_after(tries_v06(role, note), self.v06, position);
         self.a02 = places_after(tries_a02(role, connect, note), self.a02, position);
+    }
+}
+
+// Whether an event puts F01 to the test.
+fn tries_f01(role: Role, connack: Option<ConnackNote>, note: &Note) -> bool
+    ensures { result ≡ keeping.tries_F01 role connack note.now }
+{
+    match role {
+        Role::Client => publishes_anew(note) && lacks_retain(connack),
+        Role::Server => false,
+    }
+}
+
+// Whether an event puts F02 to the test.
+fn tries_f02(role: Role, connack: Option<ConnackNote>, note: &Note) -> bool
+    ensures { result ≡ keeping.tries_F02 role connack note.now }
+{
+    match role {
+        Role::Client => note.sent_wishes().is_some() && lacks_wildcards(connack),
+        Role::Server => false,
+    }
+}
+
+// Whether an event puts F03 to the test.
+fn tries_f03(role: Role, connack: Option<ConnackNote>, note: &Note) -> bool
+    ensures { result ≡ keeping.tries_F03 role connack note.now }
+{
+    match role {
+        Role::Client => note.sent_wishes().is_some() && lacks_identifiers(connack),
+        Role::Server => false,
+    }
+}
+
+// Whether an event puts F04 to the test.
+fn tries_f04(role: Role, connack: Option<ConnackNote>, note: &Note) -> bool
+    ensures { result ≡ keeping.tries_F04 role connack note.now }
+{
+    match role {
+        Role::Client => note.sent_wishes().is_some() && lacks_shares(connack),
+        Role::Server => false,
+    }
+}
+
+// Whether an event puts V03 and V04 to the test.
+fn tries_shares(role: Role, note: &Note) -> bool
+    ensures { result ≡ keeping.tries_shares role note.now }
+{
+    match role {
+        Role::Client => asks_to_share(note),
+        Role::Server => false,
+    }
+}
+
+// Whether an event puts V06 to the test.
+fn tries_v06(role: Role, note: &Note) -> bool
+    ensures { result ≡ keeping.tries_V06 role note.now }
+{
+    match role {
+        Role::Client => note.sent_disconnect().is_some() || note.sent_receipt_code().is_some(),
+        Role::Server => note.sent_disconnect().is_some(),
     }
 }
 
@@ -307,7 +604,7 @@ fn tries_a02(role: Role, connect: Option<ConnectNote>, note: &Note) -> bool
     }
 }
 
-/// The watcher of F05, F06 and A02, and how often each of them was put to the test.
+/// The watcher of the same statements, and how often each of them was put to the test.
 #[derive(Drop)]
 pub struct CountingManners {
     manners: Manners,
@@ -321,11 +618,7 @@ impl CountingManners {
     {
         CountingManners {
             manners: Manners::new(tested),
-            places: MannersPlaces {
-                f05: 0,
-                f06: 0,
-                a02: 0,
-            },
+            places: MannersPlaces::none(),
         }
     }
 
@@ -333,11 +626,32 @@ impl CountingManners {
     pub fn places(&self, rule: Rule) -> Option<u32>
         ensures { (tested : TheTested) (taken : Option TheFate) (past : List TheSeen) → ⟦<CountingManners as Watch>⟧.agrees self.now tested taken past → result ≡ cond (is_on_further tested rule) (Some (places tested past rule)) None }
     {
+        if rule == Rule::F01 {
+            return Some(self.places.f01);
+        }
+        if rule == Rule::F02 {
+            return Some(self.places.f02);
+        }
+        if rule == Rule::F03 {
+            return Some(self.places.f03);
+        }
+        if rule == Rule::F04 {
+            return Some(self.places.f04);
+        }
         if rule == Rule::F05 {
             return Some(self.places.f05);
         }
         if rule == Rule::F06 {
             return Some(self.places.f06);
+        }
+        if rule == Rule::V03 {
+            return Some(self.places.v03);
+        }
+        if rule == Rule::V04 {
+            return Some(self.places.v04);
+        }
+        if rule == Rule::V06 {
+            return Some(self.places.v06);
         }
         if rule == Rule::A02 {
             return Some(self.places.a02);
@@ -361,9 +675,7 @@ impl Watch for CountingManners {
         if !self.manners.further {
             return Ok(());
         }
-        let manners = &self.manners;
-        self.places
-            .count(manners.role, manners.connect, note, at.position);
+        self.places.count(&self.manners, note, at.position);
         self.manners.take(at, note, faults)?;
         Ok(())
     }
@@ -375,7 +687,11 @@ impl Watch for CountingManners {
 
 impl Brisk for CountingManners {
     #[inline(always)]
-    fn step_bare(&mut self, _: Place3, _: Bare<'_>, _: &mut Faults) -> Result<(), Memory> {
+    fn step_bare(&mut self, at: Place3, bare: Bare<'_>, faults: &mut Faults) -> Result<(), Memory> {
+        if !self.manners.further {
+            return Ok(());
+        }
+        step_apart(self, at, bare, faults)?;
         Ok(())
     }
 }

@@ -124,8 +124,15 @@ impl Rule {
             Rule::B02 => "A PUBLISH from the server isn't at a QoS above what was granted.",
             Rule::B03 => "A SUBACK has a Reason Code for each filter.",
             Rule::B04 => "An UNSUBACK has a Reason Code for each filter.",
+            Rule::F01 => "A new PUBLISH has RETAIN 0 where Retain Available is 0.",
+            Rule::F02 => "No filter has a wildcard where the server takes none.",
+            Rule::F03 => "No SUBSCRIBE has a Subscription Identifier where the server takes none.",
+            Rule::F04 => "No SUBSCRIBE has a shared filter where the server takes none.",
             Rule::F05 => "A Will QoS above the announced Maximum QoS is refused.",
             Rule::F06 => "A Will with Will Retain 1 is refused where Retain Available is 0.",
+            Rule::V03 => "A shared filter has a name without wildcards, and a filter after it.",
+            Rule::V04 => "No Local is 0 for a shared filter.",
+            Rule::V06 => "A Reason Code is one that this end may send.",
             Rule::A02 =>
                 "Without an Authentication Method in CONNECT there is no enhanced authentication.",
         }

@@ -8,7 +8,7 @@ ghost use Rattle.mq_rules.specs.Identifiers.{taken_by};
 
 use crate::fate::Fate;
 use crate::packet_note::{
-    ConnackNote, ConnectNote, DisconnectNote, PacketFields, PacketNote, PublishNote,
+    ConnackNote, ConnectNote, DisconnectNote, PacketFields, PacketNote, PublishNote, WishesNote,
 };
 use crate::role::Role;
 use mq_log::Place3;
@@ -353,6 +353,22 @@ impl Note {
         ensures { result ≡ notes.sent_disconnect self.now }
     {
         self.sent_fields()?.disconnect()
+    }
+
+    /// What a SUBSCRIBE that the tested end sent asks for.
+    #[inline]
+    pub fn sent_wishes(&self) -> Option<WishesNote>
+        ensures { result ≡ notes.sent_wishes self.now }
+    {
+        self.sent_fields()?.wishes()
+    }
+
+    /// The Reason Code of a PUBACK or PUBREC that the tested end sent.
+    #[inline]
+    pub fn sent_receipt_code(&self) -> Option<u8>
+        ensures { result ≡ notes.sent_receipt_code self.now }
+    {
+        self.sent_fields()?.receipt_code()
     }
 
     /// The CONNACK that the tested end sent.

@@ -41,9 +41,11 @@ fn copy_fields(alloc: Global, fields: &PacketFields) -> Result<PacketFields, Mem
         PacketFields::Subscribe {
             identifier,
             filters,
+            wishes,
         } => PacketFields::Subscribe {
             identifier: *identifier,
             filters: filters.copy(alloc)?,
+            wishes: *wishes,
         },
         PacketFields::Suback { identifier, codes } => PacketFields::Suback {
             identifier: *identifier,

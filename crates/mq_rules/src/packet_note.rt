@@ -2,7 +2,7 @@
 ghost use Rattle.std.specs.Prelude.{◌≡◌, ◌==◌, option_map, not, Some};
 ghost use Rattle.std.specs.Option.{option_and_then, option_or};
 ghost use Rattle.mq_rules.specs.Words.{only};
-ghost use Rattle.mq_rules.specs.Notes.{fate_by, resumed_by, refuses as is_refusing, is_acknowledged, delivery_in, opener_in, resend_in, is_at_least_once, is_exactly_once, fields_type, connect_in, connack_in, publish_in, disconnect_in, puback_in, pubrec_in, accepting_pubrec_in, pubrel_in, pubcomp_in, subscribe_in, suback_in, unsubscribe_in, unsuback_in, settled_in, ended_in, unmatched_pubrec_in, success_pubcomp_in, is_pingreq as pings, is_pingresp as answers_ping, is_session_packet as needs_a_session, may_explain as explains};
+ghost use Rattle.mq_rules.specs.Notes.{fate_by, resumed_by, refuses as is_refusing, is_acknowledged, delivery_in, opener_in, resend_in, is_at_least_once, is_exactly_once, fields_type, connect_in, connack_in, publish_in, disconnect_in, wishes_in, receipt_code_in, puback_in, pubrec_in, accepting_pubrec_in, pubrel_in, pubcomp_in, subscribe_in, suback_in, unsubscribe_in, unsuback_in, settled_in, ended_in, unmatched_pubrec_in, success_pubcomp_in, is_pingreq as pings, is_pingresp as answers_ping, is_session_packet as needs_a_session, may_explain as explains};
 
 use crate::fate::Fate;
 use crate::text::{CodeList, FilterList, Text};
@@ -68,6 +68,12 @@ pub struct ConnackNote {
     pub maximum_qos: Option<u8>,
     /// The Retain Available, 0 or 1.
     pub retain_available: Option<u8>,
+    /// The Wildcard Subscription Available, 0 or 1.
+    pub wildcard_subscription_available: Option<u8>,
+    /// The Subscription Identifier Available, 0 or 1.
+    pub subscription_identifier_available: Option<u8>,
+    /// The Shared Subscription Available, 0 or 1.
+    pub shared_subscription_available: Option<u8>,
     /// The Maximum Packet Size, in bytes; not 0.
     pub maximum_packet_size: Option<u32>,
     /// Whether it has an Assigned Client Identifier.
@@ -87,8 +93,7 @@ pub struct PublishNote {
     pub qos: Qos,
     /// The DUP flag.
     pub duplicate: bool,
-    /// The RETAIN flag of a PUBLISH whose QoS is above 0. It is false for one of QoS 0, since no
-    /// statement looks at it.
+    /// The RETAIN flag.
     pub retain: bool,
     /// The Topic Name of a PUBLISH that the tested end sent, empty if a Topic Alias stands for it.
     /// It is also empty for a PUBLISH that the tested end received, since no statement looks at it.
@@ -104,8 +109,25 @@ pub struct PublishNote {
 /// What the statements look at in a DISCONNECT (MQTT 5.0, section 3.14).
 #[derive(Clone, Copy, Debug, PartialEq, Eq)]
 pub struct DisconnectNote {
+    /// The Reason Code.
+    pub code: u8,
     /// The Session Expiry Interval, in seconds.
     pub session_expiry: Option<u32>,
+}
+
+/// What a SUBSCRIBE asks for (MQTT 5.0, sections 3.8.2.1.2 and 3.8.3).
+#[derive(Clone, Copy, Debug, PartialEq, Eq)]
+pub struct WishesNote {
+    /// Whether a filter has a wildcard; one of a shared subscription, after its name.
+    pub has_wildcard: bool,
+    /// Whether it has a Subscription Identifier.
+    pub has_subscription_identifier: bool,
+    /// Whether a filter asks for a shared subscription: it begins with `$share/`.
+    pub has_share: bool,
+    /// Whether the name of a shared subscription is empty or has a wildcard, or no filter follows.
+    pub has_misnamed_share: bool,
+    /// Whether No Local is 1 for a shared subscription.
+    pub has_no_local_share: bool,
 }
 
 /// What the statements look at in a packet, by its type (MQTT 5.0, section 2.1.2).
@@ -152,6 +174,9 @@ pub enum PacketFields {
         /// The Topic Filters of a SUBSCRIBE that the tested end received. It is empty for one that
         /// the tested end sent, since no statement looks at them.
         filters: FilterList,
+        /// What a SUBSCRIBE that the tested end sent asks for. It is nothing for one that the
+        /// tested end received, since no statement looks at it.
+        wishes: WishesNote,
     },
     /// SUBACK.
     Suback {
@@ -410,6 +435,28 @@ impl PacketFields {
     {
         match self {
             PacketFields::Disconnect(note) => Some(*note),
+            _ => None,
+        }
+    }
+
+    /// What a SUBSCRIBE asks for.
+    #[inline]
+    pub fn wishes(&self) -> Option<WishesNote>
+        ensures { result ≡ wishes_in self.now }
+    {
+        match self {
+            PacketFields::Subscribe { wishes, .. } => Some(*wishes),
+            _ => None,
+        }
+    }
+
+    /// The Reason Code of a PUBACK or PUBREC (MQTT 5.0, sections 3.4.2.1 and 3.5.2.1).
+    #[inline]
+    pub fn receipt_code(&self) -> Option<u8>
+        ensures { result ≡ receipt_code_in self.now }
+    {
+        match self {
+            PacketFields::Puback { code, .. } | PacketFields::Pubrec { code, .. } => Some(*code),
             _ => None,
         }
     }

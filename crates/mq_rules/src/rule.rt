@@ -173,10 +173,27 @@ pub enum Rule {
     B03,
     /// An UNSUBACK has a Reason Code for each filter (MQTT 5.0, section 3.11.3).
     B04,
+    /// A new PUBLISH has RETAIN 0 where Retain Available is 0 (MQTT 5.0, section 3.2.2.3.5).
+    F01,
+    /// No filter has a wildcard where the server takes none (MQTT 5.0, section 3.2.2.3.11).
+    F02,
+    /// No SUBSCRIBE has a Subscription Identifier where the server takes none (MQTT 5.0, section
+    /// 3.2.2.3.12).
+    F03,
+    /// No SUBSCRIBE has a shared filter where the server takes none (MQTT 5.0, section 3.2.2.3.13).
+    F04,
     /// A Will QoS above the announced Maximum QoS is refused (MQTT 5.0, section 3.2.2.3.4).
     F05,
-    /// A Will with Will Retain 1 is refused where Retain Available is 0 (MQTT 5.0, section 3.2.2.3.5).
+    /// A Will with Will Retain 1 is refused where Retain Available is 0 (MQTT 5.0, section
+    /// 3.2.2.3.5).
     F06,
+    /// A shared filter has a name without wildcards, and a filter after it (MQTT 5.0, section
+    /// 4.8.2).
+    V03,
+    /// No Local is 0 for a shared filter (MQTT 5.0, section 3.8.3.1).
+    V04,
+    /// A Reason Code is one that this end may send (MQTT 5.0, sections 3.4.2.1 and 3.14.2.1).
+    V06,
     /// Without an Authentication Method in CONNECT there is no enhanced authentication (MQTT 5.0,
     /// section 4.12).
     A02,

@@ -37,7 +37,7 @@ pub enum Judged {
 pub type Row = (Rule, &'static str, Ends, &'static str, &'static str, Judged);
 
 /// Each statement's row, in the order of reports.
-pub const TABLE: [Row; 77] = [
+pub const TABLE: [Row; 84] = [
     (W01, "W01", Both, "MQTT-2.1.3-1", "MQTT-2.1.3-1", Always),
     (W02, "W02", Both, "sec-2.1.2", "sec-2.1.2", Always),
     (W03, "W03", Both, "MQTT-1.5.5-1", "MQTT-1.5.5-1", Always),
@@ -140,8 +140,29 @@ pub const TABLE: [Row; 77] = [
     (B02, "B02", OnlyServer, "", "MQTT-3.8.4-8", Always),
     (B03, "B03", OnlyServer, "", "MQTT-3.8.4-6", Always),
     (B04, "B04", OnlyServer, "", "sec-3.11.3", Always),
+    (F01, "F01", OnlyClient, "MQTT-3.2.2-14", "", OnRequest),
+    (F02, "F02", OnlyClient, "sec-3.2.2.3.11", "", OnRequest),
+    (F03, "F03", OnlyClient, "sec-3.2.2.3.12", "", OnRequest),
+    (F04, "F04", OnlyClient, "sec-3.2.2.3.13", "", OnRequest),
     (F05, "F05", OnlyServer, "", "MQTT-3.2.2-12", OnRequest),
     (F06, "F06", OnlyServer, "", "MQTT-3.2.2-13", OnRequest),
+    (
+        V03,
+        "V03",
+        OnlyClient,
+        "MQTT-4.8.2-1,MQTT-4.8.2-2",
+        "",
+        OnRequest,
+    ),
+    (V04, "V04", OnlyClient, "MQTT-3.8.3-4", "", OnRequest),
+    (
+        V06,
+        "V06",
+        Both,
+        "sec-3.14.2.1,sec-3.4.2.1",
+        "sec-3.14.2.1",
+        OnRequest,
+    ),
     (
         A02,
         "A02",
@@ -153,7 +174,7 @@ pub const TABLE: [Row; 77] = [
 ];
 
 /// The statements, in the order of reports.
-const RULES: [Rule; 77] = [
+const RULES: [Rule; 84] = [
     Rule::W01,
     Rule::W02,
     Rule::W03,
@@ -228,8 +249,15 @@ const RULES: [Rule; 77] = [
     Rule::B02,
     Rule::B03,
     Rule::B04,
+    Rule::F01,
+    Rule::F02,
+    Rule::F03,
+    Rule::F04,
     Rule::F05,
     Rule::F06,
+    Rule::V03,
+    Rule::V04,
+    Rule::V06,
     Rule::A02,
 ];
 

@@ -46,7 +46,8 @@ pub trait Watch {
         ensures grows { OnOk result ((tested : Tested) (taken : Option Fate) (past : List Seen) → Follows tested (seen at note.now) past → takes tested taken (seen at note.now) past → agrees self.old tested taken past → Gains (adds tested (seen at note.now) past) tested (seen at note.now ∷ past) (length past + 1) faults.old faults.new) }
         ensures memory { OnErr result ((tested : Tested) (taken : Option Fate) (past : List Seen) → Follows tested (seen at note.now) past → takes tested taken (seen at note.now) past → agrees self.old tested taken past → GainsWithin (adds tested (seen at note.now) past) tested (seen at note.now ∷ past) (length past + 1) faults.old faults.new) };
 
-    /// The sum of the lengths of all collections that it keeps; the greatest number if that is less.
+    /// The sum of the lengths of all collections that it keeps; the greatest number if that is
+    /// less.
     fn weight(&self) -> usize
         ensures exact { result ≡ in_word (weighs self.now) }
         ensures bounded { (tested : Tested) (taken : Option Fate) (past : List Seen) → agrees self.now tested taken past → result ≤ bound tested taken past };
@@ -73,7 +74,8 @@ pub fn step_noted<W: Watch>(
     Ok(())
 }
 
-/// The same as a call of its own: the note then lies in memory, which costs nothing where it isn't called.
+/// The same as a call of its own: the note then lies in memory, which costs nothing where it isn't
+/// called.
 ///
 /// # Errors
 ///

@@ -38,8 +38,8 @@ pub fn places_grow()
     ensures most { (tested : Tested) (log : List Seen) (rule : Rule) → places tested log rule ≤ length log }
 {}
 
-/// Where an event can only be a place itself, as it is with a statement on the past of a connection,
-/// there is one place more or none.
+/// Where an event can only be a place itself, as it is with a statement on the past of a
+/// connection, there is one place more or none.
 pub fn places_by_one()
     ensures once { (tested : Tested) (rule : Rule) (e : Seen) (past : List Seen) (here : Bool) → ((k : ℕ) → adds_place tested e past k rule ≡ (is_next past k && here)) → places tested (e ∷ past) rule ≡ cond here 1 0 + places tested past rule }
     ensures past { (tested : Tested) (rule : Rule) (test : Moment → Bool) (e : Seen) (past : List Seen) → occasion tested.role rule ≡ Some (on_past test) → places tested (e ∷ past) rule ≡ cond (binds rule tested && test (newest e past)) 1 0 + places tested past rule }

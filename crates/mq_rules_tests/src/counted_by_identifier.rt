@@ -1,5 +1,5 @@
-//! The table by Packet Identifiers that knows its size: its size, the order of its values, and pages
-//! that lose their last value while others get their first.
+//! The table by Packet Identifiers that knows its size: its size, the order of its values, and
+//! pages that lose their last value while others get their first.
 use mq_rules::{CountedByIdentifier, Memory};
 use std::alloc::Global;
 

@@ -1,6 +1,6 @@
-//! Tests alone, of `mq_rules`: short logs whose faults and places are computed from its definitions,
-//! and its tables by Packet Identifiers. They stand in a crate of their own, so that the crates above
-//! `mq_rules` don't wait for them.
+//! Tests alone, of `mq_rules`: short logs whose faults and places are computed from its
+//! definitions, and what filters ask for; and its tables by Packet Identifiers. They stand in a
+//! crate of their own, so that the crates above `mq_rules` don't wait for them.
 #![tactic(auto)]
 
 #[cfg(test)]
@@ -8,4 +8,5 @@ mod by_identifier;
 #[cfg(test)]
 mod counted_by_identifier;
 mod worked;
+mod worked_filters;
 mod worked_places;

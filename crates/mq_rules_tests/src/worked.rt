@@ -4,10 +4,10 @@
 ghost use Rattle.std.specs.Prelude.{◌≡◌, ◌∷◌, [], true, false, Some, None};
 ghost use Rattle.mq_packet.specs.declared.packet.Qos.TheVariants as quality;
 ghost use Rattle.mq_packet.specs.declared.rule.PacketRule.TheVariants as packets;
-ghost use Rattle.mq_rules.specs.declared.rule.Rule.TheVariants.{W01, W02, W03, W04, W05, W06, W07, W08, W09, W10, W11, W12, W13, W14, W15, W16, W17, W18, W19, W20, W21, C01, C02, C03, C04, C05, C06, C07, C08, C09, C10, C11, C12, C13, C14, C15, C16, C17, C18, C19, C20, C21, C22, C23, S01, S02, S03, S04, S05, S06, S07, E1A, E1R, E1O, E2A, E2R, E2O, E3A, E3R, E3O, E4A, E4R, E5A, E5R, E6A, E6R, E7R, L1, L2, L3, B01, B02, B03, B04, F05, F06, A02};
+ghost use Rattle.mq_rules.specs.declared.rule.Rule.TheVariants.{W01, W02, W03, W04, W05, W06, W07, W08, W09, W10, W11, W12, W13, W14, W15, W16, W17, W18, W19, W20, W21, C01, C02, C03, C04, C05, C06, C07, C08, C09, C10, C11, C12, C13, C14, C15, C16, C17, C18, C19, C20, C21, C22, C23, S01, S02, S03, S04, S05, S06, S07, E1A, E1R, E1O, E2A, E2R, E2O, E3A, E3R, E3O, E4A, E4R, E5A, E5R, E6A, E6R, E7R, L1, L2, L3, B01, B02, B03, B04, F01, F02, F03, F04, F05, F06, V03, V04, V06, A02};
 ghost use Rattle.mq_rules.specs.declared.note.Note.TheVariants.{Open, Rest, Release};
 ghost use Rattle.mq_rules.specs.declared.packet_note.PacketFields.TheVariants.{Puback, Pubrec, Pubrel, Pubcomp, Suback, Unsubscribe, Unsuback, Pingreq, Pingresp, Auth};
-ghost use Rattle.mq_rules.specs.Worked.{client, client_unrecorded, server, failing, Close, Cut, sends, gets, sends_sized, sends_explained, sends_bad, gets_bad, sends_lost, gets_lost, lasting, again, fleeting, unnamed, asking, connack_with, accepting, resuming, refusing, limiting, retaining, assigning, informing, leaving, at_most_once, once, exactly, retained_once, retained_exactly, expiring, aliased, subscribed, asks_a, asks_b, asking_again, client_asked, server_asked, with_will, with_method, announcing, naming_method};
+ghost use Rattle.mq_rules.specs.Worked.{client, client_unrecorded, server, failing, Close, Cut, sends, gets, sends_sized, sends_explained, sends_bad, gets_bad, sends_lost, gets_lost, lasting, again, fleeting, unnamed, asking, connack_with, accepting, resuming, refusing, limiting, retaining, assigning, informing, leaving, at_most_once, once, exactly, retained_once, retained_exactly, expiring, aliased, subscribed, asks_a, asks_b, asking_again, client_asked, server_asked, with_will, with_method, announcing, naming_method, lacking, leaving_by, retained_at_most_once, retained_again, asks_plainly, asks_widely, asks_identified, asks_to_share, asks_misnamed, asks_no_local};
 
 /// Bytes of a client that break a rule, and those that it receives (W01 to W21).
 pub fn bytes_of_a_client()
@@ -389,4 +389,39 @@ pub fn further_statements()
     ensures method_breaks_server { failing server_asked A02 (Open ∷ gets lasting ∷ sends naming_method ∷ []) ≡ 3 ∷ [] }
     ensures method_breaks_auth { failing server_asked A02 (Open ∷ gets lasting ∷ sends Auth ∷ []) ≡ 3 ∷ [] }
     ensures method_keeps_server { failing server_asked A02 (Open ∷ gets with_method ∷ sends naming_method ∷ []) ≡ [] }
+{}
+
+/// What a client asks of a server that announced that it hasn't got this (F01 to F04).
+pub fn what_a_server_lacks()
+    ensures retain_breaks { failing client_asked F01 (Open ∷ sends lasting ∷ gets (lacking (Some 0) None None None) ∷ sends retained_at_most_once ∷ []) ≡ 4 ∷ [] }
+    ensures retain_keeps { failing client_asked F01 (Open ∷ sends lasting ∷ gets (lacking (Some 0) None None None) ∷ sends at_most_once ∷ []) ≡ [] }
+    ensures retain_keeps_before { failing client_asked F01 (Open ∷ sends lasting ∷ sends retained_at_most_once ∷ gets (lacking (Some 0) None None None) ∷ []) ≡ [] }
+    ensures retain_keeps_again { failing client_asked F01 (Open ∷ sends lasting ∷ gets (lacking (Some 0) None None None) ∷ sends (retained_again 1) ∷ []) ≡ [] }
+    ensures retain_keeps_available { failing client_asked F01 (Open ∷ sends lasting ∷ gets (lacking (Some 1) None None None) ∷ sends retained_at_most_once ∷ []) ≡ [] }
+    ensures retain_keeps_unasked { failing client F01 (Open ∷ sends lasting ∷ gets (lacking (Some 0) None None None) ∷ sends retained_at_most_once ∷ []) ≡ [] }
+    ensures wildcard_breaks { failing client_asked F02 (Open ∷ sends lasting ∷ gets (lacking None (Some 0) None None) ∷ sends asks_widely ∷ []) ≡ 4 ∷ [] }
+    ensures wildcard_keeps { failing client_asked F02 (Open ∷ sends lasting ∷ gets (lacking None (Some 0) None None) ∷ sends asks_plainly ∷ []) ≡ [] }
+    ensures wildcard_keeps_unsaid { failing client_asked F02 (Open ∷ sends lasting ∷ gets (lacking None None (Some 0) None) ∷ sends asks_widely ∷ []) ≡ [] }
+    ensures identifier_breaks { failing client_asked F03 (Open ∷ sends lasting ∷ gets (lacking None None (Some 0) None) ∷ sends asks_identified ∷ []) ≡ 4 ∷ [] }
+    ensures identifier_keeps { failing client_asked F03 (Open ∷ sends lasting ∷ gets (lacking None None (Some 0) None) ∷ sends asks_plainly ∷ []) ≡ [] }
+    ensures share_breaks { failing client_asked F04 (Open ∷ sends lasting ∷ gets (lacking None None None (Some 0)) ∷ sends asks_to_share ∷ []) ≡ 4 ∷ [] }
+    ensures share_keeps { failing client_asked F04 (Open ∷ sends lasting ∷ gets (lacking None None None (Some 0)) ∷ sends asks_plainly ∷ []) ≡ [] }
+    ensures share_keeps_before { failing client_asked F04 (Open ∷ sends lasting ∷ sends asks_to_share ∷ gets (lacking None None None (Some 0)) ∷ []) ≡ [] }
+{}
+
+/// Shared subscriptions (V03 and V04), and Reason Codes of the other end (V06).
+pub fn further_values()
+    ensures name_breaks { failing client_asked V03 (Open ∷ sends lasting ∷ gets accepting ∷ sends asks_misnamed ∷ []) ≡ 4 ∷ [] }
+    ensures name_keeps { failing client_asked V03 (Open ∷ sends lasting ∷ gets accepting ∷ sends asks_to_share ∷ []) ≡ [] }
+    ensures local_breaks { failing client_asked V04 (Open ∷ sends lasting ∷ gets accepting ∷ sends asks_no_local ∷ []) ≡ 4 ∷ [] }
+    ensures local_keeps { failing client_asked V04 (Open ∷ sends lasting ∷ gets accepting ∷ sends asks_to_share ∷ []) ≡ [] }
+    ensures code_breaks_client { failing client_asked V06 (Open ∷ sends lasting ∷ gets accepting ∷ sends (leaving_by 142) ∷ []) ≡ 4 ∷ [] }
+    ensures code_breaks_highest { failing client_asked V06 (Open ∷ sends lasting ∷ gets accepting ∷ sends (leaving_by 162) ∷ []) ≡ 4 ∷ [] }
+    ensures code_keeps_client { failing client_asked V06 (Open ∷ sends lasting ∷ gets accepting ∷ sends (leaving_by 4) ∷ []) ≡ [] }
+    ensures code_keeps_doubtful { failing client_asked V06 (Open ∷ sends lasting ∷ gets accepting ∷ sends (leaving_by 140) ∷ []) ≡ [] }
+    ensures code_breaks_receipt { failing client_asked V06 (Open ∷ sends lasting ∷ gets accepting ∷ gets (once false 1) ∷ sends (Puback 1 16) ∷ []) ≡ 5 ∷ [] }
+    ensures code_keeps_receipt { failing client_asked V06 (Open ∷ sends lasting ∷ gets accepting ∷ gets (once false 1) ∷ sends (Puback 1 0) ∷ []) ≡ [] }
+    ensures code_breaks_server { failing server_asked V06 (Open ∷ gets lasting ∷ sends accepting ∷ sends (leaving_by 4) ∷ []) ≡ 4 ∷ [] }
+    ensures code_keeps_server { failing server_asked V06 (Open ∷ gets lasting ∷ sends accepting ∷ sends (leaving_by 142) ∷ []) ≡ [] }
+    ensures code_keeps_receipt_server { failing server_asked V06 (Open ∷ gets lasting ∷ sends accepting ∷ gets (once false 1) ∷ sends (Puback 1 16) ∷ []) ≡ [] }
 {}

@@ -1,13 +1,13 @@
 //! Short logs whose places are computed from the definitions alone: for each statement but those on
-//! a packet's bytes, all positions of a log where it is put to the test, and where its antecedent is
-//! narrow, the nearest log in which it isn't. Last, where nothing is judged.
+//! a packet's bytes, all positions of a log where it is put to the test, and where its antecedent
+//! is narrow, the nearest log in which it isn't. Last, where nothing is judged.
 ghost use Rattle.std.specs.Prelude.{◌≡◌, ◌∷◌, [], true, false, Some, None};
 ghost use Rattle.mq_packet.specs.declared.rule.PacketRule.TheVariants as packets;
 ghost use Rattle.mq_packet.specs.declared.packet.Qos.TheVariants as quality;
-ghost use Rattle.mq_rules.specs.declared.rule.Rule.TheVariants.{C01, C02, C03, C04, C05, C06, C07, C08, C09, C10, C11, C12, C13, C14, C15, C16, C17, C18, C19, C20, C21, C22, C23, S01, S02, S03, S04, S05, S06, S07, E1A, E1R, E1O, E2A, E2R, E2O, E3A, E3R, E3O, E4A, E4R, E5A, E5R, E6A, E6R, E7R, L1, L2, L3, B01, B02, B03, B04, F05, F06, A02};
+ghost use Rattle.mq_rules.specs.declared.rule.Rule.TheVariants.{C01, C02, C03, C04, C05, C06, C07, C08, C09, C10, C11, C12, C13, C14, C15, C16, C17, C18, C19, C20, C21, C22, C23, S01, S02, S03, S04, S05, S06, S07, E1A, E1R, E1O, E2A, E2R, E2O, E3A, E3R, E3O, E4A, E4R, E5A, E5R, E6A, E6R, E7R, L1, L2, L3, B01, B02, B03, B04, F01, F02, F03, F04, F05, F06, V03, V04, V06, A02};
 ghost use Rattle.mq_rules.specs.declared.note.Note.TheVariants.{Open, Rest, Release};
 ghost use Rattle.mq_rules.specs.declared.packet_note.PacketFields.TheVariants.{Puback, Pubrec, Pubrel, Pubcomp, Suback, Unsubscribe, Unsuback, Pingreq, Pingresp, Auth};
-ghost use Rattle.mq_rules.specs.Worked.{client, client_unrecorded, server, applying, Close, Cut, sends, gets, sends_sized, sends_bad, sends_lost, lasting, again, unnamed, asking, accepting, resuming, refusing, limiting, retaining, assigning, informing, leaving, at_most_once, once, exactly, retained_once, expiring, aliased, asks_a, asks_shared, client_asked, server_asked, with_will, with_method, announcing, naming_method};
+ghost use Rattle.mq_rules.specs.Worked.{client, client_unrecorded, server, applying, Close, Cut, sends, gets, sends_sized, sends_bad, sends_lost, lasting, again, unnamed, asking, accepting, resuming, refusing, limiting, retaining, assigning, informing, leaving, at_most_once, once, exactly, retained_once, expiring, aliased, asks_a, asks_shared, client_asked, server_asked, with_will, with_method, announcing, naming_method, lacking, leaving_by, retained_at_most_once, retained_again, asks_plainly, asks_widely, asks_identified, asks_to_share};
 
 /// What begins a connection (C01 to C06).
 pub fn places_of_beginnings()
@@ -158,8 +158,8 @@ pub fn places_of_subscriptions()
     ensures unsuback { applying server B04 (Open ∷ gets lasting ∷ sends accepting ∷ gets (Unsubscribe 1 1) ∷ sends (Unsuback 1 1) ∷ sends (Unsuback 1 1) ∷ []) ≡ 5 ∷ [] }
 {}
 
-/// Ends that a statement doesn't bind, releases that aren't recorded, a session that is unknown, and
-/// a connection that is undecided: no places.
+/// Ends that a statement doesn't bind, releases that aren't recorded, a session that is unknown,
+/// and a connection that is undecided: no places.
 pub fn places_of_nothing()
     ensures server_begins { applying server C02 (Open ∷ gets lasting ∷ sends accepting ∷ []) ≡ [] }
     ensures client_answers { applying client E5A (Open ∷ sends lasting ∷ gets accepting ∷ sends (Suback 1 []) ∷ []) ≡ [] }
@@ -180,4 +180,24 @@ pub fn places_of_further_statements()
     ensures method_named { applying server_asked A02 (Open ∷ gets with_method ∷ sends naming_method ∷ []) ≡ [] }
     ensures method_auth { applying client_asked A02 (Open ∷ sends with_method ∷ sends Auth ∷ []) ≡ 3 ∷ [] }
     ensures unasked { applying server A02 (Open ∷ gets lasting ∷ sends accepting ∷ []) ≡ [] }
+{}
+
+/// What a client asks of a server that hasn't got this (F01 to F04), shared subscriptions (V03 and
+/// V04), and Reason Codes (V06).
+pub fn places_of_further_values()
+    ensures retain { applying client_asked F01 (Open ∷ sends lasting ∷ gets (lacking (Some 0) None None None) ∷ sends at_most_once ∷ []) ≡ 4 ∷ [] }
+    ensures retain_again { applying client_asked F01 (Open ∷ sends lasting ∷ gets (lacking (Some 0) None None None) ∷ sends (retained_again 1) ∷ []) ≡ [] }
+    ensures retain_unsaid { applying client_asked F01 (Open ∷ sends lasting ∷ gets accepting ∷ sends retained_at_most_once ∷ []) ≡ [] }
+    ensures wildcard { applying client_asked F02 (Open ∷ sends lasting ∷ gets (lacking None (Some 0) None None) ∷ sends asks_plainly ∷ []) ≡ 4 ∷ [] }
+    ensures wildcard_before { applying client_asked F02 (Open ∷ sends lasting ∷ sends asks_widely ∷ gets (lacking None (Some 0) None None) ∷ []) ≡ [] }
+    ensures identifier { applying client_asked F03 (Open ∷ sends lasting ∷ gets (lacking None None (Some 0) None) ∷ sends asks_plainly ∷ []) ≡ 4 ∷ [] }
+    ensures identifier_unsaid { applying client_asked F03 (Open ∷ sends lasting ∷ gets accepting ∷ sends asks_identified ∷ []) ≡ [] }
+    ensures share { applying client_asked F04 (Open ∷ sends lasting ∷ gets (lacking None None None (Some 0)) ∷ sends asks_plainly ∷ []) ≡ 4 ∷ [] }
+    ensures share_unsaid { applying client_asked F04 (Open ∷ sends lasting ∷ gets accepting ∷ sends asks_to_share ∷ []) ≡ [] }
+    ensures name { applying client_asked V03 (Open ∷ sends lasting ∷ gets accepting ∷ sends asks_to_share ∷ []) ≡ 4 ∷ [] }
+    ensures no_name { applying client_asked V03 (Open ∷ sends lasting ∷ gets accepting ∷ sends asks_plainly ∷ []) ≡ [] }
+    ensures local { applying client_asked V04 (Open ∷ sends lasting ∷ gets accepting ∷ sends asks_to_share ∷ []) ≡ 4 ∷ [] }
+    ensures no_share { applying client_asked V04 (Open ∷ sends lasting ∷ gets accepting ∷ sends asks_plainly ∷ []) ≡ [] }
+    ensures code { applying client_asked V06 (Open ∷ sends lasting ∷ gets accepting ∷ gets (once false 1) ∷ sends (Puback 1 0) ∷ sends (leaving_by 0) ∷ []) ≡ 6 ∷ 5 ∷ [] }
+    ensures code_of_server { applying server_asked V06 (Open ∷ gets lasting ∷ sends accepting ∷ gets (once false 1) ∷ sends (Puback 1 0) ∷ sends (leaving_by 0) ∷ []) ≡ 6 ∷ [] }
 {}

@@ -17,8 +17,8 @@ use mq_books::Early;
 use mq_evidence::Evidence;
 use mq_rules::{Both, Fault, FaultKey, Role, Rule, Watch};
 
-/// What a fault conflicts with, if it is one that was to be explained, of a statement whose evidence
-/// is found on the way.
+/// What a fault conflicts with, if it is one that was to be explained, of a statement whose
+/// evidence is found on the way.
 pub fn session_evidence<K: Wanted>(
     reviewing: &Early<Reviewing<K>>,
     key: FaultKey,
@@ -29,8 +29,8 @@ pub fn session_evidence<K: Wanted>(
     reviewing.watcher().explaining.findings().get(key)
 }
 
-/// What a fault conflicts with, if it is one that was to be explained, of a statement on connections
-/// whose evidence is found on the way.
+/// What a fault conflicts with, if it is one that was to be explained, of a statement on
+/// connections whose evidence is found on the way.
 pub fn connection_evidence<K: Wanted>(
     introducing: &Introducing<K>,
     key: FaultKey,
@@ -41,7 +41,8 @@ pub fn connection_evidence<K: Wanted>(
     introducing.explaining.findings().get(key)
 }
 
-// Whether the evidence of a statement is found by the past of a connection, for an end in this role.
+// Whether the evidence of a statement is found by the past of a connection, for an end in this
+// role.
 fn is_on_connection(role: Role, rule: Rule) -> bool
     ensures { result ≡ on_connection role rule }
 {
@@ -57,6 +58,10 @@ fn is_on_connection(role: Role, rule: Rule) -> bool
                 | Rule::C17
                 | Rule::C20
                 | Rule::C23
+                | Rule::F01
+                | Rule::F02
+                | Rule::F03
+                | Rule::F04
                 | Rule::A02
         ),
         Role::Server => matches!(
@@ -122,8 +127,8 @@ fn is_silent(rule: Rule) -> bool
     )
 }
 
-/// What a fault of the log that was read again conflicts with, for an end in this role, if it is one
-/// that was to be explained.
+/// What a fault of the log that was read again conflicts with, for an end in this role, if it is
+/// one that was to be explained.
 pub fn evidence_of<K: Wanted>(
     reading: &Both<Introducing<K>, Early<Reviewing<K>>>,
     role: Role,

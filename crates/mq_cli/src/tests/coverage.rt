@@ -71,8 +71,8 @@ static GIVEN_UP: &[u8] = b"MQTR\x01\x00\x00\x00\
     \x03\x00\x00\x00\x05\x20\xff\xff\xff\xff\
     \x02\x00\x00\x00\x01\x10";
 
-// A client whose log has no releases sends one byte of its CONNECT and receives two of a CONNACK, and
-// the connection closes.
+// A client whose log has no releases sends one byte of its CONNECT and receives two of a CONNACK,
+// and the connection closes.
 static BROKEN_OFF: &[u8] = b"MQTR\x01\x00\x00\x00\
     \x01\x00\x00\x00\x00\
     \x02\x00\x00\x00\x01\x10\

@@ -15,8 +15,8 @@ fn task_of(alloc: Global, words: &[&str]) -> Result<Task, EarlyExit> {
     }
 }
 
-// Whether these words ask for a check of this file, or of the input, with a report in this form, with
-// coverage or without, and with the further statements or without.
+// Whether these words ask for a check of this file, or of the input, with a report in this form,
+// with coverage or without, and with the further statements or without.
 fn is_check_with(
     alloc: Global,
     words: &[&str],
@@ -362,8 +362,8 @@ fn reads_the_words_of_a_review(rt: HostRuntime) -> Result<(), Fail> {
     Ok(())
 }
 
-// Whether these words ask for a check of this file with what its faults conflict with, in this form,
-// for coverage too or not, and for the further statements or not.
+// Whether these words ask for a check of this file with what its faults conflict with, in this
+// form, for coverage too or not, and for the further statements or not.
 fn is_inquiry_of(
     alloc: Global,
     words: &[&str],

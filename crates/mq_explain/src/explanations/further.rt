@@ -1,5 +1,60 @@
-//! The texts of `explain` for the further statements (F05, F06 and A02), which are judged on
-//! request.
+//! The texts of `explain` for the further statements (F01 to F06, V03, V04, V06 and A02), which are
+//! judged on request.
+
+/// The text of `explain F01`.
+pub const F01: &str = "F01 client MQTT-3.2.2-14\n\
+    A new PUBLISH has RETAIN 0 where Retain Available is 0.\n\n\
+    Why: The server keeps no retained messages, and may close the connection with\n\
+    0x9A (Retain not supported).\n\n\
+    Judged: At a PUBLISH with RETAIN 1 and DUP 0 after a CONNACK with Retain\n\
+    Available 0, on every connection. Decided at once. One that is sent again keeps\n\
+    its RETAIN. It is a further statement: it is judged with --all.\n\n\
+    To see it tested: Let the client publish where Retain Available is 0.\n\n\
+    In a client: RETAIN is taken from the application, and nothing compares it with\n\
+    what the CONNACK announced. Keep Retain Available, and refuse or clear RETAIN.\n\n\
+    See: MQTT 5.0, section 3.2.2.3.5.\n";
+
+/// The text of `explain F02`.
+pub const F02: &str = "F02 client sec-3.2.2.3.11\n\
+    No filter has a wildcard where the server takes none.\n\n\
+    Why: The server can't do it, and closes the connection or refuses with 0xA2\n\
+    (Wildcard Subscriptions not supported).\n\n\
+    Judged: At a SUBSCRIBE after a CONNACK with Wildcard Subscription Available 0,\n\
+    if a filter has a wildcard (a shared one, after its name), on every connection.\n\
+    Decided at once. It is a further statement: it is judged with --all.\n\n\
+    To see it tested: Let the client subscribe where Wildcard Subscription Available\n\
+    is 0.\n\n\
+    In a client: Filters are sent as the application gives them. Keep what the\n\
+    CONNACK announced, and refuse a wildcard before it is sent.\n\n\
+    See: MQTT 5.0, section 3.2.2.3.11.\n";
+
+/// The text of `explain F03`.
+pub const F03: &str = "F03 client sec-3.2.2.3.12\n\
+    No SUBSCRIBE has a Subscription Identifier where the server takes none.\n\n\
+    Why: The server can't send it back, and closes the connection with 0xA1\n\
+    (Subscription Identifiers not supported).\n\n\
+    Judged: At a SUBSCRIBE with a Subscription Identifier after a CONNACK with\n\
+    Subscription Identifier Available 0, on every connection. Decided at once. It is\n\
+    a further statement: it is judged with --all.\n\n\
+    To see it tested: Let the client subscribe where Subscription Identifier\n\
+    Available is 0.\n\n\
+    In a client: It numbers its subscriptions whatever the server can do. Leave the\n\
+    property out where the CONNACK says so.\n\n\
+    See: MQTT 5.0, section 3.2.2.3.12.\n";
+
+/// The text of `explain F04`.
+pub const F04: &str = "F04 client sec-3.2.2.3.13\n\
+    No SUBSCRIBE has a shared filter where the server takes none.\n\n\
+    Why: The server can't share a subscription, and closes the connection or refuses\n\
+    with 0x9E (Shared Subscriptions not supported).\n\n\
+    Judged: At a SUBSCRIBE with a filter that begins with $share/, after a CONNACK\n\
+    with Shared Subscription Available 0, on every connection. Decided at once. It\n\
+    is a further statement: it is judged with --all.\n\n\
+    To see it tested: Let the client subscribe where Shared Subscription Available\n\
+    is 0.\n\n\
+    In a client: Filters are sent as the application gives them. Keep what the\n\
+    CONNACK announced, and refuse $share/ before it is sent.\n\n\
+    See: MQTT 5.0, section 3.2.2.3.13.\n";
 
 /// The text of `explain F05`.
 pub const F05: &str = "F05 server MQTT-3.2.2-12\n\
@@ -28,6 +83,48 @@ pub const F06: &str = "F06 server MQTT-3.2.2-13\n\
     In a server: The flag of the Will is dropped in silence where messages aren't\n\
     retained. Refuse with 0x9A.\n\n\
     See: MQTT 5.0, section 3.2.2.3.5.\n";
+
+/// The text of `explain V03`.
+pub const V03: &str = "V03 client MQTT-4.8.2-1,MQTT-4.8.2-2\n\
+    A shared filter has a name without wildcards, and a filter after it.\n\n\
+    Why: Without a name nobody knows with whom it is shared, and without a filter\n\
+    what.\n\n\
+    Judged: At a SUBSCRIBE with a filter $share/NAME/FILTER in which NAME is empty\n\
+    or has + or #, or after which no / and FILTER follow, on every connection.\n\
+    Decided at once. It is a further statement: it is judged with --all.\n\n\
+    To see it tested: Let the client ask for a shared subscription.\n\n\
+    In a client: The filter is checked as any other, and $share/+/a and $share/a\n\
+    pass. Check the name, and what follows it, too.\n\n\
+    See: MQTT 5.0, section 4.8.2.\n";
+
+/// The text of `explain V04`.
+pub const V04: &str = "V04 client MQTT-3.8.3-4\n\
+    No Local is 0 for a shared filter.\n\n\
+    Why: Another client of the share may have published what this one gets, so No\n\
+    Local has no meaning there. It is a Protocol Error.\n\n\
+    Judged: At a SUBSCRIBE with a filter that begins with $share/ and No Local 1, on\n\
+    every connection. Decided at once. It is a further statement: it is judged with\n\
+    --all.\n\n\
+    To see it tested: Let the client ask for a shared subscription.\n\n\
+    In a client: One setting of No Local is written for all filters. Leave it out of\n\
+    those that begin with $share/.\n\n\
+    See: MQTT 5.0, section 3.8.3.1.\n";
+
+/// The text of `explain V06`.
+pub const V06: &str = "V06 both sec-3.14.2.1,sec-3.4.2.1;sec-3.14.2.1\n\
+    A Reason Code is one that this end may send.\n\n\
+    Why: The other end takes it for what only its own side can mean, and may do what\n\
+    nobody asked for.\n\n\
+    Judged: At a client's DISCONNECT of 0x87, 0x89, 0x8B, 0x8D to 0x8F or 0x9A to\n\
+    0xA2, and its PUBACK or PUBREC of 0x10; at a server's DISCONNECT of 0x04; on\n\
+    every connection. Decided at once. It is a further statement: it is judged with\n\
+    --all.\n\n\
+    To see it tested: Let the end send a DISCONNECT, or a client acknowledge a\n\
+    PUBLISH.\n\n\
+    In a client: It says why it leaves with a code of servers. Use 0x80, 0x83 or\n\
+    0x98 for what is its own decision; acknowledge with 0x00 what nobody wanted.\n\
+    In a server: It answers a DISCONNECT of 0x04 with the same code. Answer nothing.\n\n\
+    See: MQTT 5.0, sections 3.4.2.1 and 3.14.2.1.\n";
 
 /// The text of `explain A02`.
 pub const A02: &str = "A02 both MQTT-4.12.0-7;MQTT-4.12.0-6\n\

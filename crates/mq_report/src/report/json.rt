@@ -51,8 +51,8 @@ pub fn write_json<W: Write>(
 }
 
 /// Writes the report on a verdict for an end in this role as one line of JSON, as `write_json`
-/// does, and with it how often each of these statements was put to the test, and these gaps, in their
-/// order.
+/// does, and with it how often each of these statements was put to the test, and these gaps, in
+/// their order.
 ///
 /// # Errors
 ///

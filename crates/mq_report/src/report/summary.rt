@@ -72,8 +72,8 @@ pub fn write_summary<W: Write>(
 }
 
 /// Writes the report in short on a verdict for an end in this role, as `write_summary` does, but
-/// before the last line also how often each of these statements was put to the test, and these gaps.
-/// It takes no memory.
+/// before the last line also how often each of these statements was put to the test, and these
+/// gaps. It takes no memory.
 ///
 /// # Errors
 ///

@@ -37,11 +37,11 @@ impl Begun {
 pub enum Gap {
     /// A direction was given up with this event: nothing that it carried later on its connection.
     Lost(Direction, Place3),
-    /// The CONNACK at this event resumed a session that the log can't tell: no statement on sessions
-    /// on that connection.
+    /// The CONNACK at this event resumed a session that the log can't tell: no statement on
+    /// sessions on that connection.
     UnknownSession(Place3),
-    /// A direction had begun this packet (MQTT 5.0, section 2.1), and the rest of it never came. The
-    /// CLOSE at this place dropped its bytes, or the log's end did: no statement on a packet.
+    /// A direction had begun this packet (MQTT 5.0, section 2.1), and the rest of it never came.
+    /// The CLOSE at this place dropped its bytes, or the log's end did: no statement on a packet.
     Unfinished(Direction, Begun, Option<Place3>),
     /// The connection that begins with this event has no CONNACK and no CLOSE: the same.
     UndecidedSession(Place3),

@@ -281,8 +281,8 @@ fn what_is_wrong_in_a_text_is_marked(rt: HostRuntime) {
         (PacketRule::W15, b"\x82\x0a\x00\x01\x00\x00\x04+/##\x00", 5, " type SUBSCRIBE at 9 bytes 82 0A 00 01 00 00 04 2B 2F [23] 23 00"),
         // In the second filter of an UNSUBSCRIBE.
         (PacketRule::W15, b"\xa2\x0b\x00\x01\x00\x00\x01a\x00\x03#/b", 8, " type UNSUBSCRIBE at 10 bytes A2 0B 00 01 00 00 01 61 00 03 [23] 2F 62"),
-        // An empty filter has no byte, so its length is marked; so is that of a text that isn't wrong or
-        // isn't whole.
+        // An empty filter has no byte, so its length is marked; so is that of a text that isn't
+        // wrong or isn't whole.
         (PacketRule::W15, b"\x82\x06\x00\x01\x00\x00\x00\x00", 5, " type SUBSCRIBE bytes 82 06 00 01 00 [00] 00 00"),
         (PacketRule::W15, b"\x82\x0b\x00\x01\x00\x00\x00\x00\x00\x02+b\x00", 5, " type SUBSCRIBE bytes 82 0B 00 01 00 [00] 00 00 00 02 2B 62 00"),
         (PacketRule::W14, b"0\x04\x00\x01a\x00", 2, " type PUBLISH bytes 30 04 [00] 01 61 00"),

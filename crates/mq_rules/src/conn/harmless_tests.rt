@@ -1,10 +1,11 @@
 //! What a harmless event puts to the test: few of C01 to C23, by few facts of its connection.
-ghost use Rattle.std.specs.Prelude.{◌≡◌};
+ghost use Rattle.std.specs.Prelude.{◌≡◌, ◌+◌, ◌<◌, cond};
+ghost use Rattle.mq_rules.specs.declared.rule.Rule.{Rule as TheRule};
 ghost use Rattle.mq_rules.specs.Notes.{note_in};
-ghost use Rattle.mq_rules.specs.Trying as trying;
-ghost use Rattle.mq_rules.specs.Trying.{harmless_tests};
+ghost use Rattle.mq_rules.specs.Trying.{harmless_tests, harmless_places, tried_by_harmless};
 
 use super::state::ConnectionState;
+use super::tally::places_after;
 use super::trying::{C01, C14, C17, C18, C21, Tried};
 use crate::note_ref::NoteRef;
 use crate::role::Role;
@@ -40,11 +41,52 @@ impl HarmlessTests {
             silent: C21::is_tried(role, state, event),
         }
     }
+}
 
-    /// Whether a statement is among what is put to the test.
+/// How often harmless events have put statements to the test: each fact has a count of its own.
+#[derive(Clone, Copy, Debug, PartialEq, Eq)]
+pub struct HarmlessPlaces {
+    /// Those of C01.
+    pub sent: u32,
+    /// Those of C14.
+    pub limited: u32,
+    /// Those of C17.
+    pub graded: u32,
+    /// Those of C18.
+    pub published: u32,
+    /// Those of C21.
+    pub silent: u32,
+}
+
+impl HarmlessPlaces {
+    /// The counts before any event.
+    pub fn new() -> Self
+        ensures { (rule : TheRule) → harmless_places result rule ≡ 0 }
+    {
+        HarmlessPlaces {
+            sent: 0,
+            limited: 0,
+            graded: 0,
+            published: 0,
+            silent: 0,
+        }
+    }
+
+    /// Counts what the event at this position puts to the test.
     #[inline(always)]
-    pub fn has(&self, rule: Rule) -> bool
-        ensures { result ≡ trying.tried_by_harmless self.now rule }
+    pub fn count(&mut self, position: u32, tests: HarmlessTests)
+        ensures { (rule : TheRule) → harmless_places self.old rule < position → harmless_places self.new rule ≡ cond (tried_by_harmless tests rule) 1 0 + harmless_places self.old rule }
+    {
+        self.sent = places_after(tests.sent, self.sent, position);
+        self.limited = places_after(tests.limited, self.limited, position);
+        self.graded = places_after(tests.graded, self.graded, position);
+        self.published = places_after(tests.published, self.published, position);
+        self.silent = places_after(tests.silent, self.silent, position);
+    }
+
+    /// How often a statement was put to the test by such events.
+    pub fn places(&self, rule: Rule) -> u32
+        ensures { result ≡ harmless_places self.now rule }
     {
         match rule {
             Rule::C01 => self.sent,
@@ -52,7 +94,7 @@ impl HarmlessTests {
             Rule::C17 => self.graded,
             Rule::C18 => self.published,
             Rule::C21 => self.silent,
-            _ => false,
+            _ => 0,
         }
     }
 }

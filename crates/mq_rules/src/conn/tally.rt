@@ -1,12 +1,13 @@
-//! How often C01 to C23 are put to the test, counted in one pass.
-ghost use Rattle.std.specs.Prelude.{Option, ◌≡◌, ◌∷◌, ◌+◌, ◌<◌, ◌&&◌, ◌||◌, [], Bool, true, false, cond, length, List, Some, None, is_some};
+//! How often C01 to C23 are put to the test, counted in one pass: by harmless events, and by all
+//! others.
+ghost use Rattle.std.specs.Prelude.{Option, ◌≡◌, ◌∷◌, ◌+◌, ◌<◌, ◌&&◌, ◌||◌, [], ℕ, Bool, true, cond, length, List, Some, None};
 ghost use Rattle.mq_rules.specs.declared.rule.Rule.{Rule as TheRule};
 ghost use Rattle.mq_rules.specs.declared.role.Tested.{Tested as TheTested};
 ghost use Rattle.mq_rules.specs.declared.fate.Fate.{Fate as TheFate};
 ghost use Rattle.mq_rules.specs.declared.fate.Fate.TheVariants.{Void};
 ghost use Rattle.mq_rules.specs.declared.note.Seen.{Seen as TheSeen};
 ghost use Rattle.mq_rules.specs.Connections.{IsOnConnection};
-ghost use Rattle.mq_rules.specs.Notes.{note_in, sent_packet};
+ghost use Rattle.mq_rules.specs.Notes.{note_in};
 ghost use Rattle.mq_rules.specs.Rules.{same_rule};
 ghost use Rattle.mq_rules.specs.Statements.{is_on_past};
 ghost use Rattle.mq_rules.specs.Steps.{turns};
@@ -15,11 +16,11 @@ ghost use Rattle.mq_rules.specs.Occasions.{places};
 ghost use Rattle.mq_rules.specs.Burden.{aliases_sent};
 ghost use Rattle.mq_rules.specs.Weights.{conn_weighs};
 ghost use Rattle.mq_rules.specs.Keeping.{kept, send_bounds, is_harmless as harmless, IsConn};
-ghost use Rattle.mq_rules.specs.Trying.{harmless_tests};
+ghost use Rattle.mq_rules.specs.Trying.{harmless_tests, harmless_places, tried_by_harmless};
 
 use super::Conn;
 use super::harmless::{is_bare_harmless, is_harmless};
-use super::harmless_tests::HarmlessTests;
+use super::harmless_tests::{HarmlessPlaces, HarmlessTests};
 use super::state::ConnectionState;
 use super::trying::{
     C01, C02, C03, C04, C05, C06, C07, C08, C09, C10, C11, C12, C13, C14, C15, C16, C17, C18, C19,
@@ -31,43 +32,40 @@ use crate::note::Note;
 use crate::note_ref::NoteRef;
 use crate::role::{Role, Tested};
 use crate::rule::Rule;
-use crate::watch::{Both, Brisk, Watch};
+use crate::watch::{Both, Brisk, Watch, step_apart};
 use mq_log::Place3;
 use std::alloc::Global;
 use std::marker::PhantomData;
 
-/// The counts of some statements on the past of a connection.
+/// The counts of some statements on the past of a connection, beside what is counted of them
+/// elsewhere.
 pub trait Tally: Drop {
     /// The statements.
     ghost judges: { TheRule → Bool };
 
-    /// The counts are those of these events, the newest first.
-    ghost counts: { Self → TheTested → List TheSeen → Type 0 };
+    /// With what is counted elsewhere of each statement, the counts are those of these events, the
+    /// newest first.
+    ghost counts: { Self → (TheRule → ℕ) → TheTested → List TheSeen → Type 0 };
 
     /// The counts before any event.
     fn zero() -> Self
-        ensures { (tested : TheTested) → counts result tested [] };
+        ensures { (beside : TheRule → ℕ) (tested : TheTested) → ((rule : TheRule) → beside rule ≡ 0) → counts result beside tested [] };
 
     /// Counts the statements that an event puts to the test, by what is kept of those before it.
     fn count(&mut self, role: Role, state: &ConnectionState, at: Place3, event: NoteRef<'_>)
-        ensures { (tested : TheTested) (past : List TheSeen) → role ≡ tested.role → state.now ≡ kept tested.role past → at.position ≡ length past + 1 → counts self.old tested past → counts self.new tested (seen at (note_in event.entry) ∷ past) };
+        ensures { (beside : TheRule → ℕ) (tested : TheTested) (past : List TheSeen) → role ≡ tested.role → state.now ≡ kept tested.role past → at.position ≡ length past + 1 → counts self.old beside tested past → counts self.new beside tested (seen at (note_in event.entry) ∷ past) };
 
-    /// The same of an event that is harmless where the end has its bounds: it puts these to the test.
-    fn count_harmless(&mut self, position: u32, tests: &HarmlessTests)
-        ensures { (tested : TheTested) (past : List TheSeen) (e : TheSeen) → harmless (send_bounds tested.role (kept tested.role past)) e.note ≡ true → tests.now ≡ harmless_tests tested.role (kept tested.role past) e.note → position ≡ length past + 1 → counts self.old tested past → counts self.new tested (e ∷ past) };
-
-    /// The law on such an event that is received: it puts nothing to the test. The call does
-    /// nothing.
+    /// The law on a harmless event, which is counted elsewhere. The call does nothing.
     fn passes(&self)
-        ensures { (tested : TheTested) (past : List TheSeen) (e : TheSeen) → harmless (send_bounds tested.role (kept tested.role past)) e.note ≡ true → is_some (sent_packet e.note) ≡ false → counts self.now tested past → counts self.now tested (e ∷ past) };
+        ensures { (before after : TheRule → ℕ) (tested : TheTested) (past : List TheSeen) (e : TheSeen) → harmless (send_bounds tested.role (kept tested.role past)) e.note ≡ true → ((rule : TheRule) → before rule < length past + 1 → after rule ≡ cond (tried_by_harmless (harmless_tests tested.role (kept tested.role past) e.note) rule) 1 0 + before rule) → counts self.now before tested past → counts self.now after tested (e ∷ past) };
 
     /// Whether a statement is one of them.
     fn tests(rule: Rule) -> bool
         ensures { result ≡ judges rule };
 
-    /// How many places one of them has.
+    /// How many places one of them has, beside those that are counted elsewhere.
     fn places_of(&self, rule: Rule) -> u32
-        ensures { (tested : TheTested) (past : List TheSeen) → counts self.now tested past → judges rule ≡ true → result ≡ places tested past rule };
+        ensures { (beside : TheRule → ℕ) (tested : TheTested) (past : List TheSeen) → counts self.now beside tested past → judges rule ≡ true → result + beside rule ≡ places tested past rule };
 }
 
 /// The count of one statement.
@@ -91,9 +89,8 @@ pub fn places_after(here: bool, old: u32, position: u32) -> u32
 impl<T: Tried> Tally for One<T> {
     ghost judges = { λ r. same_rule r T.rule };
 
-    ghost counts = { λ s tested past. s.places ≡ places tested past T.rule };
+    ghost counts = { λ s beside tested past. s.places + beside T.rule ≡ places tested past T.rule };
 
-    #[tactic(auto, using(crate::proofs::TallyLaws::none_yet))]
     fn zero() -> Self {
         One {
             places: 0,
@@ -111,12 +108,6 @@ impl<T: Tried> Tally for One<T> {
         self.places = places_after(here, self.places, at.position);
     }
 
-    #[inline(always)]
-    fn count_harmless(&mut self, position: u32, tests: &HarmlessTests) {
-        let here = tests.has(T::rule());
-        self.places = places_after(here, self.places, position);
-    }
-
     fn passes(&self) {}
 
     fn places_of(&self, _: Rule) -> u32 {
@@ -127,7 +118,7 @@ impl<T: Tried> Tally for One<T> {
 impl<A: Tally, B: Tally> Tally for Both<A, B> {
     ghost judges = { λ r. A.judges r || B.judges r };
 
-    ghost counts = { λ s tested past. A.counts s.a tested past × B.counts s.b tested past };
+    ghost counts = { λ s beside tested past. A.counts s.a beside tested past × B.counts s.b beside tested past };
 
     fn zero() -> Self {
         Both::new(A::zero(), B::zero())
@@ -141,12 +132,6 @@ impl<A: Tally, B: Tally> Tally for Both<A, B> {
     fn count(&mut self, role: Role, state: &ConnectionState, at: Place3, event: NoteRef<'_>) {
         self.a.count(role, state, at, event);
         self.b.count(role, state, at, event);
-    }
-
-    #[inline(always)]
-    fn count_harmless(&mut self, position: u32, tests: &HarmlessTests) {
-        self.a.count_harmless(position, tests);
-        self.b.count_harmless(position, tests);
     }
 
     fn passes(&self) {
@@ -181,6 +166,9 @@ pub type ConnTally = Both<
 #[derive(Drop)]
 pub struct CountingConn<T: Tally> {
     conn: Conn,
+    /// By harmless events, which most are.
+    harmless: HarmlessPlaces,
+    /// By all others.
     places: T,
 }
 
@@ -191,6 +179,7 @@ impl<T: Tally> CountingConn<T> {
     {
         CountingConn {
             conn: Conn::new(alloc, tested),
+            harmless: HarmlessPlaces::new(),
             places: T::zero(),
         }
     }
@@ -199,35 +188,48 @@ impl<T: Tally> CountingConn<T> {
     pub fn places(&self, rule: Rule) -> u32
         ensures { (tested : TheTested) (taken : Option TheFate) (past : List TheSeen) → ⟦<CountingConn<T> as Watch>⟧.agrees self.now tested taken past → T.judges rule ≡ true → result ≡ places tested past rule }
     {
-        self.places.places_of(rule)
+        sum(self.places.places_of(rule), self.harmless.places(rule))
+    }
+
+    // Counts what an event puts to the test, by what is kept before it.
+    fn count(&mut self, at: Place3, note: &Note)
+        ensures conn { self.new.conn ≡ self.old.conn }
+        ensures counts { (tested : TheTested) (taken : Option TheFate) (past : List TheSeen) → IsConn self.old.conn tested taken past → at.position ≡ length past + 1 → T.counts self.old.places (harmless_places self.old.harmless) tested past → T.counts self.new.places (harmless_places self.new.harmless) tested (seen at note.now ∷ past) }
+    {
+        if is_harmless(self.conn.bounds, note) {
+            self.count_harmless(at.position, NoteRef::Kept(note));
+            return;
+        }
+        let event = NoteRef::Kept(note);
+        self.places
+            .count(self.conn.role, &self.conn.state, at, event);
+    }
+
+    // Counts what a harmless event puts to the test.
+    #[inline(always)]
+    fn count_harmless(&mut self, position: u32, event: NoteRef<'_>)
+        ensures conn { self.new.conn ≡ self.old.conn }
+        ensures counts { (tested : TheTested) (taken : Option TheFate) (past : List TheSeen) (e : TheSeen) → e.note ≡ note_in event.entry → harmless self.old.conn.bounds e.note ≡ true → IsConn self.old.conn tested taken past → position ≡ length past + 1 → T.counts self.old.places (harmless_places self.old.harmless) tested past → T.counts self.new.places (harmless_places self.new.harmless) tested (e ∷ past) }
+    {
+        if !event.is_packet_sent() {
+            self.places.passes();
+            return;
+        }
+        let tests = HarmlessTests::of(self.conn.role, &self.conn.state, event);
+        self.harmless.count(position, tests);
+        self.places.passes();
     }
 }
 
-// Counts what an event puts to the test, by what is kept before it. Most events are harmless.
-#[inline(always)]
-fn count_event<T: Tally>(
-    places: &mut T,
-    conn: &Conn,
-    is_harmless: bool,
-    at: Place3,
-    event: NoteRef<'_>,
-)
-    ensures { is_harmless ≡ harmless conn.now.bounds (note_in event.entry) → (tested : TheTested) (taken : Option TheFate) (past : List TheSeen) → IsConn conn.now tested taken past → at.position ≡ length past + 1 → T.counts places.old tested past → T.counts places.new tested (seen at (note_in event.entry) ∷ past) }
+// The sum of two counts.
+fn sum(a: u32, b: u32) -> u32
+    ensures { a + b < 4294967296 → result ≡ a + b }
 {
-    if !is_harmless {
-        places.count(conn.role, &conn.state, at, event);
-        return;
-    }
-    if !event.is_packet_sent() {
-        places.passes();
-        return;
-    }
-    let tests = HarmlessTests::of(conn.role, &conn.state, event);
-    places.count_harmless(at.position, &tests);
+    a.saturating_add(b)
 }
 
 impl<T: Tally> Watch for CountingConn<T> {
-    ghost agrees = { λ s tested taken past. IsConn s.conn tested taken past × T.counts s.places tested past };
+    ghost agrees = { λ s tested taken past. IsConn s.conn tested taken past × T.counts s.places (harmless_places s.harmless) tested past × (length past < 4294967296) };
 
     ghost takes = { λ tested taken e past. IsOnConnection e past };
 
@@ -238,9 +240,7 @@ impl<T: Tally> Watch for CountingConn<T> {
     ghost bound = { λ tested taken past. aliases_sent past };
 
     fn step(&mut self, at: Place3, note: &Note, faults: &mut Faults) -> Result<(), Memory> {
-        let harmless = is_harmless(self.conn.bounds, note);
-        let event = NoteRef::Kept(note);
-        count_event(&mut self.places, &self.conn, harmless, at, event);
+        self.count(at, note);
         self.conn.step(at, note, faults)?;
         Ok(())
     }
@@ -253,9 +253,11 @@ impl<T: Tally> Watch for CountingConn<T> {
 impl<T: Tally> Brisk for CountingConn<T> {
     #[inline(always)]
     fn step_bare(&mut self, at: Place3, bare: Bare<'_>, faults: &mut Faults) -> Result<(), Memory> {
-        let harmless = is_bare_harmless(self.conn.bounds, bare);
-        let event = NoteRef::Bare(bare);
-        count_event(&mut self.places, &self.conn, harmless, at, event);
+        if !is_bare_harmless(self.conn.bounds, bare) {
+            step_apart(self, at, bare, faults)?;
+            return Ok(());
+        }
+        self.count_harmless(at.position, NoteRef::Bare(bare));
         self.conn.step_bare(at, bare, faults)?;
         Ok(())
     }

@@ -24,8 +24,8 @@ const BEFORE: usize = 32;
 /// Appends what is shown of a packet that has these bytes and breaks a rule at this offset, each
 /// word with a space before it: its type, and at most 64 of its bytes in hexadecimal digits, with
 /// the one in brackets that `marked_at` gives. They are the first ones, or those around the mark if
-/// that is farther. If the mark isn't at the offset, its own offset comes before them, as `at 4`. If
-/// the packet ends before the mark, the brackets have nothing between them. Where bytes are left
+/// that is farther. If the mark isn't at the offset, its own offset comes before them, as `at 4`.
+/// If the packet ends before the mark, the brackets have nothing between them. Where bytes are left
 /// out there is `..`.
 pub fn put_broken<W: Write>(out: &mut Outgoing<'_, W>, bytes: &[u8], rule: PacketRule, at: u32)
     ensures { Puts W.contents out.old (with_spaces (broken_words bytes.now rule at)) out.new }
@@ -88,7 +88,8 @@ fn shown_from(at: usize) -> usize
     if at < SHOWN { 0 } else { at - BEFORE }
 }
 
-/// The bytes from one offset to another, of which the latter doesn't count, as far as there are any.
+/// The bytes from one offset to another, of which the latter doesn't count, as far as there are
+/// any.
 pub fn between(bytes: &[u8], start: usize, end: usize) -> &[u8]
     ensures { result.now ≡ between start end bytes.now }
 {

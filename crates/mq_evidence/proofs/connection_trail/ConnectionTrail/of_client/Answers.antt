@@ -27,5 +27,17 @@ returns-in-C20 c = rw c.in-C20.is (λ at past is. ap (λ x. Some x) (c.expiry.en
 pub returns-in-C23 : goal.returns-in-C23
 returns-in-C23 c = rw c.in-C23.is (λ at past is. ap (λ x. Some x) (c.last.ensures Client (latest_connection past) is))
 
+pub returns-in-F01 : goal.returns-in-F01
+returns-in-F01 c = rw c.in-F01.is (λ at past is. ap (λ x. Some x) (c.connack-in-F01.ensures Client (latest_connection past) is))
+
+pub returns-in-F02 : goal.returns-in-F02
+returns-in-F02 c = rw c.in-F02.is (λ at past is. ap (λ x. Some x) (c.connack-in-F02.ensures Client (latest_connection past) is))
+
+pub returns-in-F03 : goal.returns-in-F03
+returns-in-F03 c = rw c.in-F03.is (λ at past is. ap (λ x. Some x) (c.connack-in-F03.ensures Client (latest_connection past) is))
+
+pub returns-in-F04 : goal.returns-in-F04
+returns-in-F04 c = rw c.in-F04.is (λ at past is. ap (λ x. Some x) (c.connack-in-F04.ensures Client (latest_connection past) is))
+
 pub returns-in-A02 : goal.returns-in-A02
 returns-in-A02 c = rw c.in-A02.is (λ at past is. ap (λ x. Some x) (c.connect.ensures Client (latest_connection past) is))

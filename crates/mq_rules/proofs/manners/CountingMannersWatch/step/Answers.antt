@@ -1,15 +1,14 @@
-use Rattle.std.proofs.Common.{◌≡◌, ◌∷◌, refl, sym, ap, ◌∙◌}
+use Rattle.std.proofs.Common.{◌∷◌, sym, ap, ◌∙◌}
 use Rattle.mq_rules.specs.Connections.{latest_fate}
 use Rattle.mq_rules.specs.Under.{seen}
 use Rattle.mq_rules.proofs.FaultKeyLaws.{on_err}
-use Rattle.mq_rules.proofs.MannersLaws.{counts-next, counts-unasked, further-gains, further-within, manners-next, unasked-gains}
+use Rattle.mq_rules.proofs.MannersLaws.{counts-next, counts-unasked, further-gains, further-within, manners-next, unasked-gains, unasked-stays}
 use Rattle.mq_rules.proofs.manners.CountingMannersWatch.step.Goals as goal
 
 pub returns-then-not-self-clause-agrees : goal.returns-then-not-self-clause-agrees
 returns-then-not-self-clause-agrees c = λ tested taken past follows takes here.
     let off = c.if-not-self.true in (
-      manners-next c.args.self.now.manners c.args.self.now.manners tested taken (latest_fate tested.role (seen c.args.at c.args.note.now ∷ past)) (seen c.args.at c.args.note.now) past here.0 refl refl
-          (λ asked. absurd (cc)),
+      unasked-stays c.args.self.now.manners tested taken (latest_fate tested.role (seen c.args.at c.args.note.now ∷ past)) (seen c.args.at c.args.note.now) past off here.0,
       counts-unasked c.args.self.now.places tested (seen c.args.at c.args.note.now) past (sym here.0.same_further ∙ off) here.1,
     )
 
@@ -26,9 +25,9 @@ pub returns-clause-agrees : goal.returns-clause-agrees
 returns-clause-agrees c = λ tested taken past follows takes here.
     let kept = c.in_ok-take.ensures.kept in (
       manners-next c.args.self.now.manners c.take.new.self tested taken (latest_fate tested.role (seen c.args.at c.args.note.now ∷ past)) (seen c.args.at c.args.note.now) past here.0
-          (ap (λ m. m.role) kept) (ap (λ m. m.further) kept) (λ asked. ap (λ m. m.connect) kept),
+          (ap (λ m. m.role) kept) (ap (λ m. m.further) kept) (λ asked. ap (λ m. m.connect) kept) (λ asked. ap (λ m. m.connack) kept),
       counts-next c.args.self.now.manners c.args.self.now.places c.count.new.self tested taken (seen c.args.at c.args.note.now) past c.if-not-self.false follows here.0 here.1
-          c.count.ensures.f05 c.count.ensures.f06 c.count.ensures.a02,
+          (record { f01 = c.count.ensures.f01; f02 = c.count.ensures.f02; f03 = c.count.ensures.f03; f04 = c.count.ensures.f04; f05 = c.count.ensures.f05; f06 = c.count.ensures.f06; v03 = c.count.ensures.v03; v04 = c.count.ensures.v04; v06 = c.count.ensures.v06; a02 = c.count.ensures.a02 }),
     )
 
 pub returns-clause-grows : goal.returns-clause-grows

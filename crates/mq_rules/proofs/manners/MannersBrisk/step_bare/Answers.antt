@@ -1,13 +1,15 @@
-use Rattle.std.specs.Prelude.{◌∷◌}
+use Rattle.std.proofs.Common.{◌∷◌, sym, ◌∙◌}
 use Rattle.mq_rules.specs.Notes.{note_of_bare}
 use Rattle.mq_rules.specs.Connections.{latest_fate}
 use Rattle.mq_rules.specs.Under.{seen}
-use Rattle.mq_rules.proofs.MannersLaws.{bare-gains, bare-stays}
+use Rattle.mq_rules.proofs.MannersLaws.{unasked-gains, unasked-stays}
 use Rattle.mq_rules.proofs.manners.MannersBrisk.step_bare.Goals as goal
 
-pub returns-clause-agrees : goal.returns-clause-agrees
-returns-clause-agrees c = λ tested taken past follows takes here.
-    bare-stays c.args.self.now tested taken (latest_fate tested.role (seen c.args.arg2 (note_of_bare c.args.arg3) ∷ past)) c.args.arg2 c.args.arg3 past here
+pub returns-then-not-self-clause-agrees : goal.returns-then-not-self-clause-agrees
+returns-then-not-self-clause-agrees c = λ tested taken past follows takes here.
+    let e = seen c.args.at (note_of_bare c.args.bare) in
+    unasked-stays c.args.self.now tested taken (latest_fate tested.role (e ∷ past)) e past c.if-not-self.true here
 
-pub returns-clause-grows : goal.returns-clause-grows
-returns-clause-grows c = λ tested taken past follows takes here. bare-gains c.args.self.now tested taken c.args.arg2 c.args.arg3 past c.args.arg4.now follows here
+pub returns-then-not-self-clause-grows : goal.returns-then-not-self-clause-grows
+returns-then-not-self-clause-grows c = λ tested taken past follows takes here.
+    unasked-gains tested (seen c.args.at (note_of_bare c.args.bare)) past c.args.faults.now (sym here.same_further ∙ c.if-not-self.true)
