@@ -453,7 +453,22 @@ def counts_wrongly(exchange: str) -> Reason:
 REASONS["B03"] = counts_wrongly("E5")
 REASONS["B04"] = counts_wrongly("E6")
 
-# -- F and A, of further statements: the CONNECT of the connection
+# -- F, V and A, of further statements: the CONNACK or the CONNECT of the connection; of a value in one packet nothing earlier
+
+
+def announces_0(property: str) -> Reason:
+    def reason(log: Log, k: int) -> Evidence:
+        """The CONNACK, by which the server hasn't got it."""
+        return Evidence(f"the CONNACK, with {property} Available 0", log.first_connacks[log.places[k]])
+
+    return reason
+
+
+REASONS["F01"] = announces_0("Retain")
+REASONS["F02"] = announces_0("Wildcard Subscription")
+REASONS["F03"] = announces_0("Subscription Identifier")
+REASONS["F04"] = announces_0("Shared Subscription")
+by_itself("", "V03", "V04", "V06")
 
 
 @says("F05")

@@ -117,6 +117,15 @@ def counted(body: bytes) -> bytes:
     return (bytes([size]) if size < 128 else bytes([size % 128 + 128, size // 128])) + body
 
 
+def wishing() -> bytes:
+    """A client that breaks the further statements, and several at one event, on connection after connection."""
+    names, words = further_worked.packets(), []
+    for connack in ("CONNACK-NO-RETAIN", "CONNACK-NO-WILDCARDS", "CONNACK-NO-IDENTIFIERS", "CONNACK-NO-SHARES", "CONNACK"):
+        words += ["OPEN", ">CONNECT", f"<{connack}", ">PUBLISH0-RETAINED", ">PUBLISH0", ">SUBSCRIBE-ALL:1", ">SUBSCRIBE-7:1", ">SHARE:1"]
+        words += [">SHARE-NO-LOCAL:1", ">SHARE-PLUS:1", "<PUBLISH1:1", ">PUBACK-10:1", ">AUTH-M", ">DISCONNECT-8E", "REST", "CLOSE"]
+    return check_rows.log_of("client " + " ".join(words), names)
+
+
 def asking() -> bytes:
     """A server that breaks the further statements, among others, and several at one event, on connection after connection."""
     names, words = further_worked.packets(), []
@@ -129,6 +138,7 @@ def asking() -> bytes:
 def logs(paths: list[str]) -> list[tuple[str, bytes]]:
     found = [(row.name, row.log) for row in check_rows.rows()]
     found.append(("a server that further statements are about", asking()))
+    found.append(("a client that further statements are about", wishing()))
     found.append(("3,000 faults", many_faults(3000)))
     found.append(("long packets that break a rule", long_broken()))
     found.append(("texts that break a rule", wrong_texts()))

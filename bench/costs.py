@@ -92,10 +92,17 @@ def print_bounded(mqjudge: Path, table: Path, messages: int, bounds: Bounds) -> 
     return above == 0
 
 
-def print_versions(mqjudge: Path, chosen: list[str], messages: int, bounds: Bounds) -> bool:
-    """Prints how many instructions an event takes in both versions, and says whether version 2 costs no more than it may."""
+def can_count() -> bool:
+    """Whether instructions can be counted. Where they can't, it says so."""
     if counter() is None:
         print("instructions can't be counted: perf can't, and there is no valgrind")
+        return False
+    return True
+
+
+def print_versions(mqjudge: Path, chosen: list[str], messages: int, bounds: Bounds) -> bool:
+    """Prints how many instructions an event takes in both versions, and says whether version 2 costs no more than it may."""
+    if not can_count():
         return False
     above = 0
     print(COLUMNS.format("log", "task", "version 1", "version 2", "ratio", f"instructions an event, by {counter()}"), flush=True)
@@ -115,8 +122,7 @@ def print_versions(mqjudge: Path, chosen: list[str], messages: int, bounds: Boun
 
 def print_coverage(mqjudge: Path, chosen: list[str], messages: int, bounds: Bounds) -> bool:
     """Prints how many instructions an event takes `check` and `check --coverage`, and says whether they could be counted."""
-    if counter() is None:
-        print("instructions can't be counted: perf can't, and there is no valgrind")
+    if not can_count():
         return False
     unknown, columns = 0, "{:<24} {:>12} {:>12} {:>6}  {}"
     print(columns.format("log", "check", "--coverage", "ratio", f"instructions an event, by {counter()}"), flush=True)
@@ -135,8 +141,7 @@ def print_coverage(mqjudge: Path, chosen: list[str], messages: int, bounds: Boun
 def print_why(mqjudge: Path, chosen: list[str], messages: int, bounds: Bounds) -> bool:
     """Prints how many instructions an event of a log with faults takes `check` and `show`, without what the faults conflict with and with
     it, after the last fault and before it, and says whether they could be counted."""
-    if counter() is None:
-        print("instructions can't be counted: perf can't, and there is no valgrind")
+    if not can_count():
         return False
     unknown, columns = 0, "{:<24} {:>9} {:>9} {:>9} {:>9} {:>9} {:>9}  {}"
     tasks = (("check", False), ("why", False), ("why", True), ("show", False), ("faults", False), ("faults", True))

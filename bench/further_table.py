@@ -53,7 +53,8 @@ for line in SHAPES.strip().split("\n"):
     code, client, server, sentence = line.split(" ", 3)
     CITATIONS[code] = {role: text for role, text in (("client", client), ("server", server)) if text != "-"}
     SENTENCES[code] = sentence
-JUDGED = ("F05", "F06", "A02")  # that the program judges too, if `--all` asks for them
+# That the program judges too, if `--all` asks for them.
+JUDGED = ("F01", "F02", "F03", "F04", "F05", "F06", "V03", "V04", "V06", "A02")
 TIMED = {"K01", "K02"}  # that look at moments
 OF_SESSIONS = {code for code in CITATIONS if code[0] in "BPR"}  # that are judged only where the session is known
 

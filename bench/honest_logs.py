@@ -5,14 +5,13 @@ same bytes.
 A log has one to six connections of a client or of a server. They are accepted, with a new session or the one before, or refused,
 or closed without a CONNACK, which may have begun a session all the same. There are messages of all QoS in both directions, PUBLISHes
 and PUBRELs that are sent again, at once or one after the other, PUBLISHes that a connection's end cuts off, or that a bound of the
-peer forbids, subscriptions, Topic Aliases, what the peer announces, Wills, which a server doesn't take if it can't, enhanced
-authentication, if the CONNECT names a method, packets before the CONNACK, also where that then says of the session what the client
+peer forbids, subscriptions, Topic Aliases, what the peer announces, Reason Codes that the end may send,
+Wills, which a server doesn't take if it can't, enhanced authentication, if the CONNECT names a method, packets before the CONNACK, also where that then says of the session what the client
 didn't expect, RELEASEs and RESTs; and packets are split over records anywhere. A judge must pass each log, also with `--all`:
 `bench/fuzz.py` looks at that, and at what it says of these logs when changed. A third of the logs are of version 2.
 
 usage: bench/honest_logs.py SEED NUMBER > FILE
 """
-import argparse
 import random
 import sys
 from dataclasses import dataclass, field, replace
@@ -20,7 +19,7 @@ from itertools import accumulate
 
 sys.dont_write_bytecode = True  # the repository stays as it is
 from make_log import CLOSE, OPEN, PINGREQ, PINGRESP, RECV, REST, SENT, record, varint
-from random_logs import EXPLANATIONS, Type, will_flags
+from random_logs import EXPLANATIONS, Type, will_flags, write_one
 from session_logs import CLIENT, RELEASE, SERVER, number, packet, text
 from versions import in_some_version
 
@@ -33,6 +32,7 @@ LONGEST = 64  # no PUBLISH or SUBSCRIBE with a payload of one byte is larger: th
 PAYLOADS = (0, 1, 1, 1, 1, 1, 1, 300)
 EXPIRY_0, EXPIRY_60 = b"\x11\0\0\0\0", b"\x11\0\0\0\x3c"  # Session Expiry Interval, in seconds
 AUTHENTICATION_METHOD = b"\x15\0\1m"
+LEAVING = ((0x00, 0x00, 0x00, 0x04, 0x80, 0x98), (0x00, 0x00, 0x00, 0x8B, 0x8E, 0x98))  # of a client's DISCONNECT, and of a server's
 ANSWERS = {1: Type.PUBACK, 2: Type.PUBREC}
 Answer = tuple[Type, int]
 
@@ -79,6 +79,9 @@ class Limits:
     qos: int = 2
     size: int = 0  # 0: any
     retains: bool = True
+    wildcards: bool = True
+    identifiers: bool = True
+    shares: bool = True
 
     def forbid(self, message: Message) -> bool:
         """Whether the message may be passed over, and even discarded."""
@@ -88,7 +91,8 @@ class Limits:
         found = b"\x21" + number(self.in_flight) if self.in_flight < 65_535 else b""
         found += b"\x22" + number(self.aliases) if self.aliases else b""
         found += bytes([0x24, self.qos]) if self.qos < 2 else b""
-        found += b"" if self.retains else b"\x25\0"
+        lacks = ((0x25, self.retains), (0x28, self.wildcards), (0x29, self.identifiers), (0x2A, self.shares))
+        found += b"".join(bytes([kind, 0]) for kind, is_available in lacks if not is_available)
         return found + (b"\x27\0\0" + number(self.size) if self.size else b"")
 
 
@@ -261,6 +265,8 @@ class Honest:
             limits.qos = self.draw.randrange(2)
         if self.role == CLIENT and self._is_bounded("retain"):
             limits.retains = False
+        if self.role == CLIENT:
+            limits.wildcards, limits.identifiers, limits.shares = (not self.chance(0.15) for _ in range(3))
         if self._is_bounded("size"):
             limits.size = self.draw.randint(LONGEST, 300)
         return limits
@@ -344,7 +350,8 @@ class Honest:
             end = self.draw.randrange(2)
             change = self.draw.choice((EXPIRY_0, EXPIRY_60)) if end == CLIENT and may_change and self.chance(0.3) else b""
             self.is_kept = self.is_alive = change == EXPIRY_60 if change else self.is_kept
-            self._say(end, packet(0xE0, b"\0" + listed(change) if change else b""))
+            code = self.draw.choice(LEAVING[end])
+            self._say(end, packet(0xE0, bytes([code]) + listed(change) if change else bytes([code]) if code else b""))
         elif self.line.is_accepted and self.chance(0.15):
             self._peer(b"\x30\x05\x00")  # a packet that the connection's end cuts off
         elif (self.line.is_accepted or self.role == CLIENT) and goes_on and self.chance(0.25):
@@ -586,7 +593,7 @@ class Honest:
     def _answer_message(self, kind: Type, identifier: int) -> None:
         message = next((one for one in self.state.of_peer if one.identifier == identifier), None)
         refuses = kind == Type.PUBREC and not self.state.to_complete.get(identifier) and self.chance(0.1)
-        code = self.draw.choice((0, 0, 0, 0x10)) if kind == Type.PUBACK else 0x87 if refuses else 0
+        code = self.draw.choice((0, 0, 0, 0x10)) if kind == Type.PUBACK and self.role == SERVER else 0x87 if refuses else 0
         self._acknowledge(self._own, kind, identifier, code)
         if kind == Type.PUBREC and not refuses:
             if message:
@@ -625,18 +632,27 @@ class Honest:
         if not free:
             return
         identifier, subscribes = self.draw.choice(free), self.chance(0.75)
-        filters = [(one, self.draw.randrange(3)) for one in self.draw.sample(list(FILTERS), self.draw.randint(1, 2))]
+        known = [one for one in FILTERS if self.line.limits.wildcards or not {"+", "#"} & set(one)]
+        filters = [(one, self.draw.randrange(3)) for one in self.draw.sample(known, min(len(known), self.draw.randint(1, 2)))]
         self.line.asked.add(identifier)
         self.line.is_filled = True
         self.line.requests[identifier] = filters
-        body = b"".join(text(one) + (bytes([qos]) if subscribes else b"") for one, qos in filters)
-        self._say(CLIENT, packet(0x82 if subscribes else 0xA2, number(identifier) + b"\0" + body))
+        body = b"".join(self._asked(one, qos) if subscribes else text(one) for one, qos in filters)
+        is_numbered = subscribes and self.role == CLIENT and self.line.limits.identifiers and self.chance(0.2)
+        properties = listed(b"\x0b\7" if is_numbered else b"")
+        self._say(CLIENT, packet(0x82 if subscribes else 0xA2, number(identifier) + properties + body))
         for one, qos in filters:
             if subscribes:
                 self.state.filters[one] = qos
             else:
                 self.state.filters.pop(one, None)
         self._expect(SERVER, Type.SUBACK if subscribes else Type.UNSUBACK, identifier)
+
+    def _asked(self, one: str, qos: int) -> bytes:
+        """A filter of a SUBSCRIBE. A tested client may share it, or have No Local for one of its own."""
+        if self.role == CLIENT and self.line.limits.shares and self.chance(0.15):
+            return text(f"$share/g/{one}") + bytes([qos])
+        return text(one) + bytes([qos | 4 * (self.role == CLIENT and self.chance(0.1))])
 
     def _reply(self, say, kind: Type, identifier: int) -> None:
         """A SUBACK or UNSUBACK. It may grant less than was asked for."""
@@ -708,13 +724,5 @@ def session(seed: int, which: int) -> bytes:
     return in_some_version(draw, Honest(draw).log())
 
 
-def main() -> None:
-    arguments = argparse.ArgumentParser(description="Writes the log of a session in which the tested end does right.")
-    arguments.add_argument("seed", type=int, metavar="SEED")
-    arguments.add_argument("number", type=int, metavar="NUMBER", help="which of the logs of this seed")
-    given = arguments.parse_args()
-    sys.stdout.buffer.write(session(given.seed, given.number))
-
-
 if __name__ == "__main__":
-    main()
+    write_one("a session in which the tested end does right", session)

@@ -94,10 +94,24 @@ def covering(report: str, publishes: int) -> str:
     return occasions.covering(report, occasions.of_publishes(publishes))
 
 
+# The further statements on a client, with their citations.
+FURTHER_OF_CLIENT = {
+    "F01": "MQTT-3.2.2-14",
+    "F02": "sec-3.2.2.3.11",
+    "F03": "sec-3.2.2.3.12",
+    "F04": "sec-3.2.2.3.13",
+    "V03": "MQTT-4.8.2-1,MQTT-4.8.2-2",
+    "V04": "MQTT-3.8.3-4",
+    "V06": "sec-3.14.2.1,sec-3.4.2.1",
+    "A02": "MQTT-4.12.0-7",
+}
+
+
 def covering_all(report: str, publishes: int, auths: int) -> str:
     """The same of one that also sends so many AUTHs, with the further statements too. (An AUTH tests what a PINGREQ does, and A02.)"""
     *rows, _, gap = occasions.of_publishes(publishes, pings=auths)
-    rows.append(f"tested A02 MQTT-4.12.0-7 places {auths}")
+    places = {"A02": auths}
+    rows += [f"tested {code} {citation} places {places.get(code, 0)}" for code, citation in FURTHER_OF_CLIENT.items()]
     return occasions.covering(report, [*rows, occasions.sum_of(rows), gap])
 
 
@@ -143,13 +157,29 @@ CODES = (
     + "E1A E1R E1O E2A E2R E2O E3A E3R E3O E4A E4R E5A E5R E6A E6R E7R L1 L2 L3 B01 B02 B03 B04".split()
 )
 # Those that are judged only on request, and named all the same.
-FURTHER = ["F05", "F06", "A02"]
+FURTHER = ["F01", "F02", "F03", "F04", "F05", "F06", "V03", "V04", "V06", "A02"]
 FURTHER_ROWS = """\
+F01 client MQTT-3.2.2-14 A new PUBLISH has RETAIN 0 where Retain Available is 0.
+F02 client sec-3.2.2.3.11 No filter has a wildcard where the server takes none.
+F03 client sec-3.2.2.3.12 No SUBSCRIBE has a Subscription Identifier where the server takes none.
+F04 client sec-3.2.2.3.13 No SUBSCRIBE has a shared filter where the server takes none.
 F05 server MQTT-3.2.2-12 A Will QoS above the announced Maximum QoS is refused.
 F06 server MQTT-3.2.2-13 A Will with Will Retain 1 is refused where Retain Available is 0.
+V03 client MQTT-4.8.2-1,MQTT-4.8.2-2 A shared filter has a name without wildcards, and a filter after it.
+V04 client MQTT-3.8.3-4 No Local is 0 for a shared filter.
+V06 both sec-3.14.2.1,sec-3.4.2.1;sec-3.14.2.1 A Reason Code is one that this end may send.
 A02 both MQTT-4.12.0-7;MQTT-4.12.0-6 Without an Authentication Method in CONNECT there is no enhanced authentication.
 """
-OF_CLIENT = "A02 both MQTT-4.12.0-7 Without an Authentication Method in CONNECT there is no enhanced authentication.\n"
+OF_CLIENT = """\
+F01 client MQTT-3.2.2-14 A new PUBLISH has RETAIN 0 where Retain Available is 0.
+F02 client sec-3.2.2.3.11 No filter has a wildcard where the server takes none.
+F03 client sec-3.2.2.3.12 No SUBSCRIBE has a Subscription Identifier where the server takes none.
+F04 client sec-3.2.2.3.13 No SUBSCRIBE has a shared filter where the server takes none.
+V03 client MQTT-4.8.2-1,MQTT-4.8.2-2 A shared filter has a name without wildcards, and a filter after it.
+V04 client MQTT-3.8.3-4 No Local is 0 for a shared filter.
+V06 both sec-3.14.2.1,sec-3.4.2.1 A Reason Code is one that this end may send.
+A02 both MQTT-4.12.0-7 Without an Authentication Method in CONNECT there is no enhanced authentication.
+"""
 NO_X99 = f"""\
 mqjudge: no statement X99
 mqjudge: there are {" ".join(CODES + FURTHER)}, and citations such as MQTT-4.4.0-1: see mqjudge rules

@@ -19,7 +19,7 @@ usage: bench/random_logs.py SEED NUMBER > FILE
 import argparse
 import random
 import sys
-from collections.abc import Iterator
+from collections.abc import Callable, Iterator
 from enum import IntEnum
 from pathlib import Path
 
@@ -85,7 +85,8 @@ class Type(IntEnum):
 IDENTIFIERS = (1, 2, 3)
 TOPICS = ("a", "a", "a/b", "b", "$x")
 FILTERS = ("a", "a", "a/b", "a/#", "+", "#", "b/+")
-SHARED = "$share/g/a"
+# Shared ones; the name of some is invalid, or no filter follows it.
+SHARED = ("$share/g/a", "$share/g/a", "$share/g/+", "$share/+/a", "$share//a", "$share/g", "$share/g/")
 REASONS = {
     Type.PUBACK: (0x00, 0x10, 0x87),
     Type.PUBREC: (0x00, 0x10, 0x87),
@@ -105,6 +106,10 @@ MAXIMUM_QOS = (b"\x24\0", b"\x24\1")
 RETAIN_AVAILABLE = (b"\x25\0", b"\x25\0", b"\x25\1")
 OF_CONNACK: Choices = ((b"\x12\0\1c",), (b"\x1a\0\1i",), RECEIVE_MAXIMUM, TOPIC_ALIAS_MAXIMUM)
 AUTHENTICATION_METHOD = (b"\x15\0\1m", b"\x15\0\1m", b"\x15\0\1n")
+# What a tested client's server hasn't got, besides: Wildcard Subscription, Subscription Identifier and Shared Subscription Available.
+LACKS: Choices = ((b"\x28\0", b"\x28\1"), (b"\x29\0", b"\x29\1"), (b"\x2a\0", b"\x2a\1"))
+SUBSCRIPTION_IDENTIFIER = (b"\x0b\7",)
+LEAVING = (0x00, 0x00, 0x04, 0x80, 0x8C, 0x8E, 0x98, 0x9D)  # Reason Codes of a DISCONNECT; either end may not send all of them
 BOUNDS: Choices = (MAXIMUM_QOS, RETAIN_AVAILABLE, RETAIN_AVAILABLE, MAXIMUM_PACKET_SIZE)  # a CONNACK has at most one of them
 OF_PUBLISH: Choices = ((b"\2\0\0\0\x3c",), (b"\x0b\1",), (b"\x23\0\1", b"\x23\0\2"))
 
@@ -382,6 +387,7 @@ class Session:
             chosen += self._chosen(0.5, MAXIMUM_QOS, RETAIN_AVAILABLE)
         else:
             chosen += self._chosen(0.4 if session_present else 0.25, self.draw.choice(BOUNDS))
+        chosen += self._chosen(0.1, *LACKS) if self.role == CLIENT else b""
         return packet(0x20, bytes([session_present, code]) + varint(len(chosen)) + chosen)
 
     def _publish(self, end: int, identifier: int, qos: int, dup: bool) -> bytes:
@@ -415,10 +421,15 @@ class Session:
     def _request(self, end: int, kind: Type, identifier: int, amount: int) -> bytes:
         """A SUBSCRIBE or UNSUBSCRIBE."""
         self._owe(1 - end, Type.SUBACK if kind == Type.SUBSCRIBE else Type.UNSUBACK, identifier, amount)
-        filters = [SHARED if self.shares and self.chance(0.3) else self.draw.choice(FILTERS) for _ in range(amount)]
+        filters = [self.draw.choice(SHARED if self.shares and self.chance(0.3) else FILTERS) for _ in range(amount)]
         has_options = kind == Type.SUBSCRIBE
-        body = b"".join(text(one) + (bytes([self.draw.randrange(3)]) if has_options else b"") for one in filters)
-        return packet(kind << 4 | 2, number(identifier) + self._properties(0.05, EXPLANATIONS[1]) + body)
+        body = b"".join(text(one) + (bytes([self._options()]) if has_options else b"") for one in filters)
+        properties = self._properties(0.05, EXPLANATIONS[1], *([SUBSCRIPTION_IDENTIFIER] if has_options else []))
+        return packet(kind << 4 | 2, number(identifier) + properties + body)
+
+    def _options(self) -> int:
+        """Of a SUBSCRIBE: a Maximum QoS, and sometimes No Local."""
+        return self.draw.randrange(3) | (4 if self.chance(0.1) else 0)
 
     def _reply(self, kind: Type, identifier: int, amount: int) -> bytes:
         """A SUBACK or UNSUBACK, mostly with as many Reason Codes as there were filters."""
@@ -427,7 +438,8 @@ class Session:
         return packet(kind << 4, number(identifier) + self._properties(0.1, *EXPLANATIONS) + bytes(self.draw.choices(codes, k=count)))
 
     def _disconnect(self) -> bytes:
-        return packet(0xE0, b"" if self.chance(0.5) else b"\0" + self._properties(0.5, SESSION_EXPIRY_INTERVAL))
+        code = bytes([self.draw.choice(LEAVING)])
+        return packet(0xE0, b"" if self.chance(0.4) else code + self._properties(0.5, SESSION_EXPIRY_INTERVAL))
 
 
 def connect(is_clean: bool, properties: bytes, name: str = "c", will: tuple[int, bool] | None = None) -> bytes:
@@ -529,13 +541,14 @@ def crowded() -> Iterator[tuple[str, bytes, bool]]:
                 yield f"{tested}, {name} after {before} events", crowd + last, before == MOST_EARLY and name not in deciding
 
 
-def main() -> None:
-    arguments = argparse.ArgumentParser(description="Writes the log of a random session.")
+def write_one(what: str, made: Callable[[int, int], bytes]) -> None:
+    """Writes the log that a seed and a number make, as the command line gives them, to standard output."""
+    arguments = argparse.ArgumentParser(description=f"Writes the log of {what}.")
     arguments.add_argument("seed", type=int, metavar="SEED")
     arguments.add_argument("number", type=int, metavar="NUMBER", help="which of the logs of this seed")
     given = arguments.parse_args()
-    sys.stdout.buffer.write(session(given.seed, given.number))
+    sys.stdout.buffer.write(made(given.seed, given.number))
 
 
 if __name__ == "__main__":
-    main()
+    write_one("a random session", session)

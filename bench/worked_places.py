@@ -167,6 +167,9 @@ IDENTIFIERS = {
     "qos": 0x24,
     "retain": 0x25,
     "size": 0x27,
+    "wildcards": 0x28,
+    "identifiers": 0x29,
+    "shares": 0x2A,
 }
 METHOD = (0x15, b"m")
 QUALITIES = ("quality.AtMostOnce", "quality.AtLeastOnce", "quality.ExactlyOnce")
@@ -237,11 +240,17 @@ WORDS: dict[str, Callable] = {
     ),
     "retaining": lambda available: connack(True, retain=available),
     "announcing": lambda code, qos, retain: connack(False, code, qos=qos, retain=retain),
+    "lacking": lambda retain, wildcards, identifiers, shares: connack(
+        False, retain=retain, wildcards=wildcards, identifiers=identifiers, shares=shares
+    ),
     "naming_method": lambda: replace(connack(False), properties=[METHOD]),
     "assigning": lambda: connack(False, 0, 0x12),
     "informing": lambda: connack(False, 0, 0x1A),
     "leaving": lambda expiry: packet(DISCONNECT, properties=given(expiry=expiry)),
+    "leaving_by": lambda code: packet(DISCONNECT, code=code),
     "at_most_once": lambda: publish(0, None),
+    "retained_at_most_once": lambda: publish(0, None, retain=True),
+    "retained_again": lambda i: publish(1, i, True, retain=True),
     "once": lambda dup, i: publish(1, i, dup),
     "exactly": lambda dup, i: publish(2, i, dup),
     "retained_once": lambda i: publish(1, i, retain=True),
@@ -249,6 +258,12 @@ WORDS: dict[str, Callable] = {
     "aliased": lambda topic, alias: publish(0, None, topic=bytes(topic), alias=alias),
     "asks_a": asks(b"a"),
     "asks_shared": asks(b"$share/g/a"),
+    "asks_plainly": lambda: asks(b"a")(1),
+    "asks_widely": lambda: asks(b"#")(1),
+    "asks_identified": lambda: replace(asks(b"a")(1), properties=[(0x0B, 7)]),
+    "asks_to_share": lambda: asks(b"$share/g/a")(1),
+    "asks_misnamed": lambda: asks(b"$share/+/a")(1),
+    "asks_no_local": lambda: asks(b"$share/g/a")(1, 4),
     "Puback": acknowledges(PUBACK),
     "Pubrec": acknowledges(PUBREC),
     "Pubrel": acknowledges(PUBREL),

@@ -10,6 +10,8 @@ from collections.abc import Sequence
 from dataclasses import dataclass, field
 from enum import IntEnum
 
+from framing import PROPERTY_SIZES, Fields
+
 
 class Type(IntEnum):
     """The types of Control Packets."""
@@ -55,9 +57,6 @@ class Prop(IntEnum):
     SHARED_AVAILABLE = 0x2A
 
 
-ONE_BYTE = frozenset((0x01, 0x17, 0x19, 0x24, 0x25, 0x28, 0x29, 0x2A))
-TWO_BYTES = frozenset((0x13, 0x21, 0x22, 0x23))
-FOUR_BYTES = frozenset((0x02, 0x11, 0x18, 0x27))
 ACKNOWLEDGEMENTS = frozenset((Type.PUBACK, Type.PUBREC, Type.PUBREL, Type.PUBCOMP))
 FIXED_FLAGS = {Type.PUBREL: 2, Type.SUBSCRIBE: 2, Type.UNSUBSCRIBE: 2}
 RESERVED = 0x80  # a Reason Code from here on says that something failed
@@ -82,10 +81,6 @@ def two(number: int) -> bytes:
     return struct.pack(">H", number)
 
 
-def four(number: int) -> bytes:
-    return struct.pack(">I", number)
-
-
 def text(value: str | bytes) -> bytes:
     """A text with its length before it."""
     raw = value.encode() if isinstance(value, str) else value
@@ -98,13 +93,8 @@ def property_bytes(identifier: int, value: Value) -> bytes:
         return bytes((identifier,)) + text(value[0]) + text(value[1])
     if isinstance(value, bytes):
         return bytes((identifier,)) + text(value)
-    if identifier in ONE_BYTE:
-        return bytes((identifier, value))
-    if identifier in TWO_BYTES:
-        return bytes((identifier,)) + two(value)
-    if identifier in FOUR_BYTES:
-        return bytes((identifier,)) + four(value)
-    return bytes((identifier,)) + varint(value)
+    size = PROPERTY_SIZES.get(identifier)
+    return bytes((identifier,)) + (varint(value) if size is None else value.to_bytes(size, "big"))
 
 
 def property_list(properties: Properties) -> bytes:
@@ -197,33 +187,8 @@ PING, PONG = packet(Type.PINGREQ), packet(Type.PINGRESP)
 # ---- reading
 
 
-class Reader:
-    """Reads fields one after the other, and raises IndexError where there are too few bytes."""
-
-    def __init__(self, data: bytes) -> None:
-        self.data, self.at = data, 0
-
-    def take(self, count: int) -> bytes:
-        piece = self.data[self.at : self.at + count]
-        if len(piece) < count:
-            raise IndexError("too few bytes")
-        self.at += count
-        return piece
-
-    def number(self, size: int) -> int:
-        return int.from_bytes(self.take(size), "big")
-
-    def varint(self) -> int:
-        value = 0
-        for place in range(LENGTH_BYTES):
-            byte = self.number(1)
-            value |= (byte & 0x7F) << (7 * place)
-            if byte < 0x80:
-                return value
-        raise IndexError("a Variable Byte Integer of more than four bytes")
-
-    def text(self) -> bytes:
-        return self.take(self.number(2))
+class Reader(Fields):
+    """Reads fields one after the other, also all that is left and property lists."""
 
     def rest(self) -> bytes:
         return self.take(len(self.data) - self.at)
@@ -237,9 +202,8 @@ class Reader:
         return found
 
     def property_value(self, identifier: int) -> Value:
-        for size, group in ((1, ONE_BYTE), (2, TWO_BYTES), (4, FOUR_BYTES)):
-            if identifier in group:
-                return self.number(size)
+        if identifier in PROPERTY_SIZES:
+            return self.number(PROPERTY_SIZES[identifier])
         if identifier == Prop.SUBSCRIPTION_IDENTIFIER:
             return self.varint()
         value = self.text()
