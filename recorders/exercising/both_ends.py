@@ -15,6 +15,7 @@ from pathlib import Path
 
 from exercising.evidence import RECV, REST, SENT, SERVER_AT, Evidence, is_sturdy, positions_without_rests, read
 from judging.program import Judge
+from judging.statements import ALL
 from judging.story import Fault
 from judging.verdict import FAULT, FAULTS, PASSED, Verdict, fault_of
 from arguments import counted
@@ -70,6 +71,7 @@ class Fairness:
     """Takes out of a verdict what may be the exerciser's own doing."""
 
     judge: Judge | None = None
+    is_of_all: bool = False  # the further statements are judged too
     own: dict[Path, list[Fault]] = field(default_factory=dict)  # the exerciser's faults, at the log's own positions
     looks: dict[Path, list[Fault]] = field(default_factory=dict)
     _lock: threading.Lock = field(default_factory=threading.Lock)
@@ -109,7 +111,8 @@ class Fairness:
         with tempfile.NamedTemporaryFile(suffix=".log") as room:
             room.write(other_end(log))
             room.flush()
-            lines = [FAULT.fullmatch(line) for line in self.judge.ask("check", room.name).splitlines()]
+            words = ["check", *([ALL] if self.is_of_all else []), room.name]
+            lines = [FAULT.fullmatch(line) for line in self.judge.ask(*words).splitlines()]
         faults = [fault for fault in map(fault_of, filter(None, lines)) if fault.code not in BY_SILENCE]
         return in_the_log(log, faults)
 
@@ -118,7 +121,7 @@ class Fairness:
         has faults."""
         own = self.own_faults(verdict.path) if may_break or verdict.found else []
         bad = {fault.position: fault.code for fault in (*verdict.found, *own) if fault.code[0] == OF_BYTES}
-        found = read(verdict.path.read_bytes(), bad)
+        found = read(verdict.path.read_bytes(), bad, self.is_of_all)
         if own:
             found.keep_before(min(fault.position for fault in own))
         return found

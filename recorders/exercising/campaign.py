@@ -50,6 +50,7 @@ class Plan:
     policy: Policy
     reports: Places
     table: Path | None = None  # where the last table is written for programs, if it is wanted
+    is_of_all: bool = False  # the further statements are judged too
 
 
 def choose(
@@ -86,10 +87,10 @@ class Campaign:
     def __init__(self, plan: Plan, scenarios: list[Scenario]) -> None:
         self.plan, self.scenarios = plan, scenarios
         self.run = secrets.token_hex(RUN_BYTES)
-        self.fairness = Fairness()
-        self.judge = LiveJudge(plan.program, plan.most, self.fairness.weigh)
+        self.fairness = Fairness(is_of_all=plan.is_of_all)
+        self.judge = LiveJudge(plan.program, plan.most, self.fairness.weigh, plan.is_of_all)
         self.fairness.judge = self.judge
-        library = find_library()
+        library = find_library() if not plan.is_of_all else None  # which judges by no further statement
         self.live = Live(library, self.judge, self.fairness, say) if library is not None else None
 
     # ---- what is tested
@@ -128,7 +129,7 @@ class Campaign:
         finally:
             self.end()
         outcome = Outcome(self.is_server, self.title, plan.out, runner.results, self.scenarios, again, plan.left_out,
-                          time.monotonic() - begun, self.inside_verdicts())
+                          time.monotonic() - begun, self.inside_verdicts(), is_of_all=plan.is_of_all)
         return self._conclude(runner, outcome)
 
     # ---- missing answers once more
@@ -194,7 +195,8 @@ class Campaign:
             take_out(verdict, once.get(verdict.path, []), ONCE)
             weighing.weigh(verdict)
 
-        judge = Judge(self.plan.program, self.plan.most, weigh, keeps=True, tells=bool(self.plan.reports.html))
+        judge = Judge(self.plan.program, self.plan.most, weigh, keeps=True, tells=bool(self.plan.reports.html),
+                      is_of_all=self.plan.is_of_all)
         gallery = Gallery()
         verdicts = []
         for verdict in outcome.verdicts:

@@ -17,7 +17,7 @@ from log_format import HEADER_SIZE, records
 SENT, RECV, OPEN, CLOSE, REST = 2, 3, 1, 4, 5
 SERVER_AT = 5  # the byte of a log's header that says which end is tested
 RANGED = frozenset((0x0B, 0x17, 0x19, 0x21, 0x23, 0x24, 0x25, 0x27, 0x28, 0x29, 0x2A))
-REPEATABLE = frozenset((Prop.USER_PROPERTY, Prop.SUBSCRIPTION_IDENTIFIER))
+REPEATABLE = frozenset((Prop.USER_PROPERTY,))
 RESPONSE_TOPIC = 0x08
 BARE_ACKNOWLEDGEMENT, BARE_DISCONNECT = 4, 2  # bytes of such packets without a Reason Code
 SERVER_ONLY = frozenset("C04 C05 C06 C07 C08 C09 C10 C12 C19 C21 C22 E5A E5R E6A E6R E7R B01 B02 B03 B04 W20".split())
@@ -27,8 +27,12 @@ BOTH = frozenset(
     " S01 S02 S03 S04 S06 S07 E1A E1R E2A E2R E3A E3R E4A E4R".split()
 )
 BINDING = {True: SERVER_ONLY | BOTH, False: CLIENT_ONLY | BOTH}  # by whether the tested end is a server
+FURTHER_OF_BOTH = frozenset(("V06", "A02"))
+FURTHER = {True: FURTHER_OF_BOTH | {"F05", "F06"},  # what binds too if the further statements are asked for
+           False: FURTHER_OF_BOTH | {"F01", "F02", "F03", "F04", "V03", "V04"}}
 FOREIGN = {True: CLIENT_ONLY & frozenset("W15 W16 W17 W18 W19".split()), False: frozenset(("W20",))}  # out of reach
-NEEDS_PEER = frozenset(("C08",))  # of the statements W and C: whether there is a session depends on the peer
+STURDY = "WCFVA"  # the letters of the statements that hold whatever the peer does
+NEEDS_PEER = frozenset(("C08",))  # but this one: whether there is a session depends on the peer
 OF_TYPES = {Type.SUBSCRIBE: {"W15", "W16", "W17"}, Type.UNSUBSCRIBE: {"W15", "W16"}, Type.CONNECT: {"W18", "W19"},
             Type.CONNACK: {"W20"}}
 WITH_TEXTS = (Type.CONNECT, Type.SUBSCRIBE, Type.UNSUBSCRIBE)
@@ -80,9 +84,14 @@ def positions_without_rests(log: bytes) -> list[int]:
     return [event.position for event in events_of(log, {}) if event.kind != REST]
 
 
+def binding(is_server: bool, is_of_all: bool) -> frozenset[str]:
+    """The statements that bind an end, with the further ones or without."""
+    return BINDING[is_server] | (FURTHER[is_server] if is_of_all else frozenset())
+
+
 def is_sturdy(code: str) -> bool:
     """Whether a statement holds whatever the peer does."""
-    return code[0] in "WC" and code not in NEEDS_PEER
+    return code[0] in STURDY and code not in NEEDS_PEER
 
 
 # ---- a packet's bytes
@@ -111,7 +120,8 @@ def of_bytes(packet: Packet) -> set[str]:
     if packet.identifier is not None:
         codes.add("W09")
     if keys:
-        codes |= {"W10"} | ({"W11"} if keys - REPEATABLE else set()) | ({"W12"} if keys & RANGED else set())
+        once = keys - REPEATABLE - ({Prop.SUBSCRIPTION_IDENTIFIER} if kind == Type.PUBLISH else set())
+        codes |= {"W10"} | ({"W11"} if once else set()) | ({"W12"} if keys & RANGED else set())
     if writes_code(packet):
         codes.add("W13")
     has_text = kind in WITH_TEXTS or (kind == Type.PUBLISH and packet.topic != b"")
@@ -171,13 +181,13 @@ class Evidence:
         return [place for place in self.places if place.position == position and place.code == code]
 
 
-def read(log: bytes, bad: Mapping[int, str] | None = None) -> Evidence:
-    """Where a log puts which statement to the test."""
+def read(log: bytes, bad: Mapping[int, str] | None = None, is_of_all: bool = False) -> Evidence:
+    """Where a log puts which statement to the test; the further ones too if they are asked for."""
     from exercising.reading import Reading  # which needs what is above
 
     is_server = bool(log[SERVER_AT]) if len(log) >= HEADER_SIZE else True
     reading = Reading(is_server, bad or {})
     for event in events_of(log, bad or {}):
         reading.take(event)
-    bound = BINDING[is_server]
+    bound = binding(is_server, is_of_all)
     return Evidence(is_server, [place for place in reading.places if place.code in bound])

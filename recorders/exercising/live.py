@@ -44,8 +44,8 @@ def find_library() -> ModuleType | None:
 class LiveJudge(Judge):
     """Asks the program only about logs that weren't judged live, or that have faults."""
 
-    def __init__(self, program: str, most: int, weigh: Callable[[Verdict], None]) -> None:
-        super().__init__(program, most, weigh, keeps=True)
+    def __init__(self, program: str, most: int, weigh: Callable[[Verdict], None], is_of_all: bool = False) -> None:
+        super().__init__(program, most, weigh, keeps=True, is_of_all=is_of_all)
         self.passed: dict[Path, int] = {}  # logs that were judged live and have no fault, with their events
 
     def _ask(self, path: Path, log: Path) -> Verdict:

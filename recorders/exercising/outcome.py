@@ -8,10 +8,11 @@ from pathlib import Path
 
 from arguments import counted
 from exercising.both_ends import LOOK, ONCE, Fairness
-from exercising.evidence import BINDING, FOREIGN
+from exercising.evidence import FOREIGN, binding
 from exercising.running import Fate, Result
 from exercising.situations import Situation, by_code, reference, situations
 from exercising.table import Scenario
+from judging.statements import ALL
 from judging.story import Fault
 from judging.verdict import REFUSED, Verdict, show
 
@@ -19,6 +20,7 @@ WIDTH = 18  # of the words at the left
 NAMED = 6  # scenarios that are named in a line
 SEEN = 12  # lines of what isn't judged
 WHY_NOT = {  # what a broker didn't do, where a statement isn't tested
+    "A02": "it sent no AUTH",
     "C10": "it assigned no Client Identifier",
     "C11": "it sent no DISCONNECT",
     "C12": "it never refused a connection",
@@ -28,9 +30,15 @@ WHY_NOT = {  # what a broker didn't do, where a statement isn't tested
     "C21": "it sent nothing that could have an explanation",
     "C22": "it sent no Response Information",
     "C23": "it sent no DISCONNECT, and refused no connection",
+    "F01": "it published nothing where Retain Available is 0",
+    "F05": "it announced no Maximum QoS to who has a Will, and refused none for it",
+    "F06": "it announced no Retain Available 0 to who has a Will, and refused none for it",
     "S02": "it sent no message again",
     "S06": "it resumed no session with an open message",
     "S07": "it never used up the Receive Maximum",
+    "V03": "it asked for no shared subscription",
+    "V04": "it asked for no shared subscription",
+    "V06": "it sent no DISCONNECT",
     "W21": "it sent no Topic Alias in place of a Topic Name",
 }
 
@@ -49,13 +57,24 @@ class Outcome:
     seconds: float = 0.0
     inside: list[Verdict] = field(default_factory=list)  # on logs in the tested end's own order
     program: str = "mqjudge"
+    is_of_all: bool = False  # the further statements were judged too
 
     # ---- what the statements came to
 
     @property
+    def bound(self) -> frozenset[str]:
+        """The statements that bind the tested end."""
+        return binding(self.is_server, self.is_of_all)
+
+    @property
     def reachable(self) -> list[str]:
         """The statements that the tested end could break in such a log."""
-        return sorted(BINDING[self.is_server] - FOREIGN[self.is_server])
+        return sorted(self.bound - FOREIGN[self.is_server])
+
+    @property
+    def situations(self) -> list[Situation]:
+        """Those in which they can be tested."""
+        return [one for one in situations(self.is_server) if one.code in self.bound]
 
     @property
     def broken(self) -> set[str]:
@@ -165,7 +184,7 @@ class Outcome:
         played = [result for result in self.results if result.fate is not Fate.LEFT_OUT]
         head = f"{self.title}: {counted(len(played), 'scenario')} in {self.seconds:.0f} s" \
                f" ({len(self.completed)} completed), {counted(logs, 'log')} in {show(self.out)}/"
-        lines = [head, f"{len(BINDING[self.is_server])} statements bind such an end whose log has no releases"]
+        lines = [head, f"{len(self.bound)} statements bind such an end whose log has no releases"]
         lines += [row("broken", len(self.broken), " ".join(sorted(self.broken)))]
         lines += [row("tested, kept", len(self.kept), wrapped(self.kept))]
         lines += self._untested_lines()
@@ -188,7 +207,7 @@ class Outcome:
 
     def _situation_lines(self) -> list[str]:
         """In how many situations the statements were tested, and which ones didn't come about."""
-        every, met = situations(self.is_server), self.met
+        every, met = self.situations, self.met
         lines = [row("situations", len(met), f"of {len(every)} came about; faults in {len(self.broken_in)}")]
         reasons: dict[str, list[str]] = defaultdict(list)
         for one in every:
@@ -224,7 +243,8 @@ class Outcome:
             first = min(here, key=lambda verdict: (verdict not in self.inside, verdict.events or 0, verdict.path))
             lines.append(f"{code} in {named(names) or 'no scenario, but inside the broker'}")
             lines += self._broken_situations(code)
-            lines.append(f"    {self.program} show --faults --around 3 {show(first.path)}")
+            words = f"--faults{f' {ALL}' if self.is_of_all else ''} --around 3"
+            lines.append(f"    {self.program} show {words} {show(first.path)}")
             if again := sorted(name for name, result in self.again.items() if code in result.broken):
                 lines.append(f"    seen again, alone and with more time: {named(again)}")
         looks, once = fairness.looked_at, self.once

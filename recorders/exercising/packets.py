@@ -43,6 +43,7 @@ class Prop(IntEnum):
     REQUEST_PROBLEM_INFORMATION = 0x17
     WILL_DELAY = 0x18
     REQUEST_RESPONSE_INFORMATION = 0x19
+    AUTHENTICATION_METHOD = 0x15
     RESPONSE_INFORMATION = 0x1A
     REASON_STRING = 0x1F
     RECEIVE_MAXIMUM = 0x21
@@ -222,6 +223,7 @@ class Packet:
     payload: bytes = b""
     clean: bool | None = None  # a CONNECT's Clean Start
     client: bytes | None = None  # a CONNECT's Client Identifier
+    has_will: bool = False  # a CONNECT has a Will
     session_present: bool | None = None
     properties: list[tuple[int, Value]] = field(default_factory=list)
     filters: list[tuple[bytes, int]] = field(default_factory=list)  # with their Subscription Options
@@ -255,6 +257,10 @@ class Packet:
     def size(self) -> int:
         """How many bytes the packet has in all."""
         return 1 + len(varint(len(self.body))) + len(self.body)
+
+    def has(self, identifier: int) -> bool:
+        """Whether there is such a property."""
+        return any(known == identifier for known, _ in self.properties)
 
     def number(self, identifier: int, absent: int) -> int:
         """The value of a property that is a number, or another one where it is absent."""
@@ -291,7 +297,8 @@ class Packet:
     def _read_connect(self, fields: Reader) -> None:
         fields.text()
         fields.number(1)
-        self.clean = bool(fields.number(1) & 2)
+        flags = fields.number(1)
+        self.clean, self.has_will = bool(flags & 2), bool(flags & 4)
         fields.number(2)
         self.properties = fields.properties()
         self.client = fields.text()

@@ -21,6 +21,8 @@ PINGS = 3
 KEPT_MOST = 1_000  # places with the same tags: a flood has a million of them
 FEW_LEFT = 2  # bytes up to a Maximum Packet Size
 DEFAULT_MAXIMUM = 65_535
+RETAIN_NOT_SUPPORTED, QOS_NOT_SUPPORTED = 0x9A, 0x9B
+MISSING = {"F02": Prop.WILDCARD_AVAILABLE, "F03": Prop.SUBSCRIPTION_IDENTIFIER_AVAILABLE, "F04": Prop.SHARED_AVAILABLE}
 
 
 @dataclass
@@ -273,6 +275,7 @@ class Reading:
         if is_bad:
             return
         self._on_connection(packet, tags)
+        self._on_request(packet, tags)
         if kind == Type.CONNACK:
             self._sent_connack(packet, tags)
         elif kind == Type.CONNECT:
@@ -331,6 +334,36 @@ class Reading:
             self.place("C21", more=tags)
         if not self.is_server and self.here.is_resumed and self.lacks_session:
             self.place("C13")
+
+    def _on_request(self, packet: Packet, tags: set[str]) -> None:
+        """The further statements: what the server hasn't got, Reason Codes of the other end, and AUTH."""
+        kind, connect = packet.kind, self.here.connect
+        if kind in (Type.DISCONNECT, *(() if self.is_server else (Type.PUBACK, Type.PUBREC))):
+            self.place("V06", more=tags)
+        lacks_method = connect is not None and not connect.has(Prop.AUTHENTICATION_METHOD)
+        if (kind == Type.AUTH and connect is not None) or (self.is_server and kind == Type.CONNACK and lacks_method):
+            self.place("A02", more=tags)
+        if self.is_server and kind == Type.CONNACK and connect is not None and connect.has_will:
+            if packet.has(Prop.MAXIMUM_QOS) or packet.code == QOS_NOT_SUPPORTED:
+                self.place("F05", more=tags)
+            if not packet.number(Prop.RETAIN_AVAILABLE, 1) or packet.code == RETAIN_NOT_SUPPORTED:
+                self.place("F06", more=tags)
+        elif not self.is_server:
+            self._asks_of_server(packet, tags)
+
+    def _asks_of_server(self, packet: Packet, tags: set[str]) -> None:
+        """What a client asks for that the server may not have."""
+        said = self.here.connack
+        if packet.kind == Type.PUBLISH and not packet.dup and said and not said.number(Prop.RETAIN_AVAILABLE, 1):
+            self.place("F01", more=tags)
+        if packet.kind != Type.SUBSCRIBE:
+            return
+        for code, key in MISSING.items():
+            if said is not None and not said.number(key, 1):
+                self.place(code, more=tags)
+        if any(name.startswith(b"$share/") for name, _ in packet.filters):
+            self.place("V03", more=tags)
+            self.place("V04", more=tags)
 
     def _sent_connack(self, packet: Packet, tags: set[str]) -> None:
         here = self.here

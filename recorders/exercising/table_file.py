@@ -30,6 +30,7 @@ def table_of(outcome: Outcome, fairness: Fairness) -> dict[str, Any]:
     played = [result for result in outcome.results if result.fate is not Fate.LEFT_OUT]
     return {
         "form": FORM,
+        "all": outcome.is_of_all,
         "end": "server" if outcome.is_server else "client",
         "title": outcome.title,
         "seconds": round(outcome.seconds, 1),
