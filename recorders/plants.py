@@ -517,8 +517,22 @@ def of_rare_deliveries() -> Iterator[Plant]:
     yield Plant("B02-resumed", "B02", "subscribe-overlap,outbound-offline-q1", resumed(above))
 
 
+def of_requests() -> Iterator[Plant]:
+    """What breaks the further statements, which are judged on request."""
+    announced: dict[str, tuple[str, int, Value]] = {
+        "F05": ("will-accepted-q2", Prop.MAXIMUM_QOS, 1),
+        "F06": ("will-accepted-retained", Prop.RETAIN_AVAILABLE, 0),
+        "A02": ("connect-plain", Prop.AUTHENTICATION_METHOD, b"m"),
+    }
+    for code, (only, key, value) in announced.items():
+        yield Plant(code, code, only, on(Type.CONNACK, lambda got, _, one=(key, value): reconnack(got, more=[one])))
+    for name, only in {"new": "takeover-clean-300", "resumed": "takeover-3-times"}.items():
+        yield Plant(f"V06-{name}", "V06", only, on(Type.DISCONNECT, lambda got, _: disconnect(4)))
+
+
 def all_plants() -> dict[str, Plant]:
     """All of them, by their names."""
     groups = (of_bytes, of_values, of_messages, of_connections, of_limits, of_sessions, of_exchanges, of_subscriptions,
-              of_rare_bytes, of_more_limits, of_identifiers, of_debts, of_quotas, of_rare_exchanges, of_rare_deliveries)
+              of_rare_bytes, of_more_limits, of_identifiers, of_debts, of_quotas, of_rare_exchanges, of_rare_deliveries,
+              of_requests)
     return {plant.name: plant for group in groups for plant in group()}

@@ -35,7 +35,7 @@ from exercising.both_ends import Fairness, other_end
 from exercising.campaign import Campaign
 from exercising.client_verbs import HOSTS
 from exercising.client_verbs import NEEDS as CLIENT_NEEDS
-from exercising.evidence import BINDING, FOREIGN
+from exercising.evidence import FOREIGN, binding
 from exercising.notation import NotationError, bytes_of
 from exercising.packets import Cutter, Packet, Prop, Type, connack, connect, packet, publish, reply, subscribe
 from exercising.running import CONNECTIONS_MOST, Fate, Result, Runner, death_of, in_turn
@@ -44,6 +44,7 @@ from exercising.stage import Silence, Target
 from exercising.table import Scenario, TableError, parse, read_scenarios
 from exercising.verbs import CLIENTS, NEEDS
 from judging.program import Judge
+from judging.statements import ALL, judges_further
 from judging.verdict import Verdict
 from log_format import VERSIONS
 from planting import Plant, State, serve
@@ -241,8 +242,8 @@ class Table(unittest.TestCase):
 
     def test_each_statement_that_can_be_broken_is_aimed_at(self) -> None:
         aims = {code for scenario in table() for code in scenario.aims}
-        self.assertEqual(BINDING[True] - FOREIGN[True] - aims, set())
-        self.assertEqual(aims - BINDING[True], set())
+        self.assertEqual(binding(True, True) - FOREIGN[True] - aims, set())
+        self.assertEqual(aims - binding(True, True), set())
 
     def test_all_bytes_can_be_said(self) -> None:
         for scenario in table():
@@ -256,8 +257,8 @@ class ClientTable(unittest.TestCase):
 
     def test_each_statement_that_can_be_broken_is_aimed_at(self) -> None:
         aims = {code for scenario in client_table() for code in scenario.aims}
-        self.assertEqual(BINDING[False] - FOREIGN[False] - aims, set())
-        self.assertEqual(aims - BINDING[False], set())
+        self.assertEqual(binding(False, True) - FOREIGN[False] - aims, set())
+        self.assertEqual(aims - binding(False, True), set())
 
     def test_all_bytes_can_be_said(self) -> None:
         for scenario in client_table():
@@ -719,8 +720,9 @@ def has_ended(number: int) -> bool:
 
 def own_faults(path: Path) -> list[str]:
     """The codes of the faults at the exerciser's own end of a log."""
-    answer = subprocess.run([judge_program(), "check"], input=other_end(path.read_bytes()), capture_output=True,
-                            timeout=PATIENCE)
+    further = [ALL] if judges_further(judge_program()) else []
+    answer = subprocess.run([judge_program(), "check", *further], input=other_end(path.read_bytes()),
+                            capture_output=True, timeout=PATIENCE)
     found = [line.split()[2] for line in answer.stdout.decode().splitlines() if line.startswith("fault ")]
     return [code for code in found if code != "S06"]  # whether we had come to rest isn't known
 

@@ -22,8 +22,9 @@ from pathlib import Path
 sys.dont_write_bytecode = True  # the repository stays as it is
 HERE = Path(__file__).resolve().parent
 sys.path.insert(0, str(HERE))
-from exercising.evidence import BINDING, FOREIGN
+from exercising.evidence import FOREIGN, FURTHER, binding
 from exercising.situations import Situation, situations
+from judging.statements import ALL
 from planting import Plant
 from plants import all_plants
 from testing import HOST, accepts, free_port, judge_program, process, wait_until
@@ -44,6 +45,7 @@ def broken_by(plant: Plant, patience: float = QUICK) -> tuple[set[str], set[Situ
     planting = [sys.executable, str(HERE / "planting.py"), str(proxy), str(broker), plant.name]
     with tempfile.TemporaryDirectory() as folder, contextlib.ExitStack() as stack:
         options = [*OPTIONS, "--wait", str(patience), *(["--slow"] if plant.is_slow else [])]
+        options += [ALL] if plant.code in FURTHER[True] else []
         if plant.dies:
             options += ["--start", shlex.join([*planting, f"{folder}/kept"])]
         else:
@@ -65,7 +67,7 @@ def broken_by(plant: Plant, patience: float = QUICK) -> tuple[set[str], set[Situ
 class Planted(unittest.TestCase):
     def test_there_is_one_for_each_statement_that_a_broker_can_break(self) -> None:
         plants = all_plants()
-        self.assertEqual({plant.code for plant in plants.values()}, BINDING[True] - FOREIGN[True])
+        self.assertEqual({plant.code for plant in plants.values()}, binding(True, True) - FOREIGN[True])
         self.assertGreaterEqual(len(plants), LEAST)
 
     def test_each_is_reported(self) -> None:

@@ -20,7 +20,7 @@ HERE = Path(__file__).resolve().parent
 sys.path.insert(0, str(HERE))
 from exercising.client_verbs import HOSTS
 from exercising.client_verbs import NEEDS as CLIENT_NEEDS
-from exercising.evidence import BINDING, CLOSE, OPEN, RECV, REST, SENT, Evidence, events_of, read
+from exercising.evidence import CLOSE, OPEN, RECV, REST, SENT, Evidence, binding, events_of, read
 from exercising.outcome import Outcome
 from exercising.packets import PING, PONG, Prop, Type, acknowledgement, connack, connect, packet, publish, subscribe
 from exercising.running import Fate, Result
@@ -189,7 +189,7 @@ class LastTable(InFolder):
         outcome = Outcome(True, "broker x", self.folder, [result], [*table.values()],
                           left_out={kept[wrapped]: "no --slow"})
         lines = outcome._situation_lines()
-        self.assertEqual(lines[0], f"  situations           1  of {len(situations(True))} came about; faults in 0")
+        self.assertEqual(lines[0], f"  situations           1  of {len(outcome.situations)} came about; faults in 0")
         self.assertEqual(outcome.why_avoided(wrapped), "no --slow")
         self.assertTrue(any(line.endswith("no --slow") and "S01 wrapped" in line for line in lines))
         self.assertEqual(outcome.why_avoided(avoided), "the tested end avoids it")
@@ -215,9 +215,9 @@ def differences(paths: Iterable[Path]) -> Iterator[str]:
             continue
         known = places.log_of(recording)
         bad = {at: event.item.rule for at, event in enumerate(known.events, 1) if isinstance(event.item, reading.Bad)}
-        found = read(log, bad)
-        bound = BINDING[found.is_server]
-        wanted = {(code, at) for code, all_at in places.all_places(known).items() if code in bound for at in all_at}
+        found = read(log, bad, is_of_all=True)
+        bound = binding(found.is_server, is_of_all=True)
+        wanted = {(code, at) for code in bound for at in places.on_request.places(known, code)}
         seen = {(place.code, place.position) for place in found.places if place.is_judged}
         if (count := sum(1 for _ in events_of(log, {}))) != known.last:
             yield f"{path.name}: {count} events, and not {known.last}"

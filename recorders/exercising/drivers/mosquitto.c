@@ -12,17 +12,24 @@ static void on_connect(struct mosquitto *client, void *user, int reason, int fla
 static void on_message(struct mosquitto *client, void *user, const struct mosquitto_message *message,
                        const mosquitto_property *properties) {
     char text[256] = "", filter[100];
-    int qos, count, size;
+    int qos, count, size, keeps, code = 0;
     if (strcmp(message->topic, "do/it") != 0 || message->payloadlen <= 0 || message->payloadlen > 255) return;
     memcpy(text, message->payload, message->payloadlen);
-    if (sscanf(text, "pub %d %d %d", &qos, &count, &size) == 3) {
+    keeps = strncmp(text, "keep", 4) == 0;
+    if (sscanf(text, keeps ? "keep %d %d %d" : "pub %d %d %d", &qos, &count, &size) == 3) {
         char *payload = malloc(size + 1);
         memset(payload, 'x', size);
-        for (int i = 0; i < count; i++) mosquitto_publish(client, NULL, "echo/t", size, payload, qos, false);
+        for (int i = 0; i < count; i++) mosquitto_publish(client, NULL, "echo/t", size, payload, qos, keeps);
         free(payload);
     } else if (sscanf(text, "sub %99s %d", filter, &qos) == 2) mosquitto_subscribe(client, NULL, filter, qos);
+    else if (sscanf(text, "number %99s %d", filter, &qos) == 2) {
+        mosquitto_property *identifier = NULL;
+        mosquitto_property_add_varint(&identifier, MQTT_PROP_SUBSCRIPTION_IDENTIFIER, 1);
+        mosquitto_subscribe_v5(client, NULL, filter, qos, 0, identifier);
+        mosquitto_property_free_all(&identifier);
+    }
     else if (sscanf(text, "unsub %99s", filter) == 1) mosquitto_unsubscribe(client, NULL, filter);
-    else if (strcmp(text, "bye") == 0) mosquitto_disconnect(client);
+    else if (sscanf(text, "bye %x", &code) == 1 || strcmp(text, "bye") == 0) mosquitto_disconnect_v5(client, code, NULL);
 }
 
 int main(int count, char **words) {

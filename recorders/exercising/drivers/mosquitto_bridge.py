@@ -30,9 +30,10 @@ topic echo/# out 2
 
 
 def obey(own, task):
-    if task[:1] == ["pub"] and len(task) == 4:
-        subprocess.run(["mosquitto_pub", "-V", "5", "-h", own, "-q", task[1], "-t", "echo/t", "--repeat", task[2], "-m",
-                        "x" * int(task[3])])
+    if task[:1] in (["pub"], ["keep"]) and len(task) == 4:
+        keeping = ["-r"] if task[0] == "keep" else []
+        subprocess.run(["mosquitto_pub", "-V", "5", "-h", own, "-q", task[1], "-t", "echo/t", "--repeat", task[2], *keeping,
+                        "-m", "x" * int(task[3])])
 
 
 def main(port, name, own):

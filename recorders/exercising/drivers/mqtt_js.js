@@ -20,12 +20,14 @@ client.on('connect', (connack) => {
 client.on('message', (topic, message) => {
   const words = message.toString().split(' ')
   if (topic !== 'do/it') return
-  if (words[0] === 'pub') {
+  if (words[0] === 'pub' || words[0] === 'keep') {
     const [qos, count, size] = words.slice(1).map(Number)
-    for (let i = 0; i < count; i++) client.publish('echo/t', 'x'.repeat(size), { qos }, () => {})
+    for (let i = 0; i < count; i++) client.publish('echo/t', 'x'.repeat(size), { qos, retain: words[0] === 'keep' }, () => {})
   } else if (words[0] === 'sub') client.subscribe(words[1], { qos: Number(words[2]) })
-  else if (words[0] === 'unsub') client.unsubscribe(words[1])
-  else if (words[0] === 'bye') client.end()
+  else if (words[0] === 'number') {
+    client.subscribe(words[1], { qos: Number(words[2]), properties: { subscriptionIdentifier: 1 } })
+  } else if (words[0] === 'unsub') client.unsubscribe(words[1])
+  else if (words[0] === 'bye') words[1] ? client.end(false, { reasonCode: parseInt(words[1], 16) }) : client.end()
 })
 
 client.on('error', () => {})

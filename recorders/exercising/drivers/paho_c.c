@@ -18,16 +18,22 @@ static void on_failure(void *context, MQTTAsync_failureData5 *data) { is_over = 
 static void obey(const char *text) {
     MQTTAsync_responseOptions options = MQTTAsync_responseOptions_initializer;
     char filter[100];
-    int qos, count, size;
-    if (sscanf(text, "pub %d %d %d", &qos, &count, &size) == 3) {
+    int qos, count, size, code = 0, keeps = strncmp(text, "keep", 4) == 0;
+    if (sscanf(text, keeps ? "keep %d %d %d" : "pub %d %d %d", &qos, &count, &size) == 3) {
         char *payload = malloc(size + 1);
         memset(payload, 'x', size);
-        for (int i = 0; i < count; i++) MQTTAsync_send(client, "echo/t", size, payload, qos, 0, &options);
+        for (int i = 0; i < count; i++) MQTTAsync_send(client, "echo/t", size, payload, qos, keeps, &options);
         free(payload);
     } else if (sscanf(text, "sub %99s %d", filter, &qos) == 2) MQTTAsync_subscribe(client, filter, qos, &options);
-    else if (sscanf(text, "unsub %99s", filter) == 1) MQTTAsync_unsubscribe(client, filter, &options);
-    else if (strcmp(text, "bye") == 0) {
+    else if (sscanf(text, "number %99s %d", filter, &qos) == 2) {
+        MQTTProperty identifier = {.identifier = MQTTPROPERTY_CODE_SUBSCRIPTION_IDENTIFIER, .value.integer4 = 1};
+        MQTTProperties_add(&options.properties, &identifier);
+        MQTTAsync_subscribe(client, filter, qos, &options);
+        MQTTProperties_free(&options.properties);
+    } else if (sscanf(text, "unsub %99s", filter) == 1) MQTTAsync_unsubscribe(client, filter, &options);
+    else if (sscanf(text, "bye %x", &code) == 1 || strcmp(text, "bye") == 0) {
         MQTTAsync_disconnectOptions leaving = MQTTAsync_disconnectOptions_initializer5;
+        leaving.reasonCode = code;
         MQTTAsync_disconnect(client, &leaving);
         is_over = 1;
     }

@@ -10,16 +10,22 @@ static int is_over;
 
 static void obey(const char *text) {
     char filter[100];
-    int qos, count, size;
-    if (sscanf(text, "pub %d %d %d", &qos, &count, &size) == 3) {
+    int qos, count, size, code = 0, keeps = strncmp(text, "keep", 4) == 0;
+    if (sscanf(text, keeps ? "keep %d %d %d" : "pub %d %d %d", &qos, &count, &size) == 3) {
         char *payload = malloc(size + 1);
         memset(payload, 'x', size);
-        for (int i = 0; i < count; i++) MQTTClient_publish5(client, "echo/t", size, payload, qos, 0, NULL, NULL);
+        for (int i = 0; i < count; i++) MQTTClient_publish5(client, "echo/t", size, payload, qos, keeps, NULL, NULL);
         free(payload);
     } else if (sscanf(text, "sub %99s %d", filter, &qos) == 2) MQTTClient_subscribe5(client, filter, qos, NULL, NULL);
-    else if (sscanf(text, "unsub %99s", filter) == 1) MQTTClient_unsubscribe5(client, filter, NULL);
-    else if (strcmp(text, "bye") == 0) {
-        MQTTClient_disconnect5(client, 1000, MQTTREASONCODE_SUCCESS, NULL);
+    else if (sscanf(text, "number %99s %d", filter, &qos) == 2) {
+        MQTTProperties properties = MQTTProperties_initializer;
+        MQTTProperty identifier = {.identifier = MQTTPROPERTY_CODE_SUBSCRIPTION_IDENTIFIER, .value.integer4 = 1};
+        MQTTProperties_add(&properties, &identifier);
+        MQTTClient_subscribe5(client, filter, qos, NULL, &properties);
+        MQTTProperties_free(&properties);
+    } else if (sscanf(text, "unsub %99s", filter) == 1) MQTTClient_unsubscribe5(client, filter, NULL);
+    else if (sscanf(text, "bye %x", &code) == 1 || strcmp(text, "bye") == 0) {
+        MQTTClient_disconnect5(client, 1000, code, NULL);
         is_over = 1;
     }
 }

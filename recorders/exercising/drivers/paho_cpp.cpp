@@ -10,14 +10,17 @@ static std::atomic<bool> is_over{false};
 static void obey(mqtt::async_client &client, const std::string &text) {
     std::istringstream words(text);
     std::string what, filter;
-    int qos = 0, count = 0, size = 0;
+    int qos = 0, count = 0, size = 0, code = 0;
     words >> what;
-    if (what == "pub" && words >> qos >> count >> size)
-        for (int i = 0; i < count; i++) client.publish("echo/t", std::string(size, 'x'), qos, false);
+    if ((what == "pub" || what == "keep") && words >> qos >> count >> size)
+        for (int i = 0; i < count; i++) client.publish("echo/t", std::string(size, 'x'), qos, what == "keep");
     else if (what == "sub" && words >> filter >> qos) client.subscribe(filter, qos);
+    else if (what == "number" && words >> filter >> qos)
+        client.subscribe(filter, qos, mqtt::subscribe_options(), {{mqtt::property::SUBSCRIPTION_IDENTIFIER, 1}});
     else if (what == "unsub" && words >> filter) client.unsubscribe(filter);
     else if (what == "bye") {
-        client.disconnect();
+        words >> std::hex >> code;
+        client.disconnect(mqtt::disconnect_options_builder().reason_code(mqtt::ReasonCode(code)).finalize());
         is_over = true;
     }
 }
