@@ -13,7 +13,7 @@ from typing import Any
 
 sys.dont_write_bytecode = True  # the repository stays as it is
 sys.path.insert(0, str(Path(__file__).resolve().parent))
-from exercising.evidence import BINDING
+from exercising.evidence import binding
 from made_logs import WithLogs, log, publish, reconnected, record, run
 from sarif_schema import problems
 from testing import TOP, needs_why
@@ -24,7 +24,7 @@ EXAMPLES = TOP / "examples/sessions"
 class CodeHosts(WithLogs):
     def test_sarif(self) -> None:
         place = self.folder / "report.sarif"
-        self.assertEqual(run(EXAMPLES, "--sarif", place, "--ignore", "E1R")[0], 1)
+        self.assertEqual(run(EXAMPLES, "--all", "--sarif", place, "--ignore", "E1R")[0], 1)
         report = json.loads(place.read_text())
         self.assertEqual(problems(report), [])
         (said,) = report["runs"]
@@ -38,7 +38,7 @@ class CodeHosts(WithLogs):
             self.assertEqual("suppressions" in result, result["ruleId"] == "E1R")
         for rule in rules:
             for is_server, words in ((False, "In a client"), (True, "In a server")):
-                if rule["id"] in BINDING[is_server]:
+                if rule["id"] in binding(is_server, is_of_all=True):
                     self.assertIn(words, rule["help"]["text"])
 
     def test_sarif_of_what_is_not_judged(self) -> None:

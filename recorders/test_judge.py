@@ -20,6 +20,7 @@ from xml.etree import ElementTree
 sys.dont_write_bytecode = True  # the repository stays as it is
 sys.path.insert(0, str(Path(__file__).resolve().parent))
 from judge_calls import BROKEN, FAIL, LOG, PASS, REFUSED, Case, log_of
+from judging.statements import ALL, judges_further
 from testing import PATIENCE, TOP, judge_program, needs_why, says_why, wait_until
 
 CONNECT = bytes.fromhex("100e00044d5154540502003c0000 0161")  # of a client a
@@ -490,9 +491,12 @@ class Examples(unittest.TestCase):
     FOLDER = TOP / "examples/sessions"
 
     def test_each_has_the_report_that_the_judge_gives(self) -> None:
+        """By the further statements too, if it knows them."""
+        further = [ALL] if judges_further(judge_program()) else []
         for log in sorted(self.FOLDER.rglob("*.log")):
             with self.subTest(log.stem):
-                answer = subprocess.run([judge_program(), "check", str(log)], capture_output=True, text=True)
+                words = [judge_program(), "check", *further, str(log)]
+                answer = subprocess.run(words, capture_output=True, text=True)
                 self.assertEqual(answer.stdout, log.with_suffix(".report").read_text())
 
     def test_each_has_a_sentence(self) -> None:

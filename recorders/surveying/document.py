@@ -19,7 +19,8 @@ from pathlib import Path
 from arguments import counted
 from exercising.table_file import BROKEN, KEPT, UNTESTED
 from judging.excerpt import sentence_in, told
-from surveying.findings import PROVOKED, Cell, Kind, Surveyed, every_code
+from judging.statements import ALL
+from surveying.findings import PROVOKED, Cell, Kind, Surveyed, every_code, is_further
 
 MARK = re.compile(r"<!-- survey (\w+)((?: [^ ]+)*) -->")
 END = "<!-- end -->"
@@ -30,6 +31,8 @@ TOP = Path(__file__).resolve().parents[2]
 SESSIONS = "examples/sessions/survey"
 RANGE = re.compile(r"[0-9]+(?:-[0-9]+)?")  # of positions
 LEFT_OUT = ".."  # in place of events
+SHOW = ("show", "--long", "--faults")  # the program's words
+ON_REQUEST = "*On request:* "
 TIME = re.compile(r" \(at [-0-9]+ [0-9:.]+ UTC\)$")  # of a fault, which its event has too
 
 
@@ -68,8 +71,9 @@ class Document:
     """The parts of the page, as a survey found them."""
 
     def __init__(self, surveyed: list[Surveyed], kinds: list[Kind], sentences: dict[str, str],
-                 known: Collection[str], about: Mapping[str, object], show: Callable[[Path], str]) -> None:
-        """`show` gives what the program shows of a log, with its faults."""
+                 known: Collection[str], about: Mapping[str, object],
+                 show: Callable[[Path, list[str]], str]) -> None:
+        """`show` gives what the program shows of a log, with its faults, by these words."""
         self._surveyed, self._kinds, self._sentences, self._known = surveyed, kinds, sentences, known
         self._about, self._show = about, show
 
@@ -108,10 +112,11 @@ class Document:
     def _matrix(self, surveyed: list[Surveyed]) -> list[str]:
         names = [f"`{one.software.name}`" for one in surveyed]
         lines = [f"| | {' | '.join(names)} | |", "|---|" + "---:|" * len(names) + "---|"]
-        for code in every_code():
+        for code in every_code(surveyed):
             cells = [in_words(one.cell(code)) for one in surveyed]
             if any(cells):
-                lines.append(f"| {code} | {' | '.join(cells)} | {self._sentences.get(code, '')} |")
+                mark = ON_REQUEST if is_further(code) else ""
+                lines.append(f"| {code} | {' | '.join(cells)} | {mark}{self._sentences.get(code, '')} |")
         return lines
 
     def _kind(self, word: str, names: list[str]) -> list[str]:
@@ -123,15 +128,23 @@ class Document:
         return [part for line in lines for part in in_width(line)]
 
     def _events(self, log: str, ranges: list[str]) -> list[str]:
-        shown = events_in(self._show(TOP / SESSIONS / log), {place for one in ranges for place in places_in(one)})
+        words = words_for(log)
+        shown = events_in(self._show(TOP / SESSIONS / log, words),
+                          {place for one in ranges for place in places_in(one)})
         if not any(line.startswith(" ") for line in shown):
             raise DocumentError(f"the program shows no fault at events {' '.join(ranges)} of {log}")
-        return ["```", f"mqjudge show --long --faults {SESSIONS}/{log}", *shown, "```"]
+        return ["```", f"mqjudge {' '.join(words)} {SESSIONS}/{log}", *shown, "```"]
 
     def _others(self) -> list[str]:
         left = [kind for kind in self._kinds if kind.name not in self._known]
         return [f"- {kind.name}: {counted(kind.faults, 'fault')}, `{kind.log.name}` of `{kind.log.parent.name}`"
                 for kind in left] or ["None."]
+
+
+def words_for(log: str) -> list[str]:
+    """What shows the faults of a log, which is named by the statement that it breaks."""
+    code = Path(log).stem.rpartition("-")[2].upper()
+    return [*SHOW, *([ALL] if is_further(code) else [])]
 
 
 def places_in(words: str) -> range:

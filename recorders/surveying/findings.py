@@ -7,7 +7,7 @@ from dataclasses import dataclass, field
 from pathlib import Path
 from typing import Any
 
-from exercising.evidence import BINDING, FOREIGN
+from exercising.evidence import FOREIGN, FURTHER, binding
 from exercising.table_file import BROKEN, FORM, KEPT, UNTESTED
 from surveying.software import BROKER, SOFTWARE, Software
 
@@ -15,7 +15,7 @@ TABLE = "table.json"  # of a run, in its folder
 ABOUT = "survey.json"  # what was surveyed, in the folder of all
 PROVOKED, FOREIGN_SIGN, UNBOUND = "provoked", "out of reach", "unbound"
 NEED_RELEASES = ("L1", "L2", "L3")
-FAMILIES = "WCSELB"  # the order of reports
+FAMILIES = "WCSELBFVA"  # the order of reports
 
 
 @dataclass(frozen=True)
@@ -43,6 +43,11 @@ class Run:
     def broken(self) -> set[str]:
         return {code for code, said in self.statements.items() if said["fate"] == BROKEN}
 
+    @property
+    def is_of_all(self) -> bool:
+        """The further statements were judged too."""
+        return bool(self.table.get("all"))
+
     def is_provoked(self, code: str) -> bool:
         """A statement is broken only in scenarios in which the exerciser breaks rules."""
         return not self.statements[code]["scenarios"] and not self.statements[code]["faults inside"]
@@ -69,11 +74,16 @@ class Surveyed:
     def title(self) -> str:
         return f"{self.software.name} {self.version}".rstrip()
 
+    @property
+    def bound(self) -> frozenset[str]:
+        """The statements that bind it, of those that were judged."""
+        return binding(self.is_server, any(run.is_of_all for run in self.runs))
+
     def cell(self, code: str) -> Cell:
         """What a statement came to. What was kept in one run and not tested in another is kept."""
         if code in FOREIGN[self.is_server]:
             return Cell(FOREIGN_SIGN)
-        if code not in BINDING[self.is_server]:
+        if code not in self.bound:
             return Cell(UNBOUND)
         said = [run.statements[code] for run in self.runs if code in run.statements]
         places, faults = sum(one["places"] for one in said), sum(one.get("faults", 0) for one in said)
@@ -85,7 +95,7 @@ class Surveyed:
         return Cell(UNTESTED, why=next((one["why"] for one in said if "why" in one), ""))
 
     def codes(self, fate: str) -> list[str]:
-        return [code for code in sorted(BINDING[self.is_server], key=order_of) if self.cell(code).fate == fate]
+        return [code for code in sorted(self.bound, key=order_of) if self.cell(code).fate == fate]
 
 
 @dataclass(frozen=True)
@@ -141,8 +151,15 @@ def order_of(code: str) -> tuple[int, str]:
     return FAMILIES.index(code[0]), code
 
 
-def every_code() -> list[str]:
-    return sorted({*BINDING[True], *BINDING[False], *NEED_RELEASES}, key=order_of)
+def every_code(surveyed: Iterable[Surveyed]) -> list[str]:
+    """The statements that were judged, of either end."""
+    is_of_all = any(run.is_of_all for one in surveyed for run in one.runs)
+    return sorted({*binding(True, is_of_all), *binding(False, is_of_all), *NEED_RELEASES}, key=order_of)
+
+
+def is_further(code: str) -> bool:
+    """Whether a statement is judged on request alone."""
+    return code in FURTHER[True] | FURTHER[False]
 
 
 # ---- what an earlier survey left

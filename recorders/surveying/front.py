@@ -4,11 +4,12 @@ from __future__ import annotations
 from exercising.table_file import BROKEN, KEPT, UNTESTED
 from judging.markup import attribute, counted, escaped
 from judging.matrix import shade, short
-from surveying.findings import FOREIGN_SIGN, PROVOKED, Cell, Kind, Surveyed, every_code, of_its_own
+from surveying.findings import FOREIGN_SIGN, PROVOKED, Cell, Kind, Surveyed, every_code, is_further, of_its_own
 from surveying.software import BROKER, CLIENT
 
 HEADS = {BROKER: "Brokers", CLIENT: "Clients"}
 PROVOKED_WORDS = "only after a fault of the other end"
+ON_REQUEST = "judged on request"
 HOW = (
     ("x", "7", "broken: so many faults"),
     ("p", "1", f"broken, but {PROVOKED_WORDS}"),
@@ -20,10 +21,13 @@ HOW = (
 
 def front(surveyed: list[Surveyed], kinds: list[Kind], sentences: dict[str, str], numbers: dict[str, int]) -> str:
     """The matrix, and under it the kinds of faults. `numbers` has those of the logs on the page, by names of kinds."""
-    rows = "".join(group(HEADS[end], [one for one in surveyed if one.software.end == end and one.runs], sentences)
+    codes = every_code(surveyed)
+    rows = "".join(group(HEADS[end], [one for one in surveyed if one.software.end == end and one.runs], codes)
                    for end in HEADS)
-    heads = "".join(f"<th scope=col{title(sentences.get(code, ''))}><span>{code}</span>" for code in every_code())
+    heads = "".join(head_of(code, sentences) for code in codes)
     how = "".join(f"<span><i class={kind}>{sign}</i>{words}</span>" for kind, sign, words in HOW)
+    further = [code for code in codes if is_further(code)]
+    how += f"<span>{' '.join(further)}: {ON_REQUEST}</span>" if further else ""
     left = "".join(f"<p class=remark>{escaped(f'{one.software.name}: {one.why}')}</p>" for one in surveyed if one.why)
     return (
         '<section class="tested survey"><h2 id="survey">What each keeps</h2>'
@@ -34,16 +38,23 @@ def front(surveyed: list[Surveyed], kinds: list[Kind], sentences: dict[str, str]
     )
 
 
-def group(head: str, surveyed: list[Surveyed], sentences: dict[str, str]) -> str:
+def head_of(code: str, sentences: dict[str, str]) -> str:
+    """The head of a column; that of a further statement says what it is."""
+    says, kind = sentences.get(code, ""), ""
+    if is_further(code):
+        says, kind = f"{says} ({ON_REQUEST})".lstrip(), " class=further"
+    return f"<th scope=col{kind}{title(says)}><span>{code}</span>"
+
+
+def group(head: str, surveyed: list[Surveyed], codes: list[str]) -> str:
     """The rows of the brokers, or of the clients."""
     if not surveyed:
         return ""
-    width = len(every_code()) + 1
-    return f"<tr><th colspan={width} class=group>{head}" + "".join(line(one, sentences) for one in surveyed)
+    return f"<tr><th colspan={len(codes) + 1} class=group>{head}" + "".join(line(one, codes) for one in surveyed)
 
 
-def line(one: Surveyed, sentences: dict[str, str]) -> str:
-    cells = "".join(cell_of(code, one.cell(code)) for code in every_code())
+def line(one: Surveyed, codes: list[str]) -> str:
+    cells = "".join(cell_of(code, one.cell(code)) for code in codes)
     return f'<tr><th scope=row title="{attribute(one.title)}">{escaped(one.software.name)}{cells}'
 
 
@@ -81,7 +92,8 @@ def table(count: str, kinds: list[Kind], sentences: dict[str, str], numbers: dic
         rows.append(f"<tr><th scope=row>{link}<td>{escaped(software.software.name)}"
                     f"<td class=num data-u={count.lower()}>{kind.faults:,}"
                     f"<td class=num data-u=runs>{len(kind.runs)} of {len(software.runs)}"
-                    f"<td>{escaped(sentences.get(kind.code, ''))}")
+                    f"<td>{escaped(sentences.get(kind.code, ''))}"
+                    f"{f' <em>({ON_REQUEST})</em>' if is_further(kind.code) else ''}")
     heads = "".join(f"<th scope=col{' class=num' if name in (count, 'Runs') else ''}>{name}"
                     for name in ("Statement", "Software", count, "Runs", "What it says"))
     return f'<table class="codes"><thead><tr>{heads}<tbody>{"".join(rows)}</table>'

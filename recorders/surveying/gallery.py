@@ -21,7 +21,8 @@ class Weigher:
 
     def __init__(self, kinds: list[Kind]) -> None:
         self._broken = {run.folder: run.broken for kind in kinds for run in kind.runs}
-        self.fairness = Fairness()
+        self.is_of_all = any(run.is_of_all for kind in kinds for run in kind.runs)
+        self.fairness = Fairness(is_of_all=self.is_of_all)
 
     def weigh(self, verdict: Verdict) -> None:
         self.fairness.weigh(verdict)
@@ -33,7 +34,7 @@ def write_page(file: Path, program: str, surveyed: list[Surveyed], kinds: list[K
                about: Mapping[str, object]) -> None:
     """Writes the page."""
     weigher = Weigher(kinds)
-    judge = Judge(program, 0, weigher.weigh, keeps=True, tells=True)
+    judge = Judge(program, 0, weigher.weigh, keeps=True, tells=True, is_of_all=weigher.is_of_all)
     weigher.fairness.judge = judge
     verdicts = [judge.judge(log) for log in dict.fromkeys(kind.log for kind in kinds)]
     numbers = {entry.verdict.path: entry.number for entry in entries_of(verdicts)}

@@ -11,6 +11,7 @@ from collections.abc import Iterable
 from concurrent.futures import ThreadPoolExecutor
 from pathlib import Path
 
+from judging.statements import ALL
 from surveying.findings import TABLE, Run, Surveyed, read_run
 from surveying.software import Missing, Software
 
@@ -26,8 +27,9 @@ def say(line: str) -> None:
 class Field:
     """Where runs are played: a folder for each software, and in it one for each run."""
 
-    def __init__(self, out: Path, program: str, runs: int) -> None:
+    def __init__(self, out: Path, program: str, runs: int, is_of_all: bool = False) -> None:
         self._out, self._program, self._runs = out, program, runs
+        self._all = [ALL] if is_of_all else []
         self._children: set[subprocess.Popen[bytes]] = set()
         self._lock = threading.Lock()
         self._is_over = False
@@ -79,7 +81,7 @@ class Field:
         made.mkdir(parents=True, exist_ok=True)
         words = software.prepare(made)
         command = [sys.executable, str(EXERCISE), software.end, "--out", str(folder), "--write-table",
-                   str(folder / TABLE), "--program", self._program, *words]
+                   str(folder / TABLE), "--program", self._program, *self._all, *words]
         begun = time.monotonic()
         with (folder / PRINTED).open("wb") as printed, (folder / PROGRESS).open("wb") as progress:
             child = subprocess.Popen(command, stdin=subprocess.DEVNULL, stdout=printed, stderr=progress,

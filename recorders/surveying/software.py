@@ -31,6 +31,9 @@ max_packet_size 200000
 message_size_limit 50000
 acl_file {folder}/acl
 password_file {folder}/passwd
+{more}"""
+LIMITS = """max_qos 1
+retain_available false
 """
 EJABBERD = """hosts:
   - localhost
@@ -132,16 +135,22 @@ def free_port() -> int:
 # ---- brokers
 
 
-def mosquitto(folder: Path) -> list[str]:
+def mosquitto(folder: Path, more: str = "") -> list[str]:
     broker, passwords, port = program("mosquitto"), program("mosquitto_passwd"), free_port()
     (folder / "acl").write_text("topic readwrite #\ntopic readwrite $SYS/#\ntopic deny denied/#\n")
     (folder / "passwd").touch()
     if not answers([passwords, "-b", str(folder / "passwd"), "right", "right"]):
         raise Missing("mosquitto_passwd doesn't make a password file")
     settings = folder / "mosquitto.conf"
-    settings.write_text(MOSQUITTO.format(user="" if os.geteuid() else "user root\n", port=port, folder=folder))
+    user = "" if os.geteuid() else "user root\n"
+    settings.write_text(MOSQUITTO.format(user=user, port=port, folder=folder, more=more))
     return [f"{HOST}:{port}", "--denied", DENIED, "--wrong-password", "wrong",
             "--start", shlex.join([broker, "-c", str(settings)])]
+
+
+def mosquitto_with_limits(folder: Path) -> list[str]:
+    """mosquitto where it announces Maximum QoS 1 and Retain Available 0."""
+    return mosquitto(folder, LIMITS)
 
 
 def ejabberd(folder: Path) -> list[str]:
@@ -222,6 +231,8 @@ def mosquitto_sub(folder: Path) -> list[str]:
 SOFTWARE = (
     Software("mosquitto", "mosquitto", "mosquitto", BROKER, mosquitto),
     Software("ejabberd", "ejabberd, with its listener for MQTT", "ejabberd", BROKER, ejabberd),
+    Software("mosquitto-limits", "mosquitto with Maximum QoS 1 and Retain Available 0", "mosquitto", BROKER,
+             mosquitto_with_limits),
     Software("mosquitto-bridge", "a mosquitto's bridge", "mosquitto", CLIENT, mosquitto_bridge, ("mosquitto-clients",)),
     Software("libmosquitto", "libmosquitto, by a driver", "libmosquitto1", CLIENT, libmosquitto,
              ("libmosquitto-dev", "gcc")),
