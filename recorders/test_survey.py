@@ -17,12 +17,22 @@ from typing import Any
 sys.dont_write_bytecode = True  # the repository stays as it is
 HERE = Path(__file__).resolve().parent
 sys.path.insert(0, str(HERE))
-from exercising.evidence import BINDING, FOREIGN
+from exercising.evidence import BINDING, FOREIGN, FURTHER
 from exercising.table_file import BROKEN, FORM, KEPT, UNTESTED
-from judging.statements import statements_of
-from surveying.document import Document, DocumentError, events_in, filled, in_words, known_kinds, places_in
-from surveying.findings import FOREIGN_SIGN, PROVOKED, TABLE, UNBOUND, Cell, Run, Surveyed, kinds_of, read_run
-from surveying.front import front
+from judging.statements import ALL, every_statement_of, judges_further
+from surveying.document import (
+    ON_REQUEST,
+    Document,
+    DocumentError,
+    events_in,
+    filled,
+    in_words,
+    known_kinds,
+    places_in,
+    words_for,
+)
+from surveying.findings import FOREIGN_SIGN, PROVOKED, TABLE, UNBOUND, Cell, Run, Surveyed, every_code, kinds_of, read_run
+from surveying.front import front, head_of
 from surveying.software import SOFTWARE
 from testing import HOST, TOP, InFolder, accepts, free_port, judge_program, missing, process, wait_until
 
@@ -53,8 +63,9 @@ def said(fate: str, places: int = 0, faults: int = 0, scenarios: str = "", loose
     return found | ({"why": "it didn't come about"} if fate == UNTESTED else {})
 
 
-def run(folder: Path = SESSIONS, **statements: dict[str, Any]) -> Run:
-    return Run(folder, {"form": FORM, "statements": statements, "scenarios": {"played": 2, "completed": 2}, "logs": 3})
+def run(folder: Path = SESSIONS, is_of_all: bool = False, **statements: dict[str, Any]) -> Run:
+    return Run(folder, {"form": FORM, "all": is_of_all, "statements": statements,
+                        "scenarios": {"played": 2, "completed": 2}, "logs": 3})
 
 
 def surveyed(*runs: Run, name: str = "mosquitto", why: str = "") -> Surveyed:
@@ -92,6 +103,15 @@ class Findings(unittest.TestCase):
         self.assertEqual([kind.is_steady(known) for kind in kinds_of([one])], [True, True])
         self.assertEqual([kind.is_steady({}) for kind in kinds_of([one])], [False, False])
 
+    def test_further_statements_bind_if_they_were_asked_for(self) -> None:
+        asked, unasked = surveyed(run(is_of_all=True, F05=said(KEPT, 3), V06=said(BROKEN, 5, 1, "a"))), surveyed(run())
+        self.assertEqual((asked.cell("F05"), asked.cell("V06")), (Cell(KEPT, 3), Cell(BROKEN, 5, 1)))
+        self.assertEqual((asked.cell("F01"), unasked.cell("F05")), (Cell(UNBOUND), Cell(UNBOUND)))
+        self.assertEqual(asked.codes(BROKEN), ["V06"])
+        self.assertEqual(set(asked.bound - unasked.bound), set(FURTHER[True]))
+        self.assertEqual([code for code in every_code([asked]) if code not in every_code([unasked])],
+                         ["F01", "F02", "F03", "F04", "F05", "F06", "V03", "V04", "V06", "A02"])
+
     def test_a_table_that_is_none(self) -> None:
         self.assertIsNone(read_run(SESSIONS))
 
@@ -101,7 +121,8 @@ class Page(unittest.TestCase):
         one = surveyed(run(S07=said(BROKEN, 10, 2, "a b c d e f g"), C15=said(UNTESTED), S01=said(KEPT, 7)))
         left = surveyed(name="ejabberd", why="erl isn't installed")
         about = {"date": "2026-01-02", "system": "a system", "judged by": "mqjudge 1"}
-        return Document([one, left], kinds_of([one]), {"S07": "It is so."}, ["S07 mosquitto"], about, lambda log: SHOWN)
+        return Document([one, left], kinds_of([one]), {"S07": "It is so."}, ["S07 mosquitto"], about,
+                        lambda log, words: SHOWN)
 
     def test_what_is_between_marks_is_made_anew(self) -> None:
         text = "# A\n<!-- survey about -->\nold\nold\n<!-- end -->\nmine\n<!-- survey others -->\n<!-- end -->\n"
@@ -130,6 +151,20 @@ class Page(unittest.TestCase):
             with self.assertRaises(DocumentError):
                 part(name, words)
 
+    def test_further_statements_are_marked(self) -> None:
+        one = surveyed(run(is_of_all=True, V06=said(BROKEN, 5, 1, "a")))
+        document = Document([one], kinds_of([one]), {"V06": "It is so."}, [], {}, lambda log, words: SHOWN)
+        self.assertIn(f"| V06 | **1 of 5** | {ON_REQUEST}It is so. |", document.part("matrix", ["broker"]))
+        self.assertEqual(words_for("client-x-v06.log"), ["show", "--long", "--faults", ALL])
+        self.assertEqual(words_for("client-x-c14-v06x.log"), ["show", "--long", "--faults"])
+        shown = document.part("events", ["client-x-v06.log", "3"])
+        self.assertEqual(shown[1], f"mqjudge show --long --faults {ALL} examples/sessions/survey/client-x-v06.log")
+        html = front([one], kinds_of([one]), {"V06": "It is so."}, {})
+        for words in ('<th scope=col class=further title="It is so. (judged on request)"><span>V06</span>',
+                      "V03 V04 V06 A02: judged on request</span>", "<td>It is so. <em>(judged on request)</em>"):
+            self.assertIn(words, html)
+        self.assertNotIn("further", head_of("S07", {}))
+
     def test_events(self) -> None:
         self.assertEqual([*places_in("2-4"), *places_in("7")], [2, 3, 4, 7])
         lines = SHOWN.replace(" moment 0", "").splitlines()
@@ -157,8 +192,8 @@ class Repository(unittest.TestCase):
         filled(text, lambda name, words: [])
         known = known_kinds(text)
         self.assertLessEqual({name.split()[1] for name in known}, {one.name for one in SOFTWARE})
-        sentences = {one.code for one in statements_of(judge_program())}
-        if sentences:
+        sentences = {one.code for one in every_statement_of(judge_program())}
+        if sentences and judges_further(judge_program()):
             self.assertLessEqual({name.split()[0] for name in known}, sentences)
 
     def test_what_it_takes_is_said(self) -> None:
