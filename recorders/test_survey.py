@@ -161,7 +161,7 @@ class Page(unittest.TestCase):
         self.assertEqual(shown[1], f"mqjudge show --long --faults {ALL} examples/sessions/survey/client-x-v06.log")
         html = front([one], kinds_of([one]), {"V06": "It is so."}, {})
         for words in ('<th scope=col class=further title="It is so. (judged on request)"><span>V06</span>',
-                      "V03 V04 V06 A02: judged on request</span>", "<td>It is so. <em>(judged on request)</em>"):
+                      "V03 V04 V06 A02</em> judged on request</span>", "<td>It is so. <em>(judged on request)</em>"):
             self.assertIn(words, html)
         self.assertNotIn("further", head_of("S07", {}))
 

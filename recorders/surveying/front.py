@@ -27,7 +27,7 @@ def front(surveyed: list[Surveyed], kinds: list[Kind], sentences: dict[str, str]
     heads = "".join(head_of(code, sentences) for code in codes)
     how = "".join(f"<span><i class={kind}>{sign}</i>{words}</span>" for kind, sign, words in HOW)
     further = [code for code in codes if is_further(code)]
-    how += f"<span>{' '.join(further)}: {ON_REQUEST}</span>" if further else ""
+    how += f"<span><em>{' '.join(further)}</em> {ON_REQUEST}</span>" if further else ""
     left = "".join(f"<p class=remark>{escaped(f'{one.software.name}: {one.why}')}</p>" for one in surveyed if one.why)
     return (
         '<section class="tested survey"><h2 id="survey">What each keeps</h2>'
