@@ -22,7 +22,8 @@ sys.path.insert(0, str(HERE))
 from exercising.client_verbs import HOSTS, NEEDS
 from exercising.evidence import BINDING, FOREIGN
 from exercising.table import read_scenarios
-from surveying.software import Missing, mosquitto, mosquitto_bridge, paho_c_sync, paho_cpp
+from judging.statements import ALL, judges_further
+from surveying.software import Missing, mosquitto, mosquitto_bridge, mosquitto_with_limits, paho_c_sync, paho_cpp
 from test_exercise import own_faults
 from test_situations import second_opinion
 from testing import PAHO, InFolder, judge_program, missing, python_with
@@ -56,7 +57,9 @@ LIBMOSQUITTO_BREAKS = frozenset("C01 E3A S02".split())
 MQTT_JS_BREAKS = frozenset("C14 C17 S01 S07".split())
 PUB_BREAKS = frozenset(("C13",))
 SUB_BREAKS = frozenset(("C01", "C13"))
+LIBMOSQUITTO_BREAKS_FURTHER = frozenset("F02 F03 F04".split())
 LEAST_SITUATIONS = 220  # of a broker
+NEEDS_ALL = unittest.skipUnless(judges_further(judge_program()), "the program that judges doesn't know `check --all`")
 
 
 def count_in(printed: str, title: str) -> int:
@@ -118,6 +121,14 @@ class Brokers(Tables):
         self.assertGreaterEqual(count_in(printed, "situations"), LEAST_SITUATIONS, printed)
 
 
+    @NEEDS_ALL
+    @unittest.skipIf(missing("mosquitto"), missing("mosquitto"))
+    def test_wills_that_mosquitto_cannot_take(self) -> None:
+        printed = self.run_it("broker", "--out", self.logs, "--program", judge_program(), ALL, "--only",
+                              "will-accepted", "--require", "F05,F06", *mosquitto_with_limits(self.folder))
+        self.assertEqual(broken_in(printed), set(), printed)
+
+
 class Clients(Tables):
     @unittest.skipIf(python_with(PAHO) is None, missing(PAHO))
     def test_paho_for_python(self) -> None:
@@ -131,6 +142,14 @@ class Clients(Tables):
     def test_libmosquitto(self) -> None:
         driver = self.driver_in_c("mosquitto", "mosquitto.h", "mosquitto")
         self.assertEqual(LIBMOSQUITTO_BREAKS - self.client(LIBMOSQUITTO_LACKS, driver, "{port}", "{id}"), set())
+
+    @NEEDS_ALL
+    def test_further_statements_with_libmosquitto(self) -> None:
+        driver = self.driver_in_c("mosquitto", "mosquitto.h", "mosquitto")
+        printed = self.run_it("client", "--out", self.logs, "--program", judge_program(), ALL, "--only",
+                              "retain-0,subscribe-,shared-,bye-", "--require", "F01,F02,F03,F04,V03,V04,V06", "--",
+                              driver, "{port}", "{id}")
+        self.assertEqual(broken_in(printed), LIBMOSQUITTO_BREAKS_FURTHER)
 
     def test_paho_for_c(self) -> None:
         driver = self.driver_in_c("paho_c", "MQTTAsync.h", "paho-mqtt3a")
