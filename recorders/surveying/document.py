@@ -80,8 +80,9 @@ class Document:
     def part(self, name: str, words: list[str]) -> list[str]:
         """The lines of a part. It raises DocumentError where there is no such part."""
         if name == "about" and not words:
-            return [f"Made on {self._about['date']}, on {self._about['system']}.",
-                    f"Judged by {self._about['judged by']}."]
+            lines = (f"Made on {self._about['date']}, on {self._about['system']}.",
+                     f"Judged by {self._about['judged by']}.")
+            return [part for line in lines for part in in_width(line, "")]
         if name == "software" and not words:
             return self._software()
         if name == "matrix" and len(words) == 1:
@@ -185,9 +186,9 @@ def seen(kind: Kind, is_one_of_several: bool) -> str:
             f" ({named(scenarios)}){where}.")
 
 
-def in_width(item: str) -> list[str]:
-    """An item of a list, in lines of the page."""
-    return textwrap.wrap(item, WIDTH, subsequent_indent="  ", break_long_words=False, break_on_hyphens=False)
+def in_width(item: str, indent: str = "  ") -> list[str]:
+    """An item of a list, or a sentence, in lines of the page."""
+    return textwrap.wrap(item, WIDTH, subsequent_indent=indent, break_long_words=False, break_on_hyphens=False)
 
 
 def named(names: list[str]) -> str:
