@@ -35,7 +35,7 @@ from exercising.both_ends import Fairness, other_end
 from exercising.campaign import Campaign
 from exercising.client_verbs import HOSTS
 from exercising.client_verbs import NEEDS as CLIENT_NEEDS
-from exercising.evidence import FOREIGN, binding
+from exercising.evidence import FOREIGN, FURTHER, binding
 from exercising.notation import NotationError, bytes_of
 from exercising.packets import Cutter, Packet, Prop, Type, connack, connect, packet, publish, reply, subscribe
 from exercising.running import CONNECTIONS_MOST, Fate, Result, Runner, death_of, in_turn
@@ -44,7 +44,7 @@ from exercising.stage import Silence, Target
 from exercising.table import Scenario, TableError, parse, read_scenarios
 from exercising.verbs import CLIENTS, NEEDS
 from judging.program import Judge
-from judging.statements import ALL, judges_further
+from judging.statements import ALL, CLIENT, SERVER, every_statement_of, judges_further
 from judging.verdict import Verdict
 from log_format import VERSIONS
 from planting import Plant, State, serve
@@ -244,6 +244,12 @@ class Table(unittest.TestCase):
         aims = {code for scenario in table() for code in scenario.aims}
         self.assertEqual(binding(True, True) - FOREIGN[True] - aims, set())
         self.assertEqual(aims - binding(True, True), set())
+
+    def test_the_further_statements_are_those_of_the_program(self) -> None:
+        known = [one for one in every_statement_of(judge_program()) if one.is_further]
+        for is_server, end in ((True, SERVER), (False, CLIENT)):
+            if known:
+                self.assertEqual({one.code for one in known if one.binds(end)}, FURTHER[is_server])
 
     def test_all_bytes_can_be_said(self) -> None:
         for scenario in table():
