@@ -38,6 +38,7 @@ pub mod ConcernLaws
 pub mod RequestLaws
 pub mod UsingConcernLaws
 mod LeftOutLaws
+mod MovedPlacesLaws
 pub mod MovingLaws
 pub mod SelectingLaws
 pub mod SizeLaws

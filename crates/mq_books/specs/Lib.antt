@@ -26,3 +26,4 @@ pub mod Burden
 pub mod Weights
 pub mod Tried
 pub mod Resumings
+pub mod InflightPlaces

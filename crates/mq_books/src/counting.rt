@@ -60,14 +60,16 @@ pub trait Asks: Fated {
 }
 
 /// A watcher that counts a packet without properties and takes it in at once, so that whether the
-/// packet concerns it is asked once.
+/// packet concerns it is asked once, and what both need is found once.
 pub trait AsksBare: Asks + Brisk {
     /// Counts the places that turn out with a packet without properties of a connection that has
-    /// this fate, and takes it in.
+    /// this fate, and takes it in. By default it does one after the other, in a call of its own:
+    /// most packets concern few watchers, and inlined this is much for each of them.
     ///
     /// # Errors
     ///
     /// As in `step_bare`.
+    #[inline(never)]
     fn count_and_step(
         &mut self,
         places: &mut Self::Places,
@@ -79,7 +81,12 @@ pub trait AsksBare: Asks + Brisk {
         ensures agrees { OnOk result ((tested : TheTested) (taken : Option TheFate) (past : List TheSeen) → Follows tested (seen at (note_of_bare bare.entry)) past → Self.takes tested taken (seen at (note_of_bare bare.entry)) past → Self.agrees self.old tested taken past → Self.agrees self.new tested (latest_fate tested.role (seen at (note_of_bare bare.entry) ∷ past)) (seen at (note_of_bare bare.entry) ∷ past)) }
         ensures grows { OnOk result ((tested : TheTested) (taken : Option TheFate) (past : List TheSeen) → Follows tested (seen at (note_of_bare bare.entry)) past → Self.takes tested taken (seen at (note_of_bare bare.entry)) past → Self.agrees self.old tested taken past → Gains (Self.adds tested (seen at (note_of_bare bare.entry)) past) tested (seen at (note_of_bare bare.entry) ∷ past) (length past + 1) faults.old faults.new) }
         ensures memory { OnErr result ((tested : TheTested) (taken : Option TheFate) (past : List TheSeen) → Follows tested (seen at (note_of_bare bare.entry)) past → Self.takes tested taken (seen at (note_of_bare bare.entry)) past → Self.agrees self.old tested taken past → GainsWithin (Self.adds tested (seen at (note_of_bare bare.entry)) past) tested (seen at (note_of_bare bare.entry) ∷ past) (length past + 1) faults.old faults.new) }
-        ensures counts { OnOk result ((tested : TheTested) (past : List TheSeen) → IsUnder tested fate at.position (seen at (note_of_bare bare.entry)) past → Self.agrees self.old tested (fate_before tested fate (seen at (note_of_bare bare.entry)) past) past → Self.counts places.old tested (fate_before tested fate (seen at (note_of_bare bare.entry)) past) past → Self.counts places.new tested (Some fate) (seen at (note_of_bare bare.entry) ∷ past)) };
+        ensures counts { OnOk result ((tested : TheTested) (past : List TheSeen) → IsUnder tested fate at.position (seen at (note_of_bare bare.entry)) past → Self.agrees self.old tested (fate_before tested fate (seen at (note_of_bare bare.entry)) past) past → Self.counts places.old tested (fate_before tested fate (seen at (note_of_bare bare.entry)) past) past → Self.counts places.new tested (Some fate) (seen at (note_of_bare bare.entry) ∷ past)) }
+    {
+        self.count(places, at, at.position, fate, NoteRef::Bare(bare));
+        self.step_bare(at, bare, faults)?;
+        Ok(())
+    }
 }
 
 /// A watcher, and how often each of its statements was put to the test.

@@ -7,7 +7,7 @@ ghost use Rattle.mq_rules.specs.Notes.{note_of_bare};
 ghost use Rattle.mq_books.specs.Selecting as selecting;
 ghost use Rattle.mq_rules.specs.Notes.{is_acknowledged};
 
-use crate::counting::Asks;
+use crate::counting::{Asks, AsksBare};
 use crate::debts::Debts;
 use crate::exchange::{E1, E2, E3, E4};
 use crate::fated::Fated;
@@ -148,6 +148,8 @@ impl Asks for Messages {
         <Both<Both<Debts<E1>, Debts<E2>>, Both<Debts<E3>, Debts<E4>>>>::places_of(places, rule)
     }
 }
+
+impl AsksBare for Messages {}
 
 impl Discerning for Messages {
     fn leaves_out(&self) {

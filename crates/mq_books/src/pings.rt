@@ -14,7 +14,7 @@ ghost use Rattle.mq_books.specs.Concerns.{concerns_pings};
 ghost use Rattle.mq_rules.specs.Notes.{note_in, note_of_bare};
 ghost use Rattle.mq_books.specs.Selecting as selecting;
 
-use crate::counting::Asks;
+use crate::counting::{Asks, AsksBare};
 use crate::fated::Fated;
 use crate::known::judge_by;
 use crate::quota::more;
@@ -294,6 +294,8 @@ impl Asks for Pings {
         *places
     }
 }
+
+impl AsksBare for Pings {}
 
 impl Discerning for Pings {
     fn leaves_out(&self) {}

@@ -18,7 +18,7 @@ ghost use Rattle.mq_books.specs.Concerns.{concerns_quota};
 ghost use Rattle.mq_rules.specs.Notes.{note_in, note_of_bare};
 ghost use Rattle.mq_books.specs.Selecting as selecting;
 
-use crate::counting::Asks;
+use crate::counting::{Asks, AsksBare};
 use crate::fated::Fated;
 use crate::known::judge_by;
 use crate::messages::is_acknowledged;
@@ -277,6 +277,23 @@ impl Brisk for Quota {
     }
 }
 
+impl AsksBare for Quota {
+    #[inline(always)]
+    fn count_and_step(
+        &mut self,
+        places: &mut u32,
+        at: Place3,
+        fate: Fate,
+        bare: Bare<'_>,
+        faults: &mut Faults,
+    ) -> Result<(), Memory> {
+        let here = self.is_used_up(fate, is_bare_delivery(bare), at.position);
+        *places = places_after(here, *places, at.position);
+        self.step_bare(at, bare, faults)?;
+        Ok(())
+    }
+}
+
 impl Selective for Quota {
     ghost concerns = { concerns_quota };
 
@@ -341,22 +358,18 @@ fn bare_may_concern_quota(bare: Bare<'_>) -> bool
     }
 }
 
-// Whether a PUBLISH is sent that uses up the quota, or passes it.
-#[inline(always)]
-fn uses_up(
-    fate: Fate,
-    event: NoteRef<'_>,
-    role: Role,
-    peer: Option<u16>,
-    old: u64,
-    position: u32,
-) -> bool
-    ensures { old < position → result ≡ keeping.uses_up fate (note_in event.entry) role peer old }
-{
-    fate.accepts()
-        && (event.delivery().is_some()
-            && (may_count(role, peer)
-                && u64::from(peer.unwrap_or(RECEIVE_MAXIMUM)) <= more(old, position)))
+impl Quota {
+    // Whether a packet uses up the quota, or passes it, on a connection of this fate.
+    #[inline(always)]
+    fn is_used_up(&self, fate: Fate, delivers: bool, position: u32) -> bool
+        ensures { self.now.in_flight < position → result ≡ (accepts fate && (delivers && (keeping.may_count self.now.role self.now.peer && nat_le (unwrap_or self.now.peer 65535) (self.now.in_flight + 1)))) }
+    {
+        fate.accepts()
+            && (delivers
+                && (may_count(self.role, self.peer)
+                    && u64::from(self.peer.unwrap_or(RECEIVE_MAXIMUM))
+                        <= more(self.in_flight, position)))
+    }
 }
 
 impl Asks for Quota {
@@ -378,14 +391,7 @@ impl Asks for Quota {
 
     #[inline(always)]
     fn count(&self, places: &mut u32, at: Place3, _: u32, fate: Fate, event: NoteRef<'_>) {
-        let here = uses_up(
-            fate,
-            event,
-            self.role,
-            self.peer,
-            self.in_flight,
-            at.position,
-        );
+        let here = self.is_used_up(fate, event.delivery().is_some(), at.position);
         *places = places_after(here, *places, at.position);
     }
 

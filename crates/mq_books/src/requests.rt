@@ -9,7 +9,7 @@ ghost use Rattle.mq_books.specs.Holding.{number_in};
 ghost use Rattle.mq_books.specs.Requesting.{binds_requests, AgreesIfBound, CountsIfBound};
 ghost use Rattle.mq_books.specs.Selecting as selecting;
 
-use crate::counting::Asks;
+use crate::counting::{Asks, AsksBare};
 use crate::debts::Debts;
 use crate::exchange::{E5, E6};
 use crate::fated::Fated;
@@ -224,6 +224,8 @@ impl Asks for Requests {
         <Both<Debts<E5>, Debts<E6>>>::places_of(places, rule)
     }
 }
+
+impl AsksBare for Requests {}
 
 impl Discerning for Requests {
     fn leaves_out(&self) {

@@ -193,7 +193,7 @@ impl<W: Discerning> Asks for Selecting<W> {
     }
 }
 
-impl<W: Discerning + Brisk> AsksBare for Selecting<W> {
+impl<W: Discerning + AsksBare> AsksBare for Selecting<W> {
     #[inline(always)]
     fn count_and_step(
         &mut self,
@@ -208,32 +208,8 @@ impl<W: Discerning + Brisk> AsksBare for Selecting<W> {
             self.watcher.passes();
             return Ok(());
         }
-        count_concerning(&mut self.watcher, places, at, fate, bare, faults)
+        self.watcher.count_and_step(places, at, fate, bare, faults)
     }
-}
-
-// Counts a packet without properties that may concern a watcher, and takes it in. A call of its
-// own: most packets concern few watchers, and inlined this is much for each of them.
-//
-// Errors: As in `step_bare`.
-#[inline(never)]
-fn count_concerning<W: Asks + Brisk>(
-    watcher: &mut W,
-    places: &mut W::Places,
-    at: Place3,
-    fate: Fate,
-    bare: Bare<'_>,
-    faults: &mut Faults,
-) -> Result<(), Memory>
-    ensures agrees { OnOk result ((tested : Tested) (taken : Option TheFate) (past : List Seen) → Follows tested (seen at (note_of_bare bare.entry)) past → W.takes tested taken (seen at (note_of_bare bare.entry)) past → W.agrees watcher.old tested taken past → W.agrees watcher.new tested (latest_fate tested.role (seen at (note_of_bare bare.entry) ∷ past)) (seen at (note_of_bare bare.entry) ∷ past)) }
-    ensures grows { OnOk result ((tested : Tested) (taken : Option TheFate) (past : List Seen) → Follows tested (seen at (note_of_bare bare.entry)) past → W.takes tested taken (seen at (note_of_bare bare.entry)) past → W.agrees watcher.old tested taken past → Gains (W.adds tested (seen at (note_of_bare bare.entry)) past) tested (seen at (note_of_bare bare.entry) ∷ past) (length past + 1) faults.old faults.new) }
-    ensures memory { OnErr result ((tested : Tested) (taken : Option TheFate) (past : List Seen) → Follows tested (seen at (note_of_bare bare.entry)) past → W.takes tested taken (seen at (note_of_bare bare.entry)) past → W.agrees watcher.old tested taken past → GainsWithin (W.adds tested (seen at (note_of_bare bare.entry)) past) tested (seen at (note_of_bare bare.entry) ∷ past) (length past + 1) faults.old faults.new) }
-    ensures counts { OnOk result ((tested : Tested) (past : List Seen) → IsUnder tested fate at.position (seen at (note_of_bare bare.entry)) past → W.agrees watcher.old tested (fate_before tested fate (seen at (note_of_bare bare.entry)) past) past → W.counts places.old tested (fate_before tested fate (seen at (note_of_bare bare.entry)) past) past → W.counts places.new tested (Some fate) (seen at (note_of_bare bare.entry) ∷ past)) }
-{
-    let event = NoteRef::Bare(bare);
-    watcher.count(places, at, at.position, fate, event);
-    watcher.step_bare(at, bare, faults)?;
-    Ok(())
 }
 
 /// Takes in a packet without properties that doesn't concern the second of two watchers.

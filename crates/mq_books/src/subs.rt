@@ -12,7 +12,7 @@ ghost use Rattle.mq_rules.specs.declared.note.Note.{Note as TheNote};
 ghost use Rattle.mq_rules.specs.declared.note.Seen.{Seen};
 ghost use Rattle.mq_rules.specs.declared.rule.Rule.TheVariants.{B01, B02};
 ghost use Rattle.mq_rules.specs.Words.{is_some_and, is_id, only};
-ghost use Rattle.mq_rules.specs.Notes.{received_subscription, qos_number as number_of, subscription_in, kept_topic, note_of_bare};
+ghost use Rattle.mq_rules.specs.Notes.{received_subscription, qos_number as number_of, subscription_in, kept_topic, note_of_bare, sent_publish};
 ghost use Rattle.mq_rules.specs.Connections.{accepts, latest_fate};
 ghost use Rattle.mq_rules.specs.Subscriptions.{is_shared as begins_shared};
 ghost use Rattle.mq_rules.specs.Rules.{same_rule, binds as is_bound};
@@ -253,6 +253,7 @@ fn noted_topic<'a>(topic: &'a str) -> &'a str
 fn delivery_of<'a>(bare: Bare<'a>) -> Option<Delivery<'a>>
     ensures some { IfSome result (λ delivery. IsDelivery (note_of_bare bare.entry) delivery.topic.now delivery.qos delivery.duplicate) }
     ensures none { is_some result ≡ false → (tested : TheTested) → concerns_deliveries tested (note_of_bare bare.entry) ≡ false }
+    ensures sent { is_some result ≡ is_some (sent_publish (note_of_bare bare.entry)) }
 {
     match bare.direction {
         Direction::Sent => match bare.fields {

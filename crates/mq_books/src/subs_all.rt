@@ -8,7 +8,7 @@ ghost use Rattle.mq_rules.specs.Notes.{note_of_bare};
 ghost use Rattle.mq_books.specs.Grouping.{of_subscriptions, on_subscriptions};
 ghost use Rattle.mq_books.specs.Selecting as selecting;
 
-use crate::counting::Asks;
+use crate::counting::{Asks, AsksBare};
 use crate::counts::{Counts, Subacks, Unsubacks};
 use crate::fated::Fated;
 use crate::selective::{Discerning, Selective, step_first};
@@ -149,6 +149,8 @@ impl Asks for Subs {
         <Both<Deliveries, Both<Counts<Subacks>, Counts<Unsubacks>>>>::places_of(places, rule)
     }
 }
+
+impl AsksBare for Subs {}
 
 impl Discerning for Subs {
     fn leaves_out(&self) {

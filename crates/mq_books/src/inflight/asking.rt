@@ -1,31 +1,36 @@
 //! How often the statements on identifiers are put to the test.
-ghost use Rattle.std.specs.Prelude.{◌≡◌, true, [], ◌∷◌, Some, List, Option, nat_eq, is_some};
+ghost use Rattle.std.specs.Prelude.{◌≡◌, ◌<◌, Bool, true, false, [], ◌∷◌, Some, None, List, Option, nat_eq, is_some};
 ghost use Rattle.std.specs.List.{list_any};
 ghost use Rattle.indexmap.specs.IndexMap.{get, values};
+ghost use Rattle.mq_log.specs.declared.place.Place3.{Place3 as ThePlace};
 ghost use Rattle.mq_rules.specs.declared.role.Tested.{Tested as TheTested};
 ghost use Rattle.mq_rules.specs.declared.fate.Fate.{Fate as TheFate};
 ghost use Rattle.mq_rules.specs.declared.fate.Fate.TheVariants.{Void};
+ghost use Rattle.mq_rules.specs.declared.note.Note.{Note as TheNote};
 ghost use Rattle.mq_rules.specs.declared.note.Seen.{Seen as TheSeen};
 ghost use Rattle.mq_rules.specs.Words.{is_some_and};
-ghost use Rattle.mq_rules.specs.Notes.{note_in, resend_of};
+ghost use Rattle.mq_rules.specs.Connections.{accepts};
+ghost use Rattle.mq_rules.specs.Notes.{note_in, note_of_bare, resend_of};
 ghost use Rattle.mq_rules.specs.Under.{seen, IsUnder, fate_before};
 ghost use Rattle.mq_rules.specs.Occasions.{places_under};
 ghost use Rattle.mq_books.specs.Using.{is_taken as taken, is_at_once as judged_at_once, is_inflight, past_pubrel, IsUsing};
 ghost use Rattle.mq_books.specs.Tried as tried;
 ghost use Rattle.mq_books.specs.Tried.{CountsAtOnce, on_inflight};
-ghost use Rattle.mq_books.specs.Resumings.{CountsResumed};
+ghost use Rattle.mq_books.specs.InflightPlaces.{CountsInflight};
+ghost use Rattle.mq_books.specs.Moving.{Moves};
 
 use super::Inflight;
 use super::broken::is_taken;
 use super::entry::Entry;
+use super::moving::opened_by;
 use super::resends::passed_since;
-use super::resuming::{ResumedPlaces, count_resumed};
-use crate::counting::{Asks, pick};
+use super::resuming::{ResumedPlaces, count_moved, count_resumed};
+use crate::counting::{Asks, AsksBare, pick};
 use crate::known::excuse;
 use crate::selective::Discerning;
 use indexmap::{IndexMap, IndexSet};
-use mq_log::Place3;
-use mq_rules::{Fate, NoteRef, Rule, places_after};
+use mq_log::{Direction, Place3};
+use mq_rules::{Bare, BareFields, Brisk, Fate, Faults, Memory, NoteRef, Rule, places_after};
 
 /// How often S01 to S05 were put to the test.
 #[derive(Drop)]
@@ -207,7 +212,7 @@ pub struct InflightPlaces {
 impl Asks for Inflight {
     type Places = InflightPlaces;
 
-    ghost counts = { λ p tested taken past. CountsAtOnce p.at_once tested taken past × CountsResumed p.resumed tested taken past };
+    ghost counts = { CountsInflight };
 
     ghost counted = { is_inflight };
 
@@ -248,4 +253,81 @@ impl Asks for Inflight {
 
 impl Discerning for Inflight {
     fn leaves_out(&self) {}
+}
+
+impl Inflight {
+    // Counts a new PUBLISH under an identifier, on a connection that is accepted: of S01 to S05 it
+    // can put only S01 to the test.
+    #[inline(always)]
+    fn count_new(&self, places: &mut InflightPlaces, at: Place3, fate: Fate, identifier: u16)
+        ensures { accepts fate ≡ true → (n : TheNote) (exactly_once : Bool) (tested : TheTested) (past : List TheSeen) → Moves n (Some identifier) exactly_once None None None → IsUnder tested fate at.position (seen at n) past → IsUsing self.now tested (fate_before tested fate (seen at n) past) past → CountsInflight places.old tested (fate_before tested fate (seen at n) past) past → CountsInflight places.new tested (Some fate) (seen at n ∷ past) }
+    {
+        let taking = self.has_any_used(fate);
+        places.at_once.taking = places_after(taking, places.at_once.taking, at.position);
+        count_moved(self, &mut places.resumed, true, identifier);
+    }
+
+    // Counts that an identifier is set free, on a connection that is accepted: it puts none of S01
+    // to S05 to the test.
+    #[inline(always)]
+    fn count_freed(&self, places: &mut InflightPlaces, identifier: u16)
+        ensures { (n : TheNote) (at : ThePlace) (fate : TheFate) (tested : TheTested) (past : List TheSeen) → accepts fate ≡ true → at.position < 4294967296 → Moves n None false (Some identifier) None None → IsUnder tested fate at.position (seen at n) past → IsUsing self.now tested (fate_before tested fate (seen at n) past) past → CountsInflight places.old tested (fate_before tested fate (seen at n) past) past → CountsInflight places.new tested (Some fate) (seen at n ∷ past) }
+    {
+        count_moved(self, &mut places.resumed, false, identifier);
+    }
+
+    // Counts any packet without properties, in a call of its own: most are new ones, or set an
+    // identifier free.
+    #[inline(never)]
+    fn count_other(&self, places: &mut InflightPlaces, at: Place3, fate: Fate, bare: Bare<'_>)
+        ensures { (tested : TheTested) (past : List TheSeen) → IsUnder tested fate at.position (seen at (note_of_bare bare.entry)) past → IsUsing self.now tested (fate_before tested fate (seen at (note_of_bare bare.entry)) past) past → CountsInflight places.old tested (fate_before tested fate (seen at (note_of_bare bare.entry)) past) past → CountsInflight places.new tested (Some fate) (seen at (note_of_bare bare.entry) ∷ past) }
+    {
+        self.count(places, at, at.position, fate, NoteRef::Bare(bare));
+    }
+
+    // Counts a packet without properties.
+    #[inline(always)]
+    fn count_bare(&self, places: &mut InflightPlaces, at: Place3, fate: Fate, bare: Bare<'_>)
+        ensures { (tested : TheTested) (past : List TheSeen) → IsUnder tested fate at.position (seen at (note_of_bare bare.entry)) past → IsUsing self.now tested (fate_before tested fate (seen at (note_of_bare bare.entry)) past) past → CountsInflight places.old tested (fate_before tested fate (seen at (note_of_bare bare.entry)) past) past → CountsInflight places.new tested (Some fate) (seen at (note_of_bare bare.entry) ∷ past) }
+    {
+        if !fate.accepts() {
+            self.count_other(places, at, fate, bare);
+            return;
+        }
+        match bare.direction {
+            Direction::Sent => match bare.fields {
+                BareFields::Publish {
+                    identifier,
+                    qos,
+                    duplicate,
+                    ..
+                } => match opened_by(identifier, qos, duplicate) {
+                    Some(i) => self.count_new(places, at, fate, i),
+                    None => self.count_other(places, at, fate, bare),
+                },
+                _ => self.count_other(places, at, fate, bare),
+            },
+            Direction::Recv => match bare.fields {
+                BareFields::Puback { identifier, .. } => self.count_freed(places, identifier),
+                BareFields::Pubcomp { identifier, .. } => self.count_freed(places, identifier),
+                _ => self.count_other(places, at, fate, bare),
+            },
+        }
+    }
+}
+
+impl AsksBare for Inflight {
+    #[inline(never)]
+    fn count_and_step(
+        &mut self,
+        places: &mut InflightPlaces,
+        at: Place3,
+        fate: Fate,
+        bare: Bare<'_>,
+        faults: &mut Faults,
+    ) -> Result<(), Memory> {
+        self.count_bare(places, at, fate, bare);
+        self.step_bare(at, bare, faults)?;
+        Ok(())
+    }
 }

@@ -30,9 +30,9 @@ use mq_log::{Direction, Place3};
 use mq_packet::Qos;
 use mq_rules::{Bare, BareFields, Brisk, Fate, Faults, Memory, Rule, step_apart};
 
-// The identifier that a PUBLISH opens: its QoS is above 0, and DUP is 0.
+/// The identifier that a PUBLISH opens: its QoS is above 0, and DUP is 0.
 #[inline(always)]
-fn opened_by(identifier: Option<u16>, qos: Qos, duplicate: bool) -> Option<u16>
+pub fn opened_by(identifier: Option<u16>, qos: Qos, duplicate: bool) -> Option<u16>
     ensures { result ≡ only (not duplicate) (only (is_acknowledged qos) identifier) }
 {
     if duplicate || !acknowledges(qos) {

@@ -173,3 +173,15 @@ pub fn count_resumed(
     let ended = opener_place(&flight.entries, moved_identifier(fate, event));
     places.go_on(opens_one(fate, event), ended, flight.opened);
 }
+
+/// Counts what a packet that opens or closes this identifier changes, on a connection that is
+/// accepted. It is no place of S06, but the places of a REST depend on it.
+#[inline(always)]
+pub fn count_moved(flight: &Inflight, places: &mut ResumedPlaces, opens: bool, identifier: u16)
+    ensures same { places.new ≡ record places.old { fresh = places.new.fresh; opened = places.new.opened } }
+    ensures fresh { places.old.fresh < 4294967295 → places.new.fresh ≡ remaining places.old.settled opens (ended_at (get nat_eq flight.now.entries) (Some identifier)) places.old.fresh }
+    ensures opened { places.old.opened < 4294967295 → places.new.opened ≡ remaining flight.now.opened opens (ended_at (get nat_eq flight.now.entries) (Some identifier)) places.old.opened }
+{
+    let ended = opener_place(&flight.entries, Some(identifier));
+    places.go_on(opens, ended, flight.opened);
+}

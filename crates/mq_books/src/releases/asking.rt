@@ -10,7 +10,7 @@ ghost use Rattle.mq_books.specs.Placings.{is_on_sessions, on_either, on_one};
 ghost use Rattle.mq_books.specs.Releasing.{has_id};
 
 use super::Releases;
-use crate::counting::{Asks, pick};
+use crate::counting::{Asks, AsksBare, pick};
 use crate::fated::Fated;
 use crate::known::{is_placed, place};
 use crate::selective::Discerning;
@@ -92,6 +92,8 @@ impl Asks for Releases {
 
     ghost on_sessions = { λ role rule judged. on_either (same_rule rule L1 || same_rule rule L2) (same_rule rule L3) (is_on_sessions (occasion role rule)) (on_either (same_rule rule L1) (same_rule rule L2) (is_on_sessions (occasion role rule)) (on_one role L1 rule refl) (on_one role L2 rule refl)) (on_one role L3 rule refl) judged };
 }
+
+impl AsksBare for Releases {}
 
 impl Discerning for Releases {
     fn leaves_out(&self) {}

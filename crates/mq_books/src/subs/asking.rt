@@ -1,22 +1,22 @@
 //! How often B01 and B02 are put to the test.
-ghost use Rattle.std.specs.Prelude.{◌≡◌, ◌&&◌, ◌||◌, nat_eq, true, refl, Some};
+ghost use Rattle.std.specs.Prelude.{◌≡◌, ◌&&◌, ◌||◌, ℕ, List, Option, nat_eq, true, refl, Some};
 ghost use Rattle.indexmap.specs.IndexMap.{get};
 ghost use Rattle.mq_rules.specs.declared.rule.Rule.TheVariants.{B01, B02};
-ghost use Rattle.mq_rules.specs.Notes.{note_in, is_acknowledged as waits};
+ghost use Rattle.mq_rules.specs.Notes.{note_in, note_of_bare, is_acknowledged as waits};
 ghost use Rattle.mq_rules.specs.Connections.{accepts};
 ghost use Rattle.mq_rules.specs.Rules.{same_rule};
 ghost use Rattle.mq_rules.specs.Occasions.{occasion, places_under};
 ghost use Rattle.mq_books.specs.Standings.{delivers_so};
 ghost use Rattle.mq_books.specs.Placings.{is_on_sessions, on_either, on_one};
 
-use super::{Deliveries, judged_topic};
+use super::{Deliveries, delivery_of, judged_topic, named_topic};
 use crate::counting::{Asks, pick};
 use crate::fated::Fated;
 use crate::messages::is_acknowledged;
 use crate::selective::Discerning;
 use indexmap::IndexMap;
 use mq_log::Place3;
-use mq_rules::{Fate, Note, NoteRef, Rule, Text, places_after};
+use mq_rules::{Bare, Fate, Note, NoteRef, Rule, Text, places_after};
 
 /// How often the statements on deliveries were put to the test.
 #[derive(Drop)]
@@ -53,6 +53,31 @@ fn has_acknowledged_topic(sharing: bool, topics: &IndexMap<u16, Text>, note: &No
     }
 }
 
+// Whether a packet without properties is a PUBLISH that is sent, and of which B01 looks at the topic:
+// its Topic Name, since it has no Topic Alias.
+#[inline(always)]
+#[tactic(auto, unfolding(mq_rules::specs::Notes::note_of_bare))]
+fn names_topic(sharing: bool, bare: Bare<'_>) -> bool
+    ensures { (topics : ℕ → Option (List ℕ)) → result ≡ delivers_so (note_of_bare bare.entry) sharing topics (λ p topic. true) }
+{
+    match delivery_of(bare) {
+        Some(delivery) => named_topic(true, sharing, delivery).is_some(),
+        None => false,
+    }
+}
+
+// The same of B02, which looks at those of QoS above 0.
+#[inline(always)]
+fn names_acknowledged(sharing: bool, bare: Bare<'_>) -> bool
+    ensures { (topics : ℕ → Option (List ℕ)) → result ≡ delivers_so (note_of_bare bare.entry) sharing topics (λ p topic. waits p.qos) }
+{
+    match delivery_of(bare) {
+        Some(delivery) => named_topic(true, sharing, delivery).is_some()
+            && is_acknowledged(delivery.qos),
+        None => false,
+    }
+}
+
 // Whether an event is a PUBLISH that is sent and of which B01 looks at a topic.
 #[inline(always)]
 fn delivers_topic(sharing: bool, topics: &IndexMap<u16, Text>, event: NoteRef<'_>) -> bool
@@ -60,7 +85,7 @@ fn delivers_topic(sharing: bool, topics: &IndexMap<u16, Text>, event: NoteRef<'_
 {
     match event {
         NoteRef::Kept(note) => has_topic(sharing, topics, note),
-        NoteRef::Bare(bare) => has_topic(sharing, topics, &bare.note()),
+        NoteRef::Bare(bare) => names_topic(sharing, bare),
     }
 }
 
@@ -71,7 +96,7 @@ fn delivers_acknowledged(sharing: bool, topics: &IndexMap<u16, Text>, event: Not
 {
     match event {
         NoteRef::Kept(note) => has_acknowledged_topic(sharing, topics, note),
-        NoteRef::Bare(bare) => has_acknowledged_topic(sharing, topics, &bare.note()),
+        NoteRef::Bare(bare) => names_acknowledged(sharing, bare),
     }
 }
 

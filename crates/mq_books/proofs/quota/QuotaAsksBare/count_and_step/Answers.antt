@@ -1,0 +1,15 @@
+use Rattle.std.proofs.Common.{◌+◌, ◌&&◌, nat_le, ap, ◌∙◌}
+use Rattle.std.specs.Prelude.{unwrap_or}
+use Rattle.mq_rules.specs.Notes.{note_of_bare}
+use Rattle.mq_rules.specs.Connections.{accepts}
+use Rattle.mq_rules.specs.Under.{seen, fate_before}
+use Rattle.mq_books.specs.Quotas.{may_count}
+use Rattle.mq_books.proofs.CountingLaws.{quota-places}
+use Rattle.mq_books.proofs.quota.QuotaAsksBare.count_and_step.Goals as goal
+
+pub returns-clause-counts : goal.returns-clause-counts
+returns-clause-counts c = λ tested past under kept was.
+    let s = c.args.self.now in
+    let e = seen c.args.at (note_of_bare c.args.bare) in
+    quota-places tested s (fate_before tested c.args.fate e past) c.args.fate c.args.at.position e past c.is_used_up-here.result c.args.places.now c.places_after.result kept under was
+    (λ low. c.is_used_up-here.ensures low ∙ ap (λ b. accepts c.args.fate && (b && (may_count s.role s.peer && nat_le (unwrap_or s.peer 65535) (s.in_flight + 1)))) c.is_bare_delivery.ensures) c.places_after.ensures
