@@ -14,7 +14,7 @@ use Rattle.mq_rules.specs.declared.packet_note.ConnectNote.{ConnectNote}
 use Rattle.mq_rules.specs.declared.packet_note.ConnackNote.{ConnackNote}
 use Rattle.mq_rules.specs.Notes.{bare_note, bare_fields, note_of_bare, is_open, connect_of, connack_of, delivery_of, closer_of}
 use Rattle.mq_rules.specs.Moments.{Moment, newest, note, those, is_next}
-use Rattle.mq_rules.specs.Connections.{connection, accepts, first_connect, first_connack}
+use Rattle.mq_rules.specs.Connections.{connection, accepts, first_connect, first_connack, latest_fate}
 use Rattle.mq_rules.specs.Pasts.{peer_receive_maximum}
 use Rattle.mq_rules.specs.Identifiers.{is_delivery, is_closer, counts, breaks_S07}
 use Rattle.mq_rules.specs.Counter.{in_flight, in_flight_before}
@@ -22,16 +22,18 @@ use Rattle.mq_rules.specs.Rules.{binds, found_line, line_of, lines, same_rule}
 use Rattle.mq_rules.specs.Statements.{statement}
 use Rattle.mq_rules.specs.Faults.{offset_of}
 use Rattle.mq_rules.specs.FaultKeys.{FaultMap}
+use Rattle.mq_log.specs.declared.place.Place3.{Place3}
 use Rattle.mq_log.specs.declared.kind.Direction.{Direction}
 use Rattle.mq_log.specs.declared.kind.Direction.TheVariants.{Sent, Recv}
 use Rattle.mq_rules.specs.declared.bare.Bare.{Bare}
 use Rattle.mq_rules.specs.declared.bare.BareFields.{BareFields}
 use Rattle.mq_rules.specs.declared.bare.BareFields.TheVariants as bares
-use Rattle.mq_rules.proofs.Exports.{bare-closed, S07-before, connection-newest as connection-next, first_found-next}
+use Rattle.mq_rules.proofs.Exports.{bare-closed, option_or-none, S07-before, connection-newest as connection-next, first_found-next}
 use Rattle.mq_books.specs.declared.quota.Quota.{Quota}
-use Rattle.mq_rules.specs.Under.{IsUnder, turns_with, fate_before}
+use Rattle.mq_rules.specs.Under.{seen, Follows, IsUnder, IsKnown, turns_with, turns_known, fate_before}
 use Rattle.mq_rules.specs.Growing.{Gains}
-use Rattle.mq_books.specs.Quotas.{connect_room, connack_room, announced, peer_room, may_count, flown, exceeds, judged_by, IsQuota}
+use Rattle.mq_books.specs.Quotas.{connect_room, connack_room, announced, peer_room, may_count, flown, exceeds, judged_by, with_bare, IsQuota}
+use Rattle.mq_books.proofs.KnownLaws.{Knows, knows, known-gains}
 use Rattle.mq_books.proofs.JudgeLaws.{session-turns_with, gains_judged}
 
 pub binds-S07 : (role : Role) (releases further : Bool) → binds S07 (record { role = role; releases = releases; further = further }) ≡ true
@@ -140,6 +142,10 @@ S07-turns tested f e past k =
     ∙ ap (λ c. is_next past k && (accepts f && (is_some (delivery_of e.note) && (c && nat_le (peer_receive_maximum tested.role (newest e past)) (in_flight (those (counts tested.role) (connection past))))))) (counts-kept tested.role e past)
     ∙ ap (λ n. is_next past k && (accepts f && (is_some (delivery_of e.note) && (may_count tested.role (peer_room tested.role past) && nat_le n (in_flight (those (counts tested.role) (connection past))))))) (room-kept tested.role e past)
 
+-- there are fewer in flight than events
+pub flying-below : (tested : Tested) (old : Quota) (taken : Option Fate) (f : Fate) (e : Seen) (past : List Seen) (at : ℕ) → IsQuota old tested taken past → IsUnder tested f at e past → old.in_flight < e.place.position
+flying-below tested old taken f e past at q under = let a = flying-most tested.role past in let b = q.flying in let c = under.follows.placed.0 in omega arith
+
 -- what is kept after one more event
 pub quota-next : (tested : Tested) (old : Quota) (taken : Option Fate) (f : Fate) (e : Seen) (past : List Seen) (peer : Option ℕ) (flying at : ℕ) → IsQuota old tested taken past
     → IsUnder tested f at e past → peer ≡ option_or (cond (is_open e.note) None old.peer) (announced old.role e.note) → (old.in_flight < e.place.position → flying ≡ flown (may_count old.role old.peer) e.note old.in_flight)
@@ -154,7 +160,7 @@ quota-next tested old taken f e past peer flying at q under p n = record {
 }
   where
     below : old.in_flight < e.place.position
-    below = let a = flying-most tested.role past in let b = q.flying in let c = under.follows.placed.0 in omega arith
+    below = flying-below tested old taken f e past at q under
 
 pub quota-gains : (tested : Tested) (old : Quota) (f : Fate) (taken : Option Fate) (at : ℕ) (e : Seen) (past : List Seen) (m : FaultMap) (b : Bool) → IsUnder tested f at e past → IsQuota old tested taken past
     → b ≡ exceeds f e.note old.role old.peer old.in_flight
@@ -211,3 +217,38 @@ flown-bare role peer b old counted delivers closes x y z =
     ∙ ap (λ t. cond (may_count role peer) (cond t (old + 1) (cond closes (old - 1) old)) old) y
     ∙ ap (λ t. cond (may_count role peer) (cond (is_some (delivery_of (note_of_bare b))) (old + 1) (cond t (old - 1) old)) old) z
     ∙ sym (ap (λ t. cond t 0 (cond (may_count role peer) (cond (is_some (delivery_of (note_of_bare b))) (old + 1) (cond (is_some (closer_of (note_of_bare b))) (old - 1) old)) old)) (bare-closed b))
+
+-- what is kept after it
+pub quota-bare : (tested : Tested) (old : Quota) (taken : Option Fate) (at : Place3) (b : Bare) (past : List Seen) (delivers closes : Bool) (new : Quota) → Follows tested (seen at (note_of_bare b)) past
+    → IsKnown tested taken (seen at (note_of_bare b)) past → IsQuota old tested taken past → delivers ≡ is_some (delivery_of (note_of_bare b)) → closes ≡ is_some (closer_of (note_of_bare b))
+    → (old.in_flight < at.position → new ≡ with_bare old delivers closes) → IsQuota new tested (latest_fate tested.role (seen at (note_of_bare b) ∷ past)) (seen at (note_of_bare b) ∷ past)
+quota-bare tested old taken at b past delivers closes new follows known q d c is =
+    subst (λ o. IsQuota new tested o (e ∷ past)) k.after (subst (λ s. IsQuota s tested (Some old.fate) (e ∷ past)) (sym (is (flying-below tested old taken old.fate e past at.position q k.under)))
+    (quota-next tested old taken old.fate e past old.peer (with_bare old delivers closes).in_flight at.position q k.under
+    (sym (ap (λ b. option_or (cond b None old.peer) (announced old.role e.note)) (bare-closed b) ∙ ap (option_or old.peer) (announces-nothing old.role b) ∙ option_or-none old.peer))
+    (λ below. flown-bare old.role old.peer b old.in_flight (may_count old.role old.peer) delivers closes refl d c)))
+  where
+    e : Seen
+    e = seen at (note_of_bare b)
+
+    k : Knows tested old.fate taken e past
+    k = knows tested old.fate taken e past follows known q.same_fate
+
+-- the faults after it
+pub quota-bare-gains : (tested : Tested) (old : Quota) (taken : Option Fate) (at : Place3) (b : Bare) (past : List Seen) (delivers : Bool) (before after : FaultMap) → Follows tested (seen at (note_of_bare b)) past
+    → IsKnown tested taken (seen at (note_of_bare b)) past → IsQuota old tested taken past → delivers ≡ is_some (delivery_of (note_of_bare b))
+    → after ≡ judged_by (accepts old.fate && (delivers && (may_count old.role old.peer && nat_le (unwrap_or old.peer 65535) old.in_flight))) S07 at at.position before
+    → Gains (λ k r. same_rule r S07 && turns_known tested (seen at (note_of_bare b)) past k r) tested (seen at (note_of_bare b) ∷ past) (length past + 1) before after
+quota-bare-gains tested old taken at b past delivers before after follows known q d is =
+    known-gains tested old.fate taken (λ r. same_rule r S07) e past before after k
+    (subst (λ (m : FaultMap). Gains (λ k r. same_rule r S07 && turns_with tested old.fate e past k r) tested (e ∷ past) at.position before m) (sym is)
+    (quota-gains tested old old.fate taken at.position e past before (past-it delivers) k.under q (ap past-it d)))
+  where
+    e : Seen
+    e = seen at (note_of_bare b)
+
+    past-it : Bool → Bool
+    past-it t = accepts old.fate && (t && (may_count old.role old.peer && nat_le (unwrap_or old.peer 65535) old.in_flight))
+
+    k : Knows tested old.fate taken e past
+    k = knows tested old.fate taken e past follows known q.same_fate

@@ -56,6 +56,10 @@ abbrev pub judged_by : Bool → Rule → Place3 → ℕ → FaultMap → FaultMa
 judged_by broken rule place at faults =
     cond broken (with_fault (record { position = place.position; rule = rule }) (record { decided = at; record_no = place.record_no; offset = None }) faults) faults
 
+-- what is kept after a packet without properties, which may be a PUBLISH that counts, or set an identifier free
+abbrev pub with_bare : Quota → Bool → Bool → Quota
+with_bare q delivers closes = record { role = q.role; fate = q.fate; peer = q.peer; in_flight = cond (may_count q.role q.peer) (cond delivers (q.in_flight + 1) (cond closes (q.in_flight - 1) q.in_flight)) q.in_flight }
+
 -- These events lead to what is kept.
 pub record IsQuota (quota : Quota) (tested : Tested) (taken : Option Fate) (past : List Seen) : Type 0 where
   pub same_role : quota.role ≡ tested.role

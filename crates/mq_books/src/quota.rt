@@ -1,6 +1,6 @@
 //! The send quota.
 ghost use Rattle.std.specs.Prelude.{refl};
-ghost use Rattle.std.specs.Prelude.{◌≡◌, ◌<◌, ◌+◌, ◌-◌, ◌&&◌, ℕ, [], Some, None, is_some, nat_le, unwrap_or};
+ghost use Rattle.std.specs.Prelude.{◌≡◌, ◌<◌, ◌+◌, ◌-◌, ◌&&◌, ℕ, [], OnErr, OnOk, Some, None, is_some, nat_le, unwrap_or};
 ghost use Rattle.mq_rules.specs.declared.fate.Fate.TheVariants.{Void};
 ghost use Rattle.mq_rules.specs.declared.rule.Rule.TheVariants.{S07};
 ghost use Rattle.mq_rules.specs.Rules.{same_rule};
@@ -262,17 +262,32 @@ impl Quota {
                 && (may_count(self.role, self.peer)
                     && u64::from(self.peer.unwrap_or(RECEIVE_MAXIMUM)) <= self.in_flight))
     }
+
+    // Takes in a packet without properties, which may be a PUBLISH that counts, or set an
+    // identifier free.
+    #[inline(always)]
+    fn take_bare(
+        &mut self,
+        at: Place3,
+        delivers: bool,
+        closes: bool,
+        faults: &mut Faults,
+    ) -> Result<(), Memory>
+        ensures kept { self.old.in_flight < at.position → self.new ≡ keeping.with_bare self.old delivers closes }
+        ensures judged { OnOk result (faults.new ≡ keeping.judged_by (accepts self.old.fate && (delivers && (keeping.may_count self.old.role self.old.peer && nat_le (unwrap_or self.old.peer 65535) self.old.in_flight))) S07 at at.position faults.old) }
+        ensures unchanged { OnErr result (faults.new ≡ faults.old) }
+    {
+        let broken = self.is_past(delivers);
+        let counted = may_count(self.role, self.peer);
+        self.in_flight = flown_by(counted, delivers, closes, self.in_flight, at.position);
+        judge_by(Rule::S07, broken, at, at.position, faults)
+    }
 }
 
 impl Brisk for Quota {
     #[inline(always)]
     fn step_bare(&mut self, at: Place3, bare: Bare<'_>, faults: &mut Faults) -> Result<(), Memory> {
-        let delivers = is_bare_delivery(bare);
-        let closes = is_bare_closer(bare);
-        let broken = self.is_past(delivers);
-        let counted = may_count(self.role, self.peer);
-        self.in_flight = flown_by(counted, delivers, closes, self.in_flight, at.position);
-        judge_by(Rule::S07, broken, at, at.position, faults)?;
+        self.take_bare(at, is_bare_delivery(bare), is_bare_closer(bare), faults)?;
         Ok(())
     }
 }
@@ -287,9 +302,10 @@ impl AsksBare for Quota {
         bare: Bare<'_>,
         faults: &mut Faults,
     ) -> Result<(), Memory> {
-        let here = self.is_used_up(fate, is_bare_delivery(bare), at.position);
+        let delivers = is_bare_delivery(bare);
+        let here = self.is_used_up(fate, delivers, at.position);
         *places = places_after(here, *places, at.position);
-        self.step_bare(at, bare, faults)?;
+        self.take_bare(at, delivers, is_bare_closer(bare), faults)?;
         Ok(())
     }
 }

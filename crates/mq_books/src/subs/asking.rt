@@ -53,8 +53,8 @@ fn has_acknowledged_topic(sharing: bool, topics: &IndexMap<u16, Text>, note: &No
     }
 }
 
-// Whether a packet without properties is a PUBLISH that is sent, and of which B01 looks at the topic:
-// its Topic Name, since it has no Topic Alias.
+// Whether a packet without properties is a PUBLISH that is sent, and of which B01 looks at the
+// topic: its Topic Name, since it has no Topic Alias.
 #[inline(always)]
 #[tactic(auto, unfolding(mq_rules::specs::Notes::note_of_bare))]
 fn names_topic(sharing: bool, bare: Bare<'_>) -> bool
