@@ -12,6 +12,3 @@ pub use command_line::{
 };
 pub use digits::{is_dash, packed};
 pub use oddity::{Oddity, first_oddity};
-
-#[cfg(test)]
-mod tests;

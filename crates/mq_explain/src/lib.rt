@@ -8,6 +8,3 @@ mod listing;
 pub use citations::explanations_cited;
 pub use explanations::{each_explanation_begins_with_its_code, explanation};
 pub use listing::{add_all_codes, role_named, statement_list};
-
-#[cfg(test)]
-mod tests;

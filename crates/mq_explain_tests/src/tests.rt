@@ -1,5 +1,5 @@
 //! What no clause says of the texts on the statements.
-use crate::explanation;
+use mq_explain::explanation;
 use mq_rules::{Role, Rule};
 
 // Whether a statement's text begins with its code and citations, has its sentence next, says why,

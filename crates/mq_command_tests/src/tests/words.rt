@@ -1,5 +1,5 @@
 //! The words of each task, of help, and of misuse.
-use crate::*;
+use mq_command::{EarlyExit, Form, Inquiry, Review, Task, Work, parse};
 use std::alloc::Global;
 use std::test::Fail;
 
