@@ -1,30 +1,62 @@
 //! What faults conflict with, in words under their events. These were written from the words of the
 //! statements and from `bench/because.py --words`.
-use crate::display::annotated::Extent;
-use crate::display::because::put_reason;
-use crate::display::outgoing::Outgoing;
-use crate::display::show_faults;
-use crate::report::RunFault;
+use super::harness::is_made_of;
+use super::lines::{line_of, role_of};
 use mq_evidence::{Evidence, Numbers};
+use mq_report::{Extent, show_faults};
 use mq_rules::{Fault, FaultKey, Faults, Role, Rule};
 use std::alloc::Global;
 
-// Writes what is said of a fault of the statement that has this reason.
-fn write_reason(
-    rule: Rule,
-    reason: Option<Evidence>,
-    writer: &mut Vec<u8>,
-) -> Result<(), RunFault> {
-    let mut out = Outgoing::to(writer);
-    put_reason(&mut out, rule, reason);
-    out.write_last()
+// A client's log: a connection is opened.
+const CLIENT_LOG: &[u8] = b"MQTR\x01\x00\x00\x00\x01\x00\x00\x00\x00";
+
+// The same of a server.
+const SERVER_LOG: &[u8] = b"MQTR\x01\x01\x00\x00\x01\x00\x00\x00\x00";
+
+// A fault of this statement at the first event, which shows it.
+fn fault_of(alloc: Global, rule: Rule) -> Option<Faults> {
+    let mut faults = Faults::new(alloc);
+    let fault = Fault {
+        decided: 1,
+        record_no: 1,
+        offset: None,
+    };
+    faults.add(FaultKey { position: 1, rule }, fault).ok()?;
+    Some(faults)
 }
 
-// Whether these words are said of it.
+// Whether this is what is shown of such a log: its event, and the line on a fault, which ends in
+// these words.
+fn has_line<'a>(shown: &[u8], line: &'a str, words: &'a str) -> bool {
+    is_made_of(shown, &["1 record 1 OPEN\n  fault ", line, words, "\n"])
+}
+
+// Whether the line on such a fault ends in these words, after those on its statement.
+fn ends_in(alloc: Global, rule: Rule, reasons: &[Evidence], words: &str) -> bool {
+    let Some(faults) = fault_of(alloc, rule) else {
+        return false;
+    };
+    let role = role_of(rule);
+    let mut log = match role {
+        Role::Client => CLIENT_LOG,
+        Role::Server => SERVER_LOG,
+    };
+    let extent = Extent {
+        around: None,
+        long: false,
+    };
+    let mut shown = Vec::new(alloc);
+    let answer = show_faults(alloc, &faults, reasons, role, extent, &mut log, &mut shown);
+    let line = line_of(rule);
+    answer.is_ok() && has_line(shown.as_slice(), line, words)
+}
+
+// Whether these words are said of a fault of the statement that has this reason.
 fn is_said(alloc: Global, rule: Rule, reason: Option<Evidence>, words: &str) -> bool {
-    let mut written = Vec::new(alloc);
-    let answer = write_reason(rule, reason, &mut written);
-    answer.is_ok() && written.as_slice() == words.as_bytes()
+    match reason {
+        Some(reason) => ends_in(alloc, rule, &[reason], words),
+        None => ends_in(alloc, rule, &[], words),
+    }
 }
 
 // The reason with this event and no numbers.

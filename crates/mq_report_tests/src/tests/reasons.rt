@@ -1,6 +1,6 @@
 //! Reports that say what each fault conflicts with, written out.
-use crate::report::{Form, Verdict, write_reasoned_report};
 use mq_evidence::{Evidence, Numbers};
+use mq_report::{Form, Verdict, write_reasoned_report};
 use mq_rules::{Fault, FaultKey, Faults, Role, Rule};
 use std::process::Abort;
 

@@ -1,9 +1,7 @@
 //! Reports that say how often each statement was put to the test, and what wasn't judged, written
 //! out.
-use crate::report::coverage::Covered;
-use crate::report::unjudged::{Begun, Gap};
-use crate::report::{Form, Verdict, write_covered_report};
 use mq_log::{Direction, Place3};
+use mq_report::{Begun, Covered, Form, Gap, Verdict, write_covered_report};
 use mq_rules::{Fault, FaultKey, Faults, Role, Rule};
 use std::process::Abort;
 
