@@ -353,12 +353,32 @@ fn is_review_of(
 
 #[test]
 fn reads_the_words_of_a_review(rt: HostRuntime) -> Result<(), Fail> {
-    let words = ["mqjudge", "show", "--around", "3", "--faults", "a.log"];
-    assert!(rt; is_review_of(rt.alloc(), &words, Some("a.log"), Some("3"), (false, false))?);
-    let words = ["mqjudge", "show", "--faults", "--long"];
-    assert!(rt; is_review_of(rt.alloc(), &words, None, None, (true, false))?);
-    let words = ["mqjudge", "show", "--all", "--faults", "a.log"];
-    assert!(rt; is_review_of(rt.alloc(), &words, Some("a.log"), None, (false, true))?);
+    let rows: [(&[&str], Option<&str>, Option<&str>, (bool, bool)); 3] = [
+        (
+            &["mqjudge", "show", "--around", "3", "--faults", "a.log"],
+            Some("a.log"),
+            Some("3"),
+            (false, false),
+        ),
+        (
+            &["mqjudge", "show", "--faults", "--long"],
+            None,
+            None,
+            (true, false),
+        ),
+        (
+            &["mqjudge", "show", "--all", "--faults", "a.log"],
+            Some("a.log"),
+            None,
+            (false, true),
+        ),
+    ];
+    for (words, path, number, extent) in rows {
+        assert!(rt;
+            is_review_of(rt.alloc(), words, path, number, extent)?,
+            "{words:?}"
+        );
+    }
     Ok(())
 }
 
@@ -387,28 +407,34 @@ fn is_inquiry_of(
 
 #[test]
 fn reads_the_words_of_an_inquiry(rt: HostRuntime) -> Result<(), Fail> {
-    let words = ["mqjudge", "check", "--why", "a.log"];
-    assert!(rt;
-        is_inquiry_of(
-            rt.alloc(),
-            &words,
+    let rows: [(&[&str], Option<&str>, (Form, bool, bool)); 4] = [
+        (
+            &["mqjudge", "check", "--why", "a.log"],
             Some("a.log"),
-            (Form::Text, false, false)
-        )?
-    );
-    let words = ["mqjudge", "check", "a.log", "--json", "--why"];
-    assert!(rt;
-        is_inquiry_of(
-            rt.alloc(),
-            &words,
+            (Form::Text, false, false),
+        ),
+        (
+            &["mqjudge", "check", "a.log", "--json", "--why"],
             Some("a.log"),
-            (Form::Json, false, false)
-        )?
-    );
-    let words = ["mqjudge", "check", "--all", "a.log", "--why"];
-    assert!(rt; is_inquiry_of(rt.alloc(), &words, Some("a.log"), (Form::Text, false, true))?);
-    let words = ["mqjudge", "check", "--why", "--coverage", "--summary"];
-    assert!(rt; is_inquiry_of(rt.alloc(), &words, None, (Form::Summary, true, false))?);
+            (Form::Json, false, false),
+        ),
+        (
+            &["mqjudge", "check", "--all", "a.log", "--why"],
+            Some("a.log"),
+            (Form::Text, false, true),
+        ),
+        (
+            &["mqjudge", "check", "--why", "--coverage", "--summary"],
+            None,
+            (Form::Summary, true, false),
+        ),
+    ];
+    for (words, path, report) in rows {
+        assert!(rt;
+            is_inquiry_of(rt.alloc(), words, path, report)?,
+            "{words:?}"
+        );
+    }
     Ok(())
 }
 

@@ -80,6 +80,12 @@ fn by_numbers(because: Option<u32>, numbers: Numbers) -> Option<Evidence> {
     Some(Evidence { because, numbers })
 }
 
+// Whether nothing is said of a fault of the statement, but for the event that it is given.
+fn is_at_fault_by_itself(alloc: Global, rule: Rule) -> bool {
+    is_said(alloc, rule, by_nothing(), "")
+        && is_said(alloc, rule, by_event(7), " (because of event 7)")
+}
+
 // Statements on a packet's bytes, and others that a packet breaks by itself.
 #[test]
 fn nothing_is_said_of_what_is_at_fault_by_itself(rt: HostRuntime) {
@@ -110,8 +116,7 @@ fn nothing_is_said_of_what_is_at_fault_by_itself(rt: HostRuntime) {
         Rule::C18,
         Rule::C19,
     ] {
-        assert!(rt; is_said(rt.alloc(), rule, by_nothing(), ""));
-        assert!(rt; is_said(rt.alloc(), rule, by_event(7), " (because of event 7)"));
+        assert!(rt; is_at_fault_by_itself(rt.alloc(), rule), "{rule:?}");
     }
 }
 
@@ -186,34 +191,25 @@ fn says_what_the_event_is_in_a_session(rt: HostRuntime) {
     }
 }
 
+// Whether these words are said of a fault of each of these statements, because of event 5.
+fn are_said(alloc: Global, rules: &[Rule], words: &str) -> bool {
+    for rule in rules {
+        if !is_said(alloc, *rule, by_event(5), words) {
+            return false;
+        }
+    }
+    true
+}
+
 #[test]
+#[rattlefmt::skip]
 fn says_what_the_event_is_to_an_exchange(rt: HostRuntime) {
-    for rule in [
-        Rule::E1A,
-        Rule::E2A,
-        Rule::E3A,
-        Rule::E4A,
-        Rule::E5A,
-        Rule::E6A,
-    ] {
-        let words = " (because of event 5: nothing asked for it after that)";
-        assert!(rt; is_said(rt.alloc(), rule, by_event(5), words));
-    }
-    for rule in [
-        Rule::E1R,
-        Rule::E2R,
-        Rule::E3R,
-        Rule::E4R,
-        Rule::E5R,
-        Rule::E6R,
-    ] {
-        let words = " (because of event 5: the REST, with no answer before it)";
-        assert!(rt; is_said(rt.alloc(), rule, by_event(5), words));
-    }
-    for rule in [Rule::E1O, Rule::E2O, Rule::E3O] {
-        let words = " (because of event 5: it came first, and waits for its answer)";
-        assert!(rt; is_said(rt.alloc(), rule, by_event(5), words));
-    }
+    let answers = [Rule::E1A, Rule::E2A, Rule::E3A, Rule::E4A, Rule::E5A, Rule::E6A];
+    assert!(rt; are_said(rt.alloc(), &answers, " (because of event 5: nothing asked for it after that)"));
+    let missing = [Rule::E1R, Rule::E2R, Rule::E3R, Rule::E4R, Rule::E5R, Rule::E6R];
+    assert!(rt; are_said(rt.alloc(), &missing, " (because of event 5: the REST, with no answer before it)"));
+    let orders = [Rule::E1O, Rule::E2O, Rule::E3O];
+    assert!(rt; are_said(rt.alloc(), &orders, " (because of event 5: it came first, and waits for its answer)"));
 }
 
 #[test]
