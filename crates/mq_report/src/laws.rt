@@ -1,5 +1,5 @@
 //! Laws of what is reported, each proved as the contract of a function that does nothing.
-ghost use Rattle.std.specs.Prelude.{◌≡◌, ◌<◌, ℕ, Bool, List, None, codes, false, slice_index};
+ghost use Rattle.std.specs.Prelude.{◌≡◌, ◌<◌, ◌∷◌, [], ℕ, Bool, List, None, codes, false, slice_index};
 ghost use Rattle.mq_trace.specs.Converting.{converted};
 ghost use Rattle.mq_log.specs.Refusals.{refused, is_cut_short};
 ghost use Rattle.mq_rules.specs.declared.role.Role.{Role};
@@ -7,7 +7,10 @@ ghost use Rattle.mq_rules.specs.declared.fault.Fault.{Fault};
 ghost use Rattle.mq_rules.specs.declared.faults.FaultKey.{FaultKey};
 ghost use Rattle.mq_evidence.specs.declared.evidence.Evidence.{Evidence};
 ghost use Rattle.mq_report.specs.declared.report.Form.{Form};
+ghost use Rattle.mq_packet.specs.declared.rule.PacketRule.TheVariants.{W04, W05, W09, W14};
 ghost use Rattle.mq_report.specs.Calendar.{IsDate, day_of_month, month_of, utc_text, year_of};
+ghost use Rattle.mq_report.specs.Details.{broken_words};
+ghost use Rattle.mq_report.specs.ItemText.{with_spaces};
 ghost use Rattle.mq_report.specs.Report.{report, text_report};
 ghost use Rattle.mq_report.specs.Reasons.{reasoned_text_report, without_reasons};
 
@@ -37,4 +40,15 @@ pub fn worked_times()
     ensures after_leap_day { utc_text 951868800000000 ≡ codes "2000-03-01 00:00:00.000000 UTC" }
     ensures afternoon { utc_text 1795712601123456 ≡ codes "2026-11-26 17:03:21.123456 UTC" }
     ensures last { utc_text 4102444799999999 ≡ codes "2099-12-31 23:59:59.999999 UTC" }
+{}
+
+/// What is written of bytes that break a rule as no packet does: at an offset beyond their end,
+/// with no bytes, and rules on texts that keep them or aren't whole.
+pub fn worked_broken_packets()
+    ensures beyond_the_end { with_spaces (broken_words (64 ∷ 0 ∷ []) W09 7) ≡ codes " type PUBACK bytes 40 00 []" }
+    ensures no_bytes { with_spaces (broken_words [] W09 0) ≡ codes " bytes []" }
+    ensures no_wildcard { with_spaces (broken_words (48 ∷ 4 ∷ 0 ∷ 1 ∷ 97 ∷ 0 ∷ []) W14 2) ≡ codes " type PUBLISH bytes 30 04 [00] 01 61 00" }
+    ensures no_zero { with_spaces (broken_words (48 ∷ 4 ∷ 0 ∷ 1 ∷ 97 ∷ 0 ∷ []) W04 2) ≡ codes " type PUBLISH bytes 30 04 [00] 01 61 00" }
+    ensures too_long { with_spaces (broken_words (48 ∷ 4 ∷ 0 ∷ 5 ∷ 97 ∷ 0 ∷ []) W05 2) ≡ codes " type PUBLISH bytes 30 04 [00] 05 61 00" }
+    ensures half_a_length { with_spaces (broken_words (48 ∷ 1 ∷ 0 ∷ []) W05 2) ≡ codes " type PUBLISH bytes 30 01 [00]" }
 {}

@@ -18,7 +18,7 @@ pub use feeding::{DEFAULT_LIMIT, feed_log};
 pub use finding::write_packet;
 pub use laws::{
     converted_logs_have_the_same_report, dates_are_exact, reasons_have_lines_of_their_own,
-    worked_times,
+    worked_broken_packets, worked_times,
 };
 pub use long_packet::write_long_packet;
 pub use mq_evidence::{Evidence, Numbers};
@@ -31,6 +31,3 @@ pub use report::{
     Form, Outcome, RunFault, Verdict, write_covered_report, write_reasoned_report, write_refused,
     write_report,
 };
-
-#[cfg(test)]
-mod tests;
