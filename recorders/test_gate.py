@@ -40,7 +40,7 @@ SCRIPTS = (
     "suite", "check_convert", "fuzz", "enduring", "reads", "terminal", "run",
 )
 NO_LIBRARY = "examples/live/test isn't run: it needs the library, which this builds: (cd crates/mq_ffi && rt lib)"
-LIBRARY_FOLDERS = ("crates/mq_ffi/out", "crates/mq_trace/src", "crates/mq_cli/src", "crates/mq_trace/out/src")
+LIBRARY_FOLDERS = ("crates/mq_ffi/out", "crates/mq_trace/src", "crates/mq_tasks/src", "crates/mq_cli/src", "crates/mq_trace/out/src")
 
 
 class Gate(InFolder):
@@ -147,7 +147,7 @@ class Gate(InFolder):
 
     def test_the_library_is_older_than_what_it_is_not_built_of(self) -> None:
         said = "14 passed, 0 failed"
-        for name in ("crates/mq_cli/src/main.rt", "crates/mq_trace/out/src/lib.rt"):
+        for name in ("crates/mq_cli/src/main.rt", "crates/mq_tasks/src/lib.rt", "crates/mq_trace/out/src/lib.rt"):
             self.aged(name, 1)
         self.assertEqual(self.gate(said, 0, live=1), (1, [said, RUN, *TRIED, "14 passed, 1 failed"]))
 

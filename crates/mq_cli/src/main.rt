@@ -1,19 +1,8 @@
 //! `mqjudge` judges the log of one end of an MQTT 5.0 session.
 #![tactic(auto)]
 
-mod converting;
-mod inquiring;
-mod lapse;
-mod meter;
-mod program;
-mod reviewing;
-mod tasks;
-#[cfg(test)]
-mod tests;
-
-use meter::Meter;
 use mq_host::{Failure, Outlet, System};
-use program::run;
+use mq_tasks::{Meter, run};
 use std::io::{BufWriter, IsTerminal};
 use std::process::ExitCode;
 

@@ -1,6 +1,0 @@
-use Rattle.std.proofs.Common.{◌∙◌}
-use Rattle.mq_cli.proofs.ReviewingLemmas.{count_read}
-use Rattle.mq_cli.proofs.reviewing.count_of.Goals as goal
-
-pub returns : goal.returns
-returns c = c.ok.ensures.value ∙ count_read c.args.word.now c.parse.result c.parse.ensures.value.0

@@ -1,4 +1,0 @@
-use Rattle.mq_cli.proofs.tasks.show_lines.Goals as goal
-
-pub returns-in-Faults : goal.returns-in-Faults
-returns-in-Faults g c = rw c.in-Faults.is c.show_faults.ensures
