@@ -1,8 +1,6 @@
 -- How often the statements on the past of a connection are put to the test, by what is kept of it.
-use Rattle.std.proofs.Common.{◌≡◌, ℕ, ◌+◌, ◌<◌, ◌≤◌, ◌==◌, arith, Bool, true, false, cond, ◌&&◌, ◌||◌, not, List, [], ◌∷◌, length, Some, refl, ap, sym, subst, ◌∙◌}
-use denote.Enum.Bare.{same_true}
+use Rattle.std.proofs.Common.{◌≡◌, ℕ, ◌+◌, ◌<◌, ◌==◌, arith, Bool, true, false, cond, ◌&&◌, not, List, [], ◌∷◌, length, Some, None, refl, ap, sym, ◌∙◌}
 use Rattle.mq_packet.specs.Canonical.{type_number}
-use Rattle.mq_rules.specs.contracts.rule.Rule.{the_type}
 use Rattle.mq_rules.specs.declared.role.Role.{Role}
 use Rattle.mq_rules.specs.declared.role.Tested.{Tested}
 use Rattle.mq_rules.specs.declared.rule.Rule.{Rule}
@@ -14,20 +12,16 @@ use Rattle.mq_rules.specs.declared.packet_note.PacketFields.TheVariants.{Connect
 use Rattle.mq_rules.specs.declared.conn.state.ConnectionState.{ConnectionState}
 use Rattle.mq_rules.specs.Notes.{fields_type}
 use Rattle.mq_rules.specs.Moments.{Moment}
-use Rattle.mq_rules.specs.Rules.{found_line, is_further, line_of, lines, same_rule}
+use Rattle.mq_rules.specs.Rules.{found_line, is_further, line_of, lines}
 use Rattle.mq_rules.specs.Statements.{on_past, is_by_past, statement}
 use Rattle.mq_rules.specs.Occasions.{occasion, places}
 use Rattle.mq_rules.specs.Keeping.{kept}
-use Rattle.mq_rules.specs.Trying.{Tries}
+use Rattle.mq_rules.specs.Trying.{Tries, is_tallied}
 use Rattle.mq_rules.proofs.PlacesLaws.{places-start, places-most, places-past}
 
 -- no event has put anything to the test
 pub none-yet : (tested : Tested) (rule : Rule) (beside : ℕ) → beside ≡ 0 → 0 + beside ≡ places tested [] rule
 none-yet tested rule beside zero = let none = places-start tested rule in omega (arith, zero, none)
-
--- what is counted of a statement, and asked of the same one
-pub tally-same : (tested : Tested) (log : List Seen) (one rule : Rule) (beside : Rule → ℕ) (n : ℕ) → n + beside one ≡ places tested log one → same_rule rule one ≡ true → n + beside rule ≡ places tested log rule
-tally-same tested log one rule beside n is same = subst (λ r. n + beside r ≡ places tested log r) (sym (same_true the_type tt rule one same)) is
 
 -- one event more
 pub tally-next : (rule : Rule) (test : Role → Moment → Bool) (found : Role → ConnectionState → Note → Bool) → ((role : Role) → occasion role rule ≡ Some (on_past (test role))) → Tries rule test found
@@ -46,10 +40,6 @@ tally-next rule test found says finds tested role s e past here beside old new a
     longer : (here : Bool) (beside old new were are : ℕ) → new ≡ cond here 1 0 + old → are ≡ cond here 1 0 + were → old + beside ≡ were → new + beside ≡ are
     longer true beside old new were are more next was = omega (arith, more, next, was)
     longer false beside old new were are more next was = omega (arith, more, next, was)
-
--- the counts together are below 2^32
-pub fits-sum : (n beside most : ℕ) → n + beside ≤ most → most < 4294967296 → n + beside < 4294967296
-fits-sum n beside most below short = omega (arith, below, short)
 
 -- a packet has a type from 1 to 15
 pub has_type : (fields : PacketFields) → true ≡ not (type_number (fields_type fields) == 0)
@@ -70,7 +60,44 @@ has_type (Disconnect d) = refl
 has_type Auth = refl
 
 -- C01 to C23 are the statements on the past of a connection
-pub is_whole : (role : Role) (rule : Rule) → (is_by_past (statement role rule) && not (is_further rule)) ≡ ((((same_rule rule C01 || same_rule rule C02) || (same_rule rule C03 || same_rule rule C04)) || ((same_rule rule C05 || same_rule rule C06) || (same_rule rule C07 || same_rule rule C08))) || ((((same_rule rule C09 || same_rule rule C10) || (same_rule rule C11 || same_rule rule C12)) || ((same_rule rule C13 || same_rule rule C14) || (same_rule rule C15 || same_rule rule C16))) || (((same_rule rule C17 || same_rule rule C18) || (same_rule rule C19 || same_rule rule C20)) || ((same_rule rule C21 || same_rule rule C22) || same_rule rule C23))))
+pub is_whole : (role : Role) (rule : Rule) → (is_by_past (statement role rule) && not (is_further rule)) ≡ is_tallied rule
 unfolding line_of found_line lines
 is_whole role W01 = refl
 is_whole role _ = refl
+
+-- what holds of each of them holds of any
+pub of-tallied : (P : Rule → Type 0) → P C01 → P C02 → P C03 → P C04 → P C05 → P C06 → P C07 → P C08 → P C09 → P C10 → P C11 → P C12 → P C13 → P C14 → P C15 → P C16 → P C17 → P C18 → P C19 → P C20 → P C21 → P C22 → P C23 → (rule : Rule) → is_tallied rule ≡ true → P rule
+of-tallied P c01 c02 c03 c04 c05 c06 c07 c08 c09 c10 c11 c12 c13 c14 c15 c16 c17 c18 c19 c20 c21 c22 c23 C01 one = c01
+of-tallied P c01 c02 c03 c04 c05 c06 c07 c08 c09 c10 c11 c12 c13 c14 c15 c16 c17 c18 c19 c20 c21 c22 c23 C02 one = c02
+of-tallied P c01 c02 c03 c04 c05 c06 c07 c08 c09 c10 c11 c12 c13 c14 c15 c16 c17 c18 c19 c20 c21 c22 c23 C03 one = c03
+of-tallied P c01 c02 c03 c04 c05 c06 c07 c08 c09 c10 c11 c12 c13 c14 c15 c16 c17 c18 c19 c20 c21 c22 c23 C04 one = c04
+of-tallied P c01 c02 c03 c04 c05 c06 c07 c08 c09 c10 c11 c12 c13 c14 c15 c16 c17 c18 c19 c20 c21 c22 c23 C05 one = c05
+of-tallied P c01 c02 c03 c04 c05 c06 c07 c08 c09 c10 c11 c12 c13 c14 c15 c16 c17 c18 c19 c20 c21 c22 c23 C06 one = c06
+of-tallied P c01 c02 c03 c04 c05 c06 c07 c08 c09 c10 c11 c12 c13 c14 c15 c16 c17 c18 c19 c20 c21 c22 c23 C07 one = c07
+of-tallied P c01 c02 c03 c04 c05 c06 c07 c08 c09 c10 c11 c12 c13 c14 c15 c16 c17 c18 c19 c20 c21 c22 c23 C08 one = c08
+of-tallied P c01 c02 c03 c04 c05 c06 c07 c08 c09 c10 c11 c12 c13 c14 c15 c16 c17 c18 c19 c20 c21 c22 c23 C09 one = c09
+of-tallied P c01 c02 c03 c04 c05 c06 c07 c08 c09 c10 c11 c12 c13 c14 c15 c16 c17 c18 c19 c20 c21 c22 c23 C10 one = c10
+of-tallied P c01 c02 c03 c04 c05 c06 c07 c08 c09 c10 c11 c12 c13 c14 c15 c16 c17 c18 c19 c20 c21 c22 c23 C11 one = c11
+of-tallied P c01 c02 c03 c04 c05 c06 c07 c08 c09 c10 c11 c12 c13 c14 c15 c16 c17 c18 c19 c20 c21 c22 c23 C12 one = c12
+of-tallied P c01 c02 c03 c04 c05 c06 c07 c08 c09 c10 c11 c12 c13 c14 c15 c16 c17 c18 c19 c20 c21 c22 c23 C13 one = c13
+of-tallied P c01 c02 c03 c04 c05 c06 c07 c08 c09 c10 c11 c12 c13 c14 c15 c16 c17 c18 c19 c20 c21 c22 c23 C14 one = c14
+of-tallied P c01 c02 c03 c04 c05 c06 c07 c08 c09 c10 c11 c12 c13 c14 c15 c16 c17 c18 c19 c20 c21 c22 c23 C15 one = c15
+of-tallied P c01 c02 c03 c04 c05 c06 c07 c08 c09 c10 c11 c12 c13 c14 c15 c16 c17 c18 c19 c20 c21 c22 c23 C16 one = c16
+of-tallied P c01 c02 c03 c04 c05 c06 c07 c08 c09 c10 c11 c12 c13 c14 c15 c16 c17 c18 c19 c20 c21 c22 c23 C17 one = c17
+of-tallied P c01 c02 c03 c04 c05 c06 c07 c08 c09 c10 c11 c12 c13 c14 c15 c16 c17 c18 c19 c20 c21 c22 c23 C18 one = c18
+of-tallied P c01 c02 c03 c04 c05 c06 c07 c08 c09 c10 c11 c12 c13 c14 c15 c16 c17 c18 c19 c20 c21 c22 c23 C19 one = c19
+of-tallied P c01 c02 c03 c04 c05 c06 c07 c08 c09 c10 c11 c12 c13 c14 c15 c16 c17 c18 c19 c20 c21 c22 c23 C20 one = c20
+of-tallied P c01 c02 c03 c04 c05 c06 c07 c08 c09 c10 c11 c12 c13 c14 c15 c16 c17 c18 c19 c20 c21 c22 c23 C21 one = c21
+of-tallied P c01 c02 c03 c04 c05 c06 c07 c08 c09 c10 c11 c12 c13 c14 c15 c16 c17 c18 c19 c20 c21 c22 c23 C22 one = c22
+of-tallied P c01 c02 c03 c04 c05 c06 c07 c08 c09 c10 c11 c12 c13 c14 c15 c16 c17 c18 c19 c20 c21 c22 c23 C23 one = c23
+of-tallied P c01 c02 c03 c04 c05 c06 c07 c08 c09 c10 c11 c12 c13 c14 c15 c16 c17 c18 c19 c20 c21 c22 c23 _ one = absurd (cc)
+
+-- a statement with a count is one of them
+pub tally-found : (here : Bool) (n m : ℕ) → cond here (Some n) None ≡ Some m → (here ≡ true) × (n ≡ m)
+tally-found true n m is = (refl, cc)
+tally-found false n m is = absurd (cc)
+
+-- and one without isn't
+pub tally-absent : (here : Bool) (n : ℕ) → cond here (Some n) None ≡ None → here ≡ false
+tally-absent true n is = absurd (cc)
+tally-absent false n is = refl

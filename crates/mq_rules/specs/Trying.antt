@@ -1,10 +1,11 @@
 -- Which of C01 to C23 an event puts to the test, by what is kept of its connection.
-use Rattle.std.specs.Prelude.{◌≡◌, ◌==◌, ℕ, Bool, true, false, ◌&&◌, ◌||◌, not, List, [], ◌∷◌, is_some, refl}
+use Rattle.std.specs.Prelude.{◌≡◌, ◌==◌, ℕ, ◌+◌, Bool, true, false, ◌&&◌, ◌||◌, not, List, [], ◌∷◌, is_some, refl}
 use Rattle.std.proofs.Common.{ap, ◌∙◌}
 use Rattle.std.specs.Option.{option_and_then}
 use Rattle.mq_packet.specs.declared.packet.PacketType.TheVariants as types
 use Rattle.mq_rules.specs.declared.role.Role.{Role}
 use Rattle.mq_rules.specs.declared.role.Role.TheVariants.{Client, Server}
+use Rattle.mq_rules.specs.declared.role.Tested.{Tested}
 use Rattle.mq_rules.specs.declared.rule.Rule.{Rule}
 use Rattle.mq_rules.specs.declared.rule.Rule.TheVariants.{C01, C02, C03, C04, C05, C06, C07, C08, C09, C10, C11, C12, C13, C14, C15, C16, C17, C18, C19, C20, C21, C22, C23}
 use Rattle.mq_rules.specs.declared.note.Note.{Note}
@@ -12,11 +13,13 @@ use Rattle.mq_rules.specs.declared.note.Seen.{Seen}
 use Rattle.mq_rules.specs.declared.conn.state.ConnectionState.{ConnectionState}
 use Rattle.mq_rules.specs.declared.conn.harmless_tests.HarmlessTests.{HarmlessTests}
 use Rattle.mq_rules.specs.declared.conn.harmless_tests.HarmlessPlaces.{HarmlessPlaces}
+use Rattle.mq_rules.specs.declared.conn.tally.ConnTally.{ConnTally}
 use Rattle.mq_rules.specs.Words.{is_some_and, is_id}
 use Rattle.mq_rules.specs.Notes.{is_close, is_rest, is_typed, sent_item, sent_packet, sent_publish, sent_disconnect, sent_connack, type_number_in, sends_type, may_explain, resumed_by}
 use Rattle.mq_rules.specs.Moments.{Moment, newest, note, some}
 use Rattle.mq_rules.specs.Connections.{connection}
 use Rattle.mq_rules.specs.Pasts.{is_sent_disconnect, is_sent_refusal, says_session_present, accepts_so, used_alias, applies_C01, applies_C02, applies_C03, applies_C04, applies_C05, applies_C06, applies_C07, applies_C08, applies_C09, applies_C10, applies_C11, applies_C12, applies_C13, applies_C14, applies_C15, applies_C16, applies_C17, applies_C18, applies_C19, applies_C20, applies_C21, applies_C22, applies_C23}
+use Rattle.mq_rules.specs.Occasions.{places}
 use Rattle.mq_rules.specs.Rules.{binds, found_line, line_of, lines}
 use Rattle.mq_rules.specs.Keeping.{kept, size_limit, may_look, has_left}
 
@@ -155,6 +158,37 @@ harmless_places counts C17 = counts.graded
 harmless_places counts C18 = counts.published
 harmless_places counts C21 = counts.silent
 harmless_places counts _ = 0
+
+-- how often all other events have put a statement to the test
+abbrev pub tally_places : ConnTally → Rule → ℕ
+tally_places tally C01 = tally.c01
+tally_places tally C02 = tally.c02
+tally_places tally C03 = tally.c03
+tally_places tally C04 = tally.c04
+tally_places tally C05 = tally.c05
+tally_places tally C06 = tally.c06
+tally_places tally C07 = tally.c07
+tally_places tally C08 = tally.c08
+tally_places tally C09 = tally.c09
+tally_places tally C10 = tally.c10
+tally_places tally C11 = tally.c11
+tally_places tally C12 = tally.c12
+tally_places tally C13 = tally.c13
+tally_places tally C14 = tally.c14
+tally_places tally C15 = tally.c15
+tally_places tally C16 = tally.c16
+tally_places tally C17 = tally.c17
+tally_places tally C18 = tally.c18
+tally_places tally C19 = tally.c19
+tally_places tally C20 = tally.c20
+tally_places tally C21 = tally.c21
+tally_places tally C22 = tally.c22
+tally_places tally C23 = tally.c23
+tally_places tally _ = 0
+
+-- Both together are the places of C01 to C23.
+abbrev pub IsTally : ConnTally → HarmlessPlaces → Tested → List Seen → Type 0
+IsTally others harmless tested past = (rule : Rule) → is_tallied rule ≡ true → tally_places others rule + harmless_places harmless rule ≡ places tested past rule
 
 -- ---- they are those of the definitions
 

@@ -39,7 +39,7 @@ mod wishes;
 pub use bare::{Bare, BareFields, is_bare};
 pub use by_identifier::{ByIdentifier, CountedByIdentifier};
 pub use byte_tally::ByteTally;
-pub use conn::{Conn, ConnTally, CountingConn, One, Tally, Tried, conn_places, places_after};
+pub use conn::{Conn, CountingConn, places_after};
 pub use fate::Fate;
 pub use fault::Fault;
 pub use faults::{FaultKey, Faults, Memory};

@@ -15,18 +15,15 @@ use crate::early::Early;
 use crate::sessions::Sessions;
 use mq_log::Place3;
 use mq_rules::{
-    Bare, Both, Brisk, ConnTally, CountingConn, CountingManners, Fate, Faults, Memory, Note, Rule,
-    Shapes, Tested, Watch, conn_places,
+    Bare, Both, Brisk, CountingConn, CountingManners, Fate, Faults, Memory, Note, Rule, Shapes,
+    Tested, Watch,
 };
 use std::alloc::Global;
 
 /// Watches all statements, as `PlainWatchers` does, and counts how often those on connections
 /// and sessions are put to the test.
 pub struct CountingWatchers {
-    parts: Both<
-        Shapes,
-        Both<CountingConn<ConnTally>, Both<CountingManners, Early<Counting<Sessions>>>>,
-    >,
+    parts: Both<Shapes, Both<CountingConn, Both<CountingManners, Early<Counting<Sessions>>>>>,
 }
 
 // As a derived one, but a call of its own.
@@ -64,7 +61,7 @@ impl CountingWatchers {
         if Sessions::tests(rule) {
             return Some(later.b.b.places(rule));
         }
-        later.b.a.places(rule).or(conn_places(&later.a, rule))
+        later.b.a.places(rule).or(later.a.places(rule))
     }
 
     /// What becomes of the latest connection. None if it is undecided.
@@ -76,13 +73,13 @@ impl CountingWatchers {
 }
 
 impl Watch for CountingWatchers {
-    ghost agrees = { λ s. ⟦<Both<Shapes, Both<CountingConn<ConnTally>, Both<CountingManners, Early<Counting<Sessions>>>>> as Watch>⟧.agrees s.parts };
+    ghost agrees = { λ s. ⟦<Both<Shapes, Both<CountingConn, Both<CountingManners, Early<Counting<Sessions>>>>> as Watch>⟧.agrees s.parts };
 
     ghost takes = { λ tested taken e past. IsOnConnection e past };
 
     ghost adds = { turns };
 
-    ghost weighs = { λ s. ⟦<Both<Shapes, Both<CountingConn<ConnTally>, Both<CountingManners, Early<Counting<Sessions>>>>> as Watch>⟧.weighs s.parts };
+    ghost weighs = { λ s. ⟦<Both<Shapes, Both<CountingConn, Both<CountingManners, Early<Counting<Sessions>>>>> as Watch>⟧.weighs s.parts };
 
     ghost bound = { λ tested taken past. 4 * burden tested past };
 
@@ -97,8 +94,8 @@ impl Watch for CountingWatchers {
 }
 
 impl Brisk for CountingWatchers {
-    // A call of its own: what is counted would else stand wherever packets are taken in.
-    #[inline(never)]
+    // Not a call of its own: the packet's parts would be copied for it, and loaded again.
+    #[inline(always)]
     fn step_bare(&mut self, at: Place3, bare: Bare<'_>, faults: &mut Faults) -> Result<(), Memory> {
         self.parts.step_bare(at, bare, faults)?;
         Ok(())

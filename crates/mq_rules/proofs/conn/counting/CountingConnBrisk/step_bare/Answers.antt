@@ -3,10 +3,10 @@ use Rattle.mq_rules.specs.Notes.{note_of_bare}
 use Rattle.mq_rules.specs.Under.{seen}
 use Rattle.mq_rules.specs.Keeping.{IsConn}
 use Rattle.mq_rules.proofs.FaultKeyLaws.{on_err}
-use Rattle.mq_rules.proofs.conn.tally.CountingConnBrisk.step_bare.Goals as goal
+use Rattle.mq_rules.proofs.conn.counting.CountingConnBrisk.step_bare.Goals as goal
 
 pub returns-clause-agrees : goal.returns-clause-agrees
-returns-clause-agrees g c = λ tested taken past follows on was.
+returns-clause-agrees c = λ tested taken past follows on was.
     let conn = subst (λ conn. IsConn conn tested taken past) (sym c.count_harmless.ensures.conn) was.0 in
     let placed = follows.placed.0 in (
       c.in_ok-step_bare.ensures.agrees tested taken past follows on conn,
@@ -15,10 +15,10 @@ returns-clause-agrees g c = λ tested taken past follows on was.
     )
 
 pub returns-clause-grows : goal.returns-clause-grows
-returns-clause-grows g c = λ tested taken past follows on was.
+returns-clause-grows c = λ tested taken past follows on was.
     c.in_ok-step_bare.ensures.grows tested taken past follows on (subst (λ conn. IsConn conn tested taken past) (sym c.count_harmless.ensures.conn) was.0)
 
 pub returns-in_err-step_bare-clause-memory : goal.returns-in_err-step_bare-clause-memory
-returns-in_err-step_bare-clause-memory g c =
+returns-in_err-step_bare-clause-memory c =
     on_err c.from_residual-in_err-step_bare.result _
     (λ tested taken past follows on was. c.in_err-step_bare.ensures.memory tested taken past follows on (subst (λ conn. IsConn conn tested taken past) (sym c.count_harmless.ensures.conn) was.0))
