@@ -50,7 +50,7 @@ pub use quota::Quota;
 pub use releases::{ReleasePlaces, Releases};
 pub use requests::Requests;
 pub use selective::{Selecting, Selective};
-pub use sessions::Sessions;
+pub use sessions::{SessionPlaces, Sessions};
 pub use subs::{Deliveries, DeliveryPlaces, asks_for_shared};
 pub use subs_all::Subs;
 pub use watchers::{CountingWatchers, PlainWatchers, Watchers};

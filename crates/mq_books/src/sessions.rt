@@ -32,6 +32,12 @@ pub struct Sessions {
     watchers: Both<Sending, Both<Exchanges, Delivering>>,
 }
 
+/// How often each of these statements was put to the test.
+#[derive(Drop)]
+pub struct SessionPlaces {
+    parts: <Both<Sending, Both<Exchanges, Delivering>> as Asks>::Places,
+}
+
 // As a derived one, but a call of its own.
 impl Drop for Sessions {
     #[inline(never)]
@@ -138,9 +144,9 @@ impl Brisk for Sessions {
 }
 
 impl Asks for Sessions {
-    type Places = <Both<Sending, Both<Exchanges, Delivering>> as Asks>::Places;
+    type Places = SessionPlaces;
 
-    ghost counts = { ⟦<Both<Both<Selecting<Inflight>, Both<Selecting<Quota>, Selecting<Pings>>>, Both<Both<Selecting<Messages>, Selecting<Requests>>, Both<Selecting<Releases>, Selecting<Subs>>>> as Asks>⟧.counts };
+    ghost counts = { λ n. ⟦<Both<Both<Selecting<Inflight>, Both<Selecting<Quota>, Selecting<Pings>>>, Both<Both<Selecting<Messages>, Selecting<Requests>>, Both<Selecting<Releases>, Selecting<Subs>>>> as Asks>⟧.counts n.parts };
 
     ghost counted = { of_sessions };
 
@@ -150,24 +156,27 @@ impl Asks for Sessions {
         <Both<Sending, Both<Exchanges, Delivering>>>::tests(rule)
     }
 
-    fn no_places() -> Self::Places {
-        <Both<Sending, Both<Exchanges, Delivering>>>::no_places()
+    fn no_places() -> SessionPlaces {
+        SessionPlaces {
+            parts: <Both<Sending, Both<Exchanges, Delivering>>>::no_places(),
+        }
     }
 
     #[inline(always)]
     fn count(
         &self,
-        places: &mut Self::Places,
+        places: &mut SessionPlaces,
         at: Place3,
         decided: u32,
         fate: Fate,
         event: NoteRef<'_>,
     ) {
-        self.watchers.count(places, at, decided, fate, event);
+        self.watchers
+            .count(&mut places.parts, at, decided, fate, event);
     }
 
-    fn places_of(places: &Self::Places, rule: Rule) -> u32 {
-        <Both<Sending, Both<Exchanges, Delivering>>>::places_of(places, rule)
+    fn places_of(places: &SessionPlaces, rule: Rule) -> u32 {
+        <Both<Sending, Both<Exchanges, Delivering>>>::places_of(&places.parts, rule)
     }
 }
 
@@ -175,14 +184,14 @@ impl AsksBare for Sessions {
     #[inline(always)]
     fn count_and_step(
         &mut self,
-        places: &mut Self::Places,
+        places: &mut SessionPlaces,
         at: Place3,
         fate: Fate,
         bare: Bare<'_>,
         faults: &mut Faults,
     ) -> Result<(), Memory> {
         self.watchers
-            .count_and_step(places, at, fate, bare, faults)?;
+            .count_and_step(&mut places.parts, at, fate, bare, faults)?;
         Ok(())
     }
 }

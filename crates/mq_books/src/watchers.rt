@@ -19,7 +19,7 @@ mod plain;
 
 pub use counting::CountingWatchers;
 use mq_log::Place3;
-use mq_rules::{Bare, Brisk, Fate, Faults, Memory, Note, Rule, Tested, Watch, step_noted};
+use mq_rules::{Bare, Brisk, Fate, Faults, Memory, Note, Rule, Tested, Watch, step_apart};
 pub use plain::PlainWatchers;
 use std::alloc::Global;
 
@@ -100,7 +100,7 @@ impl Watchers {
         ensures kind { counts self.new ≡ counts self.old }
     {
         match self {
-            Watchers::Plain(watchers) => step_noted(watchers, at, bare, faults),
+            Watchers::Plain(watchers) => step_apart(watchers, at, bare, faults),
             Watchers::Counting(watchers) => watchers.step_bare(at, bare, faults),
         }
     }
@@ -138,6 +138,8 @@ impl Watch for Watchers {
 }
 
 impl Brisk for Watchers {
+    // Where places are counted, packets come by `step_counted`. So here they come by a note: what is
+    // counted would else stand wherever packets are taken in.
     #[inline(always)]
     fn step_bare(&mut self, at: Place3, bare: Bare<'_>, faults: &mut Faults) -> Result<(), Memory>
         ensures agrees { OnOk result ((tested : TheTested) (taken : Option TheFate) (past : List TheSeen) → Follows tested (seen at (note_of_bare bare.entry)) past → IsOnConnection (seen at (note_of_bare bare.entry)) past → AgreesByKind ⟦<PlainWatchers as Watch>⟧.agrees ⟦<CountingWatchers as Watch>⟧.agrees self.old tested taken past → AgreesByKind ⟦<PlainWatchers as Watch>⟧.agrees ⟦<CountingWatchers as Watch>⟧.agrees self.new tested (latest_fate tested.role (seen at (note_of_bare bare.entry) ∷ past)) (seen at (note_of_bare bare.entry) ∷ past)) }
@@ -147,7 +149,7 @@ impl Brisk for Watchers {
     {
         match self {
             Watchers::Plain(watchers) => watchers.step_bare(at, bare, faults),
-            Watchers::Counting(watchers) => watchers.step_bare(at, bare, faults),
+            Watchers::Counting(watchers) => step_apart(watchers, at, bare, faults),
         }
     }
 }

@@ -1,13 +1,13 @@
 use Rattle.mq_books.proofs.watchers.Watchers.step_counted.Goals as goal
 
 pub returns-in-Plain-clause-agrees : goal.returns-in-Plain-clause-agrees
-returns-in-Plain-clause-agrees c = rw c.in-Plain.is c.step_noted.ensures.agrees
+returns-in-Plain-clause-agrees c = rw c.in-Plain.is c.step_apart.ensures.agrees
 
 pub returns-in-Plain-clause-grows : goal.returns-in-Plain-clause-grows
-returns-in-Plain-clause-grows c = rw c.in-Plain.is c.step_noted.ensures.grows
+returns-in-Plain-clause-grows c = rw c.in-Plain.is c.step_apart.ensures.grows
 
 pub returns-in-Plain-clause-memory : goal.returns-in-Plain-clause-memory
-returns-in-Plain-clause-memory c = rw c.in-Plain.is c.step_noted.ensures.memory
+returns-in-Plain-clause-memory c = rw c.in-Plain.is c.step_apart.ensures.memory
 
 pub returns-in-Counting-clause-agrees : goal.returns-in-Counting-clause-agrees
 returns-in-Counting-clause-agrees c = rw c.in-Counting.is c.step_bare.ensures.agrees

@@ -10,10 +10,10 @@ pub returns-in-Plain-clause-memory : goal.returns-in-Plain-clause-memory
 returns-in-Plain-clause-memory c = rw c.in-Plain.is c.step_bare.ensures.memory
 
 pub returns-in-Counting-clause-agrees : goal.returns-in-Counting-clause-agrees
-returns-in-Counting-clause-agrees c = rw c.in-Counting.is c.step_bare-in-Counting.ensures.agrees
+returns-in-Counting-clause-agrees c = rw c.in-Counting.is c.step_apart.ensures.agrees
 
 pub returns-in-Counting-clause-grows : goal.returns-in-Counting-clause-grows
-returns-in-Counting-clause-grows c = rw c.in-Counting.is c.step_bare-in-Counting.ensures.grows
+returns-in-Counting-clause-grows c = rw c.in-Counting.is c.step_apart.ensures.grows
 
 pub returns-in-Counting-clause-memory : goal.returns-in-Counting-clause-memory
-returns-in-Counting-clause-memory c = rw c.in-Counting.is c.step_bare-in-Counting.ensures.memory
+returns-in-Counting-clause-memory c = rw c.in-Counting.is c.step_apart.ensures.memory
