@@ -11,5 +11,5 @@ returns-then-tests c = λ tested taken past was.
 pub returns : goal.returns
 returns c = λ tested taken past was.
     c.or.ensures
-    ∙ (λ i. option_or (c.places-2.ensures tested taken past was.1.1.0 i) (c.conn_places.ensures tested taken past was.1.0 i))
+    ∙ (λ i. option_or (c.places-2.ensures tested taken past was.1.1.0 i) (c.places-3.ensures tested taken past was.1.0 i))
     ∙ counted-past tested c.args.rule past (sym c.tests.ensures ∙ c.if-tests.false)
