@@ -1,5 +1,5 @@
 -- The next event of a connection whose fate is known before it.
-use Rattle.std.proofs.Common.{◌≡◌, ℕ, ◌+◌, Bool, false, cond, ◌&&◌, List, ◌∷◌, length, Option, Some, None, refl, ap, sym, subst, ◌∙◌}
+use Rattle.std.proofs.Common.{◌≡◌, ℕ, ◌+◌, ◌<◌, arith, Bool, false, cond, ◌&&◌, List, ◌∷◌, length, Option, Some, None, refl, ap, sym, subst, ◌∙◌}
 use Rattle.mq_rules.specs.declared.role.Tested.{Tested}
 use Rattle.mq_rules.specs.declared.fate.Fate.{Fate}
 use Rattle.mq_rules.specs.declared.rule.Rule.{Rule}
@@ -52,3 +52,37 @@ pub known-within : (tested : Tested) (f : Fate) (taken : Option Fate) (judges : 
 known-within tested f taken judges e past old new k g =
     within_same (λ k r. judges r && turns_with tested f e past k r) (λ k r. judges r && turns_known tested e past k r) tested (e ∷ past) (length past + 1) old new (known-turns tested f judges e past k.after)
     (subst (λ n. GainsWithin (λ k r. judges r && turns_with tested f e past k r) tested (e ∷ past) n old new) (sym k.position) g)
+
+-- ---- the other way round
+
+-- an event that is decided at its own position, and begins no connection, comes on one whose fate is known before it
+pub record Given (tested : Tested) (f : Fate) (at : ℕ) (e : Seen) (past : List Seen) : Type 0 where
+  pub known : IsKnown tested (fate_before tested f e past) e past
+  pub after : latest_fate tested.role (e ∷ past) ≡ Some f
+  pub position : length past + 1 ≡ at
+
+pub given : (tested : Tested) (f : Fate) (at : ℕ) (e : Seen) (past : List Seen) → IsUnder tested f at e past → at ≡ e.place.position → is_open e.note ≡ false → Given tested f at e past
+given tested f at e past under own closed = record {
+  known = record { fate = f; latest = after; same = ap (λ b. cond b (latest_fate tested.role past) (Some f)) closed };
+  after = after;
+  position = sym under.follows.placed.0 ∙ sym own;
+}
+  where
+    decide : (o : Option Fate) → latest_fate tested.role (e ∷ past) ≡ o → latest_fate tested.role (e ∷ past) ≡ Some f
+    decide (Some g) is = is ∙ ap Some (under.fits g is).0
+    decide None is = let later = under.later is in absurd (omega (arith, later, own))
+
+    after : latest_fate tested.role (e ∷ past) ≡ Some f
+    after = decide (latest_fate tested.role (e ∷ past)) refl
+
+pub given-gains : (tested : Tested) (f : Fate) (judges : Rule → Bool) (at : ℕ) (e : Seen) (past : List Seen) (old new : FaultMap) → Given tested f at e past
+    → Gains (λ k r. judges r && turns_known tested e past k r) tested (e ∷ past) (length past + 1) old new → Gains (λ k r. judges r && turns_with tested f e past k r) tested (e ∷ past) at old new
+given-gains tested f judges at e past old new k g =
+    gains_same (λ k r. judges r && turns_known tested e past k r) (λ k r. judges r && turns_with tested f e past k r) tested (e ∷ past) at old new (λ i r. sym (known-turns tested f judges e past (sym k.after) i r))
+    (subst (λ n. Gains (λ k r. judges r && turns_known tested e past k r) tested (e ∷ past) n old new) k.position g)
+
+pub given-within : (tested : Tested) (f : Fate) (judges : Rule → Bool) (at : ℕ) (e : Seen) (past : List Seen) (old new : FaultMap) → Given tested f at e past
+    → GainsWithin (λ k r. judges r && turns_known tested e past k r) tested (e ∷ past) (length past + 1) old new → GainsWithin (λ k r. judges r && turns_with tested f e past k r) tested (e ∷ past) at old new
+given-within tested f judges at e past old new k g =
+    within_same (λ k r. judges r && turns_known tested e past k r) (λ k r. judges r && turns_with tested f e past k r) tested (e ∷ past) at old new (λ i r. sym (known-turns tested f judges e past (sym k.after) i r))
+    (subst (λ n. GainsWithin (λ k r. judges r && turns_known tested e past k r) tested (e ∷ past) n old new) k.position g)

@@ -28,12 +28,11 @@ use Rattle.mq_log.specs.declared.kind.Direction.TheVariants.{Sent, Recv}
 use Rattle.mq_rules.specs.declared.bare.Bare.{Bare}
 use Rattle.mq_rules.specs.declared.bare.BareFields.{BareFields}
 use Rattle.mq_rules.specs.declared.bare.BareFields.TheVariants as bares
-use Rattle.mq_rules.proofs.Exports.{bare-closed, option_or-none, S07-before, connection-newest as connection-next, first_found-next}
+use Rattle.mq_rules.proofs.Exports.{S07-before, connection-newest as connection-next, first_found-next}
 use Rattle.mq_books.specs.declared.quota.Quota.{Quota}
-use Rattle.mq_rules.specs.Under.{seen, Follows, IsUnder, IsKnown, turns_with, turns_known, fate_before}
+use Rattle.mq_rules.specs.Under.{IsUnder, turns_with}
 use Rattle.mq_rules.specs.Growing.{Gains}
-use Rattle.mq_books.specs.Quotas.{connect_room, connack_room, announced, peer_room, may_count, flown, exceeds, judged_by, with_bare, IsQuota}
-use Rattle.mq_books.proofs.KnownLaws.{Knows, knows, known-gains}
+use Rattle.mq_books.specs.Quotas.{connect_room, connack_room, announced, peer_room, may_count, flown, exceeds, judged_by, quota_after, IsQuota}
 use Rattle.mq_books.proofs.JudgeLaws.{session-turns_with, gains_judged}
 
 pub binds-S07 : (role : Role) (releases further : Bool) → binds S07 (record { role = role; releases = releases; further = further }) ≡ true
@@ -209,46 +208,20 @@ pub announces-nothing : (role : Role) (b : Bare) → announced role (note_of_bar
 unfolding note_of_bare
 announces-nothing role b = announces-nothing-note role b.direction b.size b.fields
 
--- how many are in flight after it
-pub flown-bare : (role : Role) (peer : Option ℕ) (b : Bare) (old : ℕ) (counted delivers closes : Bool) → counted ≡ may_count role peer → delivers ≡ is_some (delivery_of (note_of_bare b)) → closes ≡ is_some (closer_of (note_of_bare b))
-    → cond counted (cond delivers (old + 1) (cond closes (old - 1) old)) old ≡ flown (may_count role peer) (note_of_bare b) old
-flown-bare role peer b old counted delivers closes x y z =
-    ap (λ t. cond t (cond delivers (old + 1) (cond closes (old - 1) old)) old) x
-    ∙ ap (λ t. cond (may_count role peer) (cond t (old + 1) (cond closes (old - 1) old)) old) y
-    ∙ ap (λ t. cond (may_count role peer) (cond (is_some (delivery_of (note_of_bare b))) (old + 1) (cond t (old - 1) old)) old) z
-    ∙ sym (ap (λ t. cond t 0 (cond (may_count role peer) (cond (is_some (delivery_of (note_of_bare b))) (old + 1) (cond (is_some (closer_of (note_of_bare b))) (old - 1) old)) old)) (bare-closed b))
-
--- what is kept after it
-pub quota-bare : (tested : Tested) (old : Quota) (taken : Option Fate) (at : Place3) (b : Bare) (past : List Seen) (delivers closes : Bool) (new : Quota) → Follows tested (seen at (note_of_bare b)) past
-    → IsKnown tested taken (seen at (note_of_bare b)) past → IsQuota old tested taken past → delivers ≡ is_some (delivery_of (note_of_bare b)) → closes ≡ is_some (closer_of (note_of_bare b))
-    → (old.in_flight < at.position → new ≡ with_bare old delivers closes) → IsQuota new tested (latest_fate tested.role (seen at (note_of_bare b) ∷ past)) (seen at (note_of_bare b) ∷ past)
-quota-bare tested old taken at b past delivers closes new follows known q d c is =
-    subst (λ o. IsQuota new tested o (e ∷ past)) k.after (subst (λ s. IsQuota s tested (Some old.fate) (e ∷ past)) (sym (is (flying-below tested old taken old.fate e past at.position q k.under)))
-    (quota-next tested old taken old.fate e past old.peer (with_bare old delivers closes).in_flight at.position q k.under
-    (sym (ap (λ b. option_or (cond b None old.peer) (announced old.role e.note)) (bare-closed b) ∙ ap (option_or old.peer) (announces-nothing old.role b) ∙ option_or-none old.peer))
-    (λ below. flown-bare old.role old.peer b old.in_flight (may_count old.role old.peer) delivers closes refl d c)))
-  where
-    e : Seen
-    e = seen at (note_of_bare b)
-
-    k : Knows tested old.fate taken e past
-    k = knows tested old.fate taken e past follows known q.same_fate
+-- what is kept after an event, where it is known whether that is a PUBLISH that counts
+pub quota-taken : (tested : Tested) (old : Quota) (taken : Option Fate) (f : Fate) (at : ℕ) (e : Seen) (past : List Seen) (delivers : Bool) (new : Quota) → IsQuota old tested taken past → IsUnder tested f at e past
+    → delivers ≡ is_some (delivery_of e.note) → (old.in_flight < e.place.position → delivers ≡ is_some (delivery_of e.note) → new ≡ quota_after old f e.note) → IsQuota new tested (Some f) (e ∷ past)
+quota-taken tested old taken f at e past delivers new q under is kept =
+    subst (λ s. IsQuota s tested (Some f) (e ∷ past)) (sym (kept (flying-below tested old taken f e past at q under) is))
+    (quota-next tested old taken f e past (quota_after old f e.note).peer (quota_after old f e.note).in_flight at q under refl (λ below. refl))
 
 -- the faults after it
-pub quota-bare-gains : (tested : Tested) (old : Quota) (taken : Option Fate) (at : Place3) (b : Bare) (past : List Seen) (delivers : Bool) (before after : FaultMap) → Follows tested (seen at (note_of_bare b)) past
-    → IsKnown tested taken (seen at (note_of_bare b)) past → IsQuota old tested taken past → delivers ≡ is_some (delivery_of (note_of_bare b))
-    → after ≡ judged_by (accepts old.fate && (delivers && (may_count old.role old.peer && nat_le (unwrap_or old.peer 65535) old.in_flight))) S07 at at.position before
-    → Gains (λ k r. same_rule r S07 && turns_known tested (seen at (note_of_bare b)) past k r) tested (seen at (note_of_bare b) ∷ past) (length past + 1) before after
-quota-bare-gains tested old taken at b past delivers before after follows known q d is =
-    known-gains tested old.fate taken (λ r. same_rule r S07) e past before after k
-    (subst (λ (m : FaultMap). Gains (λ k r. same_rule r S07 && turns_with tested old.fate e past k r) tested (e ∷ past) at.position before m) (sym is)
-    (quota-gains tested old old.fate taken at.position e past before (past-it delivers) k.under q (ap past-it d)))
+pub quota-gained : (tested : Tested) (old : Quota) (taken : Option Fate) (f : Fate) (at : ℕ) (e : Seen) (past : List Seen) (delivers : Bool) (before after : FaultMap) → IsQuota old tested taken past → IsUnder tested f at e past
+    → delivers ≡ is_some (delivery_of e.note) → after ≡ judged_by (accepts f && (delivers && (may_count old.role old.peer && nat_le (unwrap_or old.peer 65535) old.in_flight))) S07 e.place at before
+    → Gains (λ k r. same_rule r S07 && turns_with tested f e past k r) tested (e ∷ past) at before after
+quota-gained tested old taken f at e past delivers before after q under is judged =
+    subst (λ (m : FaultMap). Gains (λ k r. same_rule r S07 && turns_with tested f e past k r) tested (e ∷ past) at before m) (sym judged)
+    (quota-gains tested old f taken at e past before (past-it delivers) under q (ap past-it is))
   where
-    e : Seen
-    e = seen at (note_of_bare b)
-
     past-it : Bool → Bool
-    past-it t = accepts old.fate && (t && (may_count old.role old.peer && nat_le (unwrap_or old.peer 65535) old.in_flight))
-
-    k : Knows tested old.fate taken e past
-    k = knows tested old.fate taken e past follows known q.same_fate
+    past-it t = accepts f && (t && (may_count old.role old.peer && nat_le (unwrap_or old.peer 65535) old.in_flight))

@@ -1,5 +1,6 @@
 -- What the book of the send quota keeps.
 use Rattle.std.specs.Prelude.{ℕ, ◌≡◌, ◌+◌, ◌-◌, Bool, true, ◌&&◌, nat_le, cond, List, Option, Some, None, is_some, option_map, unwrap_or}
+use Rattle.std.specs.Option.{option_or}
 use Rattle.mq_log.specs.declared.place.Place3.{Place3}
 use Rattle.mq_rules.specs.declared.role.Role.{Role}
 use Rattle.mq_rules.specs.declared.role.Role.TheVariants.{Client, Server}
@@ -56,9 +57,9 @@ abbrev pub judged_by : Bool → Rule → Place3 → ℕ → FaultMap → FaultMa
 judged_by broken rule place at faults =
     cond broken (with_fault (record { position = place.position; rule = rule }) (record { decided = at; record_no = place.record_no; offset = None }) faults) faults
 
--- what is kept after a packet without properties, which may be a PUBLISH that counts, or set an identifier free
-abbrev pub with_bare : Quota → Bool → Bool → Quota
-with_bare q delivers closes = record { role = q.role; fate = q.fate; peer = q.peer; in_flight = cond (may_count q.role q.peer) (cond delivers (q.in_flight + 1) (cond closes (q.in_flight - 1) q.in_flight)) q.in_flight }
+-- what is kept after an event of a connection that has this fate
+abbrev pub quota_after : Quota → Fate → Note → Quota
+quota_after q f n = record { role = q.role; fate = f; peer = option_or (cond (is_open n) None q.peer) (announced q.role n); in_flight = flown (may_count q.role q.peer) n q.in_flight }
 
 -- These events lead to what is kept.
 pub record IsQuota (quota : Quota) (tested : Tested) (taken : Option Fate) (past : List Seen) : Type 0 where

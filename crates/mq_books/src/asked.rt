@@ -1,10 +1,8 @@
 //! Each answer was asked for (MQTT 5.0, sections 3.8.4, 3.10.4 and 4.3).
 ghost use Rattle.std.specs.Prelude.{◌≡◌, ◌&&◌, ℕ, OnOk, cond, [], Some, is_some, refl};
 ghost use Rattle.mq_rules.specs.declared.fate.Fate.TheVariants.{Void};
-ghost use Rattle.mq_rules.specs.Notes.{is_open};
 ghost use Rattle.mq_rules.specs.Connections.{accepts, surprises as surprising};
 ghost use Rattle.mq_rules.specs.Rules.{same_rule, binds as is_bound};
-ghost use Rattle.mq_rules.specs.Under.{IsKnown, turns_known};
 ghost use Rattle.mq_rules.specs.Occasions.{places_under};
 ghost use Rattle.mq_rules.specs.Statements.{if_early};
 ghost use Rattle.mq_rules.specs.Exchanges.{applies_A};
@@ -21,11 +19,9 @@ use crate::exchange::Exchange;
 use crate::fated::Fated;
 use crate::known::{excuse, judge_by};
 use crate::selective::{Discerning, Selective};
+use crate::taken::Taken;
 use mq_log::Place3;
-use mq_rules::{
-    Bare, Brisk, CountedByIdentifier, Fate, Faults, Memory, Note, NoteRef, Rule, Tested, Watch,
-    places_after,
-};
+use mq_rules::{CountedByIdentifier, Fate, Faults, Memory, Noted, Rule, Tested, places_after};
 use std::alloc::Global;
 use std::marker::PhantomData;
 
@@ -73,10 +69,10 @@ fn take_answered(
 }
 
 /// The position of the latest OPEN after an event.
-pub fn opened_after(opened: u32, position: u32, note: &Note) -> u32
-    ensures { result ≡ cond (is_open note.now) position opened }
+pub fn opened_after(opened: u32, position: u32, opens: bool) -> u32
+    ensures { result ≡ cond opens position opened }
 {
-    if note.is_open() { position } else { opened }
+    if opens { position } else { opened }
 }
 
 // Whether the statement is judged, and an answer has no cause that is owed.
@@ -110,7 +106,7 @@ fn surprises<X: Exchange>(fate: Fate) -> bool
 impl<X: Exchange> Asked<X> {
     /// No event was told yet.
     pub fn new(alloc: Global, tested: Tested) -> Self
-        ensures { ⟦<Asked<X> as Watch>⟧.agrees result tested (Some Void) [] }
+        ensures { ⟦<Asked<X> as Fated>⟧.agrees result tested (Some Void) [] }
     {
         Asked {
             binds: X::asked_rule().is_judged(tested),
@@ -122,74 +118,38 @@ impl<X: Exchange> Asked<X> {
     }
 }
 
-impl<X: Exchange> Watch for Asked<X> {
+impl<X: Exchange> Fated for Asked<X> {
     ghost agrees = { λ s tested taken past. (s.binds ≡ is_bound X.asked tested) × IsAsked X.exchange s.fate s.opened (value_under s.answered) tested taken past };
 
-    ghost takes = { IsKnown };
-
-    ghost adds = { λ tested e past k r. same_rule r X.asked && turns_known tested e past k r };
+    ghost judges = { λ r. same_rule r X.asked };
 
     ghost weighs = { asked_weighs };
 
     ghost bound = { λ tested taken past. caused_ids X.exchange tested.role taken past };
 
-    fn step(&mut self, at: Place3, note: &Note, faults: &mut Faults) -> Result<(), Memory> {
-        let fate = self.fate;
-        self.fated(at, at.position, fate, note, faults)?;
+    fn fated<E: Taken>(
+        &mut self,
+        at: Place3,
+        decided: u32,
+        fate: Fate,
+        event: &E,
+        faults: &mut Faults,
+    ) -> Result<(), Memory> {
+        let opens = event.is_open();
+        let cause = X::cause(event);
+        let answer = X::answer(event);
+        let unasked = is_unasked(self.binds, fate, self.opened, answer, &self.answered);
+        let broken = excuse(surprises::<X>(fate), decided == at.position, unasked);
+        take_answered(&mut self.answered, at.position, fate, opens, cause, answer)?;
+        self.opened = opened_after(self.opened, at.position, opens);
+        self.fate = fate;
+        judge_by(X::asked_rule(), broken, at, decided, faults)?;
         Ok(())
     }
 
     // The one table of the struct.
     fn weight(&self) -> usize {
         self.answered.len()
-    }
-}
-
-impl<X: Exchange> Fated for Asked<X> {
-    ghost judges = { λ r. same_rule r X.asked };
-
-    fn fated(
-        &mut self,
-        at: Place3,
-        decided: u32,
-        fate: Fate,
-        note: &Note,
-        faults: &mut Faults,
-    ) -> Result<(), Memory> {
-        let event = NoteRef::Kept(note);
-        let cause = X::cause(&event);
-        let answer = X::answer(&event);
-        let unasked = is_unasked(self.binds, fate, self.opened, answer, &self.answered);
-        let broken = excuse(surprises::<X>(fate), decided == at.position, unasked);
-        take_answered(
-            &mut self.answered,
-            at.position,
-            fate,
-            note.is_open(),
-            cause,
-            answer,
-        )?;
-        self.opened = opened_after(self.opened, at.position, note);
-        self.fate = fate;
-        judge_by(X::asked_rule(), broken, at, decided, faults)?;
-        Ok(())
-    }
-
-    ghost known_taken = { λ tested taken e past known. known };
-
-    ghost known_adds = { λ tested e past k r. refl };
-}
-
-impl<X: Exchange> Brisk for Asked<X> {
-    fn step_bare(&mut self, at: Place3, bare: Bare<'_>, faults: &mut Faults) -> Result<(), Memory> {
-        let event = NoteRef::Bare(bare);
-        let cause = X::cause(&event);
-        let answer = X::answer(&event);
-        let fate = self.fate;
-        let broken = is_unasked(self.binds, fate, self.opened, answer, &self.answered);
-        take_answered(&mut self.answered, at.position, fate, false, cause, answer)?;
-        judge_by(X::asked_rule(), broken, at, at.position, faults)?;
-        Ok(())
     }
 }
 
@@ -224,8 +184,8 @@ impl<X: Exchange> Asks for Asked<X> {
     }
 
     #[inline(always)]
-    fn count(&self, places: &mut u32, at: Place3, decided: u32, fate: Fate, event: NoteRef<'_>) {
-        let answered = is_answered(self.binds, fate, X::answer(&event));
+    fn count<E: Taken>(&self, places: &mut u32, at: Place3, decided: u32, fate: Fate, event: &E) {
+        let answered = is_answered(self.binds, fate, X::answer(event));
         let here = excuse(surprises::<X>(fate), decided == at.position, answered);
         *places = places_after(here, *places, at.position);
     }

@@ -1,13 +1,11 @@
 //! Watchers that count how often their statements are put to the test.
-ghost use Rattle.std.specs.Prelude.{◌≡◌, ◌∷◌, ◌+◌, ◌<◌, [], Bool, true, cond, length, List, Option, Some, OnOk, OnErr};
+ghost use Rattle.std.specs.Prelude.{◌≡◌, ◌∷◌, [], Bool, true, cond, List, Option, Some, OnOk, OnErr};
 ghost use Rattle.mq_rules.specs.declared.role.Tested.{Tested as TheTested};
 ghost use Rattle.mq_rules.specs.declared.fate.Fate.{Fate as TheFate};
 ghost use Rattle.mq_rules.specs.declared.fate.Fate.TheVariants.{Void};
 ghost use Rattle.mq_rules.specs.declared.note.Seen.{Seen as TheSeen};
-ghost use Rattle.mq_rules.specs.Connections.{latest_fate};
 ghost use Rattle.mq_rules.specs.Growing.{Gains, GainsWithin};
-ghost use Rattle.mq_rules.specs.Notes.{note_in, note_of_bare};
-ghost use Rattle.mq_rules.specs.Under.{seen, Follows, IsUnder, IsKnown, fate_before, turns_known};
+ghost use Rattle.mq_rules.specs.Under.{seen, IsUnder, fate_before, turns_with};
 ghost use Rattle.mq_rules.specs.declared.role.Role.{Role as TheRole};
 ghost use Rattle.mq_rules.specs.declared.rule.Rule.{Rule as TheRule};
 ghost use Rattle.mq_rules.specs.Occasions.{occasion, places_under};
@@ -15,8 +13,9 @@ ghost use Rattle.mq_books.specs.Placings.{is_on_sessions, on_either};
 ghost use Rattle.std.specs.Prelude.{◌&&◌, ◌||◌, refl};
 
 use crate::fated::Fated;
+use crate::taken::Taken;
 use mq_log::Place3;
-use mq_rules::{Bare, Both, Brisk, Fate, Faults, Memory, Note, NoteRef, Rule, Watch};
+use mq_rules::{Both, Fate, Faults, Memory, Rule};
 
 /// A watcher that can tell, before it takes in an event, which of its statements the event puts to
 /// the test.
@@ -41,15 +40,41 @@ pub trait Asks: Fated {
 
     /// Counts the places that turn out with an event of a connection that has this fate. The
     /// watcher takes in the event after that.
-    fn count(
+    fn count<E: Taken>(
         &self,
         places: &mut Self::Places,
         at: Place3,
         decided: u32,
         fate: Fate,
-        event: NoteRef<'_>,
+        event: &E,
     )
-        ensures { (tested : TheTested) (past : List TheSeen) → IsUnder tested fate decided (seen at (note_in event.entry)) past → Self.agrees self.now tested (fate_before tested fate (seen at (note_in event.entry)) past) past → counts places.old tested (fate_before tested fate (seen at (note_in event.entry)) past) past → counts places.new tested (Some fate) (seen at (note_in event.entry) ∷ past) };
+        ensures { (tested : TheTested) (past : List TheSeen) → IsUnder tested fate decided (seen at (E.note event.now)) past → Self.agrees self.now tested (fate_before tested fate (seen at (E.note event.now)) past) past → counts places.old tested (fate_before tested fate (seen at (E.note event.now)) past) past → counts places.new tested (Some fate) (seen at (E.note event.now) ∷ past) };
+
+    /// Counts the places that turn out with an event of a connection that has this fate, and takes
+    /// it in. By default it does one after the other, in a call of its own: most events concern few
+    /// watchers, and inlined this is much for each of them.
+    ///
+    /// # Errors
+    ///
+    /// As in `fated`.
+    #[inline(never)]
+    fn count_and_take<E: Taken>(
+        &mut self,
+        places: &mut Self::Places,
+        at: Place3,
+        decided: u32,
+        fate: Fate,
+        event: &E,
+        faults: &mut Faults,
+    ) -> Result<(), Memory>
+        ensures agrees { OnOk result ((tested : TheTested) (past : List TheSeen) → IsUnder tested fate decided (seen at (E.note event.now)) past → Self.agrees self.old tested (fate_before tested fate (seen at (E.note event.now)) past) past → Self.agrees self.new tested (Some fate) (seen at (E.note event.now) ∷ past)) }
+        ensures grows { OnOk result ((tested : TheTested) (past : List TheSeen) → IsUnder tested fate decided (seen at (E.note event.now)) past → Self.agrees self.old tested (fate_before tested fate (seen at (E.note event.now)) past) past → Gains (λ k r. Self.judges r && turns_with tested fate (seen at (E.note event.now)) past k r) tested (seen at (E.note event.now) ∷ past) decided faults.old faults.new) }
+        ensures memory { OnErr result ((tested : TheTested) (past : List TheSeen) → IsUnder tested fate decided (seen at (E.note event.now)) past → Self.agrees self.old tested (fate_before tested fate (seen at (E.note event.now)) past) past → GainsWithin (λ k r. Self.judges r && turns_with tested fate (seen at (E.note event.now)) past k r) tested (seen at (E.note event.now) ∷ past) decided faults.old faults.new) }
+        ensures counts { OnOk result ((tested : TheTested) (past : List TheSeen) → IsUnder tested fate decided (seen at (E.note event.now)) past → Self.agrees self.old tested (fate_before tested fate (seen at (E.note event.now)) past) past → counts places.old tested (fate_before tested fate (seen at (E.note event.now)) past) past → counts places.new tested (Some fate) (seen at (E.note event.now) ∷ past)) }
+    {
+        self.count(places, at, decided, fate, event);
+        self.fated(at, decided, fate, event, faults)
+    }
 
     /// How many places one of them has.
     fn places_of(places: &Self::Places, rule: Rule) -> u32
@@ -59,43 +84,11 @@ pub trait Asks: Fated {
     ghost on_sessions: { (role : TheRole) (rule : TheRule) → counted rule ≡ true → is_on_sessions (occasion role rule) ≡ true };
 }
 
-/// A watcher that counts a packet without properties and takes it in at once, so that whether the
-/// packet concerns it is asked once, and what both need is found once.
-pub trait AsksBare: Asks + Brisk {
-    /// Counts the places that turn out with a packet without properties of a connection that has
-    /// this fate, and takes it in. By default it does one after the other, in a call of its own:
-    /// most packets concern few watchers, and inlined this is much for each of them.
-    ///
-    /// # Errors
-    ///
-    /// As in `step_bare`.
-    #[inline(never)]
-    fn count_and_step(
-        &mut self,
-        places: &mut Self::Places,
-        at: Place3,
-        fate: Fate,
-        bare: Bare<'_>,
-        faults: &mut Faults,
-    ) -> Result<(), Memory>
-        ensures agrees { OnOk result ((tested : TheTested) (taken : Option TheFate) (past : List TheSeen) → Follows tested (seen at (note_of_bare bare.entry)) past → Self.takes tested taken (seen at (note_of_bare bare.entry)) past → Self.agrees self.old tested taken past → Self.agrees self.new tested (latest_fate tested.role (seen at (note_of_bare bare.entry) ∷ past)) (seen at (note_of_bare bare.entry) ∷ past)) }
-        ensures grows { OnOk result ((tested : TheTested) (taken : Option TheFate) (past : List TheSeen) → Follows tested (seen at (note_of_bare bare.entry)) past → Self.takes tested taken (seen at (note_of_bare bare.entry)) past → Self.agrees self.old tested taken past → Gains (Self.adds tested (seen at (note_of_bare bare.entry)) past) tested (seen at (note_of_bare bare.entry) ∷ past) (length past + 1) faults.old faults.new) }
-        ensures memory { OnErr result ((tested : TheTested) (taken : Option TheFate) (past : List TheSeen) → Follows tested (seen at (note_of_bare bare.entry)) past → Self.takes tested taken (seen at (note_of_bare bare.entry)) past → Self.agrees self.old tested taken past → GainsWithin (Self.adds tested (seen at (note_of_bare bare.entry)) past) tested (seen at (note_of_bare bare.entry) ∷ past) (length past + 1) faults.old faults.new) }
-        ensures counts { OnOk result ((tested : TheTested) (past : List TheSeen) → IsUnder tested fate at.position (seen at (note_of_bare bare.entry)) past → Self.agrees self.old tested (fate_before tested fate (seen at (note_of_bare bare.entry)) past) past → Self.counts places.old tested (fate_before tested fate (seen at (note_of_bare bare.entry)) past) past → Self.counts places.new tested (Some fate) (seen at (note_of_bare bare.entry) ∷ past)) }
-    {
-        self.count(places, at, at.position, fate, NoteRef::Bare(bare));
-        self.step_bare(at, bare, faults)?;
-        Ok(())
-    }
-}
-
 /// A watcher, and how often each of its statements was put to the test.
 #[derive(Drop)]
 pub struct Counting<W: Asks> {
     watcher: W,
     places: W::Places,
-    /// The fate that the latest connection is taken to have.
-    fate: Fate,
 }
 
 /// One of two numbers.
@@ -108,74 +101,47 @@ pub fn pick(first: bool, a: u32, b: u32) -> u32
 impl<W: Asks> Counting<W> {
     /// Around this watcher, before any event.
     pub fn new(watcher: W) -> Self
-        ensures { (tested : TheTested) → W.agrees watcher tested (Some Void) [] → ⟦<Counting<W> as Watch>⟧.agrees result tested (Some Void) [] }
+        ensures { (tested : TheTested) → W.agrees watcher tested (Some Void) [] → ⟦<Counting<W> as Fated>⟧.agrees result tested (Some Void) [] }
     {
         Counting {
             watcher,
             places: W::no_places(),
-            fate: Fate::Void,
         }
     }
 
     /// How many places one of its statements has, where the latest connection is taken to have the
-    /// fate that the watcher took in with its events.
+    /// fate that it came with.
     pub fn places(&self, rule: Rule) -> u32
-        ensures { (tested : TheTested) (taken : Option TheFate) (past : List TheSeen) → ⟦<Counting<W> as Watch>⟧.agrees self.now tested taken past → W.counted rule ≡ true → result ≡ places_under tested taken past rule }
+        ensures { (tested : TheTested) (taken : Option TheFate) (past : List TheSeen) → ⟦<Counting<W> as Fated>⟧.agrees self.now tested taken past → W.counted rule ≡ true → result ≡ places_under tested taken past rule }
     {
         W::places_of(&self.places, rule)
     }
 }
 
-impl<W: Asks> Watch for Counting<W> {
-    ghost agrees = { λ s tested taken past. (taken ≡ Some s.fate) × W.agrees s.watcher tested taken past × W.counts s.places tested taken past };
+impl<W: Asks> Fated for Counting<W> {
+    ghost agrees = { λ s tested taken past. W.agrees s.watcher tested taken past × W.counts s.places tested taken past };
 
-    ghost takes = { IsKnown };
-
-    ghost adds = { λ tested e past k r. W.judges r && turns_known tested e past k r };
+    ghost judges = { W.judges };
 
     ghost weighs = { λ s. W.weighs s.watcher };
 
     ghost bound = { W.bound };
 
-    fn step(&mut self, at: Place3, note: &Note, faults: &mut Faults) -> Result<(), Memory> {
-        self.fated(at, at.position, self.fate, note, faults)?;
-        Ok(())
-    }
-
-    fn weight(&self) -> usize {
-        self.watcher.weight()
-    }
-}
-
-impl<W: Asks> Fated for Counting<W> {
-    ghost judges = { W.judges };
-
-    fn fated(
+    #[inline(always)]
+    fn fated<E: Taken>(
         &mut self,
         at: Place3,
         decided: u32,
         fate: Fate,
-        note: &Note,
+        event: &E,
         faults: &mut Faults,
     ) -> Result<(), Memory> {
         self.watcher
-            .count(&mut self.places, at, decided, fate, NoteRef::Kept(note));
-        self.watcher.fated(at, decided, fate, note, faults)?;
-        self.fate = fate;
-        Ok(())
+            .count_and_take(&mut self.places, at, decided, fate, event, faults)
     }
 
-    ghost known_taken = { λ tested taken e past known. known };
-
-    ghost known_adds = { λ tested e past k r. refl };
-}
-
-impl<W: AsksBare> Brisk for Counting<W> {
-    #[inline(always)]
-    fn step_bare(&mut self, at: Place3, bare: Bare<'_>, faults: &mut Faults) -> Result<(), Memory> {
-        self.watcher
-            .count_and_step(&mut self.places, at, self.fate, bare, faults)?;
-        Ok(())
+    fn weight(&self) -> usize {
+        self.watcher.weight()
     }
 }
 
@@ -197,16 +163,38 @@ impl<A: Asks, B: Asks> Asks for Both<A, B> {
     }
 
     #[inline(always)]
-    fn count(
+    fn count<E: Taken>(
         &self,
         places: &mut Self::Places,
         at: Place3,
         decided: u32,
         fate: Fate,
-        event: NoteRef<'_>,
+        event: &E,
     ) {
         self.a.count(&mut places.a, at, decided, fate, event);
         self.b.count(&mut places.b, at, decided, fate, event);
+    }
+
+    #[inline(always)]
+    #[tactic(auto, using(mq_rules::proofs::GainLaws::gains_either, mq_rules::proofs::GainLaws::within_either_first, mq_rules::proofs::GainLaws::within_either_second))]
+    fn count_and_take<E: Taken>(
+        &mut self,
+        places: &mut Self::Places,
+        at: Place3,
+        decided: u32,
+        fate: Fate,
+        event: &E,
+        faults: &mut Faults,
+    ) -> Result<(), Memory> {
+        match self
+            .a
+            .count_and_take(&mut places.a, at, decided, fate, event, faults)
+        {
+            Ok(()) => self
+                .b
+                .count_and_take(&mut places.b, at, decided, fate, event, faults),
+            Err(Memory) => Err(Memory),
+        }
     }
 
     fn places_of(places: &Self::Places, rule: Rule) -> u32 {
@@ -215,23 +203,5 @@ impl<A: Asks, B: Asks> Asks for Both<A, B> {
             A::places_of(&places.a, rule),
             B::places_of(&places.b, rule),
         )
-    }
-}
-
-impl<A: AsksBare, B: AsksBare> AsksBare for Both<A, B> {
-    #[inline(always)]
-    #[tactic(auto, using(mq_rules::proofs::GainLaws::gains_then, mq_rules::proofs::GainLaws::within_first, mq_rules::proofs::GainLaws::within_second))]
-    fn count_and_step(
-        &mut self,
-        places: &mut Self::Places,
-        at: Place3,
-        fate: Fate,
-        bare: Bare<'_>,
-        faults: &mut Faults,
-    ) -> Result<(), Memory> {
-        match self.a.count_and_step(&mut places.a, at, fate, bare, faults) {
-            Ok(()) => self.b.count_and_step(&mut places.b, at, fate, bare, faults),
-            Err(Memory) => Err(Memory),
-        }
     }
 }

@@ -1,12 +1,12 @@
 //! How many Reason Codes a SUBACK or UNSUBACK has (MQTT 5.0, sections 3.9.3 and 3.11.3).
 ghost use Rattle.std.specs.Prelude.{refl};
-ghost use Rattle.std.specs.Prelude.{◌≡◌, ◌&&◌, ◌==◌, ℕ, Bool, not, OnOk, [], Some};
+ghost use Rattle.std.specs.Prelude.{◌≡◌, ◌&&◌, ◌||◌, ◌==◌, ℕ, Bool, not, OnOk, [], Some};
 ghost use Rattle.mq_rules.specs.declared.role.Role.{Role as TheRole};
 ghost use Rattle.mq_rules.specs.declared.rule.Rule.{Rule as TheRule};
 ghost use Rattle.mq_rules.specs.declared.rule.Rule.TheVariants.{B03, B04};
 ghost use Rattle.mq_rules.specs.declared.fate.Fate.TheVariants.{Void};
 ghost use Rattle.mq_rules.specs.Moments.{Moment};
-ghost use Rattle.mq_rules.specs.Notes.{note_in};
+ghost use Rattle.mq_rules.specs.Notes.{note_in, is_boundary as boundary};
 ghost use Rattle.mq_rules.specs.Connections.{accepts};
 ghost use Rattle.mq_rules.specs.Statements.{statement, in_session};
 ghost use Rattle.mq_rules.specs.Subscriptions.{applies_B03, applies_B04, breaks_B03, breaks_B04};
@@ -15,7 +15,6 @@ ghost use Rattle.mq_rules.specs.Rules.{same_rule, binds as is_bound};
 ghost use Rattle.mq_rules.specs.Faults.{offset_of};
 ghost use Rattle.mq_rules.specs.KeptOrder.{value_under};
 ghost use Rattle.std.specs.Prelude.{Option, None};
-ghost use Rattle.mq_rules.specs.Under.{IsKnown, turns_known};
 ghost use Rattle.mq_books.specs.Concerns.{concerns_count};
 ghost use Rattle.mq_books.specs.Burden.{unanswered_ids};
 ghost use Rattle.mq_books.specs.Weights.{counts_weighs};
@@ -26,9 +25,10 @@ use crate::counting::Asks;
 use crate::fated::Fated;
 use crate::known::judge_by;
 use crate::selective::{Discerning, Selective};
+use crate::taken::Taken;
 use mq_log::Place3;
 use mq_rules::{
-    CountedByIdentifier, Fate, Faults, Memory, Note, NoteRef, PacketFields, Rule, Tested, Watch,
+    CountedByIdentifier, Fate, Faults, Memory, Note, NoteRef, Noted, PacketFields, Rule, Tested,
     places_after,
 };
 use std::alloc::Global;
@@ -55,8 +55,8 @@ pub trait Replies {
     ghost applies: { Moment → Bool };
 
     /// A packet with filters that is received.
-    fn request(note: &Note) -> Option<Counted>
-        ensures { result ≡ counting.request note.now };
+    fn request(event: &NoteRef<'_>) -> Option<Counted>
+        ensures { result ≡ counting.request (note_in event.now) };
 
     /// A packet that is sent and answers one.
     fn reply(event: &NoteRef<'_>) -> Option<Counted>
@@ -76,6 +76,13 @@ pub trait Replies {
     ghost asks: { (m : Moment) → applies m ≡ answers_one counting m };
     /// The statement compares the two counts.
     ghost compares: { IsCounting counting breaks };
+}
+
+// Whether a network connection begins or ends.
+fn is_boundary(event: NoteRef<'_>) -> bool
+    ensures { result ≡ boundary (note_in event.entry) }
+{
+    event.is_open() || event.is_close()
 }
 
 // Keeps the count of the first packet of an identifier that isn't answered. All are forgotten where
@@ -140,7 +147,7 @@ pub struct Counts<R: Replies> {
 impl<R: Replies> Counts<R> {
     /// Nothing waits for an answer.
     pub fn new(alloc: Global, tested: Tested) -> Self
-        ensures { ⟦<Counts<R> as Watch>⟧.agrees result tested (Some Void) [] }
+        ensures { ⟦<Counts<R> as Fated>⟧.agrees result tested (Some Void) [] }
     {
         Counts {
             bound: R::judged().is_judged(tested),
@@ -151,20 +158,30 @@ impl<R: Replies> Counts<R> {
     }
 }
 
-impl<R: Replies> Watch for Counts<R> {
+impl<R: Replies> Fated for Counts<R> {
     ghost agrees = { λ s tested taken past. (s.bound ≡ is_bound R.judged tested) × IsCounted R.counting s.fate (value_under s.counts) taken past };
 
-    ghost takes = { IsKnown };
-
-    ghost adds = { λ tested e past k r. same_rule r R.judged && turns_known tested e past k r };
+    ghost judges = { λ r. same_rule r R.judged };
 
     ghost weighs = { counts_weighs };
 
     ghost bound = { λ tested taken past. unanswered_ids R.counting.exchange past };
 
-    fn step(&mut self, at: Place3, note: &Note, faults: &mut Faults) -> Result<(), Memory> {
-        let fate = self.fate;
-        self.fated(at, at.position, fate, note, faults)?;
+    fn fated<E: Taken>(
+        &mut self,
+        at: Place3,
+        decided: u32,
+        fate: Fate,
+        event: &E,
+        faults: &mut Faults,
+    ) -> Result<(), Memory> {
+        let event = event.as_ref();
+        let reply = R::reply(&event);
+        let broken = is_broken(self.bound, fate, &self.counts, reply);
+        let boundary = is_boundary(event);
+        keep_count(&mut self.counts, boundary, R::request(&event), reply)?;
+        self.fate = fate;
+        judge_by(R::judged(), broken, at, decided, faults)?;
         Ok(())
     }
 
@@ -174,39 +191,16 @@ impl<R: Replies> Watch for Counts<R> {
     }
 }
 
-impl<R: Replies> Fated for Counts<R> {
-    ghost judges = { λ r. same_rule r R.judged };
-
-    fn fated(
-        &mut self,
-        at: Place3,
-        decided: u32,
-        fate: Fate,
-        note: &Note,
-        faults: &mut Faults,
-    ) -> Result<(), Memory> {
-        let reply = R::reply(&NoteRef::Kept(note));
-        let broken = is_broken(self.bound, fate, &self.counts, reply);
-        keep_count(
-            &mut self.counts,
-            note.is_boundary(),
-            R::request(note),
-            reply,
-        )?;
-        self.fate = fate;
-        judge_by(R::judged(), broken, at, decided, faults)?;
-        Ok(())
-    }
-
-    ghost known_taken = { λ tested taken e past known. known };
-
-    ghost known_adds = { λ tested e past k r. refl };
-}
-
 impl<R: Replies> Selective for Counts<R> {
     ghost concerns = { λ tested. concerns_count R.counting };
 
     fn passes(&self) {}
+
+    #[inline(always)]
+    fn may_concern<E: Taken>(&self, event: &E) -> bool {
+        let event = event.as_ref();
+        is_boundary(event) || R::request(&event).is_some() || R::reply(&event).is_some()
+    }
 }
 
 // Whether a packet answers one whose count is kept.
@@ -249,8 +243,8 @@ impl<R: Replies> Asks for Counts<R> {
     }
 
     #[inline(always)]
-    fn count(&self, places: &mut u32, at: Place3, _: u32, fate: Fate, event: NoteRef<'_>) {
-        let here = is_put_to_test(self.bound, fate, &self.counts, R::reply(&event));
+    fn count<E: Taken>(&self, places: &mut u32, at: Place3, _: u32, fate: Fate, event: &E) {
+        let here = is_put_to_test(self.bound, fate, &self.counts, R::reply(&event.as_ref()));
         *places = places_after(here, *places, at.position);
     }
 
@@ -308,8 +302,13 @@ impl Replies for Subacks {
 
     ghost applies = { applies_B03 };
 
-    fn request(note: &Note) -> Option<Counted> {
-        subscribe_request(note)
+    #[inline(always)]
+    #[tactic(auto, unfolding(mq_rules::specs::Notes::note_of_bare))]
+    fn request(event: &NoteRef<'_>) -> Option<Counted> {
+        match event {
+            NoteRef::Kept(note) => subscribe_request(note),
+            NoteRef::Bare(_) => None,
+        }
     }
 
     #[inline(always)]
@@ -380,8 +379,13 @@ impl Replies for Unsubacks {
 
     ghost applies = { applies_B04 };
 
-    fn request(note: &Note) -> Option<Counted> {
-        unsubscribe_request(note)
+    #[inline(always)]
+    #[tactic(auto, unfolding(mq_rules::specs::Notes::note_of_bare))]
+    fn request(event: &NoteRef<'_>) -> Option<Counted> {
+        match event {
+            NoteRef::Kept(note) => unsubscribe_request(note),
+            NoteRef::Bare(_) => None,
+        }
     }
 
     #[inline(always)]

@@ -1,10 +1,10 @@
 //! What an exchange owes: all its statements.
-ghost use Rattle.std.specs.Prelude.{◌≡◌, ◌&&◌, ◌||◌, [], Some, is_some, refl};
+ghost use Rattle.std.specs.Prelude.{true, false, ◌≡◌, ◌&&◌, ◌||◌, [], Some, is_some, refl};
 ghost use Rattle.mq_rules.specs.declared.fate.Fate.TheVariants.{Void};
 ghost use Rattle.mq_rules.specs.Notes.{note_in};
 ghost use Rattle.mq_rules.specs.Words.{is_some_and};
 ghost use Rattle.mq_rules.specs.Rules.{same_rule};
-ghost use Rattle.mq_rules.specs.Under.{turns_known, either_adds};
+ghost use Rattle.mq_books.specs.Concerns.{concerns_asked, concerns_owed};
 ghost use Rattle.mq_rules.specs.Statements.{if_early};
 ghost use Rattle.mq_rules.specs.Exchanges.{applies_A, applies_O, applies_R};
 ghost use Rattle.mq_rules.specs.Occasions.{occasion};
@@ -16,8 +16,9 @@ use crate::exchange::Exchange;
 use crate::fated::Fated;
 use crate::owed::{Owed, OwedPlaces};
 use crate::selective::{Discerning, Selective};
+use crate::taken::Taken;
 use mq_log::Place3;
-use mq_rules::{Bare, Both, Brisk, Fate, Faults, Memory, Note, NoteRef, Rule, Tested, Watch};
+use mq_rules::{Both, Fate, Faults, Memory, Noted, Rule, Tested};
 use std::alloc::Global;
 
 /// Watches all statements of an exchange: each answer was asked for, each cause is answered before
@@ -31,7 +32,7 @@ pub struct Debts<X: Exchange> {
 impl<X: Exchange> Debts<X> {
     /// No event was told yet.
     pub fn new(alloc: Global, tested: Tested) -> Self
-        ensures { ⟦<Debts<X> as Watch>⟧.agrees result tested (Some Void) [] }
+        ensures { ⟦<Debts<X> as Fated>⟧.agrees result tested (Some Void) [] }
     {
         Debts {
             parts: Both::new(Asked::new(alloc, tested), Owed::new(alloc, tested)),
@@ -39,63 +40,41 @@ impl<X: Exchange> Debts<X> {
     }
 }
 
-impl<X: Exchange> Watch for Debts<X> {
-    ghost agrees = { λ s. ⟦<Both<Asked<X>, Owed<X>> as Watch>⟧.agrees s.parts };
-
-    ghost takes = { ⟦<Both<Asked<X>, Owed<X>> as Watch>⟧.takes };
-
-    ghost adds = { ⟦<Both<Asked<X>, Owed<X>> as Watch>⟧.adds };
-
-    ghost weighs = { λ s. ⟦<Both<Asked<X>, Owed<X>> as Watch>⟧.weighs s.parts };
-
-    ghost bound = { ⟦<Both<Asked<X>, Owed<X>> as Watch>⟧.bound };
-
-    fn step(&mut self, at: Place3, note: &Note, faults: &mut Faults) -> Result<(), Memory> {
-        self.parts.step(at, note, faults)?;
-        Ok(())
-    }
-
-    fn weight(&self) -> usize {
-        self.parts.weight()
-    }
-}
-
-impl<X: Exchange> Fated for Debts<X> {
-    ghost judges = { λ r. same_rule r X.asked || (same_rule r X.settled || is_some_and (same_rule r) X.ordered) };
-
-    fn fated(
-        &mut self,
-        at: Place3,
-        decided: u32,
-        fate: Fate,
-        note: &Note,
-        faults: &mut Faults,
-    ) -> Result<(), Memory> {
-        self.parts.fated(at, decided, fate, note, faults)?;
-        Ok(())
-    }
-
-    ghost known_taken = { λ tested taken e past known. (known, known) };
-
-    ghost known_adds = { λ tested e past k r. either_adds (same_rule r X.asked && turns_known tested e past k r) ((same_rule r X.settled || is_some_and (same_rule r) X.ordered) && turns_known tested e past k r) (same_rule r X.asked) (same_rule r X.settled || is_some_and (same_rule r) X.ordered) (turns_known tested e past k r) refl refl };
-}
-
 // Whether an event is a cause or an answer of an exchange.
 #[inline(always)]
-fn is_of_exchange<X: Exchange>(event: &NoteRef<'_>) -> bool
-    ensures { result ≡ (is_some (X.exchange.cause (note_in event.now)) || is_some (X.exchange.answer (note_in event.now))) }
+fn is_of_exchange<X: Exchange, E: Noted>(event: &E) -> bool
+    ensures { result ≡ (is_some (X.exchange.cause (E.note event.now)) || is_some (X.exchange.answer (E.note event.now))) }
 {
     X::cause(event).is_some() || X::answer(event).is_some()
 }
 
-impl<X: Exchange> Brisk for Debts<X> {
+impl<X: Exchange> Fated for Debts<X> {
+    ghost agrees = { λ s. ⟦<Both<Asked<X>, Owed<X>> as Fated>⟧.agrees s.parts };
+
+    ghost judges = { λ r. same_rule r X.asked || (same_rule r X.settled || is_some_and (same_rule r) X.ordered) };
+
+    ghost weighs = { λ s. ⟦<Both<Asked<X>, Owed<X>> as Fated>⟧.weighs s.parts };
+
+    ghost bound = { ⟦<Both<Asked<X>, Owed<X>> as Fated>⟧.bound };
+
     #[inline(always)]
-    fn step_bare(&mut self, at: Place3, bare: Bare<'_>, faults: &mut Faults) -> Result<(), Memory> {
-        if !is_of_exchange::<X>(&NoteRef::Bare(bare)) {
+    fn fated<E: Taken>(
+        &mut self,
+        at: Place3,
+        decided: u32,
+        fate: Fate,
+        event: &E,
+        faults: &mut Faults,
+    ) -> Result<(), Memory> {
+        if !self.may_concern(event) {
             self.parts.passes();
             return Ok(());
         }
-        self.parts.step_bare(at, bare, faults)
+        self.parts.fated(at, decided, fate, event, faults)
+    }
+
+    fn weight(&self) -> usize {
+        self.parts.weight()
     }
 }
 
@@ -104,6 +83,11 @@ impl<X: Exchange> Selective for Debts<X> {
 
     fn passes(&self) {
         self.parts.passes();
+    }
+
+    #[inline(always)]
+    fn may_concern<E: Taken>(&self, event: &E) -> bool {
+        event.is_open() || event.is_rest() || event.ends() || is_of_exchange::<X, E>(event)
     }
 }
 
@@ -125,13 +109,13 @@ impl<X: Exchange> Asks for Debts<X> {
     }
 
     #[inline(always)]
-    fn count(
+    fn count<E: Taken>(
         &self,
         places: &mut Both<u32, OwedPlaces>,
         at: Place3,
         decided: u32,
         fate: Fate,
-        event: NoteRef<'_>,
+        event: &E,
     ) {
         self.parts.count(places, at, decided, fate, event);
     }

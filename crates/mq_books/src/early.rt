@@ -71,7 +71,7 @@ fn pass<W: Fated>(
     ensures memory { OnErr result ((tested : TheTested) (base : List TheSeen) → CanPass tested fate (seen at note.now) (reverse held.now) base → W.agrees watcher.old tested (latest_fate tested.role base) base → GainsWithin (λ k r. W.judges r && turns_session tested (seen at note.now) (reverse held.now ++ base) k r) tested (seen at note.now ∷ (reverse held.now ++ base)) at.position faults.old faults.new) }
 {
     hand(watcher, at.position, fate, held, faults)?;
-    watcher.step(at, note, faults)?;
+    watcher.fated(at, at.position, fate, note, faults)?;
     Ok(())
 }
 
@@ -167,13 +167,13 @@ impl<W> Early<W> {
         self.fate
     }
 
-    // Whether a packet without properties goes on to the watcher, and changes nothing here: the
-    // latest connection is decided, so that no events are held, and its history stays as it is.
+    // Whether a packet without properties changes nothing here on a connection that is decided: no
+    // events are held, and its history stays as it is.
     #[inline(always)]
-    fn goes_on(&self, bare: Bare<'_>) -> bool
-        ensures { result ≡ (is_left_by self.now.history (note_of_bare bare.entry) && (is_some self.now.fate && is_nothing self.now.held.items)) }
+    fn is_left_by(&self, bare: Bare<'_>) -> bool
+        ensures { result ≡ (is_left_by self.now.history (note_of_bare bare.entry) && is_nothing self.now.held.items) }
     {
-        self.history.is_left_by(bare) && (self.fate.is_some() && self.held.is_empty())
+        self.history.is_left_by(bare) && self.held.is_empty()
     }
 }
 
@@ -207,15 +207,20 @@ impl<W: Fated> Watch for Early<W> {
     }
 }
 
-impl<W: Fated + Brisk> Brisk for Early<W> {
+impl<W: Fated> Brisk for Early<W> {
+    // Most packets go on to the watcher at once.
     #[inline(always)]
     fn step_bare(&mut self, at: Place3, bare: Bare<'_>, faults: &mut Faults) -> Result<(), Memory> {
-        if !self.goes_on(bare) {
-            step_apart(self, at, bare, faults)?;
-            return Ok(());
+        match self.fate {
+            Some(fate) => {
+                if !self.is_left_by(bare) {
+                    return step_apart(self, at, bare, faults);
+                }
+                self.watcher.fated(at, at.position, fate, &bare, faults)?;
+                Ok(())
+            }
+            None => step_apart(self, at, bare, faults),
         }
-        self.watcher.step_bare(at, bare, faults)?;
-        Ok(())
     }
 }
 

@@ -1,7 +1,7 @@
 //! Exchanges: what is received, the cause, asks for an answer, which is sent (MQTT 5.0, sections
 //! 3.8.4, 3.10.4 and 4.3).
 
-use mq_rules::{NoteRef, Rule};
+use mq_rules::{Noted, Rule};
 
 /// An exchange: under which Packet Identifier an event is a cause, and under which one it is an
 /// answer.
@@ -12,7 +12,6 @@ pub trait Exchange {
     ghost use Rattle.mq_rules.specs.Exchanges as exchanges;
     ghost use Rattle.mq_rules.specs.Statements.{statement, in_session, at_rest, if_early};
     ghost use Rattle.mq_rules.specs.Occasions.{occasion};
-    ghost use Rattle.mq_rules.specs.Notes.{note_in};
     ghost use Rattle.mq_books.specs.Answering.{IsApart};
 
     // The cause, and the answer.
@@ -28,12 +27,12 @@ pub trait Exchange {
     ghost early: { Bool };
 
     /// The Packet Identifier under which an event is a cause.
-    fn cause(event: &NoteRef<'_>) -> Option<u16>
-        ensures { result ≡ exchange.cause (note_in event.now) };
+    fn cause<E: Noted>(event: &E) -> Option<u16>
+        ensures { result ≡ exchange.cause (E.note event.now) };
 
     /// The Packet Identifier under which an event is an answer.
-    fn answer(event: &NoteRef<'_>) -> Option<u16>
-        ensures { result ≡ exchange.answer (note_in event.now) };
+    fn answer<E: Noted>(event: &E) -> Option<u16>
+        ensures { result ≡ exchange.answer (E.note event.now) };
 
     /// The statement that each answer was asked for.
     fn asked_rule() -> Rule
@@ -91,12 +90,12 @@ impl Exchange for E1 {
     ghost ordered = { Some E1O };
 
     #[inline(always)]
-    fn cause(event: &NoteRef<'_>) -> Option<u16> {
+    fn cause<E: Noted>(event: &E) -> Option<u16> {
         event.received_at_least_once()
     }
 
     #[inline(always)]
-    fn answer(event: &NoteRef<'_>) -> Option<u16> {
+    fn answer<E: Noted>(event: &E) -> Option<u16> {
         event.sent_puback()
     }
 
@@ -152,12 +151,12 @@ impl Exchange for E2 {
     ghost ordered = { Some E2O };
 
     #[inline(always)]
-    fn cause(event: &NoteRef<'_>) -> Option<u16> {
+    fn cause<E: Noted>(event: &E) -> Option<u16> {
         event.received_exactly_once()
     }
 
     #[inline(always)]
-    fn answer(event: &NoteRef<'_>) -> Option<u16> {
+    fn answer<E: Noted>(event: &E) -> Option<u16> {
         event.sent_pubrec()
     }
 
@@ -214,12 +213,12 @@ impl Exchange for E3 {
     ghost ordered = { Some E3O };
 
     #[inline(always)]
-    fn cause(event: &NoteRef<'_>) -> Option<u16> {
+    fn cause<E: Noted>(event: &E) -> Option<u16> {
         event.received_accepting_pubrec()
     }
 
     #[inline(always)]
-    fn answer(event: &NoteRef<'_>) -> Option<u16> {
+    fn answer<E: Noted>(event: &E) -> Option<u16> {
         event.sent_pubrel()
     }
 
@@ -276,12 +275,12 @@ impl Exchange for E4 {
     ghost ordered = { None };
 
     #[inline(always)]
-    fn cause(event: &NoteRef<'_>) -> Option<u16> {
+    fn cause<E: Noted>(event: &E) -> Option<u16> {
         event.received_pubrel()
     }
 
     #[inline(always)]
-    fn answer(event: &NoteRef<'_>) -> Option<u16> {
+    fn answer<E: Noted>(event: &E) -> Option<u16> {
         event.sent_pubcomp()
     }
 
@@ -338,12 +337,12 @@ impl Exchange for E5 {
     ghost ordered = { None };
 
     #[inline(always)]
-    fn cause(event: &NoteRef<'_>) -> Option<u16> {
+    fn cause<E: Noted>(event: &E) -> Option<u16> {
         event.received_subscribe()
     }
 
     #[inline(always)]
-    fn answer(event: &NoteRef<'_>) -> Option<u16> {
+    fn answer<E: Noted>(event: &E) -> Option<u16> {
         event.sent_suback()
     }
 
@@ -400,12 +399,12 @@ impl Exchange for E6 {
     ghost ordered = { None };
 
     #[inline(always)]
-    fn cause(event: &NoteRef<'_>) -> Option<u16> {
+    fn cause<E: Noted>(event: &E) -> Option<u16> {
         event.received_unsubscribe()
     }
 
     #[inline(always)]
-    fn answer(event: &NoteRef<'_>) -> Option<u16> {
+    fn answer<E: Noted>(event: &E) -> Option<u16> {
         event.sent_unsuback()
     }
 

@@ -1,12 +1,16 @@
 //! The Packet Identifiers in use, and what is sent again (MQTT 5.0, sections 2.2.1, 4.3 and 4.4).
 ghost use Rattle.std.specs.Prelude.{refl};
-ghost use Rattle.std.specs.Prelude.{false, ◌≡◌, ◌<◌, ◌≤◌, ◌+◌, ◌*◌, ℕ, ◌&&◌, ◌||◌, not, cond, is_some, OnOk, nat_eq, [], Some, None};
+ghost use Rattle.std.specs.Prelude.{false, ◌≡◌, ◌∷◌, ◌<◌, ◌≤◌, ◌+◌, ◌*◌, ℕ, ◌&&◌, ◌||◌, not, cond, is_some, length, List, Option, OnOk, OnErr, nat_eq, [], Some, None};
 ghost use Rattle.std.specs.Option.{option_or};
 ghost use Rattle.indexmap.specs.IndexMap.{get, IsUnique};
 ghost use Rattle.indexmap.specs.IndexSet.{contains};
+ghost use Rattle.mq_rules.specs.declared.role.Tested.{Tested as TheTested};
+ghost use Rattle.mq_rules.specs.declared.fate.Fate.{Fate as TheFate};
 ghost use Rattle.mq_rules.specs.declared.fate.Fate.TheVariants.{Void};
+ghost use Rattle.mq_rules.specs.declared.note.Seen.{Seen};
 ghost use Rattle.mq_rules.specs.Notes.{sent_as, received_as, subscribe_in, suback_in, unsubscribe_in, unsuback_in, is_open as opens, is_boundary};
-ghost use Rattle.mq_rules.specs.Under.{IsKnown, turns_known};
+ghost use Rattle.mq_rules.specs.Under.{seen, IsUnder, fate_before, turns_with};
+ghost use Rattle.mq_rules.specs.Growing.{Gains, GainsWithin};
 ghost use Rattle.mq_books.specs.Burden.{open_ids, delivering_ids, void_ids, first_ids, subscribing_ids, unsubscribing_ids};
 ghost use Rattle.mq_books.specs.Weights.{inflight_weighs};
 ghost use Rattle.mq_books.specs.Pingings.{ends_by};
@@ -20,7 +24,7 @@ ghost use Rattle.mq_rules.specs.Words.{is_id};
 ghost use Rattle.mq_books.specs.Using.{IsUsing, breaks, is_inflight, waits_next, stray_next, unanswered_next, void_next, resent_next};
 ghost use Rattle.mq_books.specs.Concerns.{concerns_flight};
 ghost use Rattle.mq_books.specs.Knowing.{all_excused};
-ghost use Rattle.mq_rules.specs.Notes.{note_of_bare};
+ghost use Rattle.mq_rules.specs.Notes.{note_in, note_of_bare};
 ghost use Rattle.mq_books.specs.Selecting as selecting;
 
 mod asking;
@@ -38,6 +42,7 @@ use crate::pings::ended_after;
 use crate::quota::{flown, may_count, peer_after};
 use crate::selective::Selective;
 use crate::sizes::{map_size, set_size};
+use crate::taken::Taken;
 use broken::{
     Broken, all_excused, is_out_of_order, is_past_pubrel, is_twice, is_unopened, judge_all,
     resent_after, takes,
@@ -47,8 +52,8 @@ use entry::{Entry, take_entries};
 use indexmap::{IndexMap, IndexSet};
 use mq_log::{Direction, Place3};
 use mq_rules::{
-    Bare, BareFields, Fate, Faults, ItemNote, Memory, Note, NoteRef, PacketFields, Role, Rule,
-    Tested, Watch,
+    Bare, BareFields, Fate, Faults, ItemNote, Memory, Note, NoteRef, Noted, PacketFields, Role,
+    Rule, Tested,
 };
 use resends::{
     Bounds, Resent, bounded_after, bounds_after, excused_by_itself, excused_now, passed_since,
@@ -248,7 +253,7 @@ fn take_unsubscribing(
 impl Inflight {
     /// None is in use.
     pub fn new(alloc: Global, tested: Tested) -> Self
-        ensures { ⟦<Inflight as Watch>⟧.agrees result tested (Some Void) [] }
+        ensures { ⟦<Inflight as Fated>⟧.agrees result tested (Some Void) [] }
     {
         Inflight {
             alloc,
@@ -314,13 +319,10 @@ impl Inflight {
         self.fate = fate;
         self.resent = resent_after(self.resent, note, &self.entries);
         self.ended = ended_after(self.ended, note);
-        self.opened = opened_after(self.opened, at.position, note);
-        self.in_flight = flown(
-            may_count(self.role, self.peer),
-            note,
-            self.in_flight,
-            at.position,
-        );
+        self.opened = opened_after(self.opened, at.position, note.is_open());
+        let counted = may_count(self.role, self.peer);
+        let delivers = note.delivery().is_some();
+        self.in_flight = flown(counted, delivers, note, self.in_flight, at.position);
         self.peer = peer_after(self.role, self.peer, note);
         self.bounds = bounds_after(self.role, self.bounds, note);
     }
@@ -381,21 +383,34 @@ impl Inflight {
     }
 }
 
-impl Watch for Inflight {
+impl Fated for Inflight {
     ghost agrees = { IsUsing };
 
-    ghost takes = { IsKnown };
-
-    ghost adds = { λ tested e past k r. is_inflight r && turns_known tested e past k r };
+    ghost judges = { is_inflight };
 
     ghost weighs = { inflight_weighs };
 
     ghost bound = { λ tested taken past. 2 * open_ids tested.role taken past + 2 * delivering_ids past + void_ids tested.role taken past + first_ids tested.role taken past + subscribing_ids past + unsubscribing_ids past };
 
-    fn step(&mut self, at: Place3, note: &Note, faults: &mut Faults) -> Result<(), Memory> {
-        let fate = self.fate;
-        self.fated(at, at.position, fate, note, faults)?;
-        Ok(())
+    #[inline(always)]
+    fn fated<E: Taken>(
+        &mut self,
+        at: Place3,
+        decided: u32,
+        fate: Fate,
+        event: &E,
+        faults: &mut Faults,
+    ) -> Result<(), Memory> {
+        match event.as_ref() {
+            NoteRef::Kept(note) => self.take_noted(at, decided, fate, note, faults),
+            NoteRef::Bare(bare) => {
+                if decided == at.position {
+                    self.take_bare(at, bare, faults)?;
+                    return Ok(());
+                }
+                self.take_late(at, decided, fate, bare, faults)
+            }
+        }
     }
 
     // The map and all seven sets of the struct.
@@ -411,17 +426,20 @@ impl Watch for Inflight {
     }
 }
 
-impl Fated for Inflight {
-    ghost judges = { is_inflight };
-
-    fn fated(
+impl Inflight {
+    // Takes in an event by its note.
+    fn take_noted(
         &mut self,
         at: Place3,
         decided: u32,
         fate: Fate,
         note: &Note,
         faults: &mut Faults,
-    ) -> Result<(), Memory> {
+    ) -> Result<(), Memory>
+        ensures agrees { OnOk result ((tested : TheTested) (past : List Seen) → IsUnder tested fate decided (seen at note.now) past → ⟦<Inflight as Fated>⟧.agrees self.old tested (fate_before tested fate (seen at note.now) past) past → ⟦<Inflight as Fated>⟧.agrees self.new tested (Some fate) (seen at note.now ∷ past)) }
+        ensures grows { OnOk result ((tested : TheTested) (past : List Seen) → IsUnder tested fate decided (seen at note.now) past → ⟦<Inflight as Fated>⟧.agrees self.old tested (fate_before tested fate (seen at note.now) past) past → Gains (λ k r. ⟦<Inflight as Fated>⟧.judges r && turns_with tested fate (seen at note.now) past k r) tested (seen at note.now ∷ past) decided faults.old faults.new) }
+        ensures memory { OnErr result ((tested : TheTested) (past : List Seen) → IsUnder tested fate decided (seen at note.now) past → ⟦<Inflight as Fated>⟧.agrees self.old tested (fate_before tested fate (seen at note.now) past) past → GainsWithin (λ k r. ⟦<Inflight as Fated>⟧.judges r && turns_with tested fate (seen at note.now) past k r) tested (seen at note.now ∷ past) decided faults.old faults.new) }
+    {
         let broken = self.broken_by(fate, decided == at.position, note);
         judge_all(&broken, at, decided, faults)?;
         let known = decided == at.position;
@@ -434,9 +452,23 @@ impl Fated for Inflight {
         Ok(())
     }
 
-    ghost known_taken = { λ tested taken e past known. known };
-
-    ghost known_adds = { λ tested e past k r. refl };
+    // Takes in a packet without properties that was held, by a note. None is held in this form.
+    #[inline(never)]
+    fn take_late(
+        &mut self,
+        at: Place3,
+        decided: u32,
+        fate: Fate,
+        bare: Bare<'_>,
+        faults: &mut Faults,
+    ) -> Result<(), Memory>
+        ensures agrees { OnOk result ((tested : TheTested) (past : List Seen) → IsUnder tested fate decided (seen at (note_of_bare bare.entry)) past → ⟦<Inflight as Fated>⟧.agrees self.old tested (fate_before tested fate (seen at (note_of_bare bare.entry)) past) past → ⟦<Inflight as Fated>⟧.agrees self.new tested (Some fate) (seen at (note_of_bare bare.entry) ∷ past)) }
+        ensures grows { OnOk result ((tested : TheTested) (past : List Seen) → IsUnder tested fate decided (seen at (note_of_bare bare.entry)) past → ⟦<Inflight as Fated>⟧.agrees self.old tested (fate_before tested fate (seen at (note_of_bare bare.entry)) past) past → Gains (λ k r. ⟦<Inflight as Fated>⟧.judges r && turns_with tested fate (seen at (note_of_bare bare.entry)) past k r) tested (seen at (note_of_bare bare.entry) ∷ past) decided faults.old faults.new) }
+        ensures memory { OnErr result ((tested : TheTested) (past : List Seen) → IsUnder tested fate decided (seen at (note_of_bare bare.entry)) past → ⟦<Inflight as Fated>⟧.agrees self.old tested (fate_before tested fate (seen at (note_of_bare bare.entry)) past) past → GainsWithin (λ k r. ⟦<Inflight as Fated>⟧.judges r && turns_with tested fate (seen at (note_of_bare bare.entry)) past k r) tested (seen at (note_of_bare bare.entry) ∷ past) decided faults.old faults.new) }
+    {
+        let note = bare.note();
+        self.take_noted(at, decided, fate, &note, faults)
+    }
 }
 
 impl Selective for Inflight {
@@ -445,19 +477,14 @@ impl Selective for Inflight {
     fn passes(&self) {}
 
     #[inline(always)]
-    fn may_concern(&self, note: &Note) -> bool {
-        may_concern_identifiers(note)
-    }
-
-    #[inline(always)]
-    fn may_concern_bare(&self, bare: Bare<'_>) -> bool {
-        bare_may_concern_identifiers(bare)
+    fn may_concern<E: Taken>(&self, event: &E) -> bool {
+        event.may_concern_identifiers()
     }
 }
 
-// Whether an event may have to do with Packet Identifiers that are in use.
+/// Whether an event, by its note, may have to do with Packet Identifiers that are in use.
 #[inline(always)]
-fn may_concern_identifiers(note: &Note) -> bool
+pub fn note_may_concern_identifiers(note: &Note) -> bool
     ensures { result ≡ selecting.may_concern_identifiers note.now }
 {
     match note {
@@ -504,10 +531,10 @@ fn frees_identifier(fields: &PacketFields) -> bool
     )
 }
 
-// Whether a packet without properties may have to do with Packet Identifiers that are in use.
+/// Whether a packet without properties may have to do with Packet Identifiers that are in use.
 #[inline(always)]
 #[tactic(auto, unfolding(mq_rules::specs::Notes::note_of_bare))]
-fn bare_may_concern_identifiers(bare: Bare<'_>) -> bool
+pub fn bare_may_concern_identifiers(bare: Bare<'_>) -> bool
     ensures { result ≡ selecting.may_concern_identifiers (note_of_bare bare.entry) }
 {
     match bare.direction {

@@ -30,10 +30,11 @@ mod sessions;
 mod sizes;
 mod subs;
 mod subs_all;
+mod taken;
 mod watchers;
 
 pub use asked::Asked;
-pub use counting::{Asks, AsksBare, Counting};
+pub use counting::{Asks, Counting};
 pub use counts::{Counted, Counts, Replies, Subacks, Unsubacks};
 pub use debts::Debts;
 pub use early::Early;
@@ -53,4 +54,5 @@ pub use selective::{Selecting, Selective};
 pub use sessions::{SessionPlaces, Sessions};
 pub use subs::{Deliveries, DeliveryPlaces, asks_for_shared};
 pub use subs_all::Subs;
+pub use taken::Taken;
 pub use watchers::{CountingWatchers, PlainWatchers, Watchers};

@@ -1,22 +1,21 @@
 //! Exchanges of messages: E1A to E4R (MQTT 5.0, section 4.3).
 ghost use Rattle.std.specs.Prelude.{◌≡◌, [], Some};
 ghost use Rattle.mq_rules.specs.declared.fate.Fate.TheVariants.{Void};
-ghost use Rattle.mq_rules.specs.Under.{turns_known};
-ghost use Rattle.mq_books.specs.Grouping.{on_messages, of_messages, by_messages, messages_add};
-ghost use Rattle.mq_rules.specs.Notes.{note_of_bare};
+ghost use Rattle.mq_books.specs.Grouping.{on_messages, of_messages};
+ghost use Rattle.mq_rules.specs.Notes.{note_in, note_of_bare};
 ghost use Rattle.mq_books.specs.Selecting as selecting;
 ghost use Rattle.mq_rules.specs.Notes.{is_acknowledged};
 
-use crate::counting::{Asks, AsksBare};
+use crate::counting::Asks;
 use crate::debts::Debts;
 use crate::exchange::{E1, E2, E3, E4};
 use crate::fated::Fated;
 use crate::selective::{Discerning, Selective};
+use crate::taken::Taken;
 use mq_log::{Direction, Place3};
 use mq_packet::Qos;
 use mq_rules::{
-    Bare, BareFields, Both, Brisk, Fate, Faults, ItemNote, Memory, Note, NoteRef, PacketFields,
-    Rule, Tested, Watch,
+    Bare, BareFields, Both, Fate, Faults, ItemNote, Memory, Note, PacketFields, Rule, Tested,
 };
 use std::alloc::Global;
 
@@ -38,7 +37,7 @@ impl Drop for Messages {
 impl Messages {
     /// Nothing was received or sent.
     pub fn new(alloc: Global, tested: Tested) -> Self
-        ensures { ⟦<Messages as Watch>⟧.agrees result tested (Some Void) [] }
+        ensures { ⟦<Messages as Fated>⟧.agrees result tested (Some Void) [] }
     {
         Messages {
             watchers: Both::new(
@@ -49,51 +48,30 @@ impl Messages {
     }
 }
 
-impl Watch for Messages {
-    ghost agrees = { λ s. ⟦<Both<Both<Debts<E1>, Debts<E2>>, Both<Debts<E3>, Debts<E4>>> as Watch>⟧.agrees s.watchers };
-
-    ghost takes = { ⟦<Both<Both<Debts<E1>, Debts<E2>>, Both<Debts<E3>, Debts<E4>>> as Watch>⟧.takes };
-
-    ghost adds = { λ tested e past k r. by_messages r (turns_known tested e past k r) };
-
-    ghost weighs = { λ s. ⟦<Both<Both<Debts<E1>, Debts<E2>>, Both<Debts<E3>, Debts<E4>>> as Watch>⟧.weighs s.watchers };
-
-    ghost bound = { ⟦<Both<Both<Debts<E1>, Debts<E2>>, Both<Debts<E3>, Debts<E4>>> as Watch>⟧.bound };
-
-    fn step(&mut self, at: Place3, note: &Note, faults: &mut Faults) -> Result<(), Memory> {
-        self.watchers.step(at, note, faults)?;
-        Ok(())
-    }
-
-    fn weight(&self) -> usize {
-        self.watchers.weight()
-    }
-}
-
 impl Fated for Messages {
+    ghost agrees = { λ s. ⟦<Both<Both<Debts<E1>, Debts<E2>>, Both<Debts<E3>, Debts<E4>>> as Fated>⟧.agrees s.watchers };
+
     ghost judges = { of_messages };
 
-    fn fated(
+    ghost weighs = { λ s. ⟦<Both<Both<Debts<E1>, Debts<E2>>, Both<Debts<E3>, Debts<E4>>> as Fated>⟧.weighs s.watchers };
+
+    ghost bound = { ⟦<Both<Both<Debts<E1>, Debts<E2>>, Both<Debts<E3>, Debts<E4>>> as Fated>⟧.bound };
+
+    // A call of its own: inlined it is much, and most packets don't concern it.
+    #[inline(never)]
+    fn fated<E: Taken>(
         &mut self,
         at: Place3,
         decided: u32,
         fate: Fate,
-        note: &Note,
+        event: &E,
         faults: &mut Faults,
     ) -> Result<(), Memory> {
-        self.watchers.fated(at, decided, fate, note, faults)?;
-        Ok(())
+        self.watchers.fated(at, decided, fate, event, faults)
     }
 
-    ghost known_taken = { λ tested taken e past known. (((known, known), (known, known)), ((known, known), (known, known))) };
-
-    ghost known_adds = { λ tested e past k r. messages_add r (turns_known tested e past k r) };
-}
-
-impl Brisk for Messages {
-    #[inline(always)]
-    fn step_bare(&mut self, at: Place3, bare: Bare<'_>, faults: &mut Faults) -> Result<(), Memory> {
-        self.watchers.step_bare(at, bare, faults)
+    fn weight(&self) -> usize {
+        self.watchers.weight()
     }
 }
 
@@ -105,13 +83,8 @@ impl Selective for Messages {
     }
 
     #[inline(always)]
-    fn may_concern(&self, note: &Note) -> bool {
-        may_concern_messages(note)
-    }
-
-    #[inline(always)]
-    fn may_concern_bare(&self, bare: Bare<'_>) -> bool {
-        bare_may_concern_messages(bare)
+    fn may_concern<E: Taken>(&self, event: &E) -> bool {
+        event.may_concern_messages()
     }
 }
 
@@ -133,13 +106,13 @@ impl Asks for Messages {
     }
 
     #[inline(always)]
-    fn count(
+    fn count<E: Taken>(
         &self,
         places: &mut Self::Places,
         at: Place3,
         decided: u32,
         fate: Fate,
-        event: NoteRef<'_>,
+        event: &E,
     ) {
         self.watchers.count(places, at, decided, fate, event);
     }
@@ -149,17 +122,15 @@ impl Asks for Messages {
     }
 }
 
-impl AsksBare for Messages {}
-
 impl Discerning for Messages {
     fn leaves_out(&self) {
         self.watchers.leaves_out();
     }
 }
 
-// Whether an event may have to do with an exchange of messages.
+/// Whether an event, by its note, may have to do with an exchange of messages.
 #[inline(always)]
-fn may_concern_messages(note: &Note) -> bool
+pub fn note_may_concern_messages(note: &Note) -> bool
     ensures { result ≡ selecting.may_concern_messages note.now }
 {
     match note {
@@ -211,10 +182,10 @@ pub fn is_acknowledged(qos: Qos) -> bool
     }
 }
 
-// Whether a packet without properties may have to do with an exchange of messages.
+/// Whether a packet without properties may have to do with an exchange of messages.
 #[inline(always)]
 #[tactic(auto, unfolding(mq_rules::specs::Notes::note_of_bare))]
-fn bare_may_concern_messages(bare: Bare<'_>) -> bool
+pub fn bare_may_concern_messages(bare: Bare<'_>) -> bool
     ensures { result ≡ selecting.may_concern_messages (note_of_bare bare.entry) }
 {
     match bare.direction {

@@ -1,6 +1,7 @@
 //! Each cause is answered before a REST, and answers are sent in the order of their causes (MQTT
 //! 5.0, sections 3.8.4, 3.10.4, 4.3 and 4.6).
 ghost use Rattle.std.specs.Prelude.{◌≡◌, ◌*◌, ◌+◌, ◌<◌, ◌==◌, ℕ, ◌||◌, ◌&&◌, not, is_some, true, false, OnOk, OnErr, [], Some, cond, refl};
+ghost use Rattle.mq_rules.specs.declared.note.Note.{Note as TheNote};
 ghost use Rattle.mq_rules.specs.declared.rule.Rule.{Rule as TheRule};
 ghost use Rattle.mq_rules.specs.Exchanges.{applies_O, applies_R};
 ghost use Rattle.mq_rules.specs.Occasions.{places_under};
@@ -8,7 +9,7 @@ ghost use Rattle.mq_books.specs.Placings.{on_any, on_either, on_rest, is_on_sess
 ghost use Rattle.mq_rules.specs.Occasions.{occasion};
 ghost use Rattle.mq_rules.specs.declared.fate.Fate.TheVariants.{Void};
 ghost use Rattle.mq_rules.specs.Words.{is_some_and};
-ghost use Rattle.mq_rules.specs.Notes.{note_in};
+ghost use Rattle.mq_rules.specs.Notes.{is_rest};
 ghost use Rattle.mq_rules.specs.Connections.{accepts};
 ghost use Rattle.mq_rules.specs.KeptOrder.{value_under, values_of};
 ghost use Rattle.mq_rules.specs.Rules.{same_rule, binds as is_bound};
@@ -26,10 +27,10 @@ use crate::fated::Fated;
 use crate::ordering::{Debt, judge_order, passes_over, take_queue, tidy};
 use crate::pings::ended_after;
 use crate::selective::{Discerning, Selective};
+use crate::taken::Taken;
 use mq_log::Place3;
 use mq_rules::{
-    Bare, Brisk, CountedByIdentifier, Fate, Fault, FaultKey, Faults, Memory, Note, NoteRef, Rule,
-    Tested, Watch, places_after,
+    CountedByIdentifier, Fate, Fault, FaultKey, Faults, Memory, Noted, Rule, Tested, places_after,
 };
 use std::alloc::Global;
 use std::collections::VecDeque;
@@ -134,10 +135,11 @@ fn settle(
 
 // Whether the statement is judged, and this is a REST that binds: its connection is decided and
 // accepted, and nothing ended binding.
-fn rests_now(is_judged: bool, fate: Fate, is_decided: bool, ended: bool, note: &Note) -> bool
-    ensures { result ≡ (is_judged && binds_by fate is_decided ended note.now) }
+#[inline(always)]
+fn rests_now(is_judged: bool, fate: Fate, is_decided: bool, ended: bool, rests: bool) -> bool
+    ensures { (n : TheNote) → rests ≡ is_rest n → result ≡ (is_judged && binds_by fate is_decided ended n) }
 {
-    is_judged && (note.is_rest() && (is_decided && (fate.accepts() && !ended)))
+    is_judged && (rests && (is_decided && (fate.accepts() && !ended)))
 }
 
 /// Watches that each cause is answered before a REST, and the order of answers if the exchange has
@@ -183,7 +185,7 @@ fn is_out_of_order(
 impl<X: Exchange> Owed<X> {
     /// No event was told yet.
     pub fn new(alloc: Global, tested: Tested) -> Self
-        ensures { ⟦<Owed<X> as Watch>⟧.agrees result tested (Some Void) [] }
+        ensures { ⟦<Owed<X> as Fated>⟧.agrees result tested (Some Void) [] }
     {
         Owed {
             binds: X::settled_rule().is_judged(tested),
@@ -197,75 +199,48 @@ impl<X: Exchange> Owed<X> {
     }
 }
 
-impl<X: Exchange> Watch for Owed<X> {
+impl<X: Exchange> Fated for Owed<X> {
     ghost agrees = { λ s tested taken past. IsOwing X.exchange X.settled X.ordered s.binds s.order_binds s.fate s.ended (value_under s.due) s.queue.items tested taken past };
 
-    ghost takes = { IsKnown };
-
-    ghost adds = { λ tested e past k r. (same_rule r X.settled || is_some_and (same_rule r) X.ordered) && turns_known tested e past k r };
+    ghost judges = { λ r. same_rule r X.settled || is_some_and (same_rule r) X.ordered };
 
     ghost weighs = { owed_weighs };
 
     ghost bound = { λ tested taken past. 3 * caused_ids X.exchange tested.role taken past };
 
-    fn step(&mut self, at: Place3, note: &Note, faults: &mut Faults) -> Result<(), Memory> {
-        let fate = self.fate;
-        self.fated(at, at.position, fate, note, faults)?;
+    fn fated<E: Taken>(
+        &mut self,
+        at: Place3,
+        decided: u32,
+        fate: Fate,
+        event: &E,
+        faults: &mut Faults,
+    ) -> Result<(), Memory> {
+        let opens = event.is_open();
+        let cause = X::cause(event);
+        let answer = X::answer(event);
+        let ordered = X::ordered_rule();
+        let rests = rests_now(
+            self.binds,
+            fate,
+            decided == at.position,
+            self.ended,
+            event.is_rest(),
+        );
+        let broken = is_out_of_order(self.order_binds, fate, &mut self.queue, &self.due, answer);
+        settle(rests, &self.due, X::settled_rule(), decided, faults)?;
+        take_queue(&mut self.queue, &self.due, ordered, at, fate, opens, cause)?;
+        take_due(&mut self.due, at, fate, opens, cause, answer)?;
+        tidy(&mut self.queue, &self.due, cause);
+        self.ended = ended_after(self.ended, event);
+        self.fate = fate;
+        judge_order(ordered, broken, at, decided, faults)?;
         Ok(())
     }
 
     // The table and the queue of the struct.
     fn weight(&self) -> usize {
         self.due.len().saturating_add(self.queue.len())
-    }
-}
-
-impl<X: Exchange> Fated for Owed<X> {
-    ghost judges = { λ r. same_rule r X.settled || is_some_and (same_rule r) X.ordered };
-
-    fn fated(
-        &mut self,
-        at: Place3,
-        decided: u32,
-        fate: Fate,
-        note: &Note,
-        faults: &mut Faults,
-    ) -> Result<(), Memory> {
-        let event = NoteRef::Kept(note);
-        let cause = X::cause(&event);
-        let answer = X::answer(&event);
-        let ordered = X::ordered_rule();
-        let rests = rests_now(self.binds, fate, decided == at.position, self.ended, note);
-        let broken = is_out_of_order(self.order_binds, fate, &mut self.queue, &self.due, answer);
-        settle(rests, &self.due, X::settled_rule(), decided, faults)?;
-        let opens = note.is_open();
-        take_queue(&mut self.queue, &self.due, ordered, at, fate, opens, cause)?;
-        take_due(&mut self.due, at, fate, opens, cause, answer)?;
-        tidy(&mut self.queue, &self.due, cause);
-        self.ended = ended_after(self.ended, note);
-        self.fate = fate;
-        judge_order(ordered, broken, at, decided, faults)?;
-        Ok(())
-    }
-
-    ghost known_taken = { λ tested taken e past known. known };
-
-    ghost known_adds = { λ tested e past k r. refl };
-}
-
-impl<X: Exchange> Brisk for Owed<X> {
-    fn step_bare(&mut self, at: Place3, bare: Bare<'_>, faults: &mut Faults) -> Result<(), Memory> {
-        let event = NoteRef::Bare(bare);
-        let cause = X::cause(&event);
-        let answer = X::answer(&event);
-        let ordered = X::ordered_rule();
-        let fate = self.fate;
-        let broken = is_out_of_order(self.order_binds, fate, &mut self.queue, &self.due, answer);
-        take_queue(&mut self.queue, &self.due, ordered, at, fate, false, cause)?;
-        take_due(&mut self.due, at, fate, false, cause, answer)?;
-        tidy(&mut self.queue, &self.due, cause);
-        judge_order(ordered, broken, at, at.position, faults)?;
-        Ok(())
     }
 }
 
@@ -324,18 +299,18 @@ fn pending_after(begins: bool, opens: bool, rests: bool, pending: u32) -> u32
 impl<X: Exchange> Owed<X> {
     // Whether the statement on RESTs is judged, and this is one that binds.
     #[inline(always)]
-    fn rests(&self, fate: Fate, is_decided: bool, event: NoteRef<'_>) -> bool
-        ensures { result ≡ (self.now.binds && binds_by fate is_decided self.now.ended (note_in event.entry)) }
+    fn rests<E: Noted>(&self, fate: Fate, is_decided: bool, event: &E) -> bool
+        ensures { result ≡ (self.now.binds && binds_by fate is_decided self.now.ended (E.note event.now)) }
     {
         self.binds && (event.is_rest() && (is_decided && (fate.accepts() && !self.ended)))
     }
 
     // Whether the event is a cause, and nothing is due under its identifier.
     #[inline(always)]
-    fn begins(&self, event: NoteRef<'_>) -> bool
-        ensures { result ≡ is_some_and (λ i. not (is_some (value_under self.now.due i))) (X.exchange.cause (note_in event.entry)) }
+    fn begins<E: Noted>(&self, event: &E) -> bool
+        ensures { result ≡ is_some_and (λ i. not (is_some (value_under self.now.due i))) (X.exchange.cause (E.note event.now)) }
     {
-        match X::cause(&event) {
+        match X::cause(event) {
             Some(i) => !self.due.contains(i),
             None => false,
         }
@@ -343,10 +318,10 @@ impl<X: Exchange> Owed<X> {
 
     // Whether the statement on the order is judged, and put to the test.
     #[inline(always)]
-    fn orders(&self, fate: Fate, event: NoteRef<'_>) -> bool
-        ensures { result ≡ (self.now.order_binds && (accepts fate && chooses (value_under self.now.due) (X.exchange.answer (note_in event.entry)))) }
+    fn orders<E: Noted>(&self, fate: Fate, event: &E) -> bool
+        ensures { result ≡ (self.now.order_binds && (accepts fate && chooses (value_under self.now.due) (X.exchange.answer (E.note event.now)))) }
     {
-        self.order_binds && (fate.accepts() && has_choice(&self.due, X::answer(&event)))
+        self.order_binds && (fate.accepts() && has_choice(&self.due, X::answer(event)))
     }
 }
 
@@ -381,13 +356,13 @@ impl<X: Exchange> Asks for Owed<X> {
     }
 
     #[inline(always)]
-    fn count(
+    fn count<E: Taken>(
         &self,
         places: &mut OwedPlaces,
         at: Place3,
         decided: u32,
         fate: Fate,
-        event: NoteRef<'_>,
+        event: &E,
     ) {
         let rests = self.rests(fate, decided == at.position, event);
         let begins = self.begins(event);

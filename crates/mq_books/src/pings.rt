@@ -1,10 +1,11 @@
 //! Pings and their answers.
 ghost use Rattle.std.specs.Prelude.{refl};
 ghost use Rattle.std.specs.Prelude.{◌≡◌, ◌<◌, ◌&&◌, ◌||◌, not, [], Some};
+ghost use Rattle.mq_rules.specs.declared.note.Note.{Note as TheNote};
 ghost use Rattle.mq_rules.specs.declared.fate.Fate.TheVariants.{Void};
 ghost use Rattle.mq_rules.specs.declared.rule.Rule.TheVariants.{E7R};
 ghost use Rattle.mq_rules.specs.Rules.{same_rule};
-ghost use Rattle.mq_rules.specs.Notes.{is_open, is_received_pingreq, is_sent_pingresp};
+ghost use Rattle.mq_rules.specs.Notes.{is_open, is_rest};
 ghost use Rattle.mq_rules.specs.Under.{IsKnown, turns_known};
 ghost use Rattle.mq_books.specs.Pingings as keeping;
 ghost use Rattle.mq_books.specs.Pingings.{IsPings};
@@ -14,15 +15,16 @@ ghost use Rattle.mq_books.specs.Concerns.{concerns_pings};
 ghost use Rattle.mq_rules.specs.Notes.{note_in, note_of_bare};
 ghost use Rattle.mq_books.specs.Selecting as selecting;
 
-use crate::counting::{Asks, AsksBare};
+use crate::counting::Asks;
 use crate::fated::Fated;
 use crate::known::judge_by;
 use crate::quota::more;
 use crate::selective::{Discerning, Selective};
+use crate::taken::Taken;
 use mq_log::{Direction, Place3};
 use mq_rules::{
-    Bare, BareFields, Brisk, Fate, Faults, ItemNote, Memory, Note, NoteRef, PacketFields, Role,
-    Rule, Tested, Watch, places_after,
+    Bare, BareFields, Fate, Faults, ItemNote, Memory, Note, Noted, PacketFields, Role, Rule,
+    Tested, places_after,
 };
 
 /// Watches E7R.
@@ -35,8 +37,8 @@ pub struct Pings {
     answered: u64,
 }
 
-// Whether no REST binds after this event on its connection.
-fn ends(note: &Note) -> bool
+/// Whether no REST binds after this event on its connection.
+pub fn ends(note: &Note) -> bool
     ensures { result ≡ keeping.ends_by note.now }
 {
     match note {
@@ -51,10 +53,11 @@ fn ends(note: &Note) -> bool
 /// Whether no REST binds any more on the latest connection after an event, given whether that was
 /// so before it: a DISCONNECT, bytes that break a rule or a lost direction end it, and the next
 /// OPEN begins anew.
-pub fn ended_after(ended: bool, note: &Note) -> bool
-    ensures { result ≡ (keeping.ends_by note.now || (not (is_open note.now) && ended)) }
+#[inline(always)]
+pub fn ended_after<E: Taken>(ended: bool, event: &E) -> bool
+    ensures { result ≡ (keeping.ends_by (E.note event.now) || (not (is_open (E.note event.now)) && ended)) }
 {
-    ends(note) || (!note.is_open() && ended)
+    event.ends() || (!event.is_open() && ended)
 }
 
 // How many there are after an event.
@@ -71,21 +74,21 @@ fn is_unanswered(
     fate: Fate,
     known: bool,
     ended: bool,
-    note: &Note,
+    rests: bool,
     asked: u64,
     answered: u64,
 ) -> bool
-    ensures { result ≡ keeping.unanswered role fate known ended note.now asked answered }
+    ensures { (n : TheNote) → rests ≡ is_rest n → result ≡ keeping.unanswered role fate known ended n asked answered }
 {
     matches!(role, Role::Server)
         && (fate.accepts()
-            && ((note.is_rest() && (known && (fate.accepts() && !ended))) && answered < asked))
+            && ((rests && (known && (fate.accepts() && !ended))) && answered < asked))
 }
 
 impl Pings {
     /// No ping was sent.
     pub fn new(tested: Tested) -> Self
-        ensures { ⟦<Pings as Watch>⟧.agrees result tested (Some Void) [] }
+        ensures { ⟦<Pings as Fated>⟧.agrees result tested (Some Void) [] }
     {
         Pings {
             role: tested.role,
@@ -97,101 +100,45 @@ impl Pings {
     }
 }
 
-impl Watch for Pings {
+impl Fated for Pings {
     ghost agrees = { IsPings };
 
-    ghost takes = { IsKnown };
-
-    ghost adds = { λ tested e past k r. same_rule r E7R && turns_known tested e past k r };
+    ghost judges = { λ r. same_rule r E7R };
 
     ghost weighs = { λ s. 0 };
 
     ghost bound = { λ tested taken past. 0 };
 
-    fn step(&mut self, at: Place3, note: &Note, faults: &mut Faults) -> Result<(), Memory> {
-        let fate = self.fate;
-        self.fated(at, at.position, fate, note, faults)?;
-        Ok(())
-    }
-
-    fn weight(&self) -> usize {
-        0
-    }
-}
-
-impl Fated for Pings {
-    ghost judges = { λ r. same_rule r E7R };
-
-    fn fated(
+    #[inline(always)]
+    fn fated<E: Taken>(
         &mut self,
         at: Place3,
         decided: u32,
         fate: Fate,
-        note: &Note,
+        event: &E,
         faults: &mut Faults,
     ) -> Result<(), Memory> {
+        let opens = event.is_open();
+        let known = decided == at.position;
         let broken = is_unanswered(
             self.role,
             fate,
-            decided == at.position,
+            known,
             self.ended,
-            note,
+            event.is_rest(),
             self.asked,
             self.answered,
         );
-        self.asked = counted(
-            note.is_received_pingreq(),
-            note.is_open(),
-            self.asked,
-            at.position,
-        );
-        self.answered = counted(
-            note.is_sent_pingresp(),
-            note.is_open(),
-            self.answered,
-            at.position,
-        );
-        self.ended = ended_after(self.ended, note);
+        self.asked = counted(event.is_received_pingreq(), opens, self.asked, at.position);
+        self.answered = counted(event.is_sent_pingresp(), opens, self.answered, at.position);
+        self.ended = ended_after(self.ended, event);
         self.fate = fate;
         judge_by(Rule::E7R, broken, at, decided, faults)?;
         Ok(())
     }
 
-    ghost known_taken = { λ tested taken e past known. known };
-
-    ghost known_adds = { λ tested e past k r. refl };
-}
-
-// Whether a packet without properties is a PINGREQ that is received.
-#[inline(always)]
-#[tactic(auto, unfolding(mq_rules::specs::Notes::note_of_bare))]
-fn is_bare_pingreq(bare: Bare<'_>) -> bool
-    ensures { result ≡ is_received_pingreq (note_of_bare bare.entry) }
-{
-    match bare.direction {
-        Direction::Sent => false,
-        Direction::Recv => matches!(bare.fields, BareFields::Pingreq),
-    }
-}
-
-// Whether it is a PINGRESP that is sent.
-#[inline(always)]
-#[tactic(auto, unfolding(mq_rules::specs::Notes::note_of_bare))]
-fn is_bare_pingresp(bare: Bare<'_>) -> bool
-    ensures { result ≡ is_sent_pingresp (note_of_bare bare.entry) }
-{
-    match bare.direction {
-        Direction::Sent => matches!(bare.fields, BareFields::Pingresp),
-        Direction::Recv => false,
-    }
-}
-
-impl Brisk for Pings {
-    #[inline(always)]
-    fn step_bare(&mut self, at: Place3, bare: Bare<'_>, _: &mut Faults) -> Result<(), Memory> {
-        self.asked = counted(is_bare_pingreq(bare), false, self.asked, at.position);
-        self.answered = counted(is_bare_pingresp(bare), false, self.answered, at.position);
-        Ok(())
+    fn weight(&self) -> usize {
+        0
     }
 }
 
@@ -201,19 +148,14 @@ impl Selective for Pings {
     fn passes(&self) {}
 
     #[inline(always)]
-    fn may_concern(&self, note: &Note) -> bool {
-        may_concern_pings(note)
-    }
-
-    #[inline(always)]
-    fn may_concern_bare(&self, bare: Bare<'_>) -> bool {
-        bare_may_concern_pings(bare)
+    fn may_concern<E: Taken>(&self, event: &E) -> bool {
+        event.may_concern_pings()
     }
 }
 
-// Whether an event may have to do with pings.
+/// Whether an event, by its note, may have to do with pings.
 #[inline(always)]
-fn may_concern_pings(note: &Note) -> bool
+pub fn note_may_concern_pings(note: &Note) -> bool
     ensures { result ≡ selecting.may_concern_pings note.now }
 {
     match note {
@@ -231,10 +173,10 @@ fn may_concern_pings(note: &Note) -> bool
     }
 }
 
-// Whether a packet without properties may have to do with pings.
+/// Whether a packet without properties may have to do with pings.
 #[inline(always)]
 #[tactic(auto, unfolding(mq_rules::specs::Notes::note_of_bare))]
-fn bare_may_concern_pings(bare: Bare<'_>) -> bool
+pub fn bare_may_concern_pings(bare: Bare<'_>) -> bool
     ensures { result ≡ selecting.may_concern_pings (note_of_bare bare.entry) }
 {
     match bare.direction {
@@ -245,19 +187,11 @@ fn bare_may_concern_pings(bare: Bare<'_>) -> bool
 
 // Whether this is a REST that binds, on a connection on which a PINGREQ came.
 #[inline(always)]
-fn is_put_to_test(
-    role: Role,
-    fate: Fate,
-    known: bool,
-    ended: bool,
-    event: NoteRef<'_>,
-    asked: u64,
-) -> bool
-    ensures { result ≡ keeping.pinged role fate known ended (note_in event.entry) asked }
+fn is_put_to_test(role: Role, fate: Fate, known: bool, ended: bool, rests: bool, asked: u64) -> bool
+    ensures { (n : TheNote) → rests ≡ is_rest n → result ≡ keeping.pinged role fate known ended n asked }
 {
     matches!(role, Role::Server)
-        && (fate.accepts()
-            && ((event.is_rest() && (known && (fate.accepts() && !ended))) && 0 < asked))
+        && (fate.accepts() && ((rests && (known && (fate.accepts() && !ended))) && 0 < asked))
 }
 
 impl Asks for Pings {
@@ -278,13 +212,13 @@ impl Asks for Pings {
     }
 
     #[inline(always)]
-    fn count(&self, places: &mut u32, at: Place3, decided: u32, fate: Fate, event: NoteRef<'_>) {
+    fn count<E: Taken>(&self, places: &mut u32, at: Place3, decided: u32, fate: Fate, event: &E) {
         let here = is_put_to_test(
             self.role,
             fate,
             decided == at.position,
             self.ended,
-            event,
+            event.is_rest(),
             self.asked,
         );
         *places = places_after(here, *places, at.position);
@@ -294,8 +228,6 @@ impl Asks for Pings {
         *places
     }
 }
-
-impl AsksBare for Pings {}
 
 impl Discerning for Pings {
     fn leaves_out(&self) {}

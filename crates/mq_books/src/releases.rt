@@ -1,18 +1,22 @@
 //! Releases of QoS 2 messages for onward delivery (MQTT 5.0, section 4.3.3).
 ghost use Rattle.std.specs.Prelude.{refl};
-ghost use Rattle.std.specs.Prelude.{◌≡◌, ◌+◌, ◌*◌, ℕ, Bool, ◌||◌, ◌&&◌, not, OnOk, [], Some};
+ghost use Rattle.std.specs.Prelude.{◌≡◌, ◌∷◌, ◌+◌, ◌*◌, ℕ, Bool, ◌||◌, ◌&&◌, not, List, Option, OnOk, OnErr, [], Some};
+ghost use Rattle.mq_rules.specs.declared.role.Tested.{Tested as TheTested};
+ghost use Rattle.mq_rules.specs.declared.fate.Fate.{Fate as TheFate};
 ghost use Rattle.mq_rules.specs.declared.fate.Fate.TheVariants.{Void};
+ghost use Rattle.mq_rules.specs.declared.note.Seen.{Seen};
 ghost use Rattle.mq_rules.specs.declared.rule.Rule.TheVariants.{L1, L2, L3};
 ghost use Rattle.mq_rules.specs.Connections.{accepts};
 ghost use Rattle.mq_rules.specs.Notes.{is_open};
 ghost use Rattle.mq_rules.specs.Rules.{same_rule};
-ghost use Rattle.mq_rules.specs.Under.{IsKnown, turns_known};
+ghost use Rattle.mq_rules.specs.Under.{seen, IsUnder, fate_before, turns_with};
+ghost use Rattle.mq_rules.specs.Growing.{Gains, GainsWithin};
 ghost use Rattle.mq_books.specs.Burden.{brought_ids, released_ids};
 ghost use Rattle.mq_books.specs.Weights.{releases_weighs};
 ghost use Rattle.mq_books.specs.Releasing as keeping;
 ghost use Rattle.mq_books.specs.Releasing.{IsReleasing, has_id};
 ghost use Rattle.mq_books.specs.Concerns.{concerns_releases};
-ghost use Rattle.mq_rules.specs.Notes.{note_of_bare};
+ghost use Rattle.mq_rules.specs.Notes.{note_in, note_of_bare};
 ghost use Rattle.mq_books.specs.Selecting as selecting;
 
 mod asking;
@@ -22,11 +26,12 @@ use crate::fated::Fated;
 use crate::known::{is_placed, judge_by, place};
 use crate::messages::is_acknowledged;
 use crate::selective::Selective;
+use crate::taken::Taken;
 pub use asking::ReleasePlaces;
 use mq_log::{Direction, Place3};
 use mq_rules::{
-    Bare, BareFields, CountedByIdentifier, Fate, Faults, ItemNote, Memory, Note, PacketFields,
-    Role, Rule, Tested, Watch,
+    Bare, BareFields, CountedByIdentifier, Fate, Faults, ItemNote, Memory, Note, NoteRef, Noted,
+    PacketFields, Role, Rule, Tested,
 };
 use std::alloc::Global;
 
@@ -178,7 +183,7 @@ fn is_unreleased(
 impl Releases {
     /// No message was received, and none was released.
     pub fn new(alloc: Global, tested: Tested) -> Self
-        ensures { ⟦<Releases as Watch>⟧.agrees result tested (Some Void) [] }
+        ensures { ⟦<Releases as Fated>⟧.agrees result tested (Some Void) [] }
     {
         Releases {
             role: tested.role,
@@ -192,21 +197,34 @@ impl Releases {
     }
 }
 
-impl Watch for Releases {
+impl Fated for Releases {
     ghost agrees = { λ s tested taken past. IsReleasing s.role s.releases s.fate s.has_accepted (has_id s.brought) (has_id s.released) (has_id s.due) tested taken past };
 
-    ghost takes = { IsKnown };
-
-    ghost adds = { λ tested e past k r. ((same_rule r L1 || same_rule r L2) || same_rule r L3) && turns_known tested e past k r };
+    ghost judges = { λ r. (same_rule r L1 || same_rule r L2) || same_rule r L3 };
 
     ghost weighs = { releases_weighs };
 
     ghost bound = { λ tested taken past. 2 * brought_ids tested.role taken past + released_ids tested.role taken past };
 
-    fn step(&mut self, at: Place3, note: &Note, faults: &mut Faults) -> Result<(), Memory> {
-        let fate = self.fate;
-        self.fated(at, at.position, fate, note, faults)?;
-        Ok(())
+    #[inline(always)]
+    fn fated<E: Taken>(
+        &mut self,
+        at: Place3,
+        decided: u32,
+        fate: Fate,
+        event: &E,
+        faults: &mut Faults,
+    ) -> Result<(), Memory> {
+        match event.as_ref() {
+            NoteRef::Kept(note) => self.take_noted(at, decided, fate, note, faults),
+            NoteRef::Bare(bare) => {
+                if decided == at.position {
+                    self.take_bare(at, bare, faults)?;
+                    return Ok(());
+                }
+                self.take_late(at, decided, fate, bare, faults)
+            }
+        }
     }
 
     // All three sets of the struct.
@@ -218,17 +236,20 @@ impl Watch for Releases {
     }
 }
 
-impl Fated for Releases {
-    ghost judges = { λ r. (same_rule r L1 || same_rule r L2) || same_rule r L3 };
-
-    fn fated(
+impl Releases {
+    // Takes in an event by its note.
+    fn take_noted(
         &mut self,
         at: Place3,
         decided: u32,
         fate: Fate,
         note: &Note,
         faults: &mut Faults,
-    ) -> Result<(), Memory> {
+    ) -> Result<(), Memory>
+        ensures agrees { OnOk result ((tested : TheTested) (past : List Seen) → IsUnder tested fate decided (seen at note.now) past → ⟦<Releases as Fated>⟧.agrees self.old tested (fate_before tested fate (seen at note.now) past) past → ⟦<Releases as Fated>⟧.agrees self.new tested (Some fate) (seen at note.now ∷ past)) }
+        ensures grows { OnOk result ((tested : TheTested) (past : List Seen) → IsUnder tested fate decided (seen at note.now) past → ⟦<Releases as Fated>⟧.agrees self.old tested (fate_before tested fate (seen at note.now) past) past → Gains (λ k r. ⟦<Releases as Fated>⟧.judges r && turns_with tested fate (seen at note.now) past k r) tested (seen at note.now ∷ past) decided faults.old faults.new) }
+        ensures memory { OnErr result ((tested : TheTested) (past : List Seen) → IsUnder tested fate decided (seen at note.now) past → ⟦<Releases as Fated>⟧.agrees self.old tested (fate_before tested fate (seen at note.now) past) past → GainsWithin (λ k r. ⟦<Releases as Fated>⟧.judges r && turns_with tested fate (seen at note.now) past k r) tested (seen at note.now ∷ past) decided faults.old faults.new) }
+    {
         let placed = is_placed(fate, decided == at.position);
         let unreceived = place(placed, is_unreceived(self.releases, note, &self.brought));
         let repeated = place(placed, is_repeated(self.releases, note, &self.released));
@@ -252,9 +273,23 @@ impl Fated for Releases {
         Ok(())
     }
 
-    ghost known_taken = { λ tested taken e past known. known };
-
-    ghost known_adds = { λ tested e past k r. refl };
+    // Takes in a packet without properties that was held, by a note. None is held in this form.
+    #[inline(never)]
+    fn take_late(
+        &mut self,
+        at: Place3,
+        decided: u32,
+        fate: Fate,
+        bare: Bare<'_>,
+        faults: &mut Faults,
+    ) -> Result<(), Memory>
+        ensures agrees { OnOk result ((tested : TheTested) (past : List Seen) → IsUnder tested fate decided (seen at (note_of_bare bare.entry)) past → ⟦<Releases as Fated>⟧.agrees self.old tested (fate_before tested fate (seen at (note_of_bare bare.entry)) past) past → ⟦<Releases as Fated>⟧.agrees self.new tested (Some fate) (seen at (note_of_bare bare.entry) ∷ past)) }
+        ensures grows { OnOk result ((tested : TheTested) (past : List Seen) → IsUnder tested fate decided (seen at (note_of_bare bare.entry)) past → ⟦<Releases as Fated>⟧.agrees self.old tested (fate_before tested fate (seen at (note_of_bare bare.entry)) past) past → Gains (λ k r. ⟦<Releases as Fated>⟧.judges r && turns_with tested fate (seen at (note_of_bare bare.entry)) past k r) tested (seen at (note_of_bare bare.entry) ∷ past) decided faults.old faults.new) }
+        ensures memory { OnErr result ((tested : TheTested) (past : List Seen) → IsUnder tested fate decided (seen at (note_of_bare bare.entry)) past → ⟦<Releases as Fated>⟧.agrees self.old tested (fate_before tested fate (seen at (note_of_bare bare.entry)) past) past → GainsWithin (λ k r. ⟦<Releases as Fated>⟧.judges r && turns_with tested fate (seen at (note_of_bare bare.entry)) past k r) tested (seen at (note_of_bare bare.entry) ∷ past) decided faults.old faults.new) }
+    {
+        let note = bare.note();
+        self.take_noted(at, decided, fate, &note, faults)
+    }
 }
 
 impl Selective for Releases {
@@ -263,19 +298,14 @@ impl Selective for Releases {
     fn passes(&self) {}
 
     #[inline(always)]
-    fn may_concern(&self, note: &Note) -> bool {
-        may_concern_releases(note)
-    }
-
-    #[inline(always)]
-    fn may_concern_bare(&self, bare: Bare<'_>) -> bool {
-        bare_may_concern_releases(bare)
+    fn may_concern<E: Taken>(&self, event: &E) -> bool {
+        event.may_concern_releases()
     }
 }
 
-// Whether an event may have to do with a QoS 2 message that is received.
+/// Whether an event, by its note, may have to do with a QoS 2 message that is received.
 #[inline(always)]
-fn may_concern_releases(note: &Note) -> bool
+pub fn note_may_concern_releases(note: &Note) -> bool
     ensures { result ≡ selecting.may_concern_releases note.now }
 {
     match note {
@@ -293,10 +323,10 @@ fn may_concern_releases(note: &Note) -> bool
     }
 }
 
-// Whether a packet without properties may have to do with a QoS 2 message that is received.
+/// Whether a packet without properties may have to do with a QoS 2 message that is received.
 #[inline(always)]
 #[tactic(auto, unfolding(mq_rules::specs::Notes::note_of_bare))]
-fn bare_may_concern_releases(bare: Bare<'_>) -> bool
+pub fn bare_may_concern_releases(bare: Bare<'_>) -> bool
     ensures { result ≡ selecting.may_concern_releases (note_of_bare bare.entry) }
 {
     match bare.direction {

@@ -2,24 +2,21 @@
 //! 3.8.4 and 3.10.4).
 ghost use Rattle.std.specs.Prelude.{◌≡◌, cond, [], Some};
 ghost use Rattle.mq_rules.specs.declared.fate.Fate.TheVariants.{Void};
-ghost use Rattle.mq_rules.specs.Under.{turns_known};
-ghost use Rattle.mq_books.specs.Grouping.{of_requests, by_requests, on_requests, requests_add};
-ghost use Rattle.mq_rules.specs.Notes.{note_of_bare};
+ghost use Rattle.mq_books.specs.Grouping.{of_requests, on_requests};
+ghost use Rattle.mq_rules.specs.Notes.{note_in, note_of_bare};
 ghost use Rattle.mq_books.specs.Holding.{number_in};
 ghost use Rattle.mq_books.specs.Requesting.{binds_requests, AgreesIfBound, CountsIfBound};
 ghost use Rattle.mq_books.specs.Selecting as selecting;
 
-use crate::counting::{Asks, AsksBare};
+use crate::counting::Asks;
 use crate::debts::Debts;
 use crate::exchange::{E5, E6};
 use crate::fated::Fated;
 use crate::owed::OwedPlaces;
 use crate::selective::{Discerning, Selective};
+use crate::taken::Taken;
 use mq_log::Place3;
-use mq_rules::{
-    Bare, Both, Brisk, Fate, Faults, ItemNote, Memory, Note, NoteRef, PacketFields, Rule, Tested,
-    Watch,
-};
+use mq_rules::{Bare, Both, Fate, Faults, ItemNote, Memory, Note, PacketFields, Rule, Tested};
 use std::alloc::Global;
 
 /// Watches what a server owes for each SUBSCRIBE and UNSUBSCRIBE: E5A to E6R. They bind no client:
@@ -41,7 +38,7 @@ impl Drop for Requests {
 impl Requests {
     /// Nothing was received or sent.
     pub fn new(alloc: Global, tested: Tested) -> Self
-        ensures { ⟦<Requests as Watch>⟧.agrees result tested (Some Void) [] }
+        ensures { ⟦<Requests as Fated>⟧.agrees result tested (Some Void) [] }
     {
         if !Rule::E5R.binds(tested.role) {
             return Requests { watchers: None };
@@ -52,23 +49,27 @@ impl Requests {
     }
 }
 
-impl Watch for Requests {
-    ghost agrees = { λ s. AgreesIfBound ⟦<Both<Debts<E5>, Debts<E6>> as Watch>⟧.agrees s.watchers };
+impl Fated for Requests {
+    ghost agrees = { λ s. AgreesIfBound ⟦<Both<Debts<E5>, Debts<E6>> as Fated>⟧.agrees s.watchers };
 
-    ghost takes = { ⟦<Both<Debts<E5>, Debts<E6>> as Watch>⟧.takes };
+    ghost judges = { of_requests };
 
-    ghost adds = { λ tested e past k r. by_requests r (turns_known tested e past k r) };
+    ghost weighs = { λ s. number_in ⟦<Both<Debts<E5>, Debts<E6>> as Fated>⟧.weighs s.watchers };
 
-    ghost weighs = { λ s. number_in ⟦<Both<Debts<E5>, Debts<E6>> as Watch>⟧.weighs s.watchers };
+    ghost bound = { λ tested taken past. cond (binds_requests tested.role) (⟦<Both<Debts<E5>, Debts<E6>> as Fated>⟧.bound tested taken past) 0 };
 
-    ghost bound = { λ tested taken past. cond (binds_requests tested.role) (⟦<Both<Debts<E5>, Debts<E6>> as Watch>⟧.bound tested taken past) 0 };
-
-    fn step(&mut self, at: Place3, note: &Note, faults: &mut Faults) -> Result<(), Memory> {
+    fn fated<E: Taken>(
+        &mut self,
+        at: Place3,
+        decided: u32,
+        fate: Fate,
+        event: &E,
+        faults: &mut Faults,
+    ) -> Result<(), Memory> {
         let Some(watchers) = &mut self.watchers else {
             return Ok(());
         };
-        watchers.step(at, note, faults)?;
-        Ok(())
+        watchers.fated(at, decided, fate, event, faults)
     }
 
     fn weight(&self) -> usize {
@@ -76,43 +77,6 @@ impl Watch for Requests {
             Some(watchers) => watchers.weight(),
             None => 0,
         }
-    }
-}
-
-impl Fated for Requests {
-    ghost judges = { of_requests };
-
-    fn fated(
-        &mut self,
-        at: Place3,
-        decided: u32,
-        fate: Fate,
-        note: &Note,
-        faults: &mut Faults,
-    ) -> Result<(), Memory> {
-        let Some(watchers) = &mut self.watchers else {
-            return Ok(());
-        };
-        watchers.fated(at, decided, fate, note, faults)?;
-        Ok(())
-    }
-
-    ghost known_taken = { λ tested taken e past known. ((known, known), (known, known)) };
-
-    ghost known_adds = { λ tested e past k r. requests_add r (turns_known tested e past k r) };
-}
-
-impl Brisk for Requests {
-    // None concerns requests.
-    #[inline(always)]
-    fn step_bare(
-        &mut self,
-        _at: Place3,
-        _bare: Bare<'_>,
-        _faults: &mut Faults,
-    ) -> Result<(), Memory> {
-        self.passes();
-        Ok(())
     }
 }
 
@@ -127,19 +91,14 @@ impl Selective for Requests {
     }
 
     #[inline(always)]
-    fn may_concern(&self, note: &Note) -> bool {
-        may_concern_requests(note)
-    }
-
-    #[inline(always)]
-    fn may_concern_bare(&self, bare: Bare<'_>) -> bool {
-        bare_may_concern_requests(bare)
+    fn may_concern<E: Taken>(&self, event: &E) -> bool {
+        event.may_concern_requests()
     }
 }
 
-// Whether an event may have to do with a SUBSCRIBE, an UNSUBSCRIBE or its answer.
+/// Whether an event, by its note, may have to do with a SUBSCRIBE, an UNSUBSCRIBE or its answer.
 #[inline(always)]
-fn may_concern_requests(note: &Note) -> bool
+pub fn note_may_concern_requests(note: &Note) -> bool
     ensures { result ≡ selecting.may_concern_requests note.now }
 {
     match note {
@@ -176,10 +135,10 @@ fn asks_by_request(fields: &PacketFields) -> bool
     )
 }
 
-// Whether a packet without properties may have to do with requests: none does.
+/// Whether a packet without properties may have to do with requests: none does.
 #[inline(always)]
 #[tactic(auto, unfolding(mq_rules::specs::Notes::note_of_bare))]
-fn bare_may_concern_requests(bare: Bare<'_>) -> bool
+pub fn bare_may_concern_requests(bare: Bare<'_>) -> bool
     ensures { result ≡ selecting.may_concern_requests (note_of_bare bare.entry) }
 {
     let _ = bare;
@@ -207,13 +166,13 @@ impl Asks for Requests {
     }
 
     #[inline(always)]
-    fn count(
+    fn count<E: Taken>(
         &self,
         places: &mut RequestPlaces,
         at: Place3,
         decided: u32,
         fate: Fate,
-        event: NoteRef<'_>,
+        event: &E,
     ) {
         if let Some(watchers) = &self.watchers {
             watchers.count(places, at, decided, fate, event);
@@ -224,8 +183,6 @@ impl Asks for Requests {
         <Both<Debts<E5>, Debts<E6>>>::places_of(places, rule)
     }
 }
-
-impl AsksBare for Requests {}
 
 impl Discerning for Requests {
     fn leaves_out(&self) {

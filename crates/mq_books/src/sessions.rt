@@ -1,10 +1,9 @@
 //! All statements on sessions.
 ghost use Rattle.std.specs.Prelude.{◌≡◌, [], Some};
 ghost use Rattle.mq_rules.specs.declared.fate.Fate.TheVariants.{Void};
-ghost use Rattle.mq_rules.specs.Under.{turns_known};
-ghost use Rattle.mq_books.specs.Grouping.{of_sessions, on_sessions as on_each, by_sessions, sessions_add};
+ghost use Rattle.mq_books.specs.Grouping.{of_sessions, on_sessions as on_each};
 
-use crate::counting::{Asks, AsksBare};
+use crate::counting::Asks;
 use crate::fated::Fated;
 use crate::inflight::Inflight;
 use crate::messages::Messages;
@@ -14,8 +13,9 @@ use crate::releases::Releases;
 use crate::requests::Requests;
 use crate::selective::Selecting;
 use crate::subs_all::Subs;
+use crate::taken::Taken;
 use mq_log::Place3;
-use mq_rules::{Bare, Both, Brisk, Fate, Faults, Memory, Note, NoteRef, Rule, Tested, Watch};
+use mq_rules::{Both, Fate, Faults, Memory, Rule, Tested};
 use std::alloc::Global;
 
 /// What is sent under Packet Identifiers, within the send quota, and in answer to pings.
@@ -50,7 +50,7 @@ impl Drop for Sessions {
 
 // What is sent, before any event.
 fn sending(alloc: Global, tested: Tested) -> Sending
-    ensures { ⟦<Both<Selecting<Inflight>, Both<Selecting<Quota>, Selecting<Pings>>> as Watch>⟧.agrees result tested (Some Void) [] }
+    ensures { ⟦<Both<Selecting<Inflight>, Both<Selecting<Quota>, Selecting<Pings>>> as Fated>⟧.agrees result tested (Some Void) [] }
 {
     Both::new(
         Selecting::new(Inflight::new(alloc, tested)),
@@ -63,7 +63,7 @@ fn sending(alloc: Global, tested: Tested) -> Sending
 
 // The exchanges, before any event.
 fn exchanges(alloc: Global, tested: Tested) -> Exchanges
-    ensures { ⟦<Both<Selecting<Messages>, Selecting<Requests>> as Watch>⟧.agrees result tested (Some Void) [] }
+    ensures { ⟦<Both<Selecting<Messages>, Selecting<Requests>> as Fated>⟧.agrees result tested (Some Void) [] }
 {
     Both::new(
         Selecting::new(Messages::new(alloc, tested)),
@@ -73,7 +73,7 @@ fn exchanges(alloc: Global, tested: Tested) -> Exchanges
 
 // What is delivered, before any event.
 fn delivering(alloc: Global, tested: Tested) -> Delivering
-    ensures { ⟦<Both<Selecting<Releases>, Selecting<Subs>> as Watch>⟧.agrees result tested (Some Void) [] }
+    ensures { ⟦<Both<Selecting<Releases>, Selecting<Subs>> as Fated>⟧.agrees result tested (Some Void) [] }
 {
     Both::new(
         Selecting::new(Releases::new(alloc, tested)),
@@ -84,7 +84,7 @@ fn delivering(alloc: Global, tested: Tested) -> Delivering
 impl Sessions {
     /// Nothing was received or sent.
     pub fn new(alloc: Global, tested: Tested) -> Self
-        ensures { ⟦<Sessions as Watch>⟧.agrees result tested (Some Void) [] }
+        ensures { ⟦<Sessions as Fated>⟧.agrees result tested (Some Void) [] }
     {
         Sessions {
             watchers: Both::new(
@@ -95,51 +95,29 @@ impl Sessions {
     }
 }
 
-impl Watch for Sessions {
-    ghost agrees = { λ s. ⟦<Both<Both<Selecting<Inflight>, Both<Selecting<Quota>, Selecting<Pings>>>, Both<Both<Selecting<Messages>, Selecting<Requests>>, Both<Selecting<Releases>, Selecting<Subs>>>> as Watch>⟧.agrees s.watchers };
-
-    ghost takes = { ⟦<Both<Both<Selecting<Inflight>, Both<Selecting<Quota>, Selecting<Pings>>>, Both<Both<Selecting<Messages>, Selecting<Requests>>, Both<Selecting<Releases>, Selecting<Subs>>>> as Watch>⟧.takes };
-
-    ghost adds = { λ tested e past k r. by_sessions r (turns_known tested e past k r) };
-
-    ghost weighs = { λ s. ⟦<Both<Both<Selecting<Inflight>, Both<Selecting<Quota>, Selecting<Pings>>>, Both<Both<Selecting<Messages>, Selecting<Requests>>, Both<Selecting<Releases>, Selecting<Subs>>>> as Watch>⟧.weighs s.watchers };
-
-    ghost bound = { ⟦<Both<Both<Selecting<Inflight>, Both<Selecting<Quota>, Selecting<Pings>>>, Both<Both<Selecting<Messages>, Selecting<Requests>>, Both<Selecting<Releases>, Selecting<Subs>>>> as Watch>⟧.bound };
-
-    fn step(&mut self, at: Place3, note: &Note, faults: &mut Faults) -> Result<(), Memory> {
-        self.watchers.step(at, note, faults)?;
-        Ok(())
-    }
-
-    fn weight(&self) -> usize {
-        self.watchers.weight()
-    }
-}
-
 impl Fated for Sessions {
+    ghost agrees = { λ s. ⟦<Both<Both<Selecting<Inflight>, Both<Selecting<Quota>, Selecting<Pings>>>, Both<Both<Selecting<Messages>, Selecting<Requests>>, Both<Selecting<Releases>, Selecting<Subs>>>> as Fated>⟧.agrees s.watchers };
+
     ghost judges = { of_sessions };
 
-    fn fated(
+    ghost weighs = { λ s. ⟦<Both<Both<Selecting<Inflight>, Both<Selecting<Quota>, Selecting<Pings>>>, Both<Both<Selecting<Messages>, Selecting<Requests>>, Both<Selecting<Releases>, Selecting<Subs>>>> as Fated>⟧.weighs s.watchers };
+
+    ghost bound = { ⟦<Both<Both<Selecting<Inflight>, Both<Selecting<Quota>, Selecting<Pings>>>, Both<Both<Selecting<Messages>, Selecting<Requests>>, Both<Selecting<Releases>, Selecting<Subs>>>> as Fated>⟧.bound };
+
+    #[inline(always)]
+    fn fated<E: Taken>(
         &mut self,
         at: Place3,
         decided: u32,
         fate: Fate,
-        note: &Note,
+        event: &E,
         faults: &mut Faults,
     ) -> Result<(), Memory> {
-        self.watchers.fated(at, decided, fate, note, faults)?;
-        Ok(())
+        self.watchers.fated(at, decided, fate, event, faults)
     }
 
-    ghost known_taken = { λ tested taken e past known. ((known, (known, known)), ((known, known), (known, known))) };
-
-    ghost known_adds = { λ tested e past k r. sessions_add r (turns_known tested e past k r) };
-}
-
-impl Brisk for Sessions {
-    #[inline(always)]
-    fn step_bare(&mut self, at: Place3, bare: Bare<'_>, faults: &mut Faults) -> Result<(), Memory> {
-        self.watchers.step_bare(at, bare, faults)
+    fn weight(&self) -> usize {
+        self.watchers.weight()
     }
 }
 
@@ -163,35 +141,33 @@ impl Asks for Sessions {
     }
 
     #[inline(always)]
-    fn count(
+    fn count<E: Taken>(
         &self,
         places: &mut SessionPlaces,
         at: Place3,
         decided: u32,
         fate: Fate,
-        event: NoteRef<'_>,
+        event: &E,
     ) {
         self.watchers
             .count(&mut places.parts, at, decided, fate, event);
     }
 
-    fn places_of(places: &SessionPlaces, rule: Rule) -> u32 {
-        <Both<Sending, Both<Exchanges, Delivering>>>::places_of(&places.parts, rule)
-    }
-}
-
-impl AsksBare for Sessions {
     #[inline(always)]
-    fn count_and_step(
+    fn count_and_take<E: Taken>(
         &mut self,
         places: &mut SessionPlaces,
         at: Place3,
+        decided: u32,
         fate: Fate,
-        bare: Bare<'_>,
+        event: &E,
         faults: &mut Faults,
     ) -> Result<(), Memory> {
         self.watchers
-            .count_and_step(&mut places.parts, at, fate, bare, faults)?;
-        Ok(())
+            .count_and_take(&mut places.parts, at, decided, fate, event, faults)
+    }
+
+    fn places_of(places: &SessionPlaces, rule: Rule) -> u32 {
+        <Both<Sending, Both<Exchanges, Delivering>>>::places_of(&places.parts, rule)
     }
 }

@@ -16,7 +16,7 @@ ghost use Rattle.mq_rules.specs.Notes.{received_subscription, qos_number as numb
 ghost use Rattle.mq_rules.specs.Connections.{accepts, latest_fate};
 ghost use Rattle.mq_rules.specs.Subscriptions.{is_shared as begins_shared};
 ghost use Rattle.mq_rules.specs.Rules.{same_rule, binds as is_bound};
-ghost use Rattle.mq_rules.specs.Under.{seen, Follows, IsKnown, turns_known};
+ghost use Rattle.mq_rules.specs.Under.{seen, Follows, IsKnown, IsUnder, fate_before, turns_known, turns_with};
 ghost use Rattle.mq_rules.specs.Growing.{Gains, GainsWithin};
 ghost use Rattle.mq_filters.specs.Standings.{has_ceiling};
 ghost use Rattle.mq_books.specs.Burden.{standing_count, asked_filters, aliased_ids};
@@ -31,14 +31,15 @@ use crate::filters::{Filters, goes_on};
 use crate::known::judge_by;
 use crate::selective::Selective;
 use crate::sizes::map_size;
+use crate::taken::Taken;
 pub use asking::DeliveryPlaces;
 use indexmap::IndexMap;
 use mq_filters::is_within;
 use mq_log::{Direction, Place3};
 use mq_packet::Qos;
 use mq_rules::{
-    Bare, BareFields, Brisk, Fate, Faults, Memory, Note, NotedFilter, PacketFields, PublishNote,
-    Rule, Tested, Text, Watch, qos_number,
+    Bare, BareFields, Fate, Faults, Memory, Note, NoteRef, Noted, NotedFilter, PacketFields,
+    PublishNote, Rule, Tested, Text, qos_number,
 };
 use std::alloc::Global;
 
@@ -311,7 +312,7 @@ pub struct Deliveries {
 impl Deliveries {
     /// No filter stands.
     pub fn new(alloc: Global, tested: Tested) -> Self
-        ensures { ⟦<Deliveries as Watch>⟧.agrees result tested (Some Void) [] }
+        ensures { ⟦<Deliveries as Fated>⟧.agrees result tested (Some Void) [] }
     {
         Deliveries {
             alloc,
@@ -332,21 +333,34 @@ impl Deliveries {
     }
 }
 
-impl Watch for Deliveries {
+impl Fated for Deliveries {
     ghost agrees = { λ s tested taken past. (s.bound ≡ is_bound B01 tested) × IsStanding s.fate s.filters.settled s.filters.waiting s.sharing (get nat_eq s.topics) tested taken past };
 
-    ghost takes = { IsKnown };
-
-    ghost adds = { λ tested e past k r. (same_rule r B01 || same_rule r B02) && turns_known tested e past k r };
+    ghost judges = { λ r. same_rule r B01 || same_rule r B02 };
 
     ghost weighs = { deliveries_weigh };
 
     ghost bound = { λ tested taken past. 3 * standing_count tested.role taken past + 2 * asked_filters past + aliased_ids past };
 
-    fn step(&mut self, at: Place3, note: &Note, faults: &mut Faults) -> Result<(), Memory> {
-        let fate = self.fate;
-        self.fated(at, at.position, fate, note, faults)?;
-        Ok(())
+    #[inline(always)]
+    fn fated<E: Taken>(
+        &mut self,
+        at: Place3,
+        decided: u32,
+        fate: Fate,
+        event: &E,
+        faults: &mut Faults,
+    ) -> Result<(), Memory> {
+        match event.as_ref() {
+            NoteRef::Kept(note) => self.take_noted(at, decided, fate, note, faults),
+            NoteRef::Bare(bare) => {
+                if decided == at.position {
+                    self.take_bare(at, bare, faults)?;
+                    return Ok(());
+                }
+                self.take_late(at, decided, fate, bare, faults)
+            }
+        }
     }
 
     // Both maps of the struct, and all that is kept of filters.
@@ -355,17 +369,20 @@ impl Watch for Deliveries {
     }
 }
 
-impl Fated for Deliveries {
-    ghost judges = { λ r. same_rule r B01 || same_rule r B02 };
-
-    fn fated(
+impl Deliveries {
+    // Takes in an event by its note.
+    fn take_noted(
         &mut self,
         at: Place3,
         decided: u32,
         fate: Fate,
         note: &Note,
         faults: &mut Faults,
-    ) -> Result<(), Memory> {
+    ) -> Result<(), Memory>
+        ensures agrees { OnOk result ((tested : TheTested) (past : List Seen) → IsUnder tested fate decided (seen at note.now) past → ⟦<Deliveries as Fated>⟧.agrees self.old tested (fate_before tested fate (seen at note.now) past) past → ⟦<Deliveries as Fated>⟧.agrees self.new tested (Some fate) (seen at note.now ∷ past)) }
+        ensures grows { OnOk result ((tested : TheTested) (past : List Seen) → IsUnder tested fate decided (seen at note.now) past → ⟦<Deliveries as Fated>⟧.agrees self.old tested (fate_before tested fate (seen at note.now) past) past → Gains (λ k r. ⟦<Deliveries as Fated>⟧.judges r && turns_with tested fate (seen at note.now) past k r) tested (seen at note.now ∷ past) decided faults.old faults.new) }
+        ensures memory { OnErr result ((tested : TheTested) (past : List Seen) → IsUnder tested fate decided (seen at note.now) past → ⟦<Deliveries as Fated>⟧.agrees self.old tested (fate_before tested fate (seen at note.now) past) past → GainsWithin (λ k r. ⟦<Deliveries as Fated>⟧.judges r && turns_with tested fate (seen at note.now) past k r) tested (seen at note.now ∷ past) decided faults.old faults.new) }
+    {
         let alloc = self.alloc;
         let binds = is_judged(self.bound, fate);
         let broken = judge_event(
@@ -385,9 +402,23 @@ impl Fated for Deliveries {
         Ok(())
     }
 
-    ghost known_taken = { λ tested taken e past known. known };
-
-    ghost known_adds = { λ tested e past k r. refl };
+    // Takes in a packet without properties that was held, by a note. None is held in this form.
+    #[inline(never)]
+    fn take_late(
+        &mut self,
+        at: Place3,
+        decided: u32,
+        fate: Fate,
+        bare: Bare<'_>,
+        faults: &mut Faults,
+    ) -> Result<(), Memory>
+        ensures agrees { OnOk result ((tested : TheTested) (past : List Seen) → IsUnder tested fate decided (seen at (note_of_bare bare.entry)) past → ⟦<Deliveries as Fated>⟧.agrees self.old tested (fate_before tested fate (seen at (note_of_bare bare.entry)) past) past → ⟦<Deliveries as Fated>⟧.agrees self.new tested (Some fate) (seen at (note_of_bare bare.entry) ∷ past)) }
+        ensures grows { OnOk result ((tested : TheTested) (past : List Seen) → IsUnder tested fate decided (seen at (note_of_bare bare.entry)) past → ⟦<Deliveries as Fated>⟧.agrees self.old tested (fate_before tested fate (seen at (note_of_bare bare.entry)) past) past → Gains (λ k r. ⟦<Deliveries as Fated>⟧.judges r && turns_with tested fate (seen at (note_of_bare bare.entry)) past k r) tested (seen at (note_of_bare bare.entry) ∷ past) decided faults.old faults.new) }
+        ensures memory { OnErr result ((tested : TheTested) (past : List Seen) → IsUnder tested fate decided (seen at (note_of_bare bare.entry)) past → ⟦<Deliveries as Fated>⟧.agrees self.old tested (fate_before tested fate (seen at (note_of_bare bare.entry)) past) past → GainsWithin (λ k r. ⟦<Deliveries as Fated>⟧.judges r && turns_with tested fate (seen at (note_of_bare bare.entry)) past k r) tested (seen at (note_of_bare bare.entry) ∷ past) decided faults.old faults.new) }
+    {
+        let note = bare.note();
+        self.take_noted(at, decided, fate, &note, faults)
+    }
 }
 
 impl Deliveries {
@@ -399,9 +430,9 @@ impl Deliveries {
         delivery: Delivery<'_>,
         faults: &mut Faults,
     ) -> Result<(), Memory>
-        ensures agrees { OnOk result ((n : TheNote) (tested : TheTested) (taken : Option TheFate) (past : List Seen) → IsDelivery n delivery.entry.topic.now delivery.entry.qos delivery.entry.duplicate → Follows tested (seen at n) past → IsKnown tested taken (seen at n) past → ⟦<Deliveries as Watch>⟧.agrees self.old tested taken past → ⟦<Deliveries as Watch>⟧.agrees self.new tested (latest_fate tested.role (seen at n ∷ past)) (seen at n ∷ past)) }
-        ensures grows { OnOk result ((n : TheNote) (tested : TheTested) (taken : Option TheFate) (past : List Seen) → IsDelivery n delivery.entry.topic.now delivery.entry.qos delivery.entry.duplicate → Follows tested (seen at n) past → IsKnown tested taken (seen at n) past → ⟦<Deliveries as Watch>⟧.agrees self.old tested taken past → Gains (⟦<Deliveries as Watch>⟧.adds tested (seen at n) past) tested (seen at n ∷ past) (length past + 1) faults.old faults.new) }
-        ensures memory { OnErr result ((n : TheNote) (tested : TheTested) (taken : Option TheFate) (past : List Seen) → IsDelivery n delivery.entry.topic.now delivery.entry.qos delivery.entry.duplicate → Follows tested (seen at n) past → IsKnown tested taken (seen at n) past → ⟦<Deliveries as Watch>⟧.agrees self.old tested taken past → GainsWithin (⟦<Deliveries as Watch>⟧.adds tested (seen at n) past) tested (seen at n ∷ past) (length past + 1) faults.old faults.new) }
+        ensures agrees { OnOk result ((n : TheNote) (tested : TheTested) (taken : Option TheFate) (past : List Seen) → IsDelivery n delivery.entry.topic.now delivery.entry.qos delivery.entry.duplicate → Follows tested (seen at n) past → IsKnown tested taken (seen at n) past → ⟦<Deliveries as Fated>⟧.agrees self.old tested taken past → ⟦<Deliveries as Fated>⟧.agrees self.new tested (latest_fate tested.role (seen at n ∷ past)) (seen at n ∷ past)) }
+        ensures grows { OnOk result ((n : TheNote) (tested : TheTested) (taken : Option TheFate) (past : List Seen) → IsDelivery n delivery.entry.topic.now delivery.entry.qos delivery.entry.duplicate → Follows tested (seen at n) past → IsKnown tested taken (seen at n) past → ⟦<Deliveries as Fated>⟧.agrees self.old tested taken past → Gains (λ k r. ⟦<Deliveries as Fated>⟧.judges r && turns_known tested (seen at n) past k r) tested (seen at n ∷ past) (length past + 1) faults.old faults.new) }
+        ensures memory { OnErr result ((n : TheNote) (tested : TheTested) (taken : Option TheFate) (past : List Seen) → IsDelivery n delivery.entry.topic.now delivery.entry.qos delivery.entry.duplicate → Follows tested (seen at n) past → IsKnown tested taken (seen at n) past → ⟦<Deliveries as Fated>⟧.agrees self.old tested taken past → GainsWithin (λ k r. ⟦<Deliveries as Fated>⟧.judges r && turns_known tested (seen at n) past k r) tested (seen at n ∷ past) (length past + 1) faults.old faults.new) }
     {
         let judged = is_judged(self.bound, self.fate);
         let topic = named_topic(judged, self.sharing, delivery);
@@ -412,9 +443,14 @@ impl Deliveries {
     }
 }
 
-impl Brisk for Deliveries {
+impl Deliveries {
+    // Takes in a packet without properties of a connection that was decided before it.
     #[inline(always)]
-    fn step_bare(&mut self, at: Place3, bare: Bare<'_>, faults: &mut Faults) -> Result<(), Memory> {
+    fn take_bare(&mut self, at: Place3, bare: Bare<'_>, faults: &mut Faults) -> Result<(), Memory>
+        ensures agrees { OnOk result ((tested : TheTested) (taken : Option TheFate) (past : List Seen) → Follows tested (seen at (note_of_bare bare.entry)) past → IsKnown tested taken (seen at (note_of_bare bare.entry)) past → ⟦<Deliveries as Fated>⟧.agrees self.old tested taken past → ⟦<Deliveries as Fated>⟧.agrees self.new tested (latest_fate tested.role (seen at (note_of_bare bare.entry) ∷ past)) (seen at (note_of_bare bare.entry) ∷ past)) }
+        ensures grows { OnOk result ((tested : TheTested) (taken : Option TheFate) (past : List Seen) → Follows tested (seen at (note_of_bare bare.entry)) past → IsKnown tested taken (seen at (note_of_bare bare.entry)) past → ⟦<Deliveries as Fated>⟧.agrees self.old tested taken past → Gains (λ k r. ⟦<Deliveries as Fated>⟧.judges r && turns_known tested (seen at (note_of_bare bare.entry)) past k r) tested (seen at (note_of_bare bare.entry) ∷ past) (length past + 1) faults.old faults.new) }
+        ensures memory { OnErr result ((tested : TheTested) (taken : Option TheFate) (past : List Seen) → Follows tested (seen at (note_of_bare bare.entry)) past → IsKnown tested taken (seen at (note_of_bare bare.entry)) past → ⟦<Deliveries as Fated>⟧.agrees self.old tested taken past → GainsWithin (λ k r. ⟦<Deliveries as Fated>⟧.judges r && turns_known tested (seen at (note_of_bare bare.entry)) past k r) tested (seen at (note_of_bare bare.entry) ∷ past) (length past + 1) faults.old faults.new) }
+    {
         let Some(delivery) = delivery_of(bare) else {
             self.passes();
             return Ok(());

@@ -22,6 +22,7 @@ mod naming;
 mod note;
 mod note_copy;
 mod note_ref;
+mod noted;
 mod one_pass;
 mod packet_note;
 mod plain;
@@ -48,6 +49,7 @@ pub use manners::{CountingManners, Manners};
 pub use naming::each_statement_is_named;
 pub use note::{ItemNote, Note, Seen};
 pub use note_ref::NoteRef;
+pub use noted::Noted;
 pub use one_pass::plain_connections;
 pub use packet_note::{
     ConnackNote, ConnectNote, DisconnectNote, PacketFields, PacketNote, PublishNote, WillNote,

@@ -1,14 +1,16 @@
 //! A watcher that explains the faults of the statements on sessions.
-ghost use Rattle.std.specs.Prelude.{◌≡◌, ◌∷◌, [], false, refl, List, Some};
+ghost use Rattle.std.specs.Prelude.{◌≡◌, ◌∷◌, ℕ, [], false, List, OnOk, Some};
 ghost use Rattle.mq_rules.specs.declared.role.Tested.{Tested as TheTested};
 ghost use Rattle.mq_rules.specs.declared.fate.Fate.TheVariants.{Void};
-ghost use Rattle.mq_rules.specs.Under.{IsKnown};
+ghost use Rattle.mq_rules.specs.declared.note.Seen.{Seen};
+ghost use Rattle.mq_rules.specs.Notes.{note_of_bare};
+ghost use Rattle.mq_rules.specs.Under.{seen, IsUnder, fate_before};
 ghost use Rattle.mq_evidence.specs.Trailing.{IsExplaining};
 
-use mq_books::Fated;
+use mq_books::{Fated, Taken};
 use mq_evidence::Explaining;
 use mq_log::Place3;
-use mq_rules::{Fate, Faults, Memory, Note, Watch};
+use mq_rules::{Bare, Fate, Faults, Memory, NoteRef, Noted};
 use std::marker::{Brand, PhantomData};
 
 /// Which faults are explained. Each call that reads a log picks them.
@@ -29,7 +31,6 @@ impl Wanted for Brand {
 ///
 /// No code uses `K`. It is there for the proofs: by it `agrees` can say which faults are explained.
 pub struct Reviewing<K> {
-    fate: Fate,
     /// What it has explained.
     pub explaining: Explaining,
     wanted: PhantomData<K>,
@@ -41,7 +42,6 @@ impl<K> Drop for Reviewing<K> {
     #[inline(never)]
     fn drop(self) {
         let Reviewing {
-            fate: _fate,
             explaining,
             wanted: _wanted,
         } = self;
@@ -53,30 +53,52 @@ impl<K: Wanted> Reviewing<K> {
     /// Explains by this, before any event.
     pub fn new(explaining: Explaining) -> Self
         ensures explaining { result.explaining ≡ explaining }
-        ensures agrees { (tested : TheTested) → IsExplaining explaining tested (Some Void) [] → explaining.wanted ≡ K.wanted → ⟦<Reviewing<K> as Watch>⟧.agrees result tested (Some Void) [] }
+        ensures agrees { (tested : TheTested) → IsExplaining explaining tested (Some Void) [] → explaining.wanted ≡ K.wanted → ⟦<Reviewing<K> as Fated>⟧.agrees result tested (Some Void) [] }
     {
         Reviewing {
-            fate: Fate::Void,
             explaining,
             wanted: PhantomData,
         }
     }
 }
 
-impl<K: Wanted> Watch for Reviewing<K> {
-    ghost agrees = { λ s tested taken past. (taken ≡ Some s.fate) × IsExplaining s.explaining tested taken past × (s.explaining.wanted ≡ K.wanted) };
+// Takes in a packet without properties by a note that is made of it.
+#[inline(never)]
+fn take_bare(
+    explaining: &mut Explaining,
+    at: Place3,
+    fate: Fate,
+    bare: Bare<'_>,
+) -> Result<(), Memory>
+    ensures wanted { OnOk result (explaining.new.wanted ≡ explaining.old.wanted) }
+    ensures agrees { OnOk result ((tested : TheTested) (decided : ℕ) (past : List Seen) → IsUnder tested fate decided (seen at (note_of_bare bare.entry)) past → IsExplaining explaining.old tested (fate_before tested fate (seen at (note_of_bare bare.entry)) past) past → IsExplaining explaining.new tested (Some fate) (seen at (note_of_bare bare.entry) ∷ past)) }
+{
+    let note = bare.note();
+    explaining.take(at, fate, &note)?;
+    Ok(())
+}
 
-    ghost takes = { IsKnown };
+impl<K: Wanted> Fated for Reviewing<K> {
+    ghost agrees = { λ s tested taken past. IsExplaining s.explaining tested taken past × (s.explaining.wanted ≡ K.wanted) };
 
-    ghost adds = { λ tested e past k r. false };
+    ghost judges = { λ r. false };
 
     ghost weighs = { λ s. 0 };
 
     ghost bound = { λ tested taken past. 0 };
 
-    fn step(&mut self, at: Place3, note: &Note, faults: &mut Faults) -> Result<(), Memory> {
-        let fate = self.fate;
-        self.fated(at, at.position, fate, note, faults)?;
+    fn fated<E: Taken>(
+        &mut self,
+        at: Place3,
+        _: u32,
+        fate: Fate,
+        event: &E,
+        _: &mut Faults,
+    ) -> Result<(), Memory> {
+        match event.as_ref() {
+            NoteRef::Kept(note) => self.explaining.take(at, fate, note)?,
+            NoteRef::Bare(bare) => take_bare(&mut self.explaining, at, fate, bare)?,
+        }
         Ok(())
     }
 
@@ -84,25 +106,4 @@ impl<K: Wanted> Watch for Reviewing<K> {
     fn weight(&self) -> usize {
         0
     }
-}
-
-impl<K: Wanted> Fated for Reviewing<K> {
-    ghost judges = { λ r. false };
-
-    fn fated(
-        &mut self,
-        at: Place3,
-        _: u32,
-        fate: Fate,
-        note: &Note,
-        _: &mut Faults,
-    ) -> Result<(), Memory> {
-        self.explaining.take(at, fate, note)?;
-        self.fate = fate;
-        Ok(())
-    }
-
-    ghost known_taken = { λ tested taken e past known. known };
-
-    ghost known_adds = { λ tested e past k r. refl };
 }

@@ -25,12 +25,14 @@ use super::entry::Entry;
 use super::moving::opened_by;
 use super::resends::passed_since;
 use super::resuming::{ResumedPlaces, count_moved, count_resumed};
-use crate::counting::{Asks, AsksBare, pick};
+use crate::counting::{Asks, pick};
+use crate::fated::Fated;
 use crate::known::excuse;
 use crate::selective::Discerning;
+use crate::taken::Taken;
 use indexmap::{IndexMap, IndexSet};
 use mq_log::{Direction, Place3};
-use mq_rules::{Bare, BareFields, Brisk, Fate, Faults, Memory, NoteRef, Rule, places_after};
+use mq_rules::{Bare, BareFields, Fate, Faults, Memory, NoteRef, Noted, Rule, places_after};
 
 /// How often S01 to S05 were put to the test.
 #[derive(Drop)]
@@ -230,16 +232,32 @@ impl Asks for Inflight {
     }
 
     #[inline(always)]
-    fn count(
+    fn count<E: Taken>(
         &self,
         places: &mut InflightPlaces,
         at: Place3,
         decided: u32,
         fate: Fate,
-        event: NoteRef<'_>,
+        event: &E,
     ) {
+        let event = event.as_ref();
         count_at_once(self, &mut places.at_once, at, decided, fate, event);
         count_resumed(self, &mut places.resumed, at, decided, fate, event);
+    }
+
+    // A call of its own: inlined it is much.
+    #[inline(never)]
+    fn count_and_take<E: Taken>(
+        &mut self,
+        places: &mut InflightPlaces,
+        at: Place3,
+        decided: u32,
+        fate: Fate,
+        event: &E,
+        faults: &mut Faults,
+    ) -> Result<(), Memory> {
+        self.count_quickly(places, at, decided, fate, event.as_ref());
+        self.fated(at, decided, fate, event, faults)
     }
 
     fn places_of(places: &InflightPlaces, rule: Rule) -> u32 {
@@ -282,10 +300,31 @@ impl Inflight {
     fn count_other(&self, places: &mut InflightPlaces, at: Place3, fate: Fate, bare: Bare<'_>)
         ensures { (tested : TheTested) (past : List TheSeen) → IsUnder tested fate at.position (seen at (note_of_bare bare.entry)) past → IsUsing self.now tested (fate_before tested fate (seen at (note_of_bare bare.entry)) past) past → CountsInflight places.old tested (fate_before tested fate (seen at (note_of_bare bare.entry)) past) past → CountsInflight places.new tested (Some fate) (seen at (note_of_bare bare.entry) ∷ past) }
     {
-        self.count(places, at, at.position, fate, NoteRef::Bare(bare));
+        self.count(places, at, at.position, fate, &bare);
     }
 
-    // Counts a packet without properties.
+    // Counts an event: most are packets without properties.
+    #[inline(always)]
+    fn count_quickly(
+        &self,
+        places: &mut InflightPlaces,
+        at: Place3,
+        decided: u32,
+        fate: Fate,
+        event: NoteRef<'_>,
+    )
+        ensures { (tested : TheTested) (past : List TheSeen) → IsUnder tested fate decided (seen at (note_in event.entry)) past → IsUsing self.now tested (fate_before tested fate (seen at (note_in event.entry)) past) past → CountsInflight places.old tested (fate_before tested fate (seen at (note_in event.entry)) past) past → CountsInflight places.new tested (Some fate) (seen at (note_in event.entry) ∷ past) }
+    {
+        match event {
+            NoteRef::Bare(bare) if decided == at.position => self.count_bare(
+                places, at, fate, bare,
+            ),
+            NoteRef::Bare(bare) => self.count(places, at, decided, fate, &bare),
+            NoteRef::Kept(note) => self.count(places, at, decided, fate, note),
+        }
+    }
+
+    // Counts a packet without properties of a connection that was decided before it.
     #[inline(always)]
     fn count_bare(&self, places: &mut InflightPlaces, at: Place3, fate: Fate, bare: Bare<'_>)
         ensures { (tested : TheTested) (past : List TheSeen) → IsUnder tested fate at.position (seen at (note_of_bare bare.entry)) past → IsUsing self.now tested (fate_before tested fate (seen at (note_of_bare bare.entry)) past) past → CountsInflight places.old tested (fate_before tested fate (seen at (note_of_bare bare.entry)) past) past → CountsInflight places.new tested (Some fate) (seen at (note_of_bare bare.entry) ∷ past) }
@@ -313,21 +352,5 @@ impl Inflight {
                 _ => self.count_other(places, at, fate, bare),
             },
         }
-    }
-}
-
-impl AsksBare for Inflight {
-    #[inline(never)]
-    fn count_and_step(
-        &mut self,
-        places: &mut InflightPlaces,
-        at: Place3,
-        fate: Fate,
-        bare: Bare<'_>,
-        faults: &mut Faults,
-    ) -> Result<(), Memory> {
-        self.count_bare(places, at, fate, bare);
-        self.step_bare(at, bare, faults)?;
-        Ok(())
     }
 }

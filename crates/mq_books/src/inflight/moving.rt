@@ -1,6 +1,6 @@
 //! Packets without properties, taken in by their numbers (MQTT 5.0, sections 2.2.1 and 4.3): a new
 //! PUBLISH, and what acknowledges one.
-ghost use Rattle.std.specs.Prelude.{◌≡◌, ◌<◌, ◌&&◌, ◌||◌, ℕ, List, Option, true, false, not, OnOk, OnErr, IfOk, Some, None, is_some, nat_eq, cond};
+ghost use Rattle.std.specs.Prelude.{◌≡◌, ◌∷◌, ◌+◌, ◌<◌, ◌&&◌, ◌||◌, ℕ, List, Option, true, false, not, OnOk, OnErr, IfOk, Some, None, is_some, length, nat_eq, cond};
 ghost use Rattle.std.specs.Option.{option_or};
 ghost use Rattle.indexmap.specs.IndexMap.{get, IsUnique};
 ghost use Rattle.indexmap.specs.IndexSet.{contains};
@@ -9,8 +9,9 @@ ghost use Rattle.mq_rules.specs.declared.fate.Fate.{Fate as TheFate};
 ghost use Rattle.mq_rules.specs.declared.note.Note.{Note as TheNote};
 ghost use Rattle.mq_rules.specs.declared.note.Seen.{Seen};
 ghost use Rattle.mq_rules.specs.FaultKeys.{FaultMap};
-ghost use Rattle.mq_rules.specs.Connections.{accepts, resumes};
-ghost use Rattle.mq_rules.specs.Under.{seen, Follows, IsKnown};
+ghost use Rattle.mq_rules.specs.Connections.{accepts, latest_fate, resumes};
+ghost use Rattle.mq_rules.specs.Under.{seen, Follows, IsKnown, turns_known};
+ghost use Rattle.mq_rules.specs.Growing.{Gains, GainsWithin};
 ghost use Rattle.mq_rules.specs.Notes.{note_of_bare, refuses, is_acknowledged, is_exactly_once as exactly_once};
 ghost use Rattle.mq_rules.specs.Words.{is_id, is_some_and, only};
 ghost use Rattle.mq_log.specs.declared.kind.Direction.TheVariants as directions;
@@ -22,13 +23,14 @@ use super::broken::is_taken as held;
 use super::entry::{Entry, close, confirm, open_new, release};
 use super::resends::{Resent, keep_confirmed, passed_since as since_now};
 use super::{Inflight, keep_unanswered};
+use crate::fated::Fated;
 use crate::known::judge_by;
 use crate::messages::is_acknowledged as acknowledges;
 use crate::quota::{flown_by, may_count};
 use indexmap::{IndexMap, IndexSet};
 use mq_log::{Direction, Place3};
 use mq_packet::Qos;
-use mq_rules::{Bare, BareFields, Brisk, Fate, Faults, Memory, Rule, step_apart};
+use mq_rules::{Bare, BareFields, Fate, Faults, Memory, Rule};
 
 /// The identifier that a PUBLISH opens: its QoS is above 0, and DUP is 0.
 #[inline(always)]
@@ -241,6 +243,19 @@ impl Inflight {
 }
 
 impl Inflight {
+    // Takes in a packet without properties by a note, in a call of its own.
+    #[inline(never)]
+    fn take_apart(&mut self, at: Place3, bare: Bare<'_>, faults: &mut Faults) -> Result<(), Memory>
+        ensures agrees { OnOk result ((tested : Tested) (taken : Option TheFate) (past : List Seen) → Follows tested (seen at (note_of_bare bare.entry)) past → IsKnown tested taken (seen at (note_of_bare bare.entry)) past → ⟦<Inflight as Fated>⟧.agrees self.old tested taken past → ⟦<Inflight as Fated>⟧.agrees self.new tested (latest_fate tested.role (seen at (note_of_bare bare.entry) ∷ past)) (seen at (note_of_bare bare.entry) ∷ past)) }
+        ensures grows { OnOk result ((tested : Tested) (taken : Option TheFate) (past : List Seen) → Follows tested (seen at (note_of_bare bare.entry)) past → IsKnown tested taken (seen at (note_of_bare bare.entry)) past → ⟦<Inflight as Fated>⟧.agrees self.old tested taken past → Gains (λ k r. ⟦<Inflight as Fated>⟧.judges r && turns_known tested (seen at (note_of_bare bare.entry)) past k r) tested (seen at (note_of_bare bare.entry) ∷ past) (length past + 1) faults.old faults.new) }
+        ensures memory { OnErr result ((tested : Tested) (taken : Option TheFate) (past : List Seen) → Follows tested (seen at (note_of_bare bare.entry)) past → IsKnown tested taken (seen at (note_of_bare bare.entry)) past → ⟦<Inflight as Fated>⟧.agrees self.old tested taken past → GainsWithin (λ k r. ⟦<Inflight as Fated>⟧.judges r && turns_known tested (seen at (note_of_bare bare.entry)) past k r) tested (seen at (note_of_bare bare.entry) ∷ past) (length past + 1) faults.old faults.new) }
+    {
+        let note = bare.note();
+        let fate = self.fate;
+        self.take_noted(at, at.position, fate, &note, faults)?;
+        Ok(())
+    }
+
     // Takes in a packet without properties that is sent on a connection that is accepted.
     #[inline(always)]
     fn take_sent(&mut self, at: Place3, bare: Bare<'_>, faults: &mut Faults) -> Result<(), Memory>
@@ -258,13 +273,13 @@ impl Inflight {
                     self.open(at, i, is_exactly_once(qos), faults)?;
                     Ok(())
                 }
-                None => step_apart(self, at, bare, faults),
+                None => self.take_apart(at, bare, faults),
             },
             BareFields::Pubrel { identifier, .. } => {
                 self.send_pubrel(at, identifier)?;
                 Ok(())
             }
-            _ => step_apart(self, at, bare, faults),
+            _ => self.take_apart(at, bare, faults),
         }
     }
 
@@ -292,16 +307,26 @@ impl Inflight {
                 self.take_pubrec(at, identifier, code)?;
                 Ok(())
             }
-            _ => step_apart(self, at, bare, faults),
+            _ => self.take_apart(at, bare, faults),
         }
     }
 }
 
-impl Brisk for Inflight {
+impl Inflight {
+    /// Takes in a packet without properties of a connection that was decided before it.
     #[inline(always)]
-    fn step_bare(&mut self, at: Place3, bare: Bare<'_>, faults: &mut Faults) -> Result<(), Memory> {
+    pub(super) fn take_bare(
+        &mut self,
+        at: Place3,
+        bare: Bare<'_>,
+        faults: &mut Faults,
+    ) -> Result<(), Memory>
+        ensures agrees { OnOk result ((tested : Tested) (taken : Option TheFate) (past : List Seen) → Follows tested (seen at (note_of_bare bare.entry)) past → IsKnown tested taken (seen at (note_of_bare bare.entry)) past → ⟦<Inflight as Fated>⟧.agrees self.old tested taken past → ⟦<Inflight as Fated>⟧.agrees self.new tested (latest_fate tested.role (seen at (note_of_bare bare.entry) ∷ past)) (seen at (note_of_bare bare.entry) ∷ past)) }
+        ensures grows { OnOk result ((tested : Tested) (taken : Option TheFate) (past : List Seen) → Follows tested (seen at (note_of_bare bare.entry)) past → IsKnown tested taken (seen at (note_of_bare bare.entry)) past → ⟦<Inflight as Fated>⟧.agrees self.old tested taken past → Gains (λ k r. ⟦<Inflight as Fated>⟧.judges r && turns_known tested (seen at (note_of_bare bare.entry)) past k r) tested (seen at (note_of_bare bare.entry) ∷ past) (length past + 1) faults.old faults.new) }
+        ensures memory { OnErr result ((tested : Tested) (taken : Option TheFate) (past : List Seen) → Follows tested (seen at (note_of_bare bare.entry)) past → IsKnown tested taken (seen at (note_of_bare bare.entry)) past → ⟦<Inflight as Fated>⟧.agrees self.old tested taken past → GainsWithin (λ k r. ⟦<Inflight as Fated>⟧.judges r && turns_known tested (seen at (note_of_bare bare.entry)) past k r) tested (seen at (note_of_bare bare.entry) ∷ past) (length past + 1) faults.old faults.new) }
+    {
         if !self.fate.accepts() {
-            step_apart(self, at, bare, faults)?;
+            self.take_apart(at, bare, faults)?;
             return Ok(());
         }
         match bare.direction {

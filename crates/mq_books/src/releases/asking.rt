@@ -10,12 +10,13 @@ ghost use Rattle.mq_books.specs.Placings.{is_on_sessions, on_either, on_one};
 ghost use Rattle.mq_books.specs.Releasing.{has_id};
 
 use super::Releases;
-use crate::counting::{Asks, AsksBare, pick};
+use crate::counting::{Asks, pick};
 use crate::fated::Fated;
 use crate::known::{is_placed, place};
 use crate::selective::Discerning;
+use crate::taken::Taken;
 use mq_log::Place3;
-use mq_rules::{CountedByIdentifier, Fate, NoteRef, Rule, places_after};
+use mq_rules::{CountedByIdentifier, Fate, NoteRef, Noted, Rule, places_after};
 
 /// How often the statements on releases were put to the test.
 #[derive(Drop)]
@@ -70,14 +71,15 @@ impl Asks for Releases {
     }
 
     #[inline(always)]
-    fn count(
+    fn count<E: Taken>(
         &self,
         places: &mut ReleasePlaces,
         at: Place3,
         decided: u32,
         fate: Fate,
-        event: NoteRef<'_>,
+        event: &E,
     ) {
+        let event = event.as_ref();
         let placed = is_placed(fate, decided == at.position);
         let released = place(placed, is_released(self.releases, event));
         let success = event.sent_success_pubcomp();
@@ -92,8 +94,6 @@ impl Asks for Releases {
 
     ghost on_sessions = { λ role rule judged. on_either (same_rule rule L1 || same_rule rule L2) (same_rule rule L3) (is_on_sessions (occasion role rule)) (on_either (same_rule rule L1) (same_rule rule L2) (is_on_sessions (occasion role rule)) (on_one role L1 rule refl) (on_one role L2 rule refl)) (on_one role L3 rule refl) judged };
 }
-
-impl AsksBare for Releases {}
 
 impl Discerning for Releases {
     fn leaves_out(&self) {}

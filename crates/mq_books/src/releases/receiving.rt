@@ -1,21 +1,24 @@
 //! Packets without properties, taken in by their numbers (MQTT 5.0, section 4.3.3): a QoS 2 PUBLISH
 //! that is received, and the PUBREC and the PUBCOMP that are sent for one.
-ghost use Rattle.std.specs.Prelude.{◌≡◌, ◌==◌, List, Option, OnOk, OnErr, Some, None};
+ghost use Rattle.std.specs.Prelude.{◌≡◌, ◌∷◌, ◌+◌, ◌&&◌, ◌==◌, length, List, Option, OnOk, OnErr, Some, None};
 ghost use Rattle.mq_rules.specs.declared.role.Tested.{Tested};
 ghost use Rattle.mq_rules.specs.declared.fate.Fate.{Fate as TheFate};
 ghost use Rattle.mq_rules.specs.declared.note.Note.{Note as TheNote};
 ghost use Rattle.mq_rules.specs.declared.note.Seen.{Seen};
 ghost use Rattle.mq_rules.specs.FaultKeys.{FaultMap};
-ghost use Rattle.mq_rules.specs.Under.{seen, Follows, IsKnown};
-ghost use Rattle.mq_rules.specs.Notes.{refuses, is_exactly_once};
+ghost use Rattle.mq_rules.specs.Connections.{latest_fate};
+ghost use Rattle.mq_rules.specs.Under.{seen, Follows, IsKnown, turns_known};
+ghost use Rattle.mq_rules.specs.Growing.{Gains, GainsWithin};
+ghost use Rattle.mq_rules.specs.Notes.{note_of_bare, refuses, is_exactly_once};
 ghost use Rattle.mq_rules.specs.Words.{only};
 ghost use Rattle.mq_books.specs.Receiving.{Receives, IsReceived, IsStep, IsWithin, IsLedTo};
 
 use super::{Releases, is_unreleased, lasting, revise, revise_due};
+use crate::fated::Fated;
 use crate::known::judge_by;
 use mq_log::{Direction, Place3};
 use mq_packet::Qos;
-use mq_rules::{Bare, BareFields, Brisk, Faults, Memory, Rule};
+use mq_rules::{Bare, BareFields, Faults, Memory, Rule};
 
 // The identifier that a PUBLISH brings a message under: its QoS is 2.
 #[inline(always)]
@@ -115,9 +118,19 @@ impl Releases {
     }
 }
 
-impl Brisk for Releases {
+impl Releases {
+    /// Takes in a packet without properties of a connection that was decided before it.
     #[inline(always)]
-    fn step_bare(&mut self, at: Place3, bare: Bare<'_>, faults: &mut Faults) -> Result<(), Memory> {
+    pub(super) fn take_bare(
+        &mut self,
+        at: Place3,
+        bare: Bare<'_>,
+        faults: &mut Faults,
+    ) -> Result<(), Memory>
+        ensures agrees { OnOk result ((tested : Tested) (taken : Option TheFate) (past : List Seen) → Follows tested (seen at (note_of_bare bare.entry)) past → IsKnown tested taken (seen at (note_of_bare bare.entry)) past → ⟦<Releases as Fated>⟧.agrees self.old tested taken past → ⟦<Releases as Fated>⟧.agrees self.new tested (latest_fate tested.role (seen at (note_of_bare bare.entry) ∷ past)) (seen at (note_of_bare bare.entry) ∷ past)) }
+        ensures grows { OnOk result ((tested : Tested) (taken : Option TheFate) (past : List Seen) → Follows tested (seen at (note_of_bare bare.entry)) past → IsKnown tested taken (seen at (note_of_bare bare.entry)) past → ⟦<Releases as Fated>⟧.agrees self.old tested taken past → Gains (λ k r. ⟦<Releases as Fated>⟧.judges r && turns_known tested (seen at (note_of_bare bare.entry)) past k r) tested (seen at (note_of_bare bare.entry) ∷ past) (length past + 1) faults.old faults.new) }
+        ensures memory { OnErr result ((tested : Tested) (taken : Option TheFate) (past : List Seen) → Follows tested (seen at (note_of_bare bare.entry)) past → IsKnown tested taken (seen at (note_of_bare bare.entry)) past → ⟦<Releases as Fated>⟧.agrees self.old tested taken past → GainsWithin (λ k r. ⟦<Releases as Fated>⟧.judges r && turns_known tested (seen at (note_of_bare bare.entry)) past k r) tested (seen at (note_of_bare bare.entry) ∷ past) (length past + 1) faults.old faults.new) }
+    {
         match bare.direction {
             Direction::Sent => match bare.fields {
                 BareFields::Pubrec { identifier, code } => {

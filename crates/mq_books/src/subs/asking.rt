@@ -14,9 +14,10 @@ use crate::counting::{Asks, pick};
 use crate::fated::Fated;
 use crate::messages::is_acknowledged;
 use crate::selective::Discerning;
+use crate::taken::Taken;
 use indexmap::IndexMap;
 use mq_log::Place3;
-use mq_rules::{Bare, Fate, Note, NoteRef, Rule, Text, places_after};
+use mq_rules::{Bare, Fate, Note, NoteRef, Noted, Rule, Text, places_after};
 
 /// How often the statements on deliveries were put to the test.
 #[derive(Drop)]
@@ -137,14 +138,15 @@ impl Asks for Deliveries {
     }
 
     #[inline(always)]
-    fn count(
+    fn count<E: Taken>(
         &self,
         places: &mut DeliveryPlaces,
         at: Place3,
         _: u32,
         fate: Fate,
-        event: NoteRef<'_>,
+        event: &E,
     ) {
+        let event = event.as_ref();
         let delivered = self.is_delivered(fate, event);
         let granted = self.is_granted(fate, event);
         places.delivered = places_after(delivered, places.delivered, at.position);

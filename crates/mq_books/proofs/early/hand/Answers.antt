@@ -17,8 +17,8 @@ loop-event-preserved g c = λ tested base can agrees.
     let was = c.loop-event.invariant tested base can agrees in
     let past = reverse (take i held) ++ base in
     let here = can-at tested c.args.fate c.args.decided held i e base c.loop-event-test.true c.event-item.is can in
-    let before = subst (λ o. g.W.Watch.agrees c.loop-event.watcher tested o past) here.before was.0 in (
-      subst (λ (hs : List Seen). g.W.Watch.agrees c.fated.new.self tested (fate_after tested c.args.fate hs base) (hs ++ base)) (sym here.next) (c.in_ok-fated.ensures.agrees tested past here.under before),
+    let before = subst (λ o. g.W.Fated.agrees c.loop-event.watcher tested o past) here.before was.0 in (
+      subst (λ (hs : List Seen). g.W.Fated.agrees c.fated.new.self tested (fate_after tested c.args.fate hs base) (hs ++ base)) (sym here.next) (c.in_ok-fated.ensures.agrees tested past here.under before),
       handed-at g.W.Fated.judges tested c.args.fate c.args.decided held i e base c.args.faults.now c.loop-event.faults c.fated.new.faults here was.1 (c.in_ok-fated.ensures.grows tested past here.under before),
     )
 
@@ -31,6 +31,6 @@ returns-in_err-fated-clause-memory g c =
     let was = c.loop-event.invariant tested base can agrees in
     let past = reverse (take i held) ++ base in
     let here = can-at tested c.args.fate c.args.decided held i e base c.loop-event-test.true c.event-item.is can in
-    let before = subst (λ o. g.W.Watch.agrees c.loop-event.watcher tested o past) here.before was.0 in
+    let before = subst (λ o. g.W.Fated.agrees c.loop-event.watcher tested o past) here.before was.0 in
     within-whole g.W.Fated.judges tested c.args.fate held i e base c.args.decided c.args.faults.now c.loop-event.faults c.fated.new.faults c.loop-event-test.true c.event-item.is was.1
     (c.in_err-fated.ensures.memory tested past here.under before))

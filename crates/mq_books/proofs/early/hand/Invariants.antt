@@ -9,6 +9,6 @@ use Rattle.mq_books.proofs.early.hand.Given as goal
 
 -- the events so far were handed on
 abbrev pub invariant-loop-event : goal.invariant-loop-event
-invariant-loop-event g l = (tested : Tested) (base : List Seen) → CanHand tested l.fn.decided (reverse l.held) base → g.W.Watch.agrees l.initial.watcher tested (latest_fate tested.role base) base
-    → g.W.Watch.agrees l.watcher tested (fate_after tested l.fn.fate (reverse (take l.event-index l.held)) base) (reverse (take l.event-index l.held) ++ base)
+invariant-loop-event g l = (tested : Tested) (base : List Seen) → CanHand tested l.fn.decided (reverse l.held) base → g.W.Fated.agrees l.initial.watcher tested (latest_fate tested.role base) base
+    → g.W.Fated.agrees l.watcher tested (fate_after tested l.fn.fate (reverse (take l.event-index l.held)) base) (reverse (take l.event-index l.held) ++ base)
     × Gains (λ k r. g.W.Fated.judges r && turns_held tested l.fn.fate (reverse (take l.event-index l.held)) base k r) tested (reverse (take l.event-index l.held) ++ base) l.fn.decided l.initial.faults l.faults

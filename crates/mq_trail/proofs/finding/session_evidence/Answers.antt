@@ -14,5 +14,5 @@ returns g c = λ tested taken past agrees finds wanted failing.
     let at = c.watcher.ensures.failed tested taken past k r agrees (on-session tested r finds) failing in
     c.get.ensures
     ∙ ap (λ f. found_at f k r) c.findings.ensures
-    ∙ told.1.explained k r at.within finds (ap (λ m. is_some (fault_at m k r)) told.2 ∙ wanted) (settled-shut tested past k r finds failing at)
+    ∙ told.0.explained k r at.within finds (ap (λ m. is_some (fault_at m k r)) told.1 ∙ wanted) (settled-shut tested past k r finds failing at)
     ∙ ap (λ e. Some e) (settled-evidence tested past k r finds failing at)

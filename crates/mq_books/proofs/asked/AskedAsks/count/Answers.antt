@@ -1,7 +1,6 @@
 use Rattle.std.proofs.Common.{◌&&◌, ◌==◌, is_some, ap, ◌∙◌}
 use Rattle.mq_rules.specs.Connections.{accepts, surprises}
 use Rattle.mq_rules.specs.Rules.{binds}
-use Rattle.mq_rules.specs.Notes.{note_in}
 use Rattle.mq_rules.specs.Under.{seen}
 use Rattle.mq_books.specs.Knowing.{excused}
 use Rattle.mq_books.proofs.AskedPlacesLaws.{asked-places}
@@ -9,7 +8,7 @@ use Rattle.mq_books.proofs.asked.AskedAsks.count.Goals as goal
 
 pub returns : goal.returns
 returns g c = λ tested past under kept was.
-    let e = seen c.args.at (note_in c.args.event) in
+    let e = seen c.args.at (g.E.Noted.note c.args.event.now) in
     let f = c.args.fate in
     let known = c.args.decided == c.args.at.position in
     asked-places tested g.X.Exchange.asked g.X.Exchange.exchange g.X.Exchange.early g.met.X.Exchange.apart (g.met.X.Exchange.tries_asked tested.role) f c.args.decided e past c.excuse-here.result c.args.places.now c.places_after.result under was

@@ -1,4 +1,4 @@
-use Rattle.std.proofs.Common.{◌&&◌, ◌∷◌, subst, sym, ap, ◌∙◌, ◌==◌}
+use Rattle.std.proofs.Common.{◌&&◌, ◌∷◌, subst, sym, ap, ◌∙◌, ◌==◌, cond}
 use Rattle.mq_rules.specs.KeptOrder.{value_under}
 use Rattle.mq_rules.specs.Rules.{same_rule}
 use Rattle.mq_rules.specs.FaultKeys.{FaultMap}
@@ -14,11 +14,11 @@ use Rattle.mq_books.proofs.asked.AskedFated.fated.Goals as goal
 pub returns-clause-agrees : goal.returns-clause-agrees
 returns-clause-agrees g c = λ tested past under q.
     let s = c.args.self.now in
-    let e = seen c.args.at c.args.note.now in (
+    let e = seen c.args.at (g.E.Noted.note c.args.event.now) in (
       q.0,
-      asked-next tested g.X.Exchange.exchange c.args.fate s.fate s.opened c.opened_after-self.result (value_under s.answered) (value_under c.take_answered.new.answered) e past g.met.X.Exchange.apart under.follows.placed.0 q.1 c.opened_after-self.ensures
+      asked-next tested g.X.Exchange.exchange c.args.fate s.fate s.opened c.opened_after-self.result (value_under s.answered) (value_under c.take_answered.new.answered) e past g.met.X.Exchange.apart under.follows.placed.0 q.1 (c.opened_after-self.ensures ∙ ap (λ b. cond b e.place.position s.opened) c.is_open-opens.ensures)
           (λ i. c.in_ok-take_answered.ensures i
-          ∙ ap (λ b. answered_by c.args.fate b c.cause-cause.result c.answer-answer.result e.place.position i (value_under s.answered i)) c.is_open.ensures
+          ∙ ap (λ b. answered_by c.args.fate b c.cause-cause.result c.answer-answer.result e.place.position i (value_under s.answered i)) c.is_open-opens.ensures
           ∙ ap (λ o. answered_next c.args.fate e.note o c.answer-answer.result e.place.position i (value_under s.answered i)) c.cause-cause.ensures
           ∙ ap (λ o. answered_next c.args.fate e.note (g.X.Exchange.exchange.cause e.note) o e.place.position i (value_under s.answered i)) c.answer-answer.ensures),
     )
@@ -26,7 +26,7 @@ returns-clause-agrees g c = λ tested past under q.
 pub returns-clause-grows : goal.returns-clause-grows
 returns-clause-grows g c = λ tested past under q.
     let s = c.args.self.now in
-    let e = seen c.args.at c.args.note.now in
+    let e = seen c.args.at (g.E.Noted.note c.args.event.now) in
     let m = c.args.faults.now in
     subst (λ (n : FaultMap). Gains (λ k r. same_rule r g.X.Exchange.asked && turns_with tested c.args.fate e past k r) tested (e ∷ past) c.args.decided m n)
     (sym (c.in_ok-judge_by.ensures.ok ∙ ap (λ r. judged_by c.excuse-broken.result r e.place c.args.decided m) c.asked_rule.ensures))

@@ -4,7 +4,6 @@ use Rattle.mq_rules.proofs.Exports.{under-within}
 use Rattle.mq_rules.specs.Words.{is_some_and}
 use Rattle.mq_rules.specs.Connections.{accepts}
 use Rattle.mq_rules.specs.Rules.{binds}
-use Rattle.mq_rules.specs.Notes.{note_in}
 use Rattle.mq_rules.specs.Under.{seen}
 use Rattle.mq_books.specs.Orderings.{chooses}
 use Rattle.mq_books.proofs.ChoosingLaws.{ordered-places}
@@ -15,7 +14,7 @@ pub returns : goal.returns
 returns g c = λ tested past under kept was.
     let s = c.args.self.now in
     let p = c.args.places.now in
-    let e = seen c.args.at (note_in c.args.event) in
+    let e = seen c.args.at (g.E.Noted.note c.args.event.now) in
     let f = c.args.fate in
     let x = g.X.Exchange.exchange in (
       settling-next tested x g.X.Exchange.settled f s.fate c.args.decided s.ended s.binds (value_under s.due) e past p.pending p.settled c.rests-rests.result c.begins-begins.result c.pending_after-places.result c.settled_after-places.result

@@ -1,4 +1,5 @@
 use Rattle.std.proofs.Common.{◌&&◌, ◌||◌, ◌∷◌, cond, subst, sym, ap, ◌∙◌}
+use Rattle.mq_rules.specs.Notes.{is_open, note_in}
 use Rattle.std.specs.Prelude.{is_some}
 use Rattle.mq_rules.specs.KeptOrder.{value_under, values_of}
 use Rattle.mq_rules.specs.Words.{is_some_and}
@@ -17,7 +18,7 @@ use Rattle.mq_books.proofs.owed.OwedFated.fated.Goals as goal
 pub returns-clause-agrees : goal.returns-clause-agrees
 returns-clause-agrees g c = λ tested past under q.
     let s = c.args.self.now in
-    let e = seen c.args.at c.args.note.now in
+    let e = seen c.args.at (g.E.Noted.note c.args.event.now) in
     let x = g.X.Exchange.exchange in
     owing-next tested x g.met.X.Exchange.apart g.X.Exchange.settled g.X.Exchange.ordered s.binds s.order_binds c.args.fate s.fate c.args.decided s.ended c.ended_after-self.result (value_under s.due) (value_under c.take_due.new.due) s.queue.items c.is_out_of_order-broken.new.queue.items c.take_queue.new.queue.items c.tidy.new.queue.items e past under q c.ended_after-self.ensures
     (λ accepted i. c.in_ok-take_due.ensures.due accepted i
@@ -36,63 +37,59 @@ returns-clause-agrees g c = λ tested past under q.
 pub returns-clause-grows : goal.returns-clause-grows
 returns-clause-grows g c = λ tested past under q.
     let s = c.args.self.now in
-    let e = seen c.args.at c.args.note.now in
+    let e = seen c.args.at (g.E.Noted.note c.args.event.now) in
     let m = c.args.faults.now in
     let x = g.X.Exchange.exchange in
     gains_either (λ r. same_rule r g.X.Exchange.settled) (λ r. is_some_and (same_rule r) g.X.Exchange.ordered) (turns_with tested c.args.fate e past) tested (e ∷ past) c.args.decided m c.settle.new.faults c.judge_order.new.faults
     (subst (λ (n : FaultMap). Gains (λ k r. same_rule r g.X.Exchange.settled && turns_with tested c.args.fate e past k r) tested (e ∷ past) c.args.decided m n)
     (sym (c.in_ok-settle.ensures.ok ∙ ap (λ r. cond c.rests_now-rests.result (blamed r c.args.decided (values_of (value_under s.due)) m) m) c.settled_rule.ensures))
-    (rest-gains tested x g.met.X.Exchange.apart g.X.Exchange.settled g.X.Exchange.ordered (g.met.X.Exchange.says_settled tested.role) s.binds s.order_binds c.args.fate s.fate s.ended (value_under s.due) s.queue.items c.args.decided e past m c.rests_now-rests.result under (under-within s.due) q c.rests_now-rests.ensures))
+    (rest-gains tested x g.met.X.Exchange.apart g.X.Exchange.settled g.X.Exchange.ordered (g.met.X.Exchange.says_settled tested.role) s.binds s.order_binds c.args.fate s.fate s.ended (value_under s.due) s.queue.items c.args.decided e past m c.rests_now-rests.result under (under-within s.due) q (c.rests_now-rests.ensures e.note c.is_rest.ensures)))
     (subst (λ (n : FaultMap). Gains (λ k r. is_some_and (same_rule r) g.X.Exchange.ordered && turns_with tested c.args.fate e past k r) tested (e ∷ past) c.args.decided c.settle.new.faults n)
     (sym (c.in_ok-judge_order.ensures.ok ∙ ap (λ o. ordered_by o c.is_out_of_order-broken.result e.place c.args.decided c.settle.new.faults) c.ordered_rule-ordered.ensures))
     (answer-gains tested x g.met.X.Exchange.apart g.X.Exchange.settled g.X.Exchange.ordered (g.met.X.Exchange.says_ordered tested.role) s.binds s.order_binds c.args.fate s.fate s.ended (value_under s.due) s.queue.items c.args.decided e past c.settle.new.faults c.is_out_of_order-broken.result under q
     (c.is_out_of_order-broken.ensures.broken ∙ ap (λ o. s.order_binds && (accepts c.args.fate && passes_over (value_under s.due) o (looked_at (value_under s.due) o s.queue.items))) c.answer-answer.ensures)))
 
 pub returns-in_err-settle-clause-memory : goal.returns-in_err-settle-clause-memory
-returns-in_err-settle-clause-memory g c =
-    on_err c.from_residual.result _ (λ tested past under q.
+returns-in_err-settle-clause-memory g c = on_err c.from_residual.result _ (λ tested past under q.
     let s = c.args.self.now in
-    let e = seen c.args.at c.args.note.now in
+    let e = seen c.args.at (g.E.Noted.note c.args.event.now) in
     let m = c.args.faults.now in
     within_either_first (λ r. same_rule r g.X.Exchange.settled) (λ r. is_some_and (same_rule r) g.X.Exchange.ordered) (turns_with tested c.args.fate e past) tested (e ∷ past) c.args.decided m c.settle.new.faults
     (within_kept (λ k r. same_rule r g.X.Exchange.settled && turns_with tested c.args.fate e past k r) tested (e ∷ past) c.args.decided m c.settle.new.faults (cond c.rests_now-rests.result (blamed g.X.Exchange.settled c.args.decided (values_of (value_under s.due)) m) m)
-    (rest-gains tested g.X.Exchange.exchange g.met.X.Exchange.apart g.X.Exchange.settled g.X.Exchange.ordered (g.met.X.Exchange.says_settled tested.role) s.binds s.order_binds c.args.fate s.fate s.ended (value_under s.due) s.queue.items c.args.decided e past m c.rests_now-rests.result under (under-within s.due) q c.rests_now-rests.ensures)
+    (rest-gains tested g.X.Exchange.exchange g.met.X.Exchange.apart g.X.Exchange.settled g.X.Exchange.ordered (g.met.X.Exchange.says_settled tested.role) s.binds s.order_binds c.args.fate s.fate s.ended (value_under s.due) s.queue.items c.args.decided e past m c.rests_now-rests.result under (under-within s.due) q (c.rests_now-rests.ensures e.note c.is_rest.ensures))
     c.in_err-settle.ensures.memory
     (subst (λ r. Keeps c.settle.new.faults (cond c.rests_now-rests.result (blamed r c.args.decided (values_of (value_under s.due)) m) m)) c.settled_rule.ensures c.in_err-settle.ensures.partial)))
 
 pub returns-in_err-take_queue-clause-memory : goal.returns-in_err-take_queue-clause-memory
-returns-in_err-take_queue-clause-memory g c =
-    on_err c.from_residual-in_err-take_queue.result _ (λ tested past under q.
+returns-in_err-take_queue-clause-memory g c = on_err c.from_residual-in_err-take_queue.result _ (λ tested past under q.
     let s = c.args.self.now in
-    let e = seen c.args.at c.args.note.now in
+    let e = seen c.args.at (g.E.Noted.note c.args.event.now) in
     let m = c.args.faults.now in
     within_either_first (λ r. same_rule r g.X.Exchange.settled) (λ r. is_some_and (same_rule r) g.X.Exchange.ordered) (turns_with tested c.args.fate e past) tested (e ∷ past) c.args.decided m c.settle.new.faults
     (within_all (λ k r. same_rule r g.X.Exchange.settled && turns_with tested c.args.fate e past k r) tested (e ∷ past) c.args.decided m c.settle.new.faults
     (subst (λ (n : FaultMap). Gains (λ k r. same_rule r g.X.Exchange.settled && turns_with tested c.args.fate e past k r) tested (e ∷ past) c.args.decided m n)
     (sym (c.in_ok-settle.ensures.ok ∙ ap (λ r. cond c.rests_now-rests.result (blamed r c.args.decided (values_of (value_under s.due)) m) m) c.settled_rule.ensures))
-    (rest-gains tested g.X.Exchange.exchange g.met.X.Exchange.apart g.X.Exchange.settled g.X.Exchange.ordered (g.met.X.Exchange.says_settled tested.role) s.binds s.order_binds c.args.fate s.fate s.ended (value_under s.due) s.queue.items c.args.decided e past m c.rests_now-rests.result under (under-within s.due) q c.rests_now-rests.ensures))))
+    (rest-gains tested g.X.Exchange.exchange g.met.X.Exchange.apart g.X.Exchange.settled g.X.Exchange.ordered (g.met.X.Exchange.says_settled tested.role) s.binds s.order_binds c.args.fate s.fate s.ended (value_under s.due) s.queue.items c.args.decided e past m c.rests_now-rests.result under (under-within s.due) q (c.rests_now-rests.ensures e.note c.is_rest.ensures)))))
 
 pub returns-in_err-take_due-clause-memory : goal.returns-in_err-take_due-clause-memory
-returns-in_err-take_due-clause-memory g c =
-    on_err c.from_residual-in_err-take_due.result _ (λ tested past under q.
+returns-in_err-take_due-clause-memory g c = on_err c.from_residual-in_err-take_due.result _ (λ tested past under q.
     let s = c.args.self.now in
-    let e = seen c.args.at c.args.note.now in
+    let e = seen c.args.at (g.E.Noted.note c.args.event.now) in
     let m = c.args.faults.now in
     within_either_first (λ r. same_rule r g.X.Exchange.settled) (λ r. is_some_and (same_rule r) g.X.Exchange.ordered) (turns_with tested c.args.fate e past) tested (e ∷ past) c.args.decided m c.settle.new.faults
     (within_all (λ k r. same_rule r g.X.Exchange.settled && turns_with tested c.args.fate e past k r) tested (e ∷ past) c.args.decided m c.settle.new.faults
     (subst (λ (n : FaultMap). Gains (λ k r. same_rule r g.X.Exchange.settled && turns_with tested c.args.fate e past k r) tested (e ∷ past) c.args.decided m n)
     (sym (c.in_ok-settle.ensures.ok ∙ ap (λ r. cond c.rests_now-rests.result (blamed r c.args.decided (values_of (value_under s.due)) m) m) c.settled_rule.ensures))
-    (rest-gains tested g.X.Exchange.exchange g.met.X.Exchange.apart g.X.Exchange.settled g.X.Exchange.ordered (g.met.X.Exchange.says_settled tested.role) s.binds s.order_binds c.args.fate s.fate s.ended (value_under s.due) s.queue.items c.args.decided e past m c.rests_now-rests.result under (under-within s.due) q c.rests_now-rests.ensures))))
+    (rest-gains tested g.X.Exchange.exchange g.met.X.Exchange.apart g.X.Exchange.settled g.X.Exchange.ordered (g.met.X.Exchange.says_settled tested.role) s.binds s.order_binds c.args.fate s.fate s.ended (value_under s.due) s.queue.items c.args.decided e past m c.rests_now-rests.result under (under-within s.due) q (c.rests_now-rests.ensures e.note c.is_rest.ensures)))))
 
 pub returns-in_err-judge_order-clause-memory : goal.returns-in_err-judge_order-clause-memory
-returns-in_err-judge_order-clause-memory g c =
-    on_err c.from_residual-in_err-judge_order.result _ (λ tested past under q.
+returns-in_err-judge_order-clause-memory g c = on_err c.from_residual-in_err-judge_order.result _ (λ tested past under q.
     let s = c.args.self.now in
-    let e = seen c.args.at c.args.note.now in
+    let e = seen c.args.at (g.E.Noted.note c.args.event.now) in
     let m = c.args.faults.now in
     subst (λ (n : FaultMap). GainsWithin (λ k r. (same_rule r g.X.Exchange.settled || is_some_and (same_rule r) g.X.Exchange.ordered) && turns_with tested c.args.fate e past k r) tested (e ∷ past) c.args.decided m n) (sym c.in_err-judge_order.ensures.unchanged)
     (within_either_first (λ r. same_rule r g.X.Exchange.settled) (λ r. is_some_and (same_rule r) g.X.Exchange.ordered) (turns_with tested c.args.fate e past) tested (e ∷ past) c.args.decided m c.settle.new.faults
     (within_all (λ k r. same_rule r g.X.Exchange.settled && turns_with tested c.args.fate e past k r) tested (e ∷ past) c.args.decided m c.settle.new.faults
     (subst (λ (n : FaultMap). Gains (λ k r. same_rule r g.X.Exchange.settled && turns_with tested c.args.fate e past k r) tested (e ∷ past) c.args.decided m n)
     (sym (c.in_ok-settle.ensures.ok ∙ ap (λ r. cond c.rests_now-rests.result (blamed r c.args.decided (values_of (value_under s.due)) m) m) c.settled_rule.ensures))
-    (rest-gains tested g.X.Exchange.exchange g.met.X.Exchange.apart g.X.Exchange.settled g.X.Exchange.ordered (g.met.X.Exchange.says_settled tested.role) s.binds s.order_binds c.args.fate s.fate s.ended (value_under s.due) s.queue.items c.args.decided e past m c.rests_now-rests.result under (under-within s.due) q c.rests_now-rests.ensures)))))
+    (rest-gains tested g.X.Exchange.exchange g.met.X.Exchange.apart g.X.Exchange.settled g.X.Exchange.ordered (g.met.X.Exchange.says_settled tested.role) s.binds s.order_binds c.args.fate s.fate s.ended (value_under s.due) s.queue.items c.args.decided e past m c.rests_now-rests.result under (under-within s.due) q (c.rests_now-rests.ensures e.note c.is_rest.ensures))))))

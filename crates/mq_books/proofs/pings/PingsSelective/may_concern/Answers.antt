@@ -3,4 +3,4 @@ use Rattle.mq_books.proofs.SelectingLaws.{pings-unconcerned}
 use Rattle.mq_books.proofs.pings.PingsSelective.may_concern.Goals as goal
 
 pub returns : goal.returns
-returns c = λ h tested taken past agree. pings-unconcerned c.args.note.now (sym c.may_concern_pings.ensures ∙ h)
+returns g c = λ h tested taken past agree. pings-unconcerned (g.E.Noted.note c.args.event.now) (sym c.may_concern_pings.ensures ∙ h)

@@ -3,4 +3,4 @@ use Rattle.mq_books.proofs.SelectingLaws.{releases-unconcerned}
 use Rattle.mq_books.proofs.releases.ReleasesSelective.may_concern.Goals as goal
 
 pub returns : goal.returns
-returns c = λ h tested taken past agree. releases-unconcerned c.args.note.now (sym c.may_concern_releases.ensures ∙ h)
+returns g c = λ h tested taken past agree. releases-unconcerned (g.E.Noted.note c.args.event.now) (sym c.may_concern_releases.ensures ∙ h)

@@ -3,4 +3,4 @@ use Rattle.mq_books.proofs.SelectingLaws.{requests-unconcerned}
 use Rattle.mq_books.proofs.requests.RequestsSelective.may_concern.Goals as goal
 
 pub returns : goal.returns
-returns c = λ h tested taken past agree. requests-unconcerned c.args.note.now (sym c.may_concern_requests.ensures ∙ h)
+returns g c = λ h tested taken past agree. requests-unconcerned (g.E.Noted.note c.args.event.now) (sym c.may_concern_requests.ensures ∙ h)
