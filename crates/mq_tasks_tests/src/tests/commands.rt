@@ -1,10 +1,10 @@
 //! The command line, and `check`.
-use super::harness::{
-    Narrow, Trickle, WHOLE_LOG, is_failed_write, is_written, printed_by, status_by,
-};
 use mq_command::EarlyExit;
 use mq_host::{FAILED, FAULTY, MISUSED, Outlet, PASSED, REFUSED};
 use mq_tasks::stop;
+use mq_tasks_harness::{
+    Narrow, Trickle, WHOLE_LOG, is_failed_write, is_written, printed_by, status_by,
+};
 use std::alloc::{AllocError, Global};
 use std::io::Cursor;
 use std::test::Fail;

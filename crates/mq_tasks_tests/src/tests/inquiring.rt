@@ -1,8 +1,8 @@
 //! `check --why`.
-use super::harness::{CONNECTED, NESTED, Narrow, Trickle, WHOLE_LOG, add_record};
 use mq_host::{FAULTY, Failure, PASSED, REFUSED};
 use mq_judge::Form;
 use mq_tasks::{Lapse, Wanted, inquire_twice};
+use mq_tasks_harness::{CONNECTED, NESTED, Narrow, Trickle, WHOLE_LOG, add_record};
 use std::alloc::{AllocError, Global};
 use std::fmt::Write as _;
 use std::io::Cursor;

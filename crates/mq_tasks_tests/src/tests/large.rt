@@ -1,7 +1,7 @@
 //! Logs that are larger than a buffer.
-use super::harness::{CONNECTED, CONNECTED_LINES, add_record, printed_by};
 use mq_command::EarlyExit;
 use mq_host::{PASSED, REFUSED};
+use mq_tasks_harness::{CONNECTED, CONNECTED_LINES, add_record, printed_by};
 use std::alloc::{AllocError, Global};
 use std::fmt::Write as _;
 use std::test::Fail;

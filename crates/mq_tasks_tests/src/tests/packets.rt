@@ -1,9 +1,9 @@
 //! `packet`.
-use super::harness::{
-    Narrow, Printed, Trickle, is_failed_write, is_written, printed_by, status_by,
-};
 use mq_command::EarlyExit;
 use mq_host::{FAILED, FAULTY, MISUSED, Misuse, NoText, PASSED, read_text};
+use mq_tasks_harness::{
+    Narrow, Printed, Trickle, is_failed_write, is_written, printed_by, status_by,
+};
 use std::alloc::Global;
 use std::io;
 use std::io::Cursor;

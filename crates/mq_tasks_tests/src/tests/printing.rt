@@ -1,9 +1,9 @@
 //! `rules` and `explain`.
-use super::harness::printed_by;
 use mq_command::EarlyExit;
 use mq_explain::explanation;
 use mq_host::{MISUSED, PASSED};
 use mq_rules::Rule;
+use mq_tasks_harness::printed_by;
 use std::alloc::{AllocError, Global};
 use std::io;
 use std::test::Fail;

@@ -1,8 +1,8 @@
 //! `show --faults`.
-use super::harness::{CONNECTED, CONNECTED_LINES, NESTED, Narrow, Trickle, add_record};
 use mq_host::{Failure, PASSED, REFUSED};
 use mq_judge::Extent;
 use mq_tasks::{Lapse, Plan, show_reasoned};
+use mq_tasks_harness::{CONNECTED, CONNECTED_LINES, NESTED, Narrow, Trickle, add_record};
 use std::alloc::{AllocError, Global};
 use std::fmt::Write as _;
 use std::io::Cursor;

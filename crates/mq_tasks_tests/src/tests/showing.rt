@@ -1,9 +1,9 @@
 //! `show`.
-use super::harness::{
-    NESTED, Narrow, Trickle, WHOLE_LOG, is_failed_write, is_written, printed_by, status_by,
-};
 use mq_command::EarlyExit;
 use mq_host::{FAILED, PASSED, REFUSED};
+use mq_tasks_harness::{
+    NESTED, Narrow, Trickle, WHOLE_LOG, is_failed_write, is_written, printed_by, status_by,
+};
 use std::alloc::Global;
 use std::io::Cursor;
 use std::test::Fail;

@@ -1,5 +1,5 @@
 //! A host for tests.
-use super::harness::{Narrow, Trickle};
+use crate::words::{Narrow, Trickle};
 use mq_host::{Failure, Host, Identity, NewFile, Outlet, Reason, Trouble, Unmade};
 use mq_tasks::run;
 use std::alloc::Global;

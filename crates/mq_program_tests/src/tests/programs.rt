@@ -1,8 +1,7 @@
 //! The whole program, with files, outputs and a clock of its own.
-use super::desk::{Desk, FAULTY, GOOD};
-use super::harness::NESTED;
 use mq_host::{Outlet, Trouble};
 use mq_tasks::run;
+use mq_tasks_harness::{Desk, FAULTY, GOOD, NESTED};
 use std::alloc::Global;
 
 const PASS: &str = "pass 4 events\n";

@@ -1,6 +1,5 @@
 //! `check --coverage`.
-use super::desk::{Desk, FAULTY, GOOD, does};
-use super::harness::NESTED;
+use mq_tasks_harness::{Desk, FAULTY, GOOD, NESTED, does};
 use std::alloc::Global;
 use std::fmt::Write as _;
 use std::test::Fail;

@@ -1,8 +1,7 @@
 //! `convert`: what it writes, and its status where a read, a write or a save fails.
-use super::desk::{Desk, GOOD, Held, does};
-use super::harness::NESTED;
 use mq_host::Outlet;
 use mq_tasks::perform_convert;
+use mq_tasks_harness::{Desk, GOOD, Held, NESTED, does};
 
 /// A session of four events, `GOOD` in version 2.
 const SECOND: &[u8] = b"MQTR\x02\x00\x01\x00\

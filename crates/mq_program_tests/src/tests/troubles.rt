@@ -1,8 +1,7 @@
 //! Files that can't be read, and what is said of them.
-use super::desk::{Desk, FAULTY, GOOD, does};
-use super::harness::{Narrow, Trickle};
 use mq_host::{Noting, Outlet, Reason, Trouble, read_start};
 use mq_tasks::run;
+use mq_tasks_harness::{Desk, FAULTY, GOOD, Narrow, Trickle, does};
 use std::alloc::Global;
 use std::io::{self, ErrorKind, Read};
 use std::test::Fail;

@@ -1,0 +1,6 @@
+//! The program by its words.
+
+mod converting;
+mod coverage;
+mod programs;
+mod troubles;
