@@ -1,4 +1,4 @@
--- Packets without properties.
+-- Bare packets.
 use Rattle.std.proofs.Common.{◌≡◌, ℕ, ◌==◌, Bool, true, false, cond, ◌||◌, not, List, ◌∷◌, length, Option, Some, None, Bor, refl, ap, sym, ◌∙◌}
 use Rattle.std.specs.Prelude.{is_some}
 use Rattle.std.specs.Option.{option_and_then}
@@ -112,7 +112,7 @@ delivers-named n topic qos duplicate sharing topics test d =
     go true = refl
     go false = refl
 
--- which a packet without properties is, if it is a PUBLISH that is sent
+-- which a bare packet is, if it is a PUBLISH that is sent
 pub bare-delivers : (b : Bare) (identifier : Option ℕ) (qos : Qos) (duplicate : Bool) (topic : Bor (List ℕ)) → b.direction ≡ Sent → b.fields ≡ bares.Publish identifier qos duplicate topic → IsDelivery (note_of_bare b) (kept_topic topic.now) qos duplicate
 unfolding note_of_bare
 bare-delivers b identifier qos duplicate topic way is = record {

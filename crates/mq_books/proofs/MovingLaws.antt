@@ -213,7 +213,7 @@ moved-step tested s t taken e past m new opener x closer pubrel pubrec follows k
           (moved-gains tested s s.fate e.place.position e past m opener x closer pubrel pubrec k.under refl v w accepted));
     }
 
--- ---- what each packet without properties does
+-- ---- what each bare packet does
 
 moves-publish : (size : ℕ) (o : Option ℕ) (q : Qos) (d : Bool) (t : List ℕ) (i : ℕ) → only (not d) (only (is_acknowledged q) o) ≡ Some i → Moves (bare_note Sent size (Publish (bare_publish_note Sent o q d t))) (Some i) (is_exactly_once q) None None None
 moves-publish size o q true t i h = absurd (cc)

@@ -171,7 +171,7 @@ quota-gains tested old f taken at e past m b under q is =
     same : b ≡ exceeds f e.note tested.role (peer_room tested.role past) (in_flight (those (counts tested.role) (connection past)))
     same = is ∙ ap (λ r. exceeds f e.note r old.peer old.in_flight) q.same_role ∙ ap (λ o. exceeds f e.note tested.role o old.in_flight) q.same_peer ∙ ap (exceeds f e.note tested.role (peer_room tested.role past)) q.flying
 
--- ---- packets without properties
+-- ---- bare packets
 
 announces-nothing-note : (role : Role) (direction : Direction) (size : ℕ) (fields : BareFields) → announced role (bare_note direction size (bare_fields direction fields)) ≡ None
 announces-nothing-note Client Sent size (bares.Publish identifier qos duplicate topic) = refl

@@ -112,7 +112,7 @@ received-nothing tested s taken e past m w follows known u =
       due_are = λ i. sym (ap (λ b. cond (accepts s.fate) b b) (same (accepts s.fate) (has_id s.due i)) ∙ same (accepts s.fate) (has_id s.due i));
     })
 
--- ---- what each packet without properties does
+-- ---- what each bare packet does
 
 -- a packet by its direction and its fields
 bare-is : (b : Bare) (way : Direction) (fields : BareFields) → b.direction ≡ way → b.fields ≡ fields → bare_note way b.size (bare_fields way fields) ≡ note_of_bare b

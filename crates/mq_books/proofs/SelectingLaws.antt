@@ -143,7 +143,7 @@ requests-unconcerned (notes.Recv (items.Packet p)) h = requests-received p.size 
 requests-unconcerned (notes.Recv (items.Bad first rule at)) h = absurd (cc)
 requests-unconcerned (notes.Recv items.Lost) h = absurd (cc)
 
--- a packet without properties is no request, and answers none
+-- a bare packet is no request, and answers none
 requests-bare : (direction : Direction) (size : ℕ) (fields : BareFields) → may_concern_requests (bare_note direction size (bare_fields direction fields)) ≡ false
 requests-bare Sent size (bares.Publish identifier qos duplicate topic) = refl
 requests-bare Sent size (bares.Puback identifier code) = refl
@@ -482,7 +482,7 @@ subscriptions-unconcerned tested bound is (notes.Recv (items.Packet p)) h = subs
 subscriptions-unconcerned tested bound is (notes.Recv (items.Bad first rule at)) h = refl
 subscriptions-unconcerned tested bound is (notes.Recv items.Lost) h = refl
 
--- ---- a packet without properties is no SUBSCRIBE or UNSUBSCRIBE, and answers none
+-- ---- a bare packet is no SUBSCRIBE or UNSUBSCRIBE, and answers none
 
 counts-unconcerned-note : (direction : Direction) (size : ℕ) (fields : BareFields) → (concerns_count subscribes (bare_note direction size (bare_fields direction fields)) || concerns_count unsubscribes (bare_note direction size (bare_fields direction fields))) ≡ false
 counts-unconcerned-note Sent size (bares.Publish identifier qos duplicate topic) = refl

@@ -167,7 +167,7 @@ impl<W> Early<W> {
         self.fate
     }
 
-    // Whether a packet without properties changes nothing here on a connection that is decided: no
+    // Whether a bare packet changes nothing here on a connection that is decided: no
     // events are held, and its history stays as it is.
     #[inline(always)]
     fn is_left_by(&self, bare: Bare<'_>) -> bool

@@ -452,7 +452,7 @@ impl Inflight {
         Ok(())
     }
 
-    // Takes in a packet without properties that was held, by a note. None is held in this form.
+    // Takes in a bare packet that was held, by a note. None is held in this form.
     #[inline(never)]
     fn take_late(
         &mut self,
@@ -531,7 +531,7 @@ fn frees_identifier(fields: &PacketFields) -> bool
     )
 }
 
-/// Whether a packet without properties may have to do with Packet Identifiers that are in use.
+/// Whether a bare packet may have to do with Packet Identifiers that are in use.
 #[inline(always)]
 #[tactic(auto, unfolding(mq_rules::specs::Notes::note_of_bare))]
 pub fn bare_may_concern_identifiers(bare: Bare<'_>) -> bool

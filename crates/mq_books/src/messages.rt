@@ -182,7 +182,7 @@ pub fn is_acknowledged(qos: Qos) -> bool
     }
 }
 
-/// Whether a packet without properties may have to do with an exchange of messages.
+/// Whether a bare packet may have to do with an exchange of messages.
 #[inline(always)]
 #[tactic(auto, unfolding(mq_rules::specs::Notes::note_of_bare))]
 pub fn bare_may_concern_messages(bare: Bare<'_>) -> bool

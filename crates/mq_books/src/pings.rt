@@ -173,7 +173,7 @@ pub fn note_may_concern_pings(note: &Note) -> bool
     }
 }
 
-/// Whether a packet without properties may have to do with pings.
+/// Whether a bare packet may have to do with pings.
 #[inline(always)]
 #[tactic(auto, unfolding(mq_rules::specs::Notes::note_of_bare))]
 pub fn bare_may_concern_pings(bare: Bare<'_>) -> bool

@@ -228,7 +228,7 @@ pub fn note_may_concern_quota(note: &Note) -> bool
     }
 }
 
-/// Whether a packet without properties may have to do with the send quota.
+/// Whether a bare packet may have to do with the send quota.
 #[inline(always)]
 #[tactic(auto, unfolding(mq_rules::specs::Notes::note_of_bare))]
 pub fn bare_may_concern_quota(bare: Bare<'_>) -> bool

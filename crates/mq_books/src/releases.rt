@@ -273,7 +273,7 @@ impl Releases {
         Ok(())
     }
 
-    // Takes in a packet without properties that was held, by a note. None is held in this form.
+    // Takes in a bare packet that was held, by a note. None is held in this form.
     #[inline(never)]
     fn take_late(
         &mut self,
@@ -323,7 +323,7 @@ pub fn note_may_concern_releases(note: &Note) -> bool
     }
 }
 
-/// Whether a packet without properties may have to do with a QoS 2 message that is received.
+/// Whether a bare packet may have to do with a QoS 2 message that is received.
 #[inline(always)]
 #[tactic(auto, unfolding(mq_rules::specs::Notes::note_of_bare))]
 pub fn bare_may_concern_releases(bare: Bare<'_>) -> bool

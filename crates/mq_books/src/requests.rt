@@ -135,7 +135,7 @@ fn asks_by_request(fields: &PacketFields) -> bool
     )
 }
 
-/// Whether a packet without properties may have to do with requests: none does.
+/// Whether a bare packet may have to do with requests: none does.
 #[inline(always)]
 #[tactic(auto, unfolding(mq_rules::specs::Notes::note_of_bare))]
 pub fn bare_may_concern_requests(bare: Bare<'_>) -> bool

@@ -230,7 +230,7 @@ fn judge_event(
     }
 }
 
-// ---- deliveries without properties
+// ---- bare deliveries
 
 // A PUBLISH that is sent without a Topic Alias.
 #[derive(Clone, Copy)]
@@ -248,7 +248,7 @@ fn noted_topic<'a>(topic: &'a str) -> &'a str
     if Text::is_short(topic) { topic } else { "" }
 }
 
-// What a packet without properties delivers, if it is a PUBLISH that is sent.
+// What a bare packet delivers, if it is a PUBLISH that is sent.
 #[inline(always)]
 #[tactic(auto, unfolding(mq_rules::specs::Notes::note_of_bare))]
 fn delivery_of<'a>(bare: Bare<'a>) -> Option<Delivery<'a>>
@@ -402,7 +402,7 @@ impl Deliveries {
         Ok(())
     }
 
-    // Takes in a packet without properties that was held, by a note. None is held in this form.
+    // Takes in a bare packet that was held, by a note. None is held in this form.
     #[inline(never)]
     fn take_late(
         &mut self,
@@ -444,7 +444,7 @@ impl Deliveries {
 }
 
 impl Deliveries {
-    // Takes in a packet without properties of a connection that was decided before it.
+    // Takes in a bare packet of a connection that was decided before it.
     #[inline(always)]
     fn take_bare(&mut self, at: Place3, bare: Bare<'_>, faults: &mut Faults) -> Result<(), Memory>
         ensures agrees { OnOk result ((tested : TheTested) (taken : Option TheFate) (past : List Seen) → Follows tested (seen at (note_of_bare bare.entry)) past → IsKnown tested taken (seen at (note_of_bare bare.entry)) past → ⟦<Deliveries as Fated>⟧.agrees self.old tested taken past → ⟦<Deliveries as Fated>⟧.agrees self.new tested (latest_fate tested.role (seen at (note_of_bare bare.entry) ∷ past)) (seen at (note_of_bare bare.entry) ∷ past)) }

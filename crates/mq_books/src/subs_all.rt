@@ -173,7 +173,7 @@ fn delivers_or_grants(bound: bool, fields: &PacketFields) -> bool
     }
 }
 
-/// Whether a packet without properties may have to do with what a client subscribed to.
+/// Whether a bare packet may have to do with what a client subscribed to.
 #[inline(always)]
 #[tactic(auto, unfolding(mq_rules::specs::Notes::note_of_bare))]
 pub fn bare_may_concern_subscriptions(bound: bool, bare: Bare<'_>) -> bool

@@ -82,7 +82,7 @@ impl Watchers {
 }
 
 impl Watchers {
-    /// Takes in a packet without properties by its numbers where places are counted, and else by a
+    /// Takes in a bare packet by its numbers where places are counted, and else by a
     /// note that is made of it: so the quick way of a check isn't there a second time.
     ///
     /// # Errors

@@ -146,7 +146,7 @@ passed-by tested e past kept closed awake unended undecided found asked was = re
         ap (λ (o : Option Gap). option_or o (only (turns_unknown tested.role (newest e past)) (Some (UnknownSession e.place)))) found
         ∙ ap (λ (b : Bool). only {A = Gap} b (Some (UnknownSession e.place))) (stays-known tested.role e past closed undecided)
 
--- a packet without properties is such an event: it is no CONNACK, no SUBSCRIBE and no DISCONNECT
+-- a bare packet is such an event: it is no CONNACK, no SUBSCRIBE and no DISCONNECT
 record ShowsNothing (n : Note) : Type 0 where
   closed : is_open n ≡ false
   awake : is_rest n ≡ false

@@ -1,7 +1,12 @@
 -- What a judge keeps of the events so far.
-use Rattle.std.specs.Prelude.{◌≡◌, ◌+◌, ℕ, Bool, true, List, ◌∷◌, length, map}
+use Rattle.std.specs.Prelude.{◌≡◌, ◌+◌, ℕ, Bool, true, List, [], ◌∷◌, length, map}
+use Rattle.mq_packet.specs.declared.packet.Packet.TheVariants as packets
+use Rattle.mq_packet.specs.declared.packet.Publish.{Publish}
+use Rattle.mq_packet.specs.Reading.{view}
 use Rattle.mq_log.specs.declared.place.Place3.{Place3}
 use Rattle.mq_log.specs.Events.{Event, Placed}
+use Rattle.mq_rules.specs.declared.bare.Bare.{Bare}
+use Rattle.mq_rules.specs.ByteTallies.{IsTriedAs}
 use Rattle.mq_rules.specs.Notes.{seen as seen_of}
 use Rattle.mq_books.specs.Kinds.{is_counting}
 use Rattle.mq_rules.specs.declared.role.Tested.{Tested}
@@ -53,6 +58,10 @@ IsTallying w received = is_counting w.watchers ≡ true → Tallies w.tally w.te
 -- Nothing was kept of the event itself, and places are counted if they were before.
 abbrev pub CountsNothing : Watching → Watching → Type 0
 CountsNothing old new = (is_counting new.watchers ≡ is_counting old.watchers) × (new.tally ≡ old.tally)
+
+-- If the PUBLISH has no properties, these numbers put to the test what it does.
+abbrev pub IsPublishTriedAs : Bare → Publish → Type 0
+IsPublishTriedAs bare publish = publish.properties.items ≡ [] → IsTriedAs bare.size bare.fields (view (packets.Publish publish))
 
 -- What is kept of the events before this one themselves, and then with it.
 abbrev pub TalliesNext : Watching → Watching → Place3 → Event → Type 0

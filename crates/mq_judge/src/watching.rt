@@ -14,7 +14,7 @@ ghost use Rattle.mq_rules.specs.Notes.{tested_as, note_of, note_of_bare};
 ghost use Rattle.mq_rules.specs.Weights.{in_word};
 ghost use Rattle.mq_rules.specs.declared.role.Tested.{Tested as TheTested};
 ghost use Rattle.mq_rules.specs.declared.fate.Fate.TheVariants.{Void};
-ghost use Rattle.mq_judge.specs.Watching.{IsWatching, IsTallying, TalliesNext, TakesIn, LeavesOut, CountsNothing, watchers_weigh};
+ghost use Rattle.mq_judge.specs.Watching.{IsPublishTriedAs, IsWatching, IsTallying, TalliesNext, TakesIn, LeavesOut, CountsNothing, watchers_weigh};
 ghost use Rattle.mq_judge.specs.Coverage.{places_among};
 ghost use Rattle.mq_judge.specs.Unjudged.{unjudged_among};
 ghost use Rattle.mq_judge.specs.Gathering.{Gathers, Tallies};
@@ -170,7 +170,7 @@ impl Watching {
         }
     }
 
-    // The same of a packet without properties, by its numbers.
+    // The same of a bare packet, by its numbers.
     #[inline(always)]
     fn take_bare(&mut self, at: Place3, bare: Bare<'_>) -> Result<(), Memory>
         ensures tested { self.new.tested ≡ self.old.tested }
@@ -190,8 +190,28 @@ impl Watching {
         }
     }
 
-    // The same where places are counted. It counts the statements on a packet's bytes too. A call
-    // of its own, so that nothing of it stands where no places are counted.
+    // The same where places are counted. A call of its own, so that nothing of it stands where no
+    // places are counted.
+    #[inline(never)]
+    fn take_counted(&mut self, at: Place3, bare: Bare<'_>) -> Result<(), Memory>
+        ensures tested { self.new.tested ≡ self.old.tested }
+        ensures ok { OnOk result (TakesIn self.old self.new at (note_of_bare bare.entry)) }
+        ensures memory { OnErr result (LeavesOut self.old self.new at (note_of_bare bare.entry)) }
+        ensures counts { OnOk result (CountsNothing self.old self.new) }
+    {
+        match self.watchers.step_counted(at, bare, &mut self.faults) {
+            Ok(()) => {
+                self.events = at.position;
+                Ok(())
+            }
+            Err(Memory) => {
+                self.faults.drop_decided(at.position);
+                Err(Memory)
+            }
+        }
+    }
+
+    // The same of a packet without properties. It counts the statements on a packet's bytes too.
     #[inline(never)]
     fn count_bare(&mut self, at: Place3, bare: Bare<'_>) -> Result<(), Memory>
         ensures tested { self.new.tested ≡ self.old.tested }
@@ -200,17 +220,28 @@ impl Watching {
         ensures counts { OnOk result (counts self.new.watchers ≡ counts self.old.watchers) }
         ensures tallies { OnOk result ((entry : Entry) → IsTriedAs bare.entry.size bare.entry.fields entry → TalliesNext self.old self.new at (item_event bare.entry.direction (packet_item bare.entry.size entry))) }
     {
-        match self.watchers.step_counted(at, bare, &mut self.faults) {
-            Ok(()) => {
-                self.events = at.position;
-                self.tally.count_bare(at.position, bare);
-                Ok(())
-            }
-            Err(Memory) => {
-                self.faults.drop_decided(at.position);
-                Err(Memory)
-            }
-        }
+        self.take_counted(at, bare)?;
+        self.tally.count_bare(at.position, bare);
+        Ok(())
+    }
+
+    // The same of a bare PUBLISH, which may have properties.
+    #[inline(never)]
+    fn count_publish(
+        &mut self,
+        at: Place3,
+        bare: Bare<'_>,
+        publish: Publish<'_>,
+    ) -> Result<(), Memory>
+        ensures tested { self.new.tested ≡ self.old.tested }
+        ensures ok { OnOk result (TakesIn self.old self.new at (note_of_bare bare.entry)) }
+        ensures memory { OnErr result (LeavesOut self.old self.new at (note_of_bare bare.entry)) }
+        ensures counts { OnOk result (counts self.new.watchers ≡ counts self.old.watchers) }
+        ensures tallies { OnOk result (IsPublishTriedAs bare.entry publish.entry → TalliesNext self.old self.new at (item_event bare.entry.direction (packet_item bare.entry.size (view (packets.Publish publish.entry))))) }
+    {
+        self.take_counted(at, bare)?;
+        tally_publish(&mut self.tally, at.position, bare, publish);
+        Ok(())
     }
 
     // Takes in a packet without properties, and counts it if places are counted.
@@ -349,7 +380,7 @@ impl Watching {
         ensures counts { OnOk result (counts self.new.watchers ≡ counts self.old.watchers) }
         ensures tallies { OnOk result (TalliesNext self.old self.new place (item_event direction (packet_item size (view (packets.Publish publish.entry))))) }
     {
-        if !is_bare(&publish) {
+        if !is_bare(direction, &publish) {
             return self.take_publish(place, direction, size, publish);
         }
         let bare = Bare::of_publish(
@@ -360,7 +391,10 @@ impl Watching {
             publish.duplicate,
             publish.topic,
         );
-        self.receive_bare(place, bare)
+        if self.watchers.is_counting() {
+            return self.count_publish(place, bare, publish);
+        }
+        self.take_bare(place, bare)
     }
 }
 
@@ -397,6 +431,19 @@ fn tally_packet(
 {
     if counting {
         tally.count_packet(position, direction, size, packet);
+    }
+}
+
+// The same of a bare PUBLISH, where places are counted: by its numbers if it has no properties, else
+// by the packet itself.
+fn tally_publish(tally: &mut Tally, position: u32, bare: Bare<'_>, publish: Publish<'_>)
+    ensures { (tested : TheTested) (p : Placed) (events : List Placed) → IsPublishTriedAs bare.entry publish.entry → p.event ≡ item_event bare.entry.direction (packet_item bare.entry.size (view (packets.Publish publish.entry))) → position ≡ length events + 1 → Tallies tally.old tested events → Tallies tally.new tested (p ∷ events) }
+{
+    if publish.properties.as_bytes().is_empty() {
+        tally.count_bare(position, bare);
+    } else {
+        let (direction, size) = (bare.direction, bare.size);
+        tally.count_packet(position, direction, size, &Packet::Publish(publish));
     }
 }
 

@@ -1,5 +1,5 @@
 -- The laws on statements, moments and faults that the crates above cite. They cite no other file of these proofs.
-pub use Rattle.mq_rules.proofs.BareLaws.{bare-closed, bare_publish}
+pub use Rattle.mq_rules.proofs.BareLaws.{bare-closed}
 pub use Rattle.mq_rules.proofs.BoolLaws.{and-over, and-past, and_false, and_true, both_true, differ, not_true, option_or-none, or-turn, or_false, or_left, or_parts, or_right, same_test, there}
 pub use Rattle.mq_rules.proofs.ConnLaws.{connection-next as connection-newest, first_found-next, some-next}
 pub use Rattle.mq_rules.proofs.CounterLaws.{apart as delivery-apart, full-counted, passes-counted, S07-before, S07-counted, S07-tried, used_up-counted}
@@ -21,6 +21,7 @@ pub use Rattle.mq_rules.proofs.PassedLaws.{earlier_over, passed-none, passed-ope
 pub use Rattle.mq_rules.proofs.PlacesLaws.{applies-nowhere, applies-step, count-most, from-zero, places-most, places-once, places-past, places-start, places-step, places-unbound}
 pub use Rattle.mq_rules.proofs.PlainLaws.{beginning, grows-next, newest-first, within-next}
 pub use Rattle.mq_rules.proofs.PositionLaws.{among-moment, among-some, among-within, earliest_since-is, earliest_since-there, latest-is, moment-among, moment-beginning, moment-newest, moment-older, moment-placed, moments-descend, none-first_found, session-descend, since-stands, some-among, stands-since, those-among, those-descend}
+pub use Rattle.mq_rules.proofs.PropertyLaws.{none_from_no_bytes}
 pub use Rattle.mq_rules.proofs.SessionLaws.{members-session, session-members}
 pub use Rattle.mq_rules.proofs.StepLaws.{fails-kept, fails-nowhere, fails-step, fate-step, moment-newest as moment-newest-of-step, moment-next, moment-stays, moment-within}
 pub use Rattle.mq_rules.proofs.SubjectLaws.{in_order-releases, in_order-turns, release-needs, resend-needs, taken-needs}

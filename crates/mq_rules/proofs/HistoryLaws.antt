@@ -180,7 +180,7 @@ history-left role h n t = sym (λ i. record {
         go true false d x p = refl
         go false s d x p = refl
 
--- the same of a packet without properties that is received, where something was sent, and nothing that changes a session was received
+-- the same of a bare packet that is received, where something was sent, and nothing that changes a session was received
 ordinary-received : (size : ℕ) (fields : BareFields) → is_ordinary (bare_note directions.Recv size (bare_fields directions.Recv fields)) ≡ true
 ordinary-received size (bares.Publish identifier qos duplicate topic) = refl
 ordinary-received size (bares.Puback identifier code) = refl

@@ -113,6 +113,11 @@ connack_note session_present code properties = record {
   has_authentication_method = is_some (first_text 21 properties);
 }
 
+-- a PUBLISH that went this way has a Message Expiry Interval; of one that was sent no statement looks at it (MQTT 5.0, section 3.3.2.3.3)
+abbrev pub expires_if_received : Direction → List Property → Bool
+expires_if_received directions.Sent properties = false
+expires_if_received directions.Recv properties = is_some (first_four_bytes 2 properties)
+
 -- of a PUBLISH (MQTT 5.0, section 3.3)
 abbrev pub publish_note : Direction → PublishFields → PublishNote
 publish_note direction p = record {
@@ -122,7 +127,7 @@ publish_note direction p = record {
   retain = p.retain;
   topic = only_list (is_sent_direction direction) p.topic;
   topic_alias = first_two_bytes 35 p.properties.items;
-  has_message_expiry = is_some (first_four_bytes 2 p.properties.items);
+  has_message_expiry = expires_if_received direction p.properties.items;
   has_subscription_identifier = is_some (first_varint 11 p.properties.items);
 }
 
@@ -170,24 +175,25 @@ packet_fields direction pingresp = Pingresp
 packet_fields direction (disconnect code properties) = Disconnect (disconnect_note code properties.items)
 packet_fields direction (auth code properties) = Auth
 
--- a packet's own property list, if it has one (MQTT 5.0, section 2.2.2)
-abbrev pub properties_of : Entry → List Property
-properties_of (connect fields) = fields.properties.items
-properties_of (connack session_present code properties) = properties.items
-properties_of (publish fields) = fields.properties.items
-properties_of (acknowledgement kind identifier code properties) = properties.items
-properties_of (request kind identifier properties filters) = properties.items
-properties_of (answer kind identifier properties codes) = properties.items
-properties_of pingreq = []
-properties_of pingresp = []
-properties_of (disconnect code properties) = properties.items
-properties_of (auth code properties) = properties.items
+-- The list in which a Reason String and a User Property are looked for: a packet's own, if it has one (MQTT 5.0, section 2.2.2). That of a PUBLISH isn't: it may have User Properties
+-- whether the client asked for them or not, and never has a Reason String (section 3.1.2.11.7).
+abbrev pub explaining_list : Entry → List Property
+explaining_list (connect fields) = fields.properties.items
+explaining_list (connack session_present code properties) = properties.items
+explaining_list (publish fields) = []
+explaining_list (acknowledgement kind identifier code properties) = properties.items
+explaining_list (request kind identifier properties filters) = properties.items
+explaining_list (answer kind identifier properties codes) = properties.items
+explaining_list pingreq = []
+explaining_list pingresp = []
+explaining_list (disconnect code properties) = properties.items
+explaining_list (auth code properties) = properties.items
 
 abbrev pub packet_note : Direction → ℕ → Entry → PacketNote
 packet_note direction size entry = record {
   size = size;
-  has_reason_string = is_some (first_text 31 (properties_of entry));
-  has_user_property = is_some (first_pair 38 (properties_of entry));
+  has_reason_string = is_some (first_text 31 (explaining_list entry));
+  has_user_property = is_some (first_pair 38 (explaining_list entry));
   fields = packet_fields direction entry;
 }
 
@@ -215,7 +221,7 @@ note_of (released identifier) = notes.Release identifier
 note_of (sent item) = notes.Sent (item_note directions.Sent item)
 note_of (received item) = notes.Recv (item_note directions.Recv item)
 
--- of a PUBLISH without properties, and with RETAIN 0
+-- of a PUBLISH with RETAIN 0, and without properties that statements look at
 abbrev pub bare_publish_note : Direction → Option ℕ → Qos → Bool → List ℕ → PublishNote
 bare_publish_note direction identifier qos duplicate topic = record {
   identifier = identifier;
@@ -228,7 +234,7 @@ bare_publish_note direction identifier qos duplicate topic = record {
   has_subscription_identifier = false;
 }
 
--- of a packet without properties
+-- of a packet without properties that statements look at
 abbrev pub bare_note : Direction → ℕ → PacketFields → Note
 bare_note directions.Sent size fields = notes.Sent (items.Packet (record { size = size; has_reason_string = false; has_user_property = false; fields = fields }))
 bare_note directions.Recv size fields = notes.Recv (items.Packet (record { size = size; has_reason_string = false; has_user_property = false; fields = fields }))
@@ -237,7 +243,7 @@ bare_note directions.Recv size fields = notes.Recv (items.Packet (record { size 
 abbrev pub kept_topic : List ℕ → List ℕ
 kept_topic topic = cond (nat_le (length topic) 30) topic []
 
--- what the statements look at of a packet without properties
+-- what the statements look at of a bare packet
 abbrev pub bare_fields : Direction → BareFields → PacketFields
 bare_fields direction (bares.Publish identifier qos duplicate topic) = Publish (bare_publish_note direction identifier qos duplicate (kept_topic topic.now))
 bare_fields direction (bares.Puback identifier code) = Puback identifier code

@@ -1,6 +1,8 @@
-//! Notes of packets without properties, most packets of most logs. They take no memory.
+//! Bare packets, which have no properties that statements look at: most packets of most logs. Their
+//! notes take no memory.
 ghost use Rattle.std.specs.Prelude.{◌≡◌, ◌≤◌, ℕ, [], false, length, is_some, IsTrue, IfSome};
-ghost use Rattle.mq_packet.specs.Reading.{view};
+ghost use Rattle.mq_packet.specs.Entries.{publish as publish_entry};
+ghost use Rattle.mq_packet.specs.Reading.{view, publish_view};
 ghost use Rattle.mq_log.specs.Events.{packet as packet_item};
 ghost use Rattle.mq_log.specs.Flows.{item_event};
 ghost use Rattle.mq_log.specs.declared.kind.Direction.{Direction as TheDirection};
@@ -9,32 +11,31 @@ ghost use Rattle.mq_rules.specs.declared.bare.BareFields.TheVariants as bares;
 ghost use Rattle.mq_rules.specs.declared.packet_note.PacketFields.TheVariants as fields_of;
 ghost use Rattle.mq_rules.specs.Notes.{fields_type, publish_in, bare_fields, bare_note, bare_publish_note, note_of, kept_topic, is_sent_direction, note_of_bare};
 
-use crate::conversion::nonempty;
+use crate::conversion::{has_noted, nonempty};
 use crate::note::{ItemNote, Note};
 use crate::packet_note::{PacketFields, PacketNote, PublishNote};
 use crate::text::Text;
 use mq_log::Direction;
 use mq_packet::{Packet, PacketType, Publish, Qos};
 
-/// Whether a PUBLISH has no properties, and a Topic Name that is short enough to lie in its note.
-/// One with RETAIN 1 counts as one with properties.
+/// Whether a PUBLISH that went this way is bare: it has RETAIN 0, no property that is noted, and a
+/// Topic Name that is short enough to lie in its note.
 #[inline(always)]
-pub fn is_bare(publish: &Publish<'_>) -> bool
+pub fn is_bare(direction: Direction, publish: &Publish<'_>) -> bool
     ensures short { IsTrue result → length publish.now.topic.now ≤ 30 }
-    ensures none { IsTrue result → publish.now.properties.items ≡ [] }
-    ensures unretained { IsTrue result → publish.now.retain ≡ false }
+    ensures note { IsTrue result → (size : ℕ) → bare_note direction size (fields_of.Publish (bare_publish_note direction publish.now.identifier publish.now.qos publish.now.duplicate publish.now.topic.now)) ≡ note_of (item_event direction (packet_item size (publish_entry (publish_view publish.now)))) }
 {
     if publish.retain {
         return false;
     }
-    match nonempty(&publish.properties) {
-        Some(_) => false,
-        None => Text::is_short(publish.topic),
+    if has_noted(direction, nonempty(&publish.properties)) {
+        return false;
     }
+    Text::is_short(publish.topic)
 }
 
 impl Note {
-    /// What the statements look at in a packet that has these fields, and no properties.
+    /// What the statements look at in a bare packet that has these fields.
     #[inline(always)]
     pub fn of_bare(direction: Direction, size: u32, fields: PacketFields) -> Note
         ensures { result ≡ bare_note direction size fields }
@@ -51,8 +52,7 @@ impl Note {
         }
     }
 
-    /// The note of a PUBLISH in this direction that has these fields, a short Topic Name, RETAIN 0
-    /// and no properties.
+    /// The note of a bare PUBLISH in this direction that has these fields.
     #[inline(always)]
     pub fn of_bare_publish(
         direction: Direction,
@@ -86,7 +86,7 @@ impl Note {
     }
 }
 
-/// The fields of a packet without properties: of a PUBLISH, of what acknowledges one, or of a ping.
+/// The fields of a bare packet: of a PUBLISH, of what acknowledges one, or of a ping.
 #[derive(Clone, Copy)]
 pub enum BareFields<'a> {
     /// PUBLISH.
@@ -205,8 +205,8 @@ impl BareFields<'_> {
     }
 }
 
-/// A packet without properties, by its numbers. A watcher that takes it in needs no note, unless it
-/// looks at more of it.
+/// A bare packet, by its numbers: one without properties, or a PUBLISH of whose properties no
+/// statement looks at any. A watcher that takes it in needs no note.
 #[derive(Clone, Copy)]
 pub struct Bare<'a> {
     /// Which way it went.
@@ -227,7 +227,7 @@ fn kept_topic<'a>(topic: &'a str) -> &'a str
 }
 
 impl<'a> Bare<'a> {
-    /// A PUBLISH that has a short Topic Name, and RETAIN 0.
+    /// A bare PUBLISH. It has a short Topic Name, and RETAIN 0.
     #[inline(always)]
     pub fn of_publish(
         direction: Direction,

@@ -4,7 +4,7 @@
 //! Memory is taken only for a text that some statement looks at: the Topic Name of a PUBLISH that
 //! was sent, the Topic Filters of a SUBSCRIBE that was received, and the Reason Codes of a SUBACK
 //! that was sent.
-ghost use Rattle.std.specs.Prelude.{◌≡◌, ◌&&◌, ◌<◌, ◌≤◌, [], true, is_some, length, slice_index, option_map, unwrap_or, IfOk, OnErr};
+ghost use Rattle.std.specs.Prelude.{◌≡◌, ◌&&◌, ◌<◌, ◌≤◌, [], true, false, None, is_some, length, slice_index, option_map, unwrap_or, IfOk, OnErr};
 ghost use Rattle.mq_props.specs.First.{first_two_bytes, first_four_bytes, first_varint, first_text, first_pair};
 ghost use Rattle.mq_packet.specs.declared.packet.RequestKind.TheVariants as requests;
 ghost use Rattle.mq_packet.specs.Reading.{view, connect_view, publish_view, will_view};
@@ -14,7 +14,7 @@ ghost use Rattle.mq_log.specs.Events.{packet, packet as packet_item};
 ghost use Rattle.mq_log.specs.Flows.{item_event};
 ghost use Rattle.mq_log.specs.Reception.{item_of, event_of};
 ghost use Rattle.mq_rules.specs.declared.packet_note.PacketFields.TheVariants as fields;
-ghost use Rattle.mq_rules.specs.Notes.{only_list, is_sent_direction, begins_acknowledged, cuts_acknowledged, will_note, connect_note, connack_note, publish_note, disconnect_note, wishes_note, packet_fields, properties_of, packet_note, item_note, note_of, request_fields, answer_fields, keeps_text, item_keeps_text, note_keeps_text};
+ghost use Rattle.mq_rules.specs.Notes.{only_list, is_sent_direction, begins_acknowledged, cuts_acknowledged, will_note, connect_note, connack_note, publish_note, disconnect_note, wishes_note, packet_fields, explaining_list, expires_if_received, packet_note, item_note, note_of, request_fields, answer_fields, keeps_text, item_keeps_text, note_keeps_text};
 
 use crate::faults::Memory;
 use crate::note::{ItemNote, Note};
@@ -93,6 +93,18 @@ fn has_message_expiry(list: Option<&Props<'_>>) -> bool
     }
 }
 
+// The same, if the list is that of a PUBLISH that was received. Of one that was sent no statement
+// looks at it.
+#[inline(always)]
+fn expires_if_received(direction: Direction, list: Option<&Props<'_>>) -> bool
+    ensures { result ≡ expires_if_received direction (unwrap_or (option_map (λ list. list.now.items) list.entry) []) }
+{
+    match direction {
+        Direction::Sent => false,
+        Direction::Recv => has_message_expiry(list),
+    }
+}
+
 // Whether there is a list, and it has a Subscription Identifier (MQTT 5.0, section 3.3.2.3.8).
 #[inline(always)]
 fn has_subscription_identifier(list: Option<&Props<'_>>) -> bool
@@ -102,6 +114,18 @@ fn has_subscription_identifier(list: Option<&Props<'_>>) -> bool
         Some(list) => list.has_subscription_identifier(),
         None => false,
     }
+}
+
+/// Whether the list of a PUBLISH that went this way has a property that is noted.
+#[inline(always)]
+pub(crate) fn has_noted(direction: Direction, list: Option<&Props<'_>>) -> bool
+    ensures unaliased { result ≡ false → first_two_bytes 35 (unwrap_or (option_map (λ list. list.now.items) list.entry) []) ≡ None }
+    ensures unidentified { result ≡ false → is_some (first_varint 11 (unwrap_or (option_map (λ list. list.now.items) list.entry) [])) ≡ false }
+    ensures lasting { result ≡ false → expires_if_received direction (unwrap_or (option_map (λ list. list.now.items) list.entry) []) ≡ false }
+{
+    topic_alias(list).is_some()
+        || has_subscription_identifier(list)
+        || expires_if_received(direction, list)
 }
 
 impl WillNote {
@@ -205,13 +229,13 @@ impl PublishNote {
         ensures needed { OnErr result (0 < length (publish_note direction (publish_view publish.now)).topic) }
     {
         let topic = kept_topic(alloc, direction, publish.topic)?;
-        Ok(PublishNote::with_topic(topic, publish))
+        Ok(PublishNote::with_topic(direction, topic, publish))
     }
 
     // What the statements look at in this PUBLISH, with this copy of its Topic Name.
     #[inline(always)]
-    fn with_topic(topic: Text, publish: &Publish<'_>) -> PublishNote
-        ensures { (direction : Direction) → topic ≡ only_list (is_sent_direction direction) publish.now.topic.now → result ≡ publish_note direction (publish_view publish.now) }
+    fn with_topic(direction: Direction, topic: Text, publish: &Publish<'_>) -> PublishNote
+        ensures { topic ≡ only_list (is_sent_direction direction) publish.now.topic.now → result ≡ publish_note direction (publish_view publish.now) }
     {
         let properties = nonempty(&publish.properties);
         PublishNote {
@@ -221,7 +245,7 @@ impl PublishNote {
             retain: publish.retain,
             topic,
             topic_alias: topic_alias(properties),
-            has_message_expiry: has_message_expiry(properties),
+            has_message_expiry: expires_if_received(direction, properties),
             has_subscription_identifier: has_subscription_identifier(properties),
         }
     }
@@ -356,22 +380,22 @@ impl PacketFields {
     }
 }
 
-// The packet's own property list, if it has one with properties in it (MQTT 5.0, section 2.2.2).
+// The property list in which a Reason String and a User Property are looked for, if the packet has
+// such a list, with properties in it. That of a PUBLISH is none (MQTT 5.0, section 3.1.2.11.7).
 #[inline(always)]
-fn properties_in<'p, 'a>(packet: &'p Packet<'a>) -> Option<&'p Props<'a>>
-    ensures { unwrap_or (option_map (λ list. list.now.items) result) [] ≡ properties_of (view packet.now) }
+fn explaining_list<'p, 'a>(packet: &'p Packet<'a>) -> Option<&'p Props<'a>>
+    ensures { unwrap_or (option_map (λ list. list.now.items) result) [] ≡ explaining_list (view packet.now) }
 {
     match packet {
         Packet::Connect(packet) => nonempty(&packet.properties),
         Packet::Connack(packet) => nonempty(&packet.properties),
-        Packet::Publish(packet) => nonempty(&packet.properties),
         Packet::Puback(packet)
         | Packet::Pubrec(packet)
         | Packet::Pubrel(packet)
         | Packet::Pubcomp(packet) => nonempty(&packet.properties),
         Packet::Subscribe(packet) | Packet::Unsubscribe(packet) => nonempty(&packet.properties),
         Packet::Suback(packet) | Packet::Unsuback(packet) => nonempty(&packet.properties),
-        Packet::Pingreq | Packet::Pingresp => None,
+        Packet::Publish(_) | Packet::Pingreq | Packet::Pingresp => None,
         Packet::Disconnect(packet) | Packet::Auth(packet) => nonempty(&packet.properties),
     }
 }
@@ -393,7 +417,7 @@ impl PacketNote {
         ensures needed { OnErr result (keeps_text (packet_fields direction (view packet.now)) ≡ true) }
     {
         let fields = PacketFields::of(alloc, direction, packet)?;
-        let properties = properties_in(packet);
+        let properties = explaining_list(packet);
         Ok(PacketNote {
             size,
             has_reason_string: has_reason_string(properties),

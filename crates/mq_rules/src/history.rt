@@ -54,7 +54,7 @@ impl History {
         }
     }
 
-    /// Whether a packet without properties leaves all this as it is.
+    /// Whether a bare packet leaves all this as it is.
     #[inline(always)]
     #[tactic(auto, unfolding(crate::specs::Notes::note_of_bare))]
     pub fn is_left_by(&self, bare: Bare<'_>) -> bool

@@ -17,7 +17,7 @@ use mq_packet::PacketType;
 pub enum NoteRef<'a> {
     /// By its note.
     Kept(&'a Note),
-    /// A packet without properties, by its numbers: of most of them no note is made.
+    /// A bare packet, by its numbers: of most of them no note is made.
     Bare(Bare<'a>),
 }
 

@@ -1,4 +1,4 @@
-//! Events as they are taken in: by a note, or by the numbers of a packet without properties.
+//! Events as they are taken in: by a note, or by the numbers of a bare packet.
 ghost use Rattle.std.specs.Prelude.{◌≡◌};
 ghost use Rattle.mq_rules.specs.declared.note.Note.{Note as TheNote};
 ghost use Rattle.mq_rules.specs.Notes as notes;
@@ -11,7 +11,7 @@ use crate::packet_note::{accepted, at_least_once, delivered, exactly_once, refus
 use mq_log::Direction;
 
 /// An event to take in. What takes one in is written once, and compiled for each kind: most events
-/// are packets without properties, of which no note is made. What is asked of many events is a word
+/// are bare packets, of which no note is made. What is asked of many events is a word
 /// of its own, so that of the two ways to find the answer only one is compiled.
 pub trait Noted {
     /// Its note.

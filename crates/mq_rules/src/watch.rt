@@ -53,7 +53,7 @@ pub trait Watch {
         ensures bounded { (tested : Tested) (taken : Option Fate) (past : List Seen) → agrees self.now tested taken past → result ≤ bound tested taken past };
 }
 
-/// Takes in a packet without properties by a note that is made of it.
+/// Takes in a bare packet by a note that is made of it.
 ///
 /// # Errors
 ///
@@ -95,9 +95,9 @@ pub fn step_apart<W: Watch>(
     Ok(())
 }
 
-/// A watcher that can take in a packet without properties by its numbers, as it does by its note.
+/// A watcher that can take in a bare packet by its numbers, as it does by its note.
 pub trait Brisk: Watch {
-    /// Takes in the next event, a packet without properties.
+    /// Takes in the next event, a bare packet.
     ///
     /// # Errors
     ///

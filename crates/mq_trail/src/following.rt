@@ -93,7 +93,7 @@ impl<W: Follower, K> Following<W, K> {
         Ok(())
     }
 
-    // Takes in a packet without properties, by its numbers.
+    // Takes in a bare packet, by its numbers.
     #[inline(always)]
     fn take_bare(&mut self, place: Place3, bare: Bare<'_>) -> Result<(), Memory>
         ensures { OnOk result (TakesIn W.agrees self.old.watcher self.new.watcher place (note_of_bare bare.entry)) }
@@ -181,7 +181,7 @@ impl<W: Follower, K> Following<W, K> {
     ) -> Result<(), Memory>
         ensures { OnOk result (TakesIn W.agrees self.old.watcher self.new.watcher place (note_of (item_event direction (packet_item size (view (packets.Publish publish.entry)))))) }
     {
-        if !is_bare(&publish) {
+        if !is_bare(direction, &publish) {
             return self.take_publish(place, direction, size, publish);
         }
         let bare = Bare::of_publish(

@@ -62,7 +62,7 @@ impl<K: Wanted> Reviewing<K> {
     }
 }
 
-// Takes in a packet without properties by a note that is made of it.
+// Takes in a bare packet by a note that is made of it.
 #[inline(never)]
 fn take_bare(
     explaining: &mut Explaining,

@@ -294,7 +294,7 @@ impl Inflight {
         count_moved(self, &mut places.resumed, false, identifier);
     }
 
-    // Counts any packet without properties, in a call of its own: most are new ones, or set an
+    // Counts any bare packet, in a call of its own: most are new ones, or set an
     // identifier free.
     #[inline(never)]
     fn count_other(&self, places: &mut InflightPlaces, at: Place3, fate: Fate, bare: Bare<'_>)
@@ -303,7 +303,7 @@ impl Inflight {
         self.count(places, at, at.position, fate, &bare);
     }
 
-    // Counts an event: most are packets without properties.
+    // Counts an event: most are bare packets.
     #[inline(always)]
     fn count_quickly(
         &self,
@@ -324,7 +324,7 @@ impl Inflight {
         }
     }
 
-    // Counts a packet without properties of a connection that was decided before it.
+    // Counts a bare packet of a connection that was decided before it.
     #[inline(always)]
     fn count_bare(&self, places: &mut InflightPlaces, at: Place3, fate: Fate, bare: Bare<'_>)
         ensures { (tested : TheTested) (past : List TheSeen) → IsUnder tested fate at.position (seen at (note_of_bare bare.entry)) past → IsUsing self.now tested (fate_before tested fate (seen at (note_of_bare bare.entry)) past) past → CountsInflight places.old tested (fate_before tested fate (seen at (note_of_bare bare.entry)) past) past → CountsInflight places.new tested (Some fate) (seen at (note_of_bare bare.entry) ∷ past) }

@@ -1,4 +1,4 @@
-//! Packets without properties, taken in by their numbers (MQTT 5.0, sections 2.2.1 and 4.3): a new
+//! Bare packets, taken in by their numbers (MQTT 5.0, sections 2.2.1 and 4.3): a new
 //! PUBLISH, and what acknowledges one.
 ghost use Rattle.std.specs.Prelude.{◌≡◌, ◌∷◌, ◌+◌, ◌<◌, ◌&&◌, ◌||◌, ℕ, List, Option, true, false, not, OnOk, OnErr, IfOk, Some, None, is_some, length, nat_eq, cond};
 ghost use Rattle.std.specs.Option.{option_or};
@@ -243,7 +243,7 @@ impl Inflight {
 }
 
 impl Inflight {
-    // Takes in a packet without properties by a note, in a call of its own.
+    // Takes in a bare packet by a note, in a call of its own.
     #[inline(never)]
     fn take_apart(&mut self, at: Place3, bare: Bare<'_>, faults: &mut Faults) -> Result<(), Memory>
         ensures agrees { OnOk result ((tested : Tested) (taken : Option TheFate) (past : List Seen) → Follows tested (seen at (note_of_bare bare.entry)) past → IsKnown tested taken (seen at (note_of_bare bare.entry)) past → ⟦<Inflight as Fated>⟧.agrees self.old tested taken past → ⟦<Inflight as Fated>⟧.agrees self.new tested (latest_fate tested.role (seen at (note_of_bare bare.entry) ∷ past)) (seen at (note_of_bare bare.entry) ∷ past)) }
@@ -256,7 +256,7 @@ impl Inflight {
         Ok(())
     }
 
-    // Takes in a packet without properties that is sent on a connection that is accepted.
+    // Takes in a bare packet that is sent on a connection that is accepted.
     #[inline(always)]
     fn take_sent(&mut self, at: Place3, bare: Bare<'_>, faults: &mut Faults) -> Result<(), Memory>
         ensures agrees { accepts self.old.fate ≡ true → bare.entry.direction ≡ directions.Sent → OnOk result ((tested : Tested) (taken : Option TheFate) (past : List Seen) → Follows tested (seen at (note_of_bare bare.entry)) past → IsKnown tested taken (seen at (note_of_bare bare.entry)) past → IsUsing self.old tested taken past → IsStep at (note_of_bare bare.entry) self.new tested past faults.old faults.new) }
@@ -313,7 +313,7 @@ impl Inflight {
 }
 
 impl Inflight {
-    /// Takes in a packet without properties of a connection that was decided before it.
+    /// Takes in a bare packet of a connection that was decided before it.
     #[inline(always)]
     pub(super) fn take_bare(
         &mut self,

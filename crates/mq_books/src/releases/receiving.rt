@@ -1,4 +1,4 @@
-//! Packets without properties, taken in by their numbers (MQTT 5.0, section 4.3.3): a QoS 2 PUBLISH
+//! Bare packets, taken in by their numbers (MQTT 5.0, section 4.3.3): a QoS 2 PUBLISH
 //! that is received, and the PUBREC and the PUBCOMP that are sent for one.
 ghost use Rattle.std.specs.Prelude.{◌≡◌, ◌∷◌, ◌+◌, ◌&&◌, ◌==◌, length, List, Option, OnOk, OnErr, Some, None};
 ghost use Rattle.mq_rules.specs.declared.role.Tested.{Tested};
@@ -119,7 +119,7 @@ impl Releases {
 }
 
 impl Releases {
-    /// Takes in a packet without properties of a connection that was decided before it.
+    /// Takes in a bare packet of a connection that was decided before it.
     #[inline(always)]
     pub(super) fn take_bare(
         &mut self,

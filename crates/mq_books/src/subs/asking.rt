@@ -54,7 +54,7 @@ fn has_acknowledged_topic(sharing: bool, topics: &IndexMap<u16, Text>, note: &No
     }
 }
 
-// Whether a packet without properties is a PUBLISH that is sent, and of which B01 looks at the
+// Whether a bare packet is a PUBLISH that is sent, and of which B01 looks at the
 // topic: its Topic Name, since it has no Topic Alias.
 #[inline(always)]
 #[tactic(auto, unfolding(mq_rules::specs::Notes::note_of_bare))]

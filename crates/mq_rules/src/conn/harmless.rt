@@ -128,7 +128,7 @@ pub fn is_harmless(bounds: SendBounds, note: &Note) -> bool
     }
 }
 
-/// The same of a packet without properties.
+/// The same of a bare packet.
 #[inline(always)]
 #[tactic(auto, unfolding(crate::specs::Notes::note_of_bare))]
 pub fn is_bare_harmless(bounds: SendBounds, bare: Bare<'_>) -> bool
