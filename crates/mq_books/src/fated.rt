@@ -6,11 +6,12 @@ ghost use Rattle.mq_rules.specs.declared.rule.Rule.{Rule};
 ghost use Rattle.mq_rules.specs.declared.note.Seen.{Seen};
 ghost use Rattle.mq_rules.specs.Under.{seen, IsUnder, fate_before, turns_with};
 ghost use Rattle.mq_rules.specs.Growing.{Gains, GainsWithin};
+ghost use Rattle.mq_rules.specs.Notes.{note_in};
 ghost use Rattle.mq_rules.specs.Weights.{in_word};
 
 use crate::taken::Taken;
 use mq_log::Place3;
-use mq_rules::{Both, Fate, Faults, Memory};
+use mq_rules::{Both, Fate, Faults, Memory, NoteRef, Noted};
 
 /// A watcher of statements on sessions, which takes in each event with the fate of its connection.
 ///
@@ -52,6 +53,31 @@ pub trait Fated {
     fn weight(&self) -> usize
         ensures exact { result ≡ in_word (weighs self.now) }
         ensures bounded { (tested : Tested) (taken : Option TheFate) (past : List Seen) → agrees self.now tested taken past → result ≤ bound tested taken past };
+}
+
+/// Gives an event to a watcher in a call of its own, for one that few events concern. It is given
+/// the event's numbers, and not where they lie: else they would lie in memory on each way to it.
+///
+/// # Errors
+///
+/// As in `fated`.
+#[inline(never)]
+pub fn fated_apart<W: Fated>(
+    watcher: &mut W,
+    at: Place3,
+    decided: u32,
+    fate: Fate,
+    event: NoteRef<'_>,
+    faults: &mut Faults,
+) -> Result<(), Memory>
+    ensures agrees { OnOk result ((tested : Tested) (past : List Seen) → IsUnder tested fate decided (seen at (note_in event.entry)) past → W.agrees watcher.old tested (fate_before tested fate (seen at (note_in event.entry)) past) past → W.agrees watcher.new tested (Some fate) (seen at (note_in event.entry) ∷ past)) }
+    ensures grows { OnOk result ((tested : Tested) (past : List Seen) → IsUnder tested fate decided (seen at (note_in event.entry)) past → W.agrees watcher.old tested (fate_before tested fate (seen at (note_in event.entry)) past) past → Gains (λ k r. W.judges r && turns_with tested fate (seen at (note_in event.entry)) past k r) tested (seen at (note_in event.entry) ∷ past) decided faults.old faults.new) }
+    ensures memory { OnErr result ((tested : Tested) (past : List Seen) → IsUnder tested fate decided (seen at (note_in event.entry)) past → W.agrees watcher.old tested (fate_before tested fate (seen at (note_in event.entry)) past) past → GainsWithin (λ k r. W.judges r && turns_with tested fate (seen at (note_in event.entry)) past k r) tested (seen at (note_in event.entry) ∷ past) decided faults.old faults.new) }
+{
+    match event {
+        NoteRef::Kept(note) => watcher.fated(at, decided, fate, note, faults),
+        NoteRef::Bare(bare) => watcher.fated(at, decided, fate, &bare, faults),
+    }
 }
 
 impl<A: Fated, B: Fated> Fated for Both<A, B> {

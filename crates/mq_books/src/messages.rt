@@ -9,7 +9,7 @@ ghost use Rattle.mq_rules.specs.Notes.{is_acknowledged};
 use crate::counting::Asks;
 use crate::debts::Debts;
 use crate::exchange::{E1, E2, E3, E4};
-use crate::fated::Fated;
+use crate::fated::{Fated, fated_apart};
 use crate::selective::{Discerning, Selective};
 use crate::taken::Taken;
 use mq_log::{Direction, Place3};
@@ -58,7 +58,7 @@ impl Fated for Messages {
     ghost bound = { ⟦<Both<Both<Debts<E1>, Debts<E2>>, Both<Debts<E3>, Debts<E4>>> as Fated>⟧.bound };
 
     // A call of its own: inlined it is much, and most packets don't concern it.
-    #[inline(never)]
+    #[inline(always)]
     fn fated<E: Taken>(
         &mut self,
         at: Place3,
@@ -67,7 +67,8 @@ impl Fated for Messages {
         event: &E,
         faults: &mut Faults,
     ) -> Result<(), Memory> {
-        self.watchers.fated(at, decided, fate, event, faults)
+        let event = event.as_ref();
+        fated_apart(&mut self.watchers, at, decided, fate, event, faults)
     }
 
     fn weight(&self) -> usize {

@@ -9,7 +9,7 @@ ghost use Rattle.mq_books.specs.Selecting as selecting;
 
 use crate::counting::Asks;
 use crate::counts::{Counts, Subacks, Unsubacks};
-use crate::fated::Fated;
+use crate::fated::{Fated, fated_apart};
 use crate::selective::{Discerning, Selecting, Selective};
 use crate::subs::Deliveries;
 use crate::taken::Taken;
@@ -61,7 +61,7 @@ impl Fated for Subs {
     ghost bound = { ⟦<Both<Deliveries, Both<Selecting<Counts<Subacks>>, Selecting<Counts<Unsubacks>>>> as Fated>⟧.bound };
 
     // A call of its own: few packets concern it.
-    #[inline(never)]
+    #[inline(always)]
     fn fated<E: Taken>(
         &mut self,
         at: Place3,
@@ -70,7 +70,8 @@ impl Fated for Subs {
         event: &E,
         faults: &mut Faults,
     ) -> Result<(), Memory> {
-        self.watchers.fated(at, decided, fate, event, faults)
+        let event = event.as_ref();
+        fated_apart(&mut self.watchers, at, decided, fate, event, faults)
     }
 
     fn weight(&self) -> usize {

@@ -212,7 +212,7 @@ impl Watching {
     }
 
     // The same of a packet without properties. It counts the statements on a packet's bytes too.
-    #[inline(never)]
+    #[inline(always)]
     fn count_bare(&mut self, at: Place3, bare: Bare<'_>) -> Result<(), Memory>
         ensures tested { self.new.tested ≡ self.old.tested }
         ensures ok { OnOk result (TakesIn self.old self.new at (note_of_bare bare.entry)) }
@@ -226,7 +226,7 @@ impl Watching {
     }
 
     // The same of a bare PUBLISH, which may have properties.
-    #[inline(never)]
+    #[inline(always)]
     fn count_publish(
         &mut self,
         at: Place3,
@@ -315,8 +315,26 @@ impl Watching {
         }
     }
 
+    // The same, inlined: what is handed to `take_packet` then lies in memory on the way to it alone.
+    #[inline(always)]
+    fn take_other(
+        &mut self,
+        place: Place3,
+        direction: Direction,
+        size: u32,
+        packet: Packet<'_>,
+    ) -> Result<(), Memory>
+        ensures tested { self.new.tested ≡ self.old.tested }
+        ensures ok { OnOk result (TakesIn self.old self.new place (note_of (item_event direction (packet_item size (view packet.entry))))) }
+        ensures memory { OnErr result (LeavesOut self.old self.new place (note_of (item_event direction (packet_item size (view packet.entry))))) }
+        ensures counts { OnOk result (counts self.new.watchers ≡ counts self.old.watchers) }
+        ensures tallies { OnOk result (TalliesNext self.old self.new place (item_event direction (packet_item size (view packet.entry)))) }
+    {
+        self.take_packet(place, direction, size, packet)
+    }
+
     // The same of a PUBLISH.
-    #[inline(never)]
+    #[inline(always)]
     fn take_publish(
         &mut self,
         place: Place3,
@@ -359,7 +377,7 @@ impl Watching {
                     fields,
                 },
             ),
-            None => self.take_packet(place, direction, size, packet),
+            None => self.take_other(place, direction, size, packet),
         }
     }
 
@@ -436,6 +454,7 @@ fn tally_packet(
 
 // The same of a bare PUBLISH, where places are counted: by its numbers if it has no properties, else
 // by the packet itself.
+#[inline(never)]
 fn tally_publish(tally: &mut Tally, position: u32, bare: Bare<'_>, publish: Publish<'_>)
     ensures { (tested : TheTested) (p : Placed) (events : List Placed) → IsPublishTriedAs bare.entry publish.entry → p.event ≡ item_event bare.entry.direction (packet_item bare.entry.size (view (packets.Publish publish.entry))) → position ≡ length events + 1 → Tallies tally.old tested events → Tallies tally.new tested (p ∷ events) }
 {

@@ -62,4 +62,4 @@ pub use rule::Rule;
 pub use shapes::Shapes;
 pub use table_laws::{each_statement_binds_its_ends, each_statement_has_its_row, rows_ascend};
 pub use text::{CodeList, FilterList, NotedFilter, Text};
-pub use watch::{Both, Brisk, Watch, step_apart, step_noted};
+pub use watch::{Both, Brisk, Watch, step_apart};

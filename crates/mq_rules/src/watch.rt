@@ -53,13 +53,10 @@ pub trait Watch {
         ensures bounded { (tested : Tested) (taken : Option Fate) (past : List Seen) → agrees self.now tested taken past → result ≤ bound tested taken past };
 }
 
-/// Takes in a bare packet by a note that is made of it.
-///
-/// # Errors
-///
-/// As in `step`.
-#[inline(always)]
-pub fn step_noted<W: Watch>(
+// Takes in a bare packet by a note that is made of it, in a call of its own: the note lies in memory,
+// which costs nothing where it isn't called.
+#[inline(never)]
+fn step_noted<W: Watch>(
     watcher: &mut W,
     at: Place3,
     bare: Bare<'_>,
@@ -74,13 +71,14 @@ pub fn step_noted<W: Watch>(
     Ok(())
 }
 
-/// The same as a call of its own: the note then lies in memory, which costs nothing where it isn't
-/// called.
+/// Takes in a bare packet by a note that is made of it. What makes the note is a call of its own,
+/// and what is handed to that call lies in memory: in this function's, which is inlined, and not in
+/// its caller's. So nothing is written there but on the way to the call.
 ///
 /// # Errors
 ///
 /// As in `step`.
-#[inline(never)]
+#[inline(always)]
 pub fn step_apart<W: Watch>(
     watcher: &mut W,
     at: Place3,

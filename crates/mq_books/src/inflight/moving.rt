@@ -245,7 +245,12 @@ impl Inflight {
 impl Inflight {
     // Takes in a bare packet by a note, in a call of its own.
     #[inline(never)]
-    fn take_apart(&mut self, at: Place3, bare: Bare<'_>, faults: &mut Faults) -> Result<(), Memory>
+    fn take_by_note(
+        &mut self,
+        at: Place3,
+        bare: Bare<'_>,
+        faults: &mut Faults,
+    ) -> Result<(), Memory>
         ensures agrees { OnOk result ((tested : Tested) (taken : Option TheFate) (past : List Seen) → Follows tested (seen at (note_of_bare bare.entry)) past → IsKnown tested taken (seen at (note_of_bare bare.entry)) past → ⟦<Inflight as Fated>⟧.agrees self.old tested taken past → ⟦<Inflight as Fated>⟧.agrees self.new tested (latest_fate tested.role (seen at (note_of_bare bare.entry) ∷ past)) (seen at (note_of_bare bare.entry) ∷ past)) }
         ensures grows { OnOk result ((tested : Tested) (taken : Option TheFate) (past : List Seen) → Follows tested (seen at (note_of_bare bare.entry)) past → IsKnown tested taken (seen at (note_of_bare bare.entry)) past → ⟦<Inflight as Fated>⟧.agrees self.old tested taken past → Gains (λ k r. ⟦<Inflight as Fated>⟧.judges r && turns_known tested (seen at (note_of_bare bare.entry)) past k r) tested (seen at (note_of_bare bare.entry) ∷ past) (length past + 1) faults.old faults.new) }
         ensures memory { OnErr result ((tested : Tested) (taken : Option TheFate) (past : List Seen) → Follows tested (seen at (note_of_bare bare.entry)) past → IsKnown tested taken (seen at (note_of_bare bare.entry)) past → ⟦<Inflight as Fated>⟧.agrees self.old tested taken past → GainsWithin (λ k r. ⟦<Inflight as Fated>⟧.judges r && turns_known tested (seen at (note_of_bare bare.entry)) past k r) tested (seen at (note_of_bare bare.entry) ∷ past) (length past + 1) faults.old faults.new) }
@@ -254,6 +259,16 @@ impl Inflight {
         let fate = self.fate;
         self.take_noted(at, at.position, fate, &note, faults)?;
         Ok(())
+    }
+
+    // The same, inlined: what is handed to that call then lies in memory on the way to it alone.
+    #[inline(always)]
+    fn take_apart(&mut self, at: Place3, bare: Bare<'_>, faults: &mut Faults) -> Result<(), Memory>
+        ensures agrees { OnOk result ((tested : Tested) (taken : Option TheFate) (past : List Seen) → Follows tested (seen at (note_of_bare bare.entry)) past → IsKnown tested taken (seen at (note_of_bare bare.entry)) past → ⟦<Inflight as Fated>⟧.agrees self.old tested taken past → ⟦<Inflight as Fated>⟧.agrees self.new tested (latest_fate tested.role (seen at (note_of_bare bare.entry) ∷ past)) (seen at (note_of_bare bare.entry) ∷ past)) }
+        ensures grows { OnOk result ((tested : Tested) (taken : Option TheFate) (past : List Seen) → Follows tested (seen at (note_of_bare bare.entry)) past → IsKnown tested taken (seen at (note_of_bare bare.entry)) past → ⟦<Inflight as Fated>⟧.agrees self.old tested taken past → Gains (λ k r. ⟦<Inflight as Fated>⟧.judges r && turns_known tested (seen at (note_of_bare bare.entry)) past k r) tested (seen at (note_of_bare bare.entry) ∷ past) (length past + 1) faults.old faults.new) }
+        ensures memory { OnErr result ((tested : Tested) (taken : Option TheFate) (past : List Seen) → Follows tested (seen at (note_of_bare bare.entry)) past → IsKnown tested taken (seen at (note_of_bare bare.entry)) past → ⟦<Inflight as Fated>⟧.agrees self.old tested taken past → GainsWithin (λ k r. ⟦<Inflight as Fated>⟧.judges r && turns_known tested (seen at (note_of_bare bare.entry)) past k r) tested (seen at (note_of_bare bare.entry) ∷ past) (length past + 1) faults.old faults.new) }
+    {
+        self.take_by_note(at, bare, faults)
     }
 
     // Takes in a bare packet that is sent on a connection that is accepted.

@@ -5,7 +5,7 @@ use Rattle.mq_rules.specs.Growing.{Gains, GainsWithin}
 use Rattle.mq_rules.proofs.Exports.{on_err}
 use Rattle.mq_books.specs.Using.{IsUsing, is_inflight}
 use Rattle.mq_books.proofs.KnownLaws.{knows, known-gains, known-within}
-use Rattle.mq_books.proofs.inflight.Inflight.take_apart.Goals as goal
+use Rattle.mq_books.proofs.inflight.Inflight.take_by_note.Goals as goal
 
 pub returns-clause-agrees : goal.returns-clause-agrees
 returns-clause-agrees c = λ tested taken past follows known u.
