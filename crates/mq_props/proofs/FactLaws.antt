@@ -1,13 +1,13 @@
 -- What is known of a list, after one more property, and what it says of the list.
 use Rattle.std.proofs.Common.{◌≡◌, ℕ, Bool, true, false, ◌||◌, cond, eqb, List, [], ◌∷◌, ◌++◌, Option, None, Some, is_some, option_and_then, refl, sym, ap, ◌∙◌}
 use Rattle.std.specs.Option.{option_map}
-use Rattle.std.proofs.lemmas.Bool.{cases_Bool, eq-eqb, ne_eqb, eqb-true}
+use Rattle.std.proofs.lemmas.Bool.{eq-eqb, ne_eqb, eqb-true}
 use Rattle.mq_props.specs.declared.table.Place.{Place}
 use Rattle.mq_props.specs.declared.table.ValueType.{ValueType}
 use Rattle.mq_props.specs.declared.table.ValueType.TheVariants as types
 use Rattle.mq_props.specs.Identifiers.{topic_alias}
-use Rattle.mq_props.specs.Table.{Line, row_of, rows}
-use Rattle.mq_props.specs.Values.{Value, byte_value, two_bytes_value, four_bytes_value, varint_value, text_value, pair_value, binary_value, Property, value_type}
+use Rattle.mq_props.specs.Table.{Line, row_of}
+use Rattle.mq_props.specs.Values.{Value, four_bytes_value, varint_value, text_value, pair_value, Property, value_type}
 use Rattle.mq_props.specs.Allowed.{occurs_in, first_of, AllowedAfter}
 use Rattle.mq_props.specs.First.{as_two_bytes, as_four_bytes, as_varint, as_text, as_pair, first_two_bytes}
 

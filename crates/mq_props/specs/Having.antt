@@ -8,8 +8,6 @@ use Rattle.mq_props.specs.declared.table.ValueType.{ValueType}
 use Rattle.mq_props.specs.declared.table.ValueType.TheVariants as types
 use Rattle.mq_props.specs.Table.{Line, row_of, may_repeat}
 use Rattle.mq_props.specs.Values.{Property}
-use Rattle.mq_props.specs.declared.having.Question.{Question}
-use Rattle.mq_props.specs.declared.having.Question.TheVariants as questions
 
 -- the line of a property's identifier, if it has one, is such
 abbrev pub in_line : (Line → Bool) → Option Line → Bool
@@ -47,9 +45,3 @@ is_single place id = not (may_repeat place id)
 -- some property of a list has an identifier of which this is so
 abbrev pub any_property : (ℕ → Bool) → List Property → Bool
 any_property test items = list_any (λ p. test p.id) items
-
--- what a question asks of a property of this identifier, in the place's list
-abbrev pub asks : Question → Place → ℕ → Bool
-asks questions.Text place id = has_text id
-asks questions.Range place id = has_range id
-asks questions.Single place id = is_single place id

@@ -1,4 +1,4 @@
-use Rattle.std.proofs.Common.{◌≡◌, None, Some, refl, sym, ap, ◌∙◌, subst}
+use Rattle.std.proofs.Common.{◌≡◌, None, Some, sym, ap, ◌∙◌, subst}
 use Rattle.mq_props.specs.declared.fault.PushFault.{PushFault}
 use Rattle.mq_props.specs.declared.fault.PushFault.TheVariants.{Memory}
 use Rattle.mq_props.specs.Table.{row_of}
