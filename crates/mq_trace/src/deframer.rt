@@ -394,6 +394,9 @@ pub fn emit_frame<S: Sink>(
         0x30..0x32 => emit_brief_publish_frame(context, connections, at, frame, sink),
         0x32..0x40 => emit_identified_publish_frame(context, connections, at, frame, sink),
         0x40 => emit_puback_frame(context, connections, at, frame, sink),
+        0x50 => emit_pubrec_frame(context, connections, at, frame, sink),
+        0x62 => emit_pubrel_frame(context, connections, at, frame, sink),
+        0x70 => emit_pubcomp_frame(context, connections, at, frame, sink),
         0xC0 => emit_pingreq_frame(context, connections, at, frame, sink),
         0xD0 => emit_pingresp_frame(context, connections, at, frame, sink),
         _ => emit_other_frame(context, connections, at, frame, sink),
@@ -488,6 +491,75 @@ fn emit_puback_frame<S: Sink>(
     ensures err { IfErr result (λ refusal. NotEmitted (Declines S.agrees S.refuses) at (refusal_at_frame at context.now connections.old frame.now.bytes.now) (put (placed_frame at context.now connections.old frame.now.bytes.now) []) sink.old sink.new refusal) }
 {
     match decode_brief_acknowledgement(0x40, frame.body()) {
+        Some(packet) => emit_decoded(context, connections, at, frame, packet, sink),
+        None => emit_other_frame(context, connections, at, frame, sink),
+    }
+}
+
+// Emits a PUBREC, likewise.
+#[inline(never)]
+fn emit_pubrec_frame<S: Sink>(
+    context: &BodyContext,
+    connections: &mut Connections,
+    at: u64,
+    frame: &Frame<'_>,
+    sink: &mut S,
+) -> Result<(), Refusal>
+    requires frame { IsFrame frame.now }
+    requires pubrec { slice_index frame.now.bytes.now 0 ≡ 80 }
+    ensures met { OnOk result (refusal_at_frame at context.now connections.old frame.now.bytes.now ≡ None) }
+    ensures kept { OnOk result (connections.new ≡ connections_then context.now.server connections.old (frame_event context.now.direction frame.now.bytes.now)) }
+    ensures receives { (earlier : List Placed) → S.agrees sink.old earlier → AreEvents (put (placed_frame at context.now connections.old frame.now.bytes.now) earlier)
+        → OnOk result (S.agrees sink.new (put (placed_frame at context.now connections.old frame.now.bytes.now) earlier)) }
+    ensures err { IfErr result (λ refusal. NotEmitted (Declines S.agrees S.refuses) at (refusal_at_frame at context.now connections.old frame.now.bytes.now) (put (placed_frame at context.now connections.old frame.now.bytes.now) []) sink.old sink.new refusal) }
+{
+    match decode_brief_acknowledgement(0x50, frame.body()) {
+        Some(packet) => emit_decoded(context, connections, at, frame, packet, sink),
+        None => emit_other_frame(context, connections, at, frame, sink),
+    }
+}
+
+// Emits a PUBREL, likewise.
+#[inline(never)]
+fn emit_pubrel_frame<S: Sink>(
+    context: &BodyContext,
+    connections: &mut Connections,
+    at: u64,
+    frame: &Frame<'_>,
+    sink: &mut S,
+) -> Result<(), Refusal>
+    requires frame { IsFrame frame.now }
+    requires pubrel { slice_index frame.now.bytes.now 0 ≡ 98 }
+    ensures met { OnOk result (refusal_at_frame at context.now connections.old frame.now.bytes.now ≡ None) }
+    ensures kept { OnOk result (connections.new ≡ connections_then context.now.server connections.old (frame_event context.now.direction frame.now.bytes.now)) }
+    ensures receives { (earlier : List Placed) → S.agrees sink.old earlier → AreEvents (put (placed_frame at context.now connections.old frame.now.bytes.now) earlier)
+        → OnOk result (S.agrees sink.new (put (placed_frame at context.now connections.old frame.now.bytes.now) earlier)) }
+    ensures err { IfErr result (λ refusal. NotEmitted (Declines S.agrees S.refuses) at (refusal_at_frame at context.now connections.old frame.now.bytes.now) (put (placed_frame at context.now connections.old frame.now.bytes.now) []) sink.old sink.new refusal) }
+{
+    match decode_brief_acknowledgement(0x62, frame.body()) {
+        Some(packet) => emit_decoded(context, connections, at, frame, packet, sink),
+        None => emit_other_frame(context, connections, at, frame, sink),
+    }
+}
+
+// Emits a PUBCOMP, likewise.
+#[inline(never)]
+fn emit_pubcomp_frame<S: Sink>(
+    context: &BodyContext,
+    connections: &mut Connections,
+    at: u64,
+    frame: &Frame<'_>,
+    sink: &mut S,
+) -> Result<(), Refusal>
+    requires frame { IsFrame frame.now }
+    requires pubcomp { slice_index frame.now.bytes.now 0 ≡ 112 }
+    ensures met { OnOk result (refusal_at_frame at context.now connections.old frame.now.bytes.now ≡ None) }
+    ensures kept { OnOk result (connections.new ≡ connections_then context.now.server connections.old (frame_event context.now.direction frame.now.bytes.now)) }
+    ensures receives { (earlier : List Placed) → S.agrees sink.old earlier → AreEvents (put (placed_frame at context.now connections.old frame.now.bytes.now) earlier)
+        → OnOk result (S.agrees sink.new (put (placed_frame at context.now connections.old frame.now.bytes.now) earlier)) }
+    ensures err { IfErr result (λ refusal. NotEmitted (Declines S.agrees S.refuses) at (refusal_at_frame at context.now connections.old frame.now.bytes.now) (put (placed_frame at context.now connections.old frame.now.bytes.now) []) sink.old sink.new refusal) }
+{
+    match decode_brief_acknowledgement(0x70, frame.body()) {
         Some(packet) => emit_decoded(context, connections, at, frame, packet, sink),
         None => emit_other_frame(context, connections, at, frame, sink),
     }
