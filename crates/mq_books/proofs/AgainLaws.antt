@@ -1,9 +1,8 @@
 -- What is known to have been sent again on the connection.
-use Rattle.std.proofs.Common.{◌≡◌, ℕ, ◌≤◌, arith, ◌==◌, nat_eq, nat_lt, Bool, true, false, cond, ◌&&◌, ◌||◌, not, List, [], ◌∷◌, Option, Some, None, refl, ap, sym, subst, ◌∙◌}
+use Rattle.std.proofs.Common.{◌≡◌, ℕ, ◌≤◌, arith, ◌==◌, nat_eq, nat_lt, ◌<◌, Bool, true, false, cond, ◌&&◌, ◌||◌, not, List, [], ◌∷◌, Option, Some, None, refl, ap, sym, subst, ◌∙◌}
 use Rattle.std.specs.Prelude.{is_some}
 use Rattle.std.specs.Option.{option_or}
 use Rattle.std.specs.List.{list_any}
-use Rattle.std.specs.Map.{values_of, lookup}
 use Rattle.std.proofs.lemmas.Bool.{eqb-true, ltb-true, le-ltb, lt-ltb}
 use Rattle.mq_log.specs.declared.place.Place3.{Place3}
 use Rattle.mq_rules.specs.declared.role.Role.{Role}
@@ -12,6 +11,7 @@ use Rattle.mq_rules.specs.declared.note.Note.{Note}
 use Rattle.mq_rules.specs.Words.{is_some_and, is_id}
 use Rattle.mq_rules.specs.Notes.{is_open, opener_of, closer_of, delivery_of, sent_as, received_as, pubrel_in, accepting_pubrec_in}
 use Rattle.mq_rules.specs.Connections.{accepts, begins, resumes}
+use Rattle.mq_rules.specs.KeptOrder.{values_of}
 use Rattle.mq_rules.proofs.Exports.{and_false, both_true, not_true, or_false, or_left}
 use Rattle.mq_books.specs.declared.inflight.entry.Entry.{Entry}
 use Rattle.mq_books.specs.declared.inflight.resends.Resent.{Resent}
@@ -19,22 +19,13 @@ use Rattle.mq_books.specs.declared.inflight.resends.Bounds.{Bounds}
 use Rattle.mq_books.specs.declared.inflight.resends.Excused.{Excused}
 use Rattle.mq_books.specs.Opened.{entry_after, entry_next, opened_if, closed_if, confirmed_if, released_if, sent_if, sends_exactly_once, sends_retained}
 use Rattle.mq_books.specs.Resending.{by_itself, entire, covers, is_due, is_limited, is_passed, bounds_by, bounds_next, bounded_next, confirms_untouched, confirmed_next, IsResent}
+use Rattle.mq_books.proofs.ValuesLaws.{none-passes}
 
 unset : (b : Bool) → not b ≡ true → b ≡ false
 unset false h = refl
 unset true h = absurd (cc)
 
 -- ---- what a REST finds
-
--- no value of a map passes the test
-pub none-passes : (test : Entry → Bool) (i : ℕ) (es : List (ℕ × Entry)) → list_any test (values_of es) ≡ false → is_some_and test (lookup (nat_eq i) es) ≡ false
-none-passes test i [] h = refl
-none-passes test i (e ∷ es) h = go (test e.1) refl h (nat_eq i e.0) (none-passes test i es)
-  where
-    go : (a : Bool) → test e.1 ≡ a → (a || list_any test (values_of es)) ≡ false → (b : Bool) → (list_any test (values_of es) ≡ false → is_some_and test (lookup (nat_eq i) es) ≡ false) → is_some_and test (cond b (Some e.1) (lookup (nat_eq i) es)) ≡ false
-    go true n h b rest = absurd (cc)
-    go false n h true rest = n
-    go false n h false rest = rest h
 
 none-listed : (test : ℕ → Bool) (i : ℕ) (is : List ℕ) → list_any test is ≡ false → list_any (nat_eq i) is ≡ true → test i ≡ false
 none-listed test i [] h here = absurd (cc)
@@ -56,12 +47,12 @@ due-confirmed opened o h = go o.confirmed refl (both_true (nat_lt o.sent opened)
 pub due-listed : (opened : ℕ) (single : Excused) (entry : ℕ → Option Entry) (confirmed : ℕ → Bool) (r : Resent) → IsResent opened single entry confirmed r → (i : ℕ) (o : Entry) → entry i ≡ Some o → is_due opened entire o ≡ true → confirmed i ≡ true
 due-listed opened single entry confirmed r is i o h due = is.listed i (ap (is_some_and (λ (x : Entry). x.confirmed)) h ∙ due-confirmed opened o due)
 
-pub found-all : (opened : ℕ) (single : Excused) (es : List (ℕ × Entry)) (confirmed : ℕ → Bool) (r s : Resent) → s ≡ record { all = not (list_any (is_due opened single) (values_of es)); confirmed = r.confirmed } → IsResent opened single (λ i. lookup (nat_eq i) es) confirmed r
-    → IsResent opened single (λ i. lookup (nat_eq i) es) confirmed s
-found-all opened single es confirmed r s same is = record {
+pub found-all : (opened : ℕ) (single : Excused) (entry : ℕ → Option Entry) (confirmed : ℕ → Bool) (r s : Resent) → ((i : ℕ) → is_some (entry i) ≡ true → i < 65536) → s ≡ record { all = not (list_any (is_due opened single) (values_of entry)); confirmed = r.confirmed } → IsResent opened single entry confirmed r
+    → IsResent opened single entry confirmed s
+found-all opened single entry confirmed r s small same is = record {
   listed = is.listed;
   opened_are = is.opened_are;
-  all_are = λ h i. none-passes (is_due opened single) i es (unset (list_any (is_due opened single) (values_of es)) (sym (ap (λ (x : Resent). x.all) same) ∙ h));
+  all_are = λ h i. none-passes (is_due opened single) i entry (small i) (unset (list_any (is_due opened single) (values_of entry)) (sym (ap (λ (x : Resent). x.all) same) ∙ h));
   confirmed_are = λ h. is.confirmed_are (sym (ap (λ (x : Resent). x.confirmed) same) ∙ h);
 }
 

@@ -3,7 +3,7 @@ use Rattle.std.proofs.Common.{◌≡◌, ℕ, ◌+◌, ◌-◌, ◌<◌, ◌==�
 use Rattle.std.specs.Prelude.{is_some, nat_le, unwrap_or}
 use Rattle.std.specs.List.{list_any}
 use Rattle.std.specs.Option.{option_or}
-use Rattle.indexmap.specs.IndexMap.{get}
+use Rattle.mq_rules.specs.KeptOrder.{value_under}
 use Rattle.indexmap.specs.IndexSet.{index_set_len}
 use Rattle.mq_log.specs.declared.place.Place3.{Place3}
 use Rattle.mq_rules.specs.declared.role.Role.{Role}
@@ -195,7 +195,7 @@ inflight-leaves tested s f at e past p q h small under kept was =
     let n = e.note in
     let c = quiet tested n h in
     let known = at == e.place.position in
-    let entry = get nat_eq s.entries in (
+    let entry = value_under s.entries in (
       record {
         taking = S01-places tested s f at e past false p.taking p.taking under kept was.0.taking
             (sym (

@@ -12,6 +12,7 @@ pub mod BlameLaws
 pub mod OwedLaws
 pub mod UnderLaws
 pub mod UsingLaws
+pub mod ValuesLaws
 pub mod ReleaseLaws
 pub mod ReceivingLaws
 pub mod WaitLaws

@@ -2,7 +2,7 @@
 use Rattle.std.proofs.Common.{◌≡◌, ℕ, ◌+◌, ◌<◌, ◌==◌, nat_eq, nat_lt, arith, eq-eqb, Bool, true, false, cond, ◌&&◌, ◌||◌, not, List, ◌∷◌, Option, Some, None, refl, ap, sym, ◌∙◌}
 use Rattle.std.specs.Prelude.{is_some}
 use Rattle.std.specs.Option.{option_or}
-use Rattle.indexmap.specs.IndexMap.{get}
+use Rattle.mq_rules.specs.KeptOrder.{value_under}
 use Rattle.indexmap.specs.IndexSet.{index_set_len}
 use Rattle.mq_rules.specs.declared.role.Tested.{Tested}
 use Rattle.mq_rules.specs.declared.fate.Fate.{Fate}
@@ -42,7 +42,7 @@ pub moved-at-once : (tested : Tested) (s : Inflight) (f : Fate) (e : Seen) (past
 moved-at-once tested s f e past opener x closer pubrec p new taking m accepted under kept was takes more same_resending same_repeating same_released same_ordering =
     let n = e.note in
     let at = e.place.position in
-    let entry = get nat_eq s.entries in record {
+    let entry = value_under s.entries in record {
       taking = S01-places tested s f at e past taking p.taking new.taking under kept was.taking
           (takes
           ∙ sym (
@@ -70,12 +70,12 @@ moved-at-once tested s f e past opener x closer pubrec p new taking m accepted u
 pub moved-resumed : (tested : Tested) (s : Inflight) (f : Fate) (e : Seen) (past : List Seen) (opener : Option ℕ) (x : Bool) (closer pubrel pubrec : Option ℕ) (q new : ResumedPlaces)
     → Moves e.note opener x closer pubrel pubrec → accepts f ≡ true → e.place.position < 4294967296 → IsUnder tested f e.place.position e past → IsUsing s tested (fate_before tested f e past) past → CountsResumed q tested (fate_before tested f e past) past
     → new ≡ record q { fresh = new.fresh; opened = new.opened }
-    → (q.fresh < 4294967295 → new.fresh ≡ remaining q.settled (is_some opener) (ended_at (get nat_eq s.entries) (option_or opener closer)) q.fresh)
-    → (q.opened < 4294967295 → new.opened ≡ remaining s.opened (is_some opener) (ended_at (get nat_eq s.entries) (option_or opener closer)) q.opened) → CountsResumed new tested (Some f) (e ∷ past)
+    → (q.fresh < 4294967295 → new.fresh ≡ remaining q.settled (is_some opener) (ended_at (value_under s.entries) (option_or opener closer)) q.fresh)
+    → (q.opened < 4294967295 → new.opened ≡ remaining s.opened (is_some opener) (ended_at (value_under s.entries) (option_or opener closer)) q.opened) → CountsResumed new tested (Some f) (e ∷ past)
 moved-resumed tested s f e past opener x closer pubrel pubrec q new m accepted small under kept was same fresh opened =
     let n = e.note in
     let at = e.place.position in
-    let entry = get nat_eq s.entries in
+    let entry = value_under s.entries in
     go-on-next tested s f at e past q new (is_some opener) (ended_at entry (option_or opener closer)) under kept
     (ap (λ b. (resumes f && (b && ((at == at) && (accepts f && not s.ended)))) && (index_set_len s.unanswered == 0)) m.awake ∙ ap (λ b. b && (index_set_len s.unanswered == 0)) (and_false (resumes f)))
     m.closed was small

@@ -3,7 +3,7 @@ use Rattle.std.proofs.Common.{◌≡◌, ℕ, ◌+◌, ◌-◌, ◌<◌, ◌≤�
 use Rattle.std.specs.Prelude.{is_some}
 use Rattle.std.specs.Option.{option_or}
 use Rattle.std.proofs.lemmas.Bool.{eq-eqb}
-use Rattle.indexmap.specs.IndexMap.{get}
+use Rattle.mq_rules.specs.KeptOrder.{value_under}
 use Rattle.indexmap.specs.IndexSet.{contains, index_set_len}
 use Rattle.mq_log.specs.declared.place.Place3.{Place3}
 use Rattle.mq_rules.specs.declared.role.Tested.{Tested}
@@ -108,7 +108,7 @@ resent-moves n opened at single entry new confirmed r opener x closer pubrel pub
 pub moved-next : (tested : Tested) (s t : Inflight) (f : Fate) (at : ℕ) (e : Seen) (past : List Seen) (opener : Option ℕ) (x : Bool) (closer pubrel pubrec : Option ℕ) → IsUnder tested f at e past → at ≡ e.place.position → IsUsing s tested (fate_before tested f e past) past
     → Moves e.note opener x closer pubrel pubrec → accepts f ≡ true → f ≡ s.fate → IsMoved e.place opener x closer pubrel pubrec s t → IsUsing t tested (Some f) (e ∷ past)
 moved-next tested s t f at e past opener x closer pubrel pubrec under now u m accepted same w =
-    inflight-next tested s t f at e past under u w.others.role (w.others.fate ∙ sym same) w.others.ordered (w.distinct u.distinct) entries
+    inflight-next tested s t f at e past under u w.others.role (w.others.fate ∙ sym same) w.others.ordered entries
     (λ i. w.stray i ∙ sym (stray-moves i))
     (λ i. w.unanswered i ∙ ap (λ g. cond (resumes g) (is_id i (option_or opener pubrel) || (not (is_id i closer) && contains nat_eq s.unanswered i)) (contains nat_eq s.unanswered i)) (sym same) ∙ sym (unanswered-moves i))
     (λ i. ap (λ v. contains nat_eq v i) w.others.void
@@ -117,21 +117,21 @@ moved-next tested s t f at e past opener x closer pubrel pubrec under now u m ac
     (earlier-stays s.earlier s.role s.fate f (at == e.place.position) n m.closed (inside-uncut n m.inside) (λ i. ap (λ b. not b && is_id i (delivery_of n)) (eq-eqb at e.place.position now))))
     (λ i. ap (λ v. contains nat_eq v i) w.others.subscribing ∙ sym (wait-stays (sent_as subscribe_in n) (received_as suback_in n) (is_boundary n) i (contains nat_eq s.subscribing i) m.subscribe m.suback m.inside))
     (λ i. ap (λ v. contains nat_eq v i) w.others.unsubscribing ∙ sym (wait-stays (sent_as unsubscribe_in n) (received_as unsuback_in n) (is_boundary n) i (contains nat_eq s.unsubscribing i) m.unsubscribe m.unsuback m.inside))
-    (w.others.resent ∙ sym (resent-stays n (get nat_eq s.entries) s.resent m.closed m.resends))
+    (w.others.resent ∙ sym (resent-stays n (value_under s.entries) s.resent m.closed m.resends))
     (w.others.ended ∙ sym (ap (λ b. b || (not (is_open n) && s.ended)) m.unended ∙ ap (λ b. not b && s.ended) m.closed))
     (w.others.opened ∙ sym (ap (λ b. cond b e.place.position s.opened) m.closed))
     (w.others.peer ∙ sym (ap (λ o. option_or (cond (is_open n) None s.peer) o) (m.room s.role) ∙ ap (λ b. option_or (cond b None s.peer) None) m.closed ∙ option_or-none s.peer))
     (λ below. w.flying below ∙ flown-moves n (may_count s.role s.peer) s.in_flight opener x closer pubrel pubrec m)
     (w.others.bounds ∙ sym (ap (λ o. option_or (cond (is_open n) None s.bounds) o) (m.bounds s.role) ∙ ap (λ b. option_or (cond b None s.bounds) None) m.closed ∙ option_or-none s.bounds))
     (w.others.bounded ∙ sym (ap (λ b. cond (b && (resumes s.fate && is_limited s.bounds)) s.opened s.bounded) m.closed))
-    (subst (λ r. IsResent t.opened (by_itself t.fate t.bounds t.opened t.bounded) (get nat_eq t.entries) (contains nat_eq t.confirmed) r) (sym w.again)
-    (subst (λ o. IsResent o (by_itself t.fate t.bounds o t.bounded) (get nat_eq t.entries) (contains nat_eq t.confirmed) known) (sym w.others.opened)
-    (subst (λ o. IsResent s.opened (by_itself t.fate o s.opened t.bounded) (get nat_eq t.entries) (contains nat_eq t.confirmed) known) (sym w.others.bounds)
-    (subst (λ o. IsResent s.opened (by_itself o s.bounds s.opened t.bounded) (get nat_eq t.entries) (contains nat_eq t.confirmed) known) (sym w.others.fate)
-    (subst (λ o. IsResent s.opened (by_itself s.fate s.bounds s.opened o) (get nat_eq t.entries) (contains nat_eq t.confirmed) known) (sym w.others.bounded)
-    (resent-moves n s.opened e.place.position single (get nat_eq s.entries) (get nat_eq t.entries) (contains nat_eq t.confirmed) s.again opener x closer pubrel pubrec m
-    (again-next f n s.bounded e.place s.opened single single (get nat_eq s.entries) (get nat_eq t.entries) (contains nat_eq s.confirmed) (contains nat_eq t.confirmed) s.again below (λ closed y h. h) entries
-    (λ i. w.confirmed i ∙ confirmed-moves f n (get nat_eq s.entries) i (contains nat_eq s.confirmed i) opener x closer pubrel pubrec m accepted) u.resent_are)))))))
+    (subst (λ r. IsResent t.opened (by_itself t.fate t.bounds t.opened t.bounded) (value_under t.entries) (contains nat_eq t.confirmed) r) (sym w.again)
+    (subst (λ o. IsResent o (by_itself t.fate t.bounds o t.bounded) (value_under t.entries) (contains nat_eq t.confirmed) known) (sym w.others.opened)
+    (subst (λ o. IsResent s.opened (by_itself t.fate o s.opened t.bounded) (value_under t.entries) (contains nat_eq t.confirmed) known) (sym w.others.bounds)
+    (subst (λ o. IsResent s.opened (by_itself o s.bounds s.opened t.bounded) (value_under t.entries) (contains nat_eq t.confirmed) known) (sym w.others.fate)
+    (subst (λ o. IsResent s.opened (by_itself s.fate s.bounds s.opened o) (value_under t.entries) (contains nat_eq t.confirmed) known) (sym w.others.bounded)
+    (resent-moves n s.opened e.place.position single (value_under s.entries) (value_under t.entries) (contains nat_eq t.confirmed) s.again opener x closer pubrel pubrec m
+    (again-next f n s.bounded e.place s.opened single single (value_under s.entries) (value_under t.entries) (contains nat_eq s.confirmed) (contains nat_eq t.confirmed) s.again below (λ closed y h. h) entries
+    (λ i. w.confirmed i ∙ confirmed-moves f n (value_under s.entries) i (contains nat_eq s.confirmed i) opener x closer pubrel pubrec m accepted) u.resent_are)))))))
   where
     n : Note
     n = e.note
@@ -140,16 +140,16 @@ moved-next tested s t f at e past opener x closer pubrel pubrec under now u m ac
     single = by_itself s.fate s.bounds s.opened s.bounded
 
     known : Resent
-    known = record { all = s.again.all && not (untouched s.opened (get nat_eq s.entries) pubrec); confirmed = s.again.confirmed && not (untouched s.opened (get nat_eq s.entries) pubrec) }
+    known = record { all = s.again.all && not (untouched s.opened (value_under s.entries) pubrec); confirmed = s.again.confirmed && not (untouched s.opened (value_under s.entries) pubrec) }
 
     rest : ℕ → Option Entry
-    rest i = closed_if (is_id i closer) (confirmed_if (is_id i pubrec) (released_if (is_id i pubrel) s.bounded e.place.position (get nat_eq s.entries i)))
+    rest i = closed_if (is_id i closer) (confirmed_if (is_id i pubrec) (released_if (is_id i pubrel) s.bounded e.place.position (value_under s.entries i)))
 
-    stray-moves : (i : ℕ) → stray_next f n (get nat_eq t.entries) i (contains nat_eq s.stray i) ≡ (not (is_id i closer) && contains nat_eq s.stray i)
+    stray-moves : (i : ℕ) → stray_next f n (value_under t.entries) i (contains nat_eq s.stray i) ≡ (not (is_id i closer) && contains nat_eq s.stray i)
     stray-moves i =
-        ap (λ b. cond b false ((is_id i (delivery_of n) && not (accepts f && is_some (get nat_eq t.entries i))) || (not (is_id i (closer_of n)) && contains nat_eq s.stray i))) m.inside
-        ∙ ap (λ o. (is_id i o && not (accepts f && is_some (get nat_eq t.entries i))) || (not (is_id i (closer_of n)) && contains nat_eq s.stray i)) m.delivers
-        ∙ ap (λ b. (is_id i opener && not (b && is_some (get nat_eq t.entries i))) || (not (is_id i (closer_of n)) && contains nat_eq s.stray i)) accepted
+        ap (λ b. cond b false ((is_id i (delivery_of n) && not (accepts f && is_some (value_under t.entries i))) || (not (is_id i (closer_of n)) && contains nat_eq s.stray i))) m.inside
+        ∙ ap (λ o. (is_id i o && not (accepts f && is_some (value_under t.entries i))) || (not (is_id i (closer_of n)) && contains nat_eq s.stray i)) m.delivers
+        ∙ ap (λ b. (is_id i opener && not (b && is_some (value_under t.entries i))) || (not (is_id i (closer_of n)) && contains nat_eq s.stray i)) accepted
         ∙ ap (λ z. (is_id i opener && not (true && is_some z)) || (not (is_id i (closer_of n)) && contains nat_eq s.stray i)) (w.entries i)
         ∙ ap (λ b. b || (not (is_id i (closer_of n)) && contains nat_eq s.stray i)) (kept-anew (is_id i opener) x false e.place (rest i))
         ∙ ap (λ o. not (is_id i o) && contains nat_eq s.stray i) m.closes
@@ -161,8 +161,8 @@ moved-next tested s t f at e past opener x closer pubrel pubrec under now u m ac
         ∙ ap (λ o. cond (resumes f) (is_id i (option_or opener o) || (not (is_id i (closer_of n)) && contains nat_eq s.unanswered i)) (contains nat_eq s.unanswered i)) m.releases
         ∙ ap (λ o. cond (resumes f) (is_id i (option_or opener pubrel) || (not (is_id i o) && contains nat_eq s.unanswered i)) (contains nat_eq s.unanswered i)) m.closes
 
-    entries : (i : ℕ) → get nat_eq t.entries i ≡ entry_next f n s.bounded e.place i (get nat_eq s.entries i)
-    entries i = w.entries i ∙ entry-moves f n s.bounded e.place i (get nat_eq s.entries i) opener x closer pubrel pubrec m accepted
+    entries : (i : ℕ) → value_under t.entries i ≡ entry_next f n s.bounded e.place i (value_under s.entries i)
+    entries i = w.entries i ∙ entry-moves f n s.bounded e.place i (value_under s.entries i) opener x closer pubrel pubrec m accepted
 
     below : s.opened ≤ e.place.position
     below = let a = u.opened_is in let b = opened-within past in let d = under.follows.placed.0 in omega (arith, a, b, d)
@@ -170,7 +170,7 @@ moved-next tested s t f at e past opener x closer pubrel pubrec under now u m ac
 -- ---- what it breaks
 
 abbrev busy : Inflight → Fate → ℕ → Bool
-busy s f i = is_some_and (is_taken (passed_since f s.bounds s.opened s.bounded)) (get nat_eq s.entries i) || (contains nat_eq s.subscribing i || contains nat_eq s.unsubscribing i)
+busy s f i = is_some_and (is_taken (passed_since f s.bounds s.opened s.bounded)) (value_under s.entries i) || (contains nat_eq s.subscribing i || contains nat_eq s.unsubscribing i)
 
 abbrev broken_by : Bool → Bool → Bool → Bool → Bool → Broken
 broken_by a b c d e = record { takes_busy = a; unopened = b; twice = c; past_pubrel = d; out_of_order = e }
@@ -187,8 +187,8 @@ breaks-moves s f n opener x closer pubrel pubrec m accepted =
   where
     broken : Bool → Option ℕ → Option ℕ → Broken
     broken a t o =
-        broken_by (a && is_some_and (busy s f) t) (a && is_some_and (unopened (get nat_eq s.entries) (contains nat_eq s.void) (may_resend s.earlier f)) o) (a && is_some_and (delivering s) o)
-        (a && is_some_and (past_pubrel (get nat_eq s.entries)) o) (s.ordered && (a && is_some_and (out_of_order (get nat_eq s.entries) s.resent) o))
+        broken_by (a && is_some_and (busy s f) t) (a && is_some_and (unopened (value_under s.entries) (contains nat_eq s.void) (may_resend s.earlier f)) o) (a && is_some_and (delivering s) o)
+        (a && is_some_and (past_pubrel (value_under s.entries)) o) (s.ordered && (a && is_some_and (out_of_order (value_under s.entries) s.resent) o))
 
 pub moved-gains : (tested : Tested) (s : Inflight) (f : Fate) (at : ℕ) (e : Seen) (past : List Seen) (m : FaultMap) (opener : Option ℕ) (x : Bool) (closer pubrel pubrec : Option ℕ) → IsUnder tested f at e past
     → at ≡ e.place.position → IsUsing s tested (fate_before tested f e past) past → Moves e.note opener x closer pubrel pubrec → accepts f ≡ true

@@ -1,13 +1,14 @@
 -- The places of what is due, among what is kept of identifiers.
-use Rattle.std.proofs.Common.{◌≡◌, ℕ, ◌==◌, nat_eq, Bool, true, false, cond, ◌||◌, List, [], ◌∷◌, Option, Some, None, refl, ap, sym, ◌∙◌, subst}
+use Rattle.std.proofs.Common.{◌≡◌, ℕ, zero, suc, ◌+◌, ◌<◌, ◌≤◌, ◌==◌, nat_eq, arith, Bool, true, false, cond, ◌||◌, List, [], ◌∷◌, ◌++◌, Option, Some, None, refl, ap, sym, ◌∙◌, subst}
 use Rattle.std.specs.Prelude.{is_some}
-use Rattle.std.specs.List.{IsDistinct, AllByRecursion, list_any}
-use Rattle.std.specs.Map.{keys_of, values_of, lookup}
+use Rattle.std.specs.List.{list_any}
+use Rattle.std.specs.Option.{option_to_list}
 use Rattle.std.proofs.lemmas.Bool.{eqb-true, eq-eqb}
+use Rattle.std.proofs.lemmas.Bool.Decides.{nat_tests}
 use Rattle.mq_log.specs.declared.place.Place3.{Place3}
 use Rattle.mq_rules.specs.declared.rule.Rule.TheVariants.{S06}
 use Rattle.mq_rules.specs.FaultKeys.{FaultMap, with_fault}
-use Rattle.mq_rules.proofs.Exports.{not_true}
+use Rattle.mq_rules.specs.KeptOrder.{found_from, values_of}
 use Rattle.mq_books.specs.declared.inflight.entry.Entry.{Entry}
 use Rattle.mq_books.specs.declared.inflight.resends.Excused.{Excused}
 use Rattle.mq_books.specs.Owings.{blamed, Keeps}
@@ -38,11 +39,7 @@ blamed_due-is opened excused at (o ∷ os) m = go (is_due opened excused o) (λ 
 pub keeps_due : (opened : ℕ) (excused : Excused) (at : ℕ) (os : List Entry) (m : FaultMap) → Keeps m (blamed_due opened excused at os m)
 keeps_due opened excused at os m = subst (λ (n : FaultMap). Keeps m n) (sym (blamed_due-is opened excused at os m)) (keeps_blamed S06 at (due_places opened excused os) m)
 
--- ---- the values of a map
-
-pub absent : (i : ℕ) (es : List (ℕ × Entry)) → AllByRecursion (λ y. nat_eq i y ≡ false) (keys_of es) → (o : Entry) → lookup (nat_eq i) es ≡ Some o → ⊥
-absent i [] h o q = absurd (cc)
-absent i (e ∷ es) h o q = absent i es h.1 o (sym (ap (λ b. cond b (Some e.1) (lookup (nat_eq i) es)) h.0) ∙ q)
+-- ---- the values of a table
 
 -- a place that is due is that of what is kept of an identifier
 pub record IsDueAt (k opened : ℕ) (excused : Excused) (entry : ℕ → Option Entry) (p : Place3) : Type 0 where
@@ -53,63 +50,71 @@ pub record IsDueAt (k opened : ℕ) (excused : Excused) (entry : ℕ → Option 
   pub same_place : p ≡ kept.place
   pub here : k ≡ p.position
 
-pub value-due : (k opened : ℕ) (excused : Excused) (es : List (ℕ × Entry)) (p : Place3) → IsDistinct nat_eq (keys_of es) → place_at k (due_places opened excused (values_of es)) ≡ Some p → IsDueAt k opened excused (λ i. lookup (nat_eq i) es) p
-unfolding IsDistinct
-value-due k opened excused [] p d h = absurd (cc)
-value-due k opened excused (e ∷ es) p d h = go (is_due opened excused e.1) refl h (value-due k opened excused es p d.1)
-  where
-    later : IsDueAt k opened excused (λ i. lookup (nat_eq i) es) p → IsDueAt k opened excused (λ i. lookup (nat_eq i) (e ∷ es)) p
-    later r = record {
-      identifier = r.identifier;
-      kept = r.kept;
-      is_kept = ap (λ b. cond b (Some e.1) (lookup (nat_eq r.identifier) es))
-          (not_true (nat_eq r.identifier e.0) (λ u. let at : r.identifier ≡ e.0 = eqb-true r.identifier e.0 u in absent e.0 es d.0 r.kept (subst (λ (n : ℕ). lookup (nat_eq n) es ≡ Some r.kept) at r.is_kept)))
-          ∙ r.is_kept;
-      due = r.due;
-      same_place = r.same_place;
-      here = r.here;
-    }
-
-    found : is_due opened excused e.1 ≡ true → (b : Bool) → (k == e.1.place.position) ≡ b → cond b (Some e.1.place) (place_at k (due_places opened excused (values_of es))) ≡ Some p
-        → (place_at k (due_places opened excused (values_of es)) ≡ Some p → IsDueAt k opened excused (λ i. lookup (nat_eq i) es) p) → IsDueAt k opened excused (λ i. lookup (nat_eq i) (e ∷ es)) p
-    found due true t q rest =
-        let same : p ≡ e.1.place = cc in
-        record {
-          identifier = e.0;
-          kept = e.1;
-          is_kept = ap (λ b. cond b (Some e.1) (lookup (nat_eq e.0) es)) (eq-eqb e.0 e.0 refl);
-          due = due;
-          same_place = same;
-          here = eqb-true k e.1.place.position t ∙ ap (λ (x : Place3). x.position) (sym same);
-        }
-    found due false t q rest = later (rest q)
-
-    go : (b : Bool) → is_due opened excused e.1 ≡ b → place_at k (cond b (e.1.place ∷ due_places opened excused (values_of es)) (due_places opened excused (values_of es))) ≡ Some p
-        → (place_at k (due_places opened excused (values_of es)) ≡ Some p → IsDueAt k opened excused (λ i. lookup (nat_eq i) es) p) → IsDueAt k opened excused (λ i. lookup (nat_eq i) (e ∷ es)) p
-    go true due q rest = found due (k == e.1.place.position) refl q rest
-    go false due q rest = later (rest q)
-
-pub key-due : (k i opened : ℕ) (excused : Excused) (es : List (ℕ × Entry)) (o : Entry) → lookup (nat_eq i) es ≡ Some o → is_due opened excused o ≡ true → k ≡ o.place.position → is_some (place_at k (due_places opened excused (values_of es))) ≡ true
-key-due k i opened excused [] o h due at = absurd (cc)
-key-due k i opened excused (e ∷ es) o h due at = go (nat_eq i e.0) h (λ q. key-due k i opened excused es o q due at)
+found-due : (k opened : ℕ) (excused : Excused) (entry : ℕ → Option Entry) (start n : ℕ) (p : Place3) → place_at k (due_places opened excused (found_from entry start n)) ≡ Some p → IsDueAt k opened excused entry p
+unfolding found_from
+found-due k opened excused entry start zero p h = absurd (cc)
+found-due k opened excused entry start (suc n) p h = go (entry start) refl h (found-due k opened excused entry (start + 1) n p)
   where
     rest_of : List Place3
-    rest_of = due_places opened excused (values_of es)
+    rest_of = due_places opened excused (found_from entry (start + 1) n)
 
-    more : (b c : Bool) → is_some (place_at k rest_of) ≡ true → is_some (place_at k (cond b (e.1.place ∷ rest_of) rest_of)) ≡ true
-    more false c h = h
-    more true c h = one (k == e.1.place.position)
+    here : (o : Entry) → entry start ≡ Some o → is_due opened excused o ≡ true → (b : Bool) → (k == o.place.position) ≡ b → cond b (Some o.place) (place_at k rest_of) ≡ Some p → (place_at k rest_of ≡ Some p → IsDueAt k opened excused entry p)
+        → IsDueAt k opened excused entry p
+    here o is due true t q rest =
+        let same : p ≡ o.place = cc in
+        record {
+          identifier = start;
+          kept = o;
+          is_kept = is;
+          due = due;
+          same_place = same;
+          here = eqb-true k o.place.position t ∙ ap (λ (x : Place3). x.position) (sym same);
+        }
+    here o is due false t q rest = rest q
+
+    by : (o : Entry) → entry start ≡ Some o → (b : Bool) → is_due opened excused o ≡ b → place_at k (cond b (o.place ∷ rest_of) rest_of) ≡ Some p → (place_at k rest_of ≡ Some p → IsDueAt k opened excused entry p) → IsDueAt k opened excused entry p
+    by o is true due q rest = here o is due (k == o.place.position) refl q rest
+    by o is false due q rest = rest q
+
+    go : (q : Option Entry) → entry start ≡ q → place_at k (due_places opened excused (option_to_list q ++ found_from entry (start + 1) n)) ≡ Some p → (place_at k rest_of ≡ Some p → IsDueAt k opened excused entry p) → IsDueAt k opened excused entry p
+    go None is h rest = rest h
+    go (Some o) is h rest = by o is (is_due opened excused o) refl h rest
+
+pub value-due : (k opened : ℕ) (excused : Excused) (entry : ℕ → Option Entry) (p : Place3) → place_at k (due_places opened excused (values_of entry)) ≡ Some p → IsDueAt k opened excused entry p
+unfolding values_of
+value-due k opened excused entry p h = found-due k opened excused entry 0 65536 p h
+
+due-found : (k i opened : ℕ) (excused : Excused) (entry : ℕ → Option Entry) (start n : ℕ) (o : Entry) → entry i ≡ Some o → is_due opened excused o ≡ true → k ≡ o.place.position → start ≤ i → i < start + n
+    → is_some (place_at k (due_places opened excused (found_from entry start n))) ≡ true
+unfolding found_from
+due-found k i opened excused entry start zero o h due at low high = absurd (omega (arith, low, high))
+due-found k i opened excused entry start (suc n) o h due at low high = go (nat_eq start i) refl (λ more. due-found k i opened excused entry (start + 1) n o h due at more (omega (arith, high)))
+  where
+    rest_of : List Place3
+    rest_of = due_places opened excused (found_from entry (start + 1) n)
+
+    over : (q : Option Entry) → is_some (place_at k rest_of) ≡ true → is_some (place_at k (due_places opened excused (option_to_list q ++ found_from entry (start + 1) n))) ≡ true
+    over None there = there
+    over (Some x) there = pick (is_due opened excused x)
       where
-        one : (d : Bool) → is_some (cond d (Some e.1.place) (place_at k rest_of)) ≡ true
+        one : (b : Bool) → is_some (cond b (Some x.place) (place_at k rest_of)) ≡ true
         one true = refl
-        one false = h
+        one false = there
 
-    go : (b : Bool) → cond b (Some e.1) (lookup (nat_eq i) es) ≡ Some o → (lookup (nat_eq i) es ≡ Some o → is_some (place_at k rest_of) ≡ true) → is_some (place_at k (cond (is_due opened excused e.1) (e.1.place ∷ rest_of) rest_of)) ≡ true
-    go true q rest =
-        let same : e.1 ≡ o = cc in
-        ap (λ b. is_some (place_at k (cond b (e.1.place ∷ rest_of) rest_of))) (ap (is_due opened excused) same ∙ due)
-        ∙ ap (λ b. is_some (cond b (Some e.1.place) (place_at k rest_of))) (eq-eqb k e.1.place.position (at ∙ sym (ap (λ (x : Entry). x.place.position) same)))
-    go false q rest = more (is_due opened excused e.1) true (rest q)
+        pick : (b : Bool) → is_some (place_at k (cond b (x.place ∷ rest_of) rest_of)) ≡ true
+        pick true = one (k == x.place.position)
+        pick false = there
+
+    go : (b : Bool) → nat_eq start i ≡ b → (start + 1 ≤ i → is_some (place_at k rest_of) ≡ true) → is_some (place_at k (due_places opened excused (option_to_list (entry start) ++ found_from entry (start + 1) n))) ≡ true
+    go true same rest =
+        ap (λ q. is_some (place_at k (due_places opened excused (option_to_list q ++ found_from entry (start + 1) n)))) (ap entry (eqb-true start i same) ∙ h)
+        ∙ ap (λ b. is_some (place_at k (cond b (o.place ∷ rest_of) rest_of))) due
+        ∙ ap (λ b. is_some (cond b (Some o.place) (place_at k rest_of))) (eq-eqb k o.place.position at)
+    go false other rest = over (entry start) (rest (grind (arith, nat_tests)))
+
+pub key-due : (k i opened : ℕ) (excused : Excused) (entry : ℕ → Option Entry) (o : Entry) → entry i ≡ Some o → i < 65536 → is_due opened excused o ≡ true → k ≡ o.place.position → is_some (place_at k (due_places opened excused (values_of entry))) ≡ true
+unfolding values_of
+key-due k i opened excused entry o h small due at = due-found k i opened excused entry 0 65536 o h due at (omega arith) (omega (arith, small))
 
 -- ---- those of some identifiers
 

@@ -3,9 +3,8 @@ use Rattle.std.proofs.Common.{◌≡◌, ℕ, ◌==◌, nat_eq, nat_le, nat_lt, 
 use Rattle.std.specs.Prelude.{is_some, unwrap_or}
 use Rattle.std.specs.Option.{option_or, option_and_then}
 use Rattle.std.specs.List.{list_any}
-use Rattle.std.specs.Map.{values_of}
 use Rattle.std.proofs.lemmas.Bool.{eqb-true, eq-eqb}
-use Rattle.indexmap.specs.IndexMap.{get}
+use Rattle.mq_rules.specs.KeptOrder.{value_under, values_of}
 use Rattle.indexmap.specs.IndexSet.{contains, index_set_len}
 use Rattle.mq_log.specs.declared.place.Place3.{Place3}
 use Rattle.mq_rules.specs.declared.role.Role.{Role}
@@ -27,7 +26,7 @@ use Rattle.mq_rules.specs.Identifiers.{counts, is_used_up, is_passed_over, refus
 use Rattle.mq_rules.specs.Rules.{binds, found_line, line_of, lines, same_rule}
 use Rattle.mq_rules.specs.Faults.{reported}
 use Rattle.mq_rules.specs.FaultKeys.{FaultMap}
-use Rattle.mq_rules.proofs.Exports.{among-moment, among-some, and_false, both_true, differ, first_found-next, latest_fate-same, moment-among, moment-placed, moment-stays, moments-descend, not_true, on_open-connected, or_false, or_left, rest-opens-nothing, session-descend, session-members, since-stands, some-among, those-descend, used_up-counted}
+use Rattle.mq_rules.proofs.Exports.{among-moment, among-some, and_false, both_true, differ, first_found-next, latest_fate-same, moment-among, moment-placed, moment-stays, moments-descend, not_true, on_open-connected, or_false, or_left, rest-opens-nothing, session-descend, session-members, since-stands, some-among, those-descend, used_up-counted, under-within}
 use Rattle.mq_books.specs.declared.inflight.entry.Entry.{Entry}
 use Rattle.mq_books.specs.declared.inflight.Inflight.{Inflight}
 use Rattle.mq_rules.specs.Passing.{opened_at}
@@ -212,11 +211,11 @@ due-blamed tested f at opened x e past entry places placed resumed opened_is are
 
 pub resends-gains : (tested : Tested) (s : Inflight) (f : Fate) (at : ℕ) (e : Seen) (past : List Seen) (m : FaultMap) (rests : Bool) (excused : Excused) → IsUnder tested f at e past → IsUsing s tested (fate_before tested f e past) past
     → rests ≡ (settles f (at == e.place.position) s.ended e.note && (index_set_len s.unanswered == 0)) → excused ≡ excuses s.peer s.in_flight (by_itself s.fate s.bounds s.opened s.bounded)
-    → Gains (λ k r. same_rule r S06 && turns_with tested f e past k r) tested (e ∷ past) at m (told rests s.again excused s.opened at (values_of s.entries.entries) (get nat_eq s.entries) s.confirmed.keys m)
+    → Gains (λ k r. same_rule r S06 && turns_with tested f e past k r) tested (e ∷ past) at m (told rests s.again excused s.opened at (values_of (value_under s.entries)) (value_under s.entries) s.confirmed.keys m)
 resends-gains tested s f at e past m rests excused under u rest_is excused_is = go rests refl
   where
     entry : ℕ → Option Entry
-    entry = get nat_eq s.entries
+    entry = value_under s.entries
 
     all : FaultMap → Type 0
     all n = Gains (λ k r. same_rule r S06 && turns_with tested f e past k r) tested (e ∷ past) at m n
@@ -312,7 +311,7 @@ resends-gains tested s f at e past m rests excused under u rest_is excused_is = 
     itself = ap apart excused_is
 
     by : resumes f ≡ true → is_binding tested.role (newest e past) ≡ true → vacant ≡ true → IsUsing s tested (Some f) past → (x : Bool) → excused.all ≡ x → (a : Bool) → s.again.all ≡ a → (c : Bool) → s.again.confirmed ≡ c
-        → all (cond x (cond c m (blamed_under entry s.opened at s.confirmed.keys m)) (cond a m (blamed_due s.opened (apart excused) at (values_of s.entries.entries) m)))
+        → all (cond x (cond c m (blamed_under entry s.opened at s.confirmed.keys m)) (cond a m (blamed_due s.opened (apart excused) at (values_of entry) m)))
     by resumed b v n true x_is a a_is true c_is =
         from resumed b v n [] (absent excused) (nothing excused (λ i o h due.
         let none : is_some_and (is_due s.opened entire) (entry i) ≡ false = n.resent_are.confirmed_are c_is i in
@@ -329,11 +328,11 @@ resends-gains tested s f at e past m rests excused under u rest_is excused_is = 
         let bad : true ≡ false = sym (ap (is_some_and (is_due s.opened (by_itself s.fate s.bounds s.opened s.bounded))) h ∙ ap (λ y. is_due s.opened y o) (sym itself) ∙ sym (single x_is o) ∙ due) ∙ none in
         absurd (cc)))
     by resumed b v n false x_is false a_is c c_is =
-        subst all (sym (blamed_due-is s.opened (apart excused) at (values_of s.entries.entries) m))
-        (from resumed b v n (due_places s.opened (apart excused) (values_of s.entries.entries)) (λ k p h. as_due (apart excused) (λ o. sym (single x_is o)) k p (value-due k s.opened (apart excused) s.entries.entries p n.distinct h))
-        (λ k i o h due at_k. key-due k i s.opened (apart excused) s.entries.entries o h (sym (single x_is o) ∙ due) at_k))
+        subst all (sym (blamed_due-is s.opened (apart excused) at (values_of entry) m))
+        (from resumed b v n (due_places s.opened (apart excused) (values_of entry)) (λ k p h. as_due (apart excused) (λ o. sym (single x_is o)) k p (value-due k s.opened (apart excused) entry p h))
+        (λ k i o h due at_k. key-due k i s.opened (apart excused) entry o h (under-within s.entries i (ap is_some h)) (sym (single x_is o) ∙ due) at_k))
 
-    go : (t : Bool) → rests ≡ t → all (told t s.again excused s.opened at (values_of s.entries.entries) entry s.confirmed.keys m)
+    go : (t : Bool) → rests ≡ t → all (told t s.again excused s.opened at (values_of entry) entry s.confirmed.keys m)
     go false h = gains_none tested S06 f e past at m (none (is_binding tested.role (newest e past)) refl (resumes f) refl vacant refl (sym is ∙ h))
     go true h =
         let all_parts = both_true (resumes f && is_binding tested.role (newest e past)) vacant (sym is ∙ h) in

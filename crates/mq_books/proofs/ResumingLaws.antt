@@ -3,7 +3,7 @@ use Rattle.std.proofs.Common.{◌≡◌, ℕ, ◌+◌, ◌-◌, ◌<◌, ◌≤�
 use Rattle.std.specs.Prelude.{is_some, option_map}
 use Rattle.std.specs.Option.{option_and_then}
 use Rattle.std.proofs.lemmas.Bool.{eq-eqb, leb-true, leb-false, le-leb}
-use Rattle.indexmap.specs.IndexMap.{get}
+use Rattle.mq_rules.specs.KeptOrder.{value_under}
 use Rattle.indexmap.specs.IndexSet.{index_set_len}
 use Rattle.mq_rules.specs.declared.role.Tested.{Tested}
 use Rattle.mq_rules.specs.declared.fate.Fate.{Fate}
@@ -295,7 +295,7 @@ settle-next tested s f at e past p q under u settling closed was small settled_t
 
 pub go-on-next : (tested : Tested) (s : Inflight) (f : Fate) (at : ℕ) (e : Seen) (past : List Seen) (p q : ResumedPlaces) (opens : Bool) (ended : Option ℕ) → IsUnder tested f at e past → IsUsing s tested (fate_before tested f e past) past
     → (settles f (at == e.place.position) s.ended e.note && (index_set_len s.unanswered == 0)) ≡ false → is_open e.note ≡ false → CountsResumed p tested (fate_before tested f e past) past → e.place.position < 4294967296
-    → opens ≡ (accepts f && is_some (opener_of e.note)) → ended ≡ ended_at (get nat_eq s.entries) (moved_on f e.note)
+    → opens ≡ (accepts f && is_some (opener_of e.note)) → ended ≡ ended_at (value_under s.entries) (moved_on f e.note)
     → q.counted ≡ p.counted → q.due ≡ p.due → q.settled ≡ p.settled
     → (p.fresh < 4294967295 → q.fresh ≡ remaining p.settled opens ended p.fresh) → (p.opened < 4294967295 → q.opened ≡ remaining s.opened opens ended p.opened) → CountsResumed q tested (Some f) (e ∷ past)
 go-on-next tested s f at e past p q opens ended under u settling closed was small opens_is ended_is same_counted same_due same_settled fresh_is opened_is = record {
@@ -341,7 +341,7 @@ go-on-next tested s f at e past p q opens ended under u settling closed was smal
     ended-kept : ended ≡ option_map (λ (x : Entry). x.place.position) (option_and_then (λ i. entry_in tested.role i ms) (moved_on f e.note))
     ended-kept = ended_is ∙ go (moved_on f e.note)
       where
-        go : (o : Option ℕ) → ended_at (get nat_eq s.entries) o ≡ option_map (λ (x : Entry). x.place.position) (option_and_then (λ i. entry_in tested.role i ms) o)
+        go : (o : Option ℕ) → ended_at (value_under s.entries) o ≡ option_map (λ (x : Entry). x.place.position) (option_and_then (λ i. entry_in tested.role i ms) o)
         go None = refl
         go (Some i) = ap (option_map (λ (x : Entry). x.place.position)) (n.entries_are i)
 

@@ -2,10 +2,8 @@
 use Rattle.std.proofs.Common.{◌≡◌, ℕ, ◌+◌, ◌<◌, ◌==◌, nat_eq, nat_lt, arith, Bool, true, false, cond, ◌&&◌, ◌||◌, not, List, [], ◌∷◌, Option, Some, None, refl, ap, sym, ◌∙◌, ◌⊎◌, inl, inr}
 use Rattle.std.specs.Prelude.{is_some, length}
 use Rattle.std.specs.Option.{option_or}
-use Rattle.std.specs.List.{IsDistinct, list_any}
-use Rattle.std.specs.Map.{keys_of, values_of, lookup}
+use Rattle.std.specs.List.{list_any}
 use Rattle.std.proofs.lemmas.Bool.{eqb-true, eq-eqb, lt-ltb}
-use Rattle.indexmap.specs.IndexMap.{get}
 use Rattle.indexmap.specs.IndexSet.{contains}
 use Rattle.mq_rules.specs.declared.role.Role.{Role}
 use Rattle.mq_rules.specs.declared.role.Tested.{Tested}
@@ -22,8 +20,9 @@ use Rattle.mq_rules.specs.Identifiers.{opens_id, closes_id, is_open_at, latest_o
 use Rattle.mq_rules.specs.Rules.{binds, same_rule}
 use Rattle.mq_rules.specs.Statements.{in_session}
 use Rattle.mq_rules.specs.Under.{IsUnder, fate_before}
+use Rattle.mq_rules.specs.KeptOrder.{value_under, values_of}
 use Rattle.mq_rules.specs.Occasions.{occasion, places_under}
-use Rattle.mq_rules.proofs.Exports.{among-some, both_true, has_item, or_left, or_parts, or_right, resend-needs, same_test, session-descend, session-members, since-stands, some-among, taken-needs, those-among}
+use Rattle.mq_rules.proofs.Exports.{among-some, both_true, has_item, or_left, or_parts, or_right, resend-needs, same_test, session-descend, session-members, since-stands, some-among, taken-needs, those-among, under-within}
 use Rattle.mq_books.specs.declared.inflight.Inflight.{Inflight}
 use Rattle.mq_books.specs.declared.inflight.entry.Entry.{Entry}
 use Rattle.mq_books.specs.declared.inflight.asking.AtOncePlaces.{AtOncePlaces}
@@ -31,42 +30,15 @@ use Rattle.mq_books.specs.Knowing.{excused}
 use Rattle.mq_books.specs.Resending.{passed_since}
 use Rattle.mq_books.specs.Using.{is_taken, past_pubrel, resent_in, is_at_once, IsUsing}
 use Rattle.mq_books.specs.Tried.{has_any, any_used, tries_taking, tries_resending, tries_repeating, tries_released, tries_ordering, CountsAtOnce}
-use Rattle.mq_books.proofs.AgainLaws.{none-passes}
 use Rattle.mq_books.proofs.CountingLaws.{counted-session, places-same}
 use Rattle.mq_books.proofs.KnowingLaws.{and-apart, excused-known}
 use Rattle.mq_books.proofs.OpenedLaws.{entry-there}
 use Rattle.mq_books.proofs.OrderLaws.{connection-descends, held, named}
-use Rattle.mq_books.proofs.PlacesLaws.{absent}
 use Rattle.mq_books.proofs.UsingLaws.{binds-S01, binds-S02, binds-S03, binds-S04, taken-none, resend-none, sent-none, item-closed, now, same_some, busy-is, resent_past, resent-later, past_pubrel-is}
+use Rattle.mq_books.proofs.ValuesLaws.{passes-value, passing-there, value-passes}
 use Rattle.mq_books.proofs.VoidLaws.{on_void-read, some-same}
 
 -- ---- something is in use
-
--- what passes among the values of a map is kept of some identifier
-value-passes : (test : Entry → Bool) (es : List (ℕ × Entry)) → IsDistinct nat_eq (keys_of es) → list_any test (values_of es) ≡ true → (i : ℕ) × (is_some_and test (lookup (nat_eq i) es) ≡ true)
-unfolding IsDistinct
-value-passes test [] d h = absurd (cc)
-value-passes test (e ∷ es) d h = go (test e.1) refl h (value-passes test es d.1)
-  where
-    later : (i : ℕ) × (is_some_and test (lookup (nat_eq i) es) ≡ true) → (i : ℕ) × (is_some_and test (lookup (nat_eq i) (e ∷ es)) ≡ true)
-    later r = (r.0, by (lookup (nat_eq r.0) es) refl (nat_eq r.0 e.0) refl)
-      where
-        by : (o : Option Entry) → lookup (nat_eq r.0) es ≡ o → (b : Bool) → nat_eq r.0 e.0 ≡ b → is_some_and test (cond b (Some e.1) (lookup (nat_eq r.0) es)) ≡ true
-        by o is false t = r.1
-        by None is true t = absurd (let none : false ≡ true = sym (ap (is_some_and test) is) ∙ r.1 in cc)
-        by (Some o) is true t = absurd (absent e.0 es d.0 o (ap (λ n. lookup (nat_eq n) es) (sym (eqb-true r.0 e.0 t)) ∙ is))
-
-    go : (b : Bool) → test e.1 ≡ b → (b || list_any test (values_of es)) ≡ true → (list_any test (values_of es) ≡ true → (i : ℕ) × (is_some_and test (lookup (nat_eq i) es) ≡ true))
-        → (i : ℕ) × (is_some_and test (lookup (nat_eq i) (e ∷ es)) ≡ true)
-    go true t h rest = (e.0, ap (λ b. is_some_and test (cond b (Some e.1) (lookup (nat_eq e.0) es))) (eq-eqb e.0 e.0 refl) ∙ t)
-    go false t h rest = later (rest h)
-
-passes-value : (test : Entry → Bool) (i : ℕ) (es : List (ℕ × Entry)) → is_some_and test (lookup (nat_eq i) es) ≡ true → list_any test (values_of es) ≡ true
-passes-value test i es h = go (list_any test (values_of es)) refl
-  where
-    go : (b : Bool) → list_any test (values_of es) ≡ b → b ≡ true
-    go true t = refl
-    go false t = sym (none-passes test i es t) ∙ h
 
 any-listed : (is : List ℕ) → has_any is ≡ true → (i : ℕ) × (list_any (nat_eq i) is ≡ true)
 any-listed [] h = absurd (cc)
@@ -140,10 +112,10 @@ used-is tested s f e past placed on item a u = same_test (any_used s f) (is_any_
     waiting = has_any s.subscribing.keys || has_any s.unsubscribing.keys
 
     taken : Bool
-    taken = list_any kept (values_of s.entries.entries)
+    taken = list_any kept (values_of (value_under s.entries))
 
     held_at : ℕ → Bool
-    held_at i = is_some_and kept (get nat_eq s.entries i)
+    held_at i = is_some_and kept (value_under s.entries i)
 
     sent_at : ℕ → Bool
     sent_at i = contains nat_eq s.subscribing i || contains nat_eq s.unsubscribing i
@@ -166,7 +138,7 @@ used-is tested s f e past placed on item a u = same_test (any_used s f) (is_any_
 
         of : (waiting ≡ true) ⊎ (taken ≡ true) → is_any_busy_at tested.role f (newest e past) ≡ true
         of (inl t) = sent (or_parts (has_any s.subscribing.keys) (has_any s.unsubscribing.keys) t)
-        of (inr t) = let r = value-passes kept s.entries.entries u.distinct t in at r.0 (or_left (held_at r.0) (sent_at r.0) r.1)
+        of (inr t) = let r = value-passes kept (value_under s.entries) t in at r.0 (or_left (held_at r.0) (sent_at r.0) r.1)
 
     back : is_any_busy_at tested.role f (newest e past) ≡ true → any_used s f ≡ true
     back h =
@@ -179,7 +151,7 @@ used-is tested s f e past placed on item a u = same_test (any_used s f) (is_any_
         sent i (inr t) = or_right (has_any s.subscribing.keys) (has_any s.unsubscribing.keys) (listed-any i s.unsubscribing.keys t)
 
         of : (i : ℕ) → (held_at i ≡ true) ⊎ (sent_at i ≡ true) → any_used s f ≡ true
-        of i (inl t) = or_right waiting taken (passes-value kept i s.entries.entries t)
+        of i (inl t) = or_right waiting taken (passes-value kept i (value_under s.entries) (under-within s.entries i (passing-there kept (value_under s.entries i) t)) t)
         of i (inr t) = or_left waiting taken (sent i (or_parts (contains nat_eq s.subscribing i) (contains nat_eq s.unsubscribing i) t))
 
 -- ---- something that was open was sent again
@@ -278,9 +250,9 @@ unfolding applies_S04
 S04-places tested s f at e past here old new under u was is more =
     counted-session tested S04 (applies_S04 tested.role) refl f at e past here old new under was
     (is
-    ∙ where-sent f e.note (is_some_and (past_pubrel (get nat_eq s.entries)) again) (is_some_and past_it again)
-    (λ h. let none = ap (λ o. option_or o (sent_as pubrel_in e.note)) (resend-none e.note h) ∙ sent-none pubrel_in e.note h in ap (is_some_and (past_pubrel (get nat_eq s.entries))) none ∙ sym (ap (is_some_and past_it) none))
-    (λ item accepted. same_some (past_pubrel (get nat_eq s.entries)) past_it again (λ i.
+    ∙ where-sent f e.note (is_some_and (past_pubrel (value_under s.entries)) again) (is_some_and past_it again)
+    (λ h. let none = ap (λ o. option_or o (sent_as pubrel_in e.note)) (resend-none e.note h) ∙ sent-none pubrel_in e.note h in ap (is_some_and (past_pubrel (value_under s.entries))) none ∙ sym (ap (is_some_and past_it) none))
+    (λ item accepted. same_some (past_pubrel (value_under s.entries)) past_it again (λ i.
     ap (is_some_and (λ (o : Entry). o.exactly_once && o.released)) ((now s tested f e past (item-closed e.note item) u).entries_are i) ∙ past_pubrel-is tested.role i (session tested.role (Some f) past) (session-descend tested.role (Some f) past)))
     ∙ ap (λ b. b && (accepts f && is_some_and past_it again)) (sym (binds-S04 tested.role tested.releases tested.further))) more
   where
@@ -299,14 +271,14 @@ S05-places tested s f at e past here old new under u was is more =
     (is
     ∙ ap (λ b. b && (accepts f && kept)) u.is_ordered
     ∙ ap (λ b. binds S05 tested && b) (where-sent f e.note kept (is_some_and opened (resend_of e.note) && before)
-    (λ h. let none = resend-none e.note h in ap (λ o. is_some_and (λ i. is_some (get nat_eq s.entries i)) o && nat_lt 0 s.resent) none ∙ sym (ap (λ o. is_some_and opened o && before) none))
+    (λ h. let none = resend-none e.note h in ap (λ o. is_some_and (λ i. is_some (value_under s.entries i)) o && nat_lt 0 s.resent) none ∙ sym (ap (λ o. is_some_and opened o && before) none))
     (λ item accepted.
     let n = now s tested f e past (item-closed e.note item) u in
-    ap (λ b. b && nat_lt 0 s.resent) (same_some (λ i. is_some (get nat_eq s.entries i)) opened (resend_of e.note) (λ i. ap is_some (n.entries_are i) ∙ entry-there tested.role i (session tested.role (Some f) past)))
+    ap (λ b. b && nat_lt 0 s.resent) (same_some (λ i. is_some (value_under s.entries i)) opened (resend_of e.note) (λ i. ap is_some (n.entries_are i) ∙ entry-there tested.role i (session tested.role (Some f) past)))
     ∙ ap (λ b. is_some_and opened (resend_of e.note) && b) (ap (nat_lt 0) n.resent_is ∙ resent-some tested.role f past under.follows.placed.1)))) more
   where
     kept : Bool
-    kept = is_some_and (λ i. is_some (get nat_eq s.entries i)) (resend_of e.note) && nat_lt 0 s.resent
+    kept = is_some_and (λ i. is_some (value_under s.entries i)) (resend_of e.note) && nat_lt 0 s.resent
 
     opened : ℕ → Bool
     opened i = is_open_at tested.role f i (newest e past)

@@ -2,9 +2,8 @@
 use Rattle.std.proofs.Common.{◌≡◌, ℕ, ◌+◌, ◌-◌, ◌<◌, ◌==◌, nat_eq, nat_lt, arith, Bool, true, false, cond, ◌&&◌, ◌||◌, not, List, [], ◌∷◌, Option, Some, None, option_map, refl, ap, sym, subst, ◌∙◌}
 use Rattle.std.specs.Prelude.{is_some}
 use Rattle.std.proofs.lemmas.Bool.{ltb-true}
-use Rattle.std.specs.Map.{values_of}
 use Rattle.std.specs.Option.{option_or}
-use Rattle.indexmap.specs.IndexMap.{get}
+use Rattle.mq_rules.specs.KeptOrder.{value_under, values_of}
 use Rattle.indexmap.specs.IndexSet.{contains, index_set_len}
 use Rattle.mq_log.specs.declared.place.Place3.{Place3}
 use Rattle.mq_rules.specs.declared.role.Role.{Role}
@@ -154,7 +153,7 @@ takes-nothing Server n a b c = a
 unbroken : (tested : Tested) (s : Inflight) (f : Fate) (n : Note) → Quiet tested n → record { takes_busy = false; unopened = false; twice = false; past_pubrel = false; out_of_order = false } ≡ breaks s f n
 unbroken tested s f n q =
     sym (
-    ap (λ o. broken (accepts f && is_some_and (λ i. is_some_and (is_taken (passed_since f s.bounds s.opened s.bounded)) (get nat_eq s.entries i) || (contains nat_eq s.subscribing i || contains nat_eq s.unsubscribing i)) o) (resend_of n)) (takes-nothing s.role n q.opener q.subscribe q.unsubscribe)
+    ap (λ o. broken (accepts f && is_some_and (λ i. is_some_and (is_taken (passed_since f s.bounds s.opened s.bounded)) (value_under s.entries i) || (contains nat_eq s.subscribing i || contains nat_eq s.unsubscribing i)) o) (resend_of n)) (takes-nothing s.role n q.opener q.subscribe q.unsubscribe)
     ∙ ap (λ o. broken (accepts f && false) o) q.resend
     ∙ ap (λ b. broken_by b (b) (b) (b) (s.ordered && b)) (and_false (accepts f))
     ∙ ap (λ b. broken_by false false false false b) (and_false s.ordered))
@@ -164,8 +163,8 @@ unbroken tested s f n q =
 
     broken : Bool → Option ℕ → Broken
     broken a o =
-        broken_by a (accepts f && is_some_and (unopened (get nat_eq s.entries) (contains nat_eq s.void) (may_resend s.earlier f)) o) (accepts f && is_some_and (delivering s) o)
-        (accepts f && is_some_and (past_pubrel (get nat_eq s.entries)) o) (s.ordered && (accepts f && is_some_and (out_of_order (get nat_eq s.entries) s.resent) o))
+        broken_by a (accepts f && is_some_and (unopened (value_under s.entries) (contains nat_eq s.void) (may_resend s.earlier f)) o) (accepts f && is_some_and (delivering s) o)
+        (accepts f && is_some_and (past_pubrel (value_under s.entries)) o) (s.ordered && (accepts f && is_some_and (out_of_order (value_under s.entries) s.resent) o))
 
 pub inflight-passes : (tested : Tested) (s : Inflight) (f : Fate) (at : ℕ) (e : Seen) (past : List Seen) → concerns_flight tested e.note ≡ false → IsUnder tested f at e past → IsUsing s tested (fate_before tested f e past) past
     → IsUsing s tested (Some f) (e ∷ past) × ((m : FaultMap) → Gains (λ k r. is_inflight r && turns_with tested f e past k r) tested (e ∷ past) at m m)
@@ -175,15 +174,15 @@ inflight-passes tested s f at e past h under before =
     let u : IsUsing s tested (Some f) past = subst (λ (t : Option Fate). IsUsing s tested t past) (sym (closed-before tested f e past q.closed)) before in
     let room : announced s.role n ≡ None = ap (λ r. announced r n) u.same_role ∙ q.room in
     let bounds : bounds_by s.role n ≡ None = ap (λ r. bounds_by r n) u.same_role ∙ q.bounds in (
-      inflight-next tested s s f at e past under before refl (sym (some-same f s.fate u.same_fate)) refl u.distinct
-          (λ i. sym (entry-stays tested f n s.bounded e.place i (get nat_eq s.entries i) q))
-          (λ i. sym (stray-stays f n (get nat_eq s.entries) i (contains nat_eq s.stray i) q.inside q.delivery q.closer))
+      inflight-next tested s s f at e past under before refl (sym (some-same f s.fate u.same_fate)) refl
+          (λ i. sym (entry-stays tested f n s.bounded e.place i (value_under s.entries i) q))
+          (λ i. sym (stray-stays f n (value_under s.entries) i (contains nat_eq s.stray i) q.inside q.delivery q.closer))
           (λ i. sym (unanswered-stays f n i (contains nat_eq s.unanswered i) q))
           (λ i. sym (ap (λ o. (is_id i o && is_void f) || contains nat_eq s.void i) q.delivery))
           (earlier-stays s.earlier s.role s.fate f (at == e.place.position) n q.closed (inside-uncut n q.inside) (λ i. ap (λ o. not (at == e.place.position) && is_id i o) q.delivery ∙ and_false (not (at == e.place.position))))
           (λ i. sym (wait-stays (sent_as subscribe_in n) (received_as suback_in n) (is_boundary n) i (contains nat_eq s.subscribing i) q.subscribe q.suback q.inside))
           (λ i. sym (wait-stays (sent_as unsubscribe_in n) (received_as unsuback_in n) (is_boundary n) i (contains nat_eq s.unsubscribing i) q.unsubscribe q.unsuback q.inside))
-          (sym (resent-stays n (get nat_eq s.entries) s.resent q.closed q.resend))
+          (sym (resent-stays n (value_under s.entries) s.resent q.closed q.resend))
           (sym (ap (λ b. b || (not (is_open n) && s.ended)) q.unended ∙ ap (λ b. not b && s.ended) q.closed))
           (sym (ap (λ b. cond b e.place.position s.opened) q.closed))
           (sym (ap (λ o. option_or (cond (is_open n) None s.peer) o) room ∙ ap (λ b. option_or (cond b None s.peer) None) q.closed ∙ option_or-none s.peer))

@@ -3,7 +3,7 @@ use Rattle.std.proofs.Common.{◌≡◌, ℕ, ◌<◌, ◌≤◌, ◌==◌, nat_
 use Rattle.std.specs.Prelude.{is_some}
 use Rattle.std.specs.Option.{option_or}
 use Rattle.std.proofs.lemmas.Bool.{ltb-true, ltb-false, lt-ltb}
-use Rattle.indexmap.specs.IndexMap.{get}
+use Rattle.mq_rules.specs.KeptOrder.{value_under}
 use Rattle.indexmap.specs.IndexSet.{contains}
 use Rattle.mq_rules.specs.declared.role.Role.{Role}
 use Rattle.mq_rules.specs.declared.role.Role.TheVariants.{Client, Server}
@@ -228,12 +228,12 @@ out_of_order-is role f i e past placed = go (entry_in role i ms) refl
 
 -- what is open is in use, unless it may have been discarded
 taken-is : (tested : Tested) (s : Inflight) (f : Fate) (e : Seen) (past : List Seen) → IsPlaced past → accepts f ≡ true → IsUsing s tested (Some f) past → (i : ℕ)
-    → is_some_and (is_taken (passed_since f s.bounds s.opened s.bounded)) (get nat_eq s.entries i) ≡ (is_open_at tested.role f i (newest e past) && not (may_be_discarded tested.role f i (newest e past)))
+    → is_some_and (is_taken (passed_since f s.bounds s.opened s.bounded)) (value_under s.entries i) ≡ (is_open_at tested.role f i (newest e past) && not (may_be_discarded tested.role f i (newest e past)))
 taken-is tested s f e past placed a u i =
-    ap (λ b. is_some_and (is_taken (passed_since f b s.opened s.bounded)) (get nat_eq s.entries i)) u.bounds_are
-    ∙ ap (λ n. is_some_and (is_taken (passed_since f (peer_bounds role past) n s.bounded)) (get nat_eq s.entries i)) u.opened_is
-    ∙ ap (λ n. is_some_and (is_taken (passed_since f (peer_bounds role past) (opened_at past) n)) (get nat_eq s.entries i)) u.bounded_is
-    ∙ go (get nat_eq s.entries i) refl
+    ap (λ b. is_some_and (is_taken (passed_since f b s.opened s.bounded)) (value_under s.entries i)) u.bounds_are
+    ∙ ap (λ n. is_some_and (is_taken (passed_since f (peer_bounds role past) n s.bounded)) (value_under s.entries i)) u.opened_is
+    ∙ ap (λ n. is_some_and (is_taken (passed_since f (peer_bounds role past) (opened_at past) n)) (value_under s.entries i)) u.bounded_is
+    ∙ go (value_under s.entries i) refl
   where
     role : Role
     role = tested.role
@@ -256,7 +256,7 @@ taken-is tested s f e past placed a u i =
     bits false true = refl
     bits false false = refl
 
-    go : (x : Option Entry) → get nat_eq s.entries i ≡ x → is_some_and (is_taken since_then) x ≡ (since (opens_id i) (closes_id i) ms && not (over (latest (opens_id i) ms) && not late))
+    go : (x : Option Entry) → value_under s.entries i ≡ x → is_some_and (is_taken since_then) x ≡ (since (opens_id i) (closes_id i) ms && not (over (latest (opens_id i) ms) && not late))
     go None h =
         let none : entry_in role i ms ≡ None = sym (u.entries_are i) ∙ h in
         sym (ap (λ b. b && not (over (latest (opens_id i) ms) && not late)) (sym (entry-there role i ms) ∙ ap is_some none))
@@ -272,7 +272,7 @@ taken-is tested s f e past placed a u i =
 
 -- an identifier is in use by what is kept exactly if it is busy
 pub busy-is : (tested : Tested) (s : Inflight) (f : Fate) (e : Seen) (past : List Seen) → IsPlaced past → IsOnConnection e past → has_item e.note ≡ true → accepts f ≡ true → IsUsing s tested (fate_before tested f e past) past → (i : ℕ)
-    → (is_some_and (is_taken (passed_since f s.bounds s.opened s.bounded)) (get nat_eq s.entries i) || (contains nat_eq s.subscribing i || contains nat_eq s.unsubscribing i)) ≡ is_busy_at tested.role f i (newest e past)
+    → (is_some_and (is_taken (passed_since f s.bounds s.opened s.bounded)) (value_under s.entries i) || (contains nat_eq s.subscribing i || contains nat_eq s.unsubscribing i)) ≡ is_busy_at tested.role f i (newest e past)
 busy-is tested s f e past placed on item a u i =
     ap (λ b. b || (contains nat_eq s.subscribing i || contains nat_eq s.unsubscribing i)) (taken-is tested s f e past placed a (now s tested f e past (item-closed e.note item) u) i)
     ∙ ap (λ b. (is_open_at tested.role f i (newest e past) && not (may_be_discarded tested.role f i (newest e past))) || (b || contains nat_eq s.unsubscribing i)) (u.subscribing_are i ∙ waits-connected (sent_as subscribe_in) (received_as suback_in) i past (on (item-needs e.note item)))
@@ -295,7 +295,7 @@ S01-turns tested s f at e past under on u k =
     there_in p (Some i) h = refl
 
     busy : ℕ → Bool
-    busy i = is_some_and (is_taken (passed_since f s.bounds s.opened s.bounded)) (get nat_eq s.entries i) || (contains nat_eq s.subscribing i || contains nat_eq s.unsubscribing i)
+    busy i = is_some_and (is_taken (passed_since f s.bounds s.opened s.bounded)) (value_under s.entries i) || (contains nat_eq s.subscribing i || contains nat_eq s.unsubscribing i)
 
     go : (a : Bool) → accepts f ≡ a → (b : Bool) → has_item e.note ≡ b → (a && is_some_and busy (taken_by tested.role e.note)) ≡ (a && is_some_and (λ i. is_busy_at tested.role f i (newest e past)) (taken_by tested.role e.note))
     go false a b h = refl
@@ -346,7 +346,7 @@ S02-turns : (tested : Tested) (s : Inflight) (f : Fate) (at : ℕ) (e : Seen) (p
 unfolding breaks_S02
 S02-turns tested s f at e past under u =
     known-resend-turns tested S02 (breaks_S02 tested.role) refl (binds-S02 tested.role tested.releases tested.further) f at e past (λ i. not (is_open_at tested.role f i (newest e past) || (was_sent_on_void tested.role i (newest e past) || (was_sent_before_session tested.role f i (newest e past) || was_cut_off tested.role f (newest e past)))))
-    (unopened (get nat_eq s.entries) (contains nat_eq s.void) (may_resend s.earlier f)) under refl
+    (unopened (value_under s.entries) (contains nat_eq s.void) (may_resend s.earlier f)) under refl
     (λ item accepted i.
     let n = now s tested f e past (item-closed e.note item) u in
     ap (λ x. not (is_some x || (contains nat_eq s.void i || may_resend s.earlier f i))) (n.entries_are i)
@@ -365,7 +365,7 @@ unfolding breaks_S04
 S04-turns tested s f e past u =
     resend-turns tested S04 (breaks_S04 tested.role) refl true (binds-S04 tested.role tested.releases tested.further) f e past
     (λ i. is_open_at tested.role f i (newest e past) && (is_some_and (opens_exactly_once i) (latest_opener tested.role f i (newest e past)) && since (sends_pubrel i) (opens_id i) (session tested.role (Some f) past)))
-    (past_pubrel (get nat_eq s.entries)) refl
+    (past_pubrel (value_under s.entries)) refl
     (λ item accepted i. ap (is_some_and (λ (o : Entry). o.exactly_once && o.released)) ((now s tested f e past (item-closed e.note item) u).entries_are i) ∙ past_pubrel-is tested.role i (session tested.role (Some f) past) (session-descend tested.role (Some f) past))
 
 S05-turns : (tested : Tested) (s : Inflight) (f : Fate) (at : ℕ) (e : Seen) (past : List Seen) → IsUnder tested f at e past → IsUsing s tested (fate_before tested f e past) past → (k : ℕ) → turns_with tested f e past k S05 ≡ (is_next past k && (breaks s f e.note).out_of_order)
@@ -373,10 +373,10 @@ unfolding breaks_S05
 S05-turns tested s f at e past under u =
     resend-turns tested S05 (breaks_S05 tested.role) refl s.ordered (sym u.is_ordered) f e past
     (λ i. is_open_at tested.role f i (newest e past) && some (λ j. is_some_and (λ o. is_open_at tested.role f o j && comes_after (latest_opener tested.role f o j) (latest_opener tested.role f i (newest e past))) (resend_of (note j))) (connection past))
-    (out_of_order (get nat_eq s.entries) s.resent) refl
+    (out_of_order (value_under s.entries) s.resent) refl
     (λ item accepted i.
     let n = now s tested f e past (item-closed e.note item) u in
-    ap (λ p. is_some_and (λ (o : Entry). nat_lt o.place.position p) (get nat_eq s.entries i)) n.resent_is
+    ap (λ p. is_some_and (λ (o : Entry). nat_lt o.place.position p) (value_under s.entries i)) n.resent_is
     ∙ ap (is_some_and (λ (o : Entry). nat_lt o.place.position (resent_in tested.role (Some f) past))) (n.entries_are i)
     ∙ out_of_order-is tested.role f i e past under.follows.placed.1)
 
@@ -473,14 +473,14 @@ resent_by-same : (o : Option ℕ) (p q : ℕ → Option Entry) → ((i : ℕ) �
 resent_by-same None p q h = refl
 resent_by-same (Some i) p q h = ap place_or_zero (h i)
 
-pub resent-next : (tested : Tested) (s : Inflight) (f : Fate) (e : Seen) (past : List Seen) → IsUsing s tested (fate_before tested f e past) past → resent_next e.note (get nat_eq s.entries) s.resent ≡ resent_in tested.role (Some f) (e ∷ past)
+pub resent-next : (tested : Tested) (s : Inflight) (f : Fate) (e : Seen) (past : List Seen) → IsUsing s tested (fate_before tested f e past) past → resent_next e.note (value_under s.entries) s.resent ≡ resent_in tested.role (Some f) (e ∷ past)
 resent-next tested s f e past u = go (is_open e.note) refl
   where
     entry : ℕ → Option Entry
     entry i = entry_in tested.role i (session tested.role (Some f) past)
 
-    go : (b : Bool) → is_open e.note ≡ b → cond b 0 (greater (resent_by (resend_of e.note) (get nat_eq s.entries)) s.resent) ≡ cond b 0 (greater (resent_by (resend_of e.note) entry) (resent_in tested.role (Some f) past))
+    go : (b : Bool) → is_open e.note ≡ b → cond b 0 (greater (resent_by (resend_of e.note) (value_under s.entries)) s.resent) ≡ cond b 0 (greater (resent_by (resend_of e.note) entry) (resent_in tested.role (Some f) past))
     go true h = refl
     go false h =
         let n = now s tested f e past h u in
-        ap (λ p. greater p s.resent) (resent_by-same (resend_of e.note) (get nat_eq s.entries) entry n.entries_are) ∙ ap (greater (resent_by (resend_of e.note) entry)) n.resent_is
+        ap (λ p. greater p s.resent) (resent_by-same (resend_of e.note) (value_under s.entries) entry n.entries_are) ∙ ap (greater (resent_by (resend_of e.note) entry)) n.resent_is

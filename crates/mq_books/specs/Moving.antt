@@ -1,7 +1,7 @@
 -- Events whose packets have no properties, by what they do to Packet Identifiers (MQTT 5.0, sections 2.2.1 and 4.3).
 use Rattle.std.specs.Prelude.{ℕ, ◌≡◌, ◌<◌, ◌+◌, ◌-◌, nat_eq, nat_lt, length, Bool, true, false, ◌&&◌, ◌||◌, not, cond, List, ◌∷◌, Option, None, is_some}
 use Rattle.std.specs.Option.{option_or}
-use Rattle.indexmap.specs.IndexMap.{get, IsUnique}
+use Rattle.mq_rules.specs.KeptOrder.{value_under}
 use Rattle.indexmap.specs.IndexSet.{contains}
 use Rattle.mq_log.specs.declared.place.Place3.{Place3}
 use Rattle.mq_rules.specs.declared.role.Role.{Role}
@@ -73,14 +73,13 @@ moved counted opener closer old = cond counted (cond (is_some opener) (old + 1) 
 -- what is kept after it
 pub record IsMoved (place : Place3) (opener : Option ℕ) (exactly_once : Bool) (closer pubrel pubrec : Option ℕ) (old new : Inflight) : Type 0 where
   pub others : KeepsOthers old new
-  pub distinct : IsUnique nat_eq old.entries → IsUnique nat_eq new.entries
-  pub entries : (i : ℕ) → get nat_eq new.entries i
-      ≡ opened_if (is_id i opener) exactly_once false place (closed_if (is_id i closer) (confirmed_if (is_id i pubrec) (released_if (is_id i pubrel) old.bounded place.position (get nat_eq old.entries i))))
-  pub confirmed : (i : ℕ) → contains nat_eq new.confirmed i ≡ (not (is_id i closer) && (contains nat_eq old.confirmed i || (is_id i pubrec && is_some (get nat_eq old.entries i))))
+  pub entries : (i : ℕ) → value_under new.entries i
+      ≡ opened_if (is_id i opener) exactly_once false place (closed_if (is_id i closer) (confirmed_if (is_id i pubrec) (released_if (is_id i pubrel) old.bounded place.position (value_under old.entries i))))
+  pub confirmed : (i : ℕ) → contains nat_eq new.confirmed i ≡ (not (is_id i closer) && (contains nat_eq old.confirmed i || (is_id i pubrec && is_some (value_under old.entries i))))
   pub stray : (i : ℕ) → contains nat_eq new.stray i ≡ (not (is_id i closer) && contains nat_eq old.stray i)
   pub unanswered : (i : ℕ) → contains nat_eq new.unanswered i ≡ cond (resumes old.fate) (is_id i (option_or opener pubrel) || (not (is_id i closer) && contains nat_eq old.unanswered i)) (contains nat_eq old.unanswered i)
   pub flying : old.in_flight < place.position → new.in_flight ≡ moved (may_count old.role old.peer) opener closer old.in_flight
-  pub again : new.again ≡ record { all = old.again.all && not (untouched old.opened (get nat_eq old.entries) pubrec); confirmed = old.again.confirmed && not (untouched old.opened (get nat_eq old.entries) pubrec) }
+  pub again : new.again ≡ record { all = old.again.all && not (untouched old.opened (value_under old.entries) pubrec); confirmed = old.again.confirmed && not (untouched old.opened (value_under old.entries) pubrec) }
 
 -- The law of a step, with an event that has this note and after which the faults are these.
 pub record IsStep (at : Place3) (n : Note) (new : Inflight) (tested : Tested) (past : List Seen) (before after : FaultMap) : Type 0 where

@@ -2,7 +2,7 @@
 use Rattle.std.specs.Prelude.{ℕ, ◌≡◌, refl, nat_eq, nat_lt, length, Bool, true, ◌&&◌, ◌||◌, not, List, Option, is_some}
 use Rattle.std.specs.Option.{option_or}
 use Rattle.std.specs.List.{list_any}
-use Rattle.indexmap.specs.IndexMap.{get, values}
+use Rattle.mq_rules.specs.KeptOrder.{value_under, values_of}
 use Rattle.mq_rules.specs.declared.role.Role.{Role}
 use Rattle.mq_rules.specs.declared.role.Tested.{Tested}
 use Rattle.mq_rules.specs.declared.fate.Fate.{Fate}
@@ -29,7 +29,7 @@ has_any is = nat_lt 0 (length is)
 
 -- something is in use: a SUBSCRIBE or an UNSUBSCRIBE waits for its answer, or something is open that can't have been discarded
 abbrev pub any_used : Inflight → Fate → Bool
-any_used s f = (has_any s.subscribing.keys || has_any s.unsubscribing.keys) || list_any (is_taken (passed_since f s.bounds s.opened s.bounded)) (values s.entries)
+any_used s f = (has_any s.subscribing.keys || has_any s.unsubscribing.keys) || list_any (is_taken (passed_since f s.bounds s.opened s.bounded)) (values_of (value_under s.entries))
 
 -- S01: an identifier is taken while something is in use.
 abbrev pub tries_taking : Inflight → Fate → Bool → Note → Bool
@@ -45,11 +45,11 @@ tries_repeating f n = accepts f && is_some (resend_of n)
 
 -- S04: what is open by a PUBLISH of QoS 2, and whose PUBREL was sent since, is sent again.
 abbrev pub tries_released : Inflight → Fate → Note → Bool
-tries_released s f n = accepts f && is_some_and (past_pubrel (get nat_eq s.entries)) (option_or (resend_of n) (sent_as pubrel_in n))
+tries_released s f n = accepts f && is_some_and (past_pubrel (value_under s.entries)) (option_or (resend_of n) (sent_as pubrel_in n))
 
 -- S05: what is open is sent again, after another PUBLISH was on the connection that was open then.
 abbrev pub tries_ordering : Inflight → Fate → Note → Bool
-tries_ordering s f n = s.ordered && (accepts f && (is_some_and (λ i. is_some (get nat_eq s.entries i)) (resend_of n) && nat_lt 0 s.resent))
+tries_ordering s f n = s.ordered && (accepts f && (is_some_and (λ i. is_some (value_under s.entries i)) (resend_of n) && nat_lt 0 s.resent))
 
 -- the counts are those of these events, where their latest connection is taken to have this fate
 pub record CountsAtOnce (p : AtOncePlaces) (tested : Tested) (taken : Option Fate) (past : List Seen) : Type 0 where

@@ -1,6 +1,6 @@
 -- What the book of identifiers in use keeps.
 use Rattle.std.specs.Prelude.{ℕ, ◌≡◌, nat_eq, nat_le, nat_lt, length, Bool, true, false, ◌&&◌, ◌||◌, not, cond, List, [], ◌∷◌, Option, Some, None, is_some}
-use Rattle.indexmap.specs.IndexMap.{get, IsUnique}
+use Rattle.mq_rules.specs.KeptOrder.{value_under}
 use Rattle.indexmap.specs.IndexSet.{contains}
 use Rattle.mq_log.specs.declared.place.Place3.{Place3}
 use Rattle.mq_rules.specs.declared.role.Role.{Role}
@@ -40,7 +40,7 @@ abbrev pub in_delivery : ℕ → (ℕ → Option Entry) → (ℕ → Bool) → �
 in_delivery opened entry stray i = stray i || is_some_and (λ o. nat_le opened o.published) (entry i)
 
 abbrev pub delivering : Inflight → ℕ → Bool
-delivering s = in_delivery s.opened (get nat_eq s.entries) (contains nat_eq s.stray)
+delivering s = in_delivery s.opened (value_under s.entries) (contains nat_eq s.stray)
 
 -- whether it is listed after an event of a connection with this fate, where this is then kept of what is open; none is when a connection begins or ends
 abbrev pub stray_next : Fate → Note → (ℕ → Option Entry) → ℕ → Bool → Bool
@@ -107,11 +107,11 @@ out_of_order entry resent i = is_some_and (λ o. nat_lt o.place.position resent)
 -- what an event of a connection with this fate breaks
 abbrev pub breaks : Inflight → Fate → Note → Broken
 breaks s f n = record {
-  takes_busy = takes_busy f s.role n (passed_since f s.bounds s.opened s.bounded) (get nat_eq s.entries) (contains nat_eq s.subscribing) (contains nat_eq s.unsubscribing);
-  unopened = accepts f && is_some_and (unopened (get nat_eq s.entries) (contains nat_eq s.void) (may_resend s.earlier f)) (resend_of n);
+  takes_busy = takes_busy f s.role n (passed_since f s.bounds s.opened s.bounded) (value_under s.entries) (contains nat_eq s.subscribing) (contains nat_eq s.unsubscribing);
+  unopened = accepts f && is_some_and (unopened (value_under s.entries) (contains nat_eq s.void) (may_resend s.earlier f)) (resend_of n);
   twice = accepts f && is_some_and (delivering s) (resend_of n);
-  past_pubrel = accepts f && is_some_and (past_pubrel (get nat_eq s.entries)) (resend_of n);
-  out_of_order = s.ordered && (accepts f && is_some_and (out_of_order (get nat_eq s.entries) s.resent) (resend_of n));
+  past_pubrel = accepts f && is_some_and (past_pubrel (value_under s.entries)) (resend_of n);
+  out_of_order = s.ordered && (accepts f && is_some_and (out_of_order (value_under s.entries) s.resent) (resend_of n));
 }
 
 -- the faults with those of the statements that are broken at this place, decided at this position
@@ -131,11 +131,10 @@ pub record IsUsing (s : Inflight) (tested : Tested) (taken : Option Fate) (past 
   pub same_role : s.role ≡ tested.role
   pub same_fate : taken ≡ Some s.fate
   pub is_ordered : s.ordered ≡ binds S05 tested
-  pub distinct : IsUnique nat_eq s.entries
-  pub entries_are : (i : ℕ) → get nat_eq s.entries i ≡ entry_in tested.role i (session tested.role taken past)
+  pub entries_are : (i : ℕ) → value_under s.entries i ≡ entry_in tested.role i (session tested.role taken past)
   pub delivering_are : is_connected past ≡ true → (i : ℕ) → delivering s i ≡ waits delivery_of closer_of i past
   pub stray_are : (i : ℕ) → contains nat_eq s.stray i ≡ true → is_connected past ≡ true
-  pub published_are : ArePublished s.fate s.opened (get nat_eq s.entries) past
+  pub published_are : ArePublished s.fate s.opened (value_under s.entries) past
   pub void_are : (i : ℕ) → contains nat_eq s.void i ≡ void_sent tested.role i taken past
   pub earlier_is : IsEarlier s.earlier tested.role taken past
   pub unanswered_are : (i : ℕ) → contains nat_eq s.unanswered i ≡ (resumes s.fate && waits sent_under closer_of i past)
@@ -148,5 +147,5 @@ pub record IsUsing (s : Inflight) (tested : Tested) (taken : Option Fate) (past 
   pub flying : s.in_flight ≡ in_flight (those (counts tested.role) (connection past))
   pub bounds_are : s.bounds ≡ peer_bounds tested.role past
   pub bounded_is : s.bounded ≡ bounded_at tested.role past
-  pub passed_are : (i : ℕ) (o : Entry) → get nat_eq s.entries i ≡ Some o → is_passed s.bounded o ≡ passed_before tested.role i o.place.position past
-  pub resent_are : IsResent s.opened (by_itself s.fate s.bounds s.opened s.bounded) (get nat_eq s.entries) (contains nat_eq s.confirmed) s.again
+  pub passed_are : (i : ℕ) (o : Entry) → value_under s.entries i ≡ Some o → is_passed s.bounded o ≡ passed_before tested.role i o.place.position past
+  pub resent_are : IsResent s.opened (by_itself s.fate s.bounds s.opened s.bounded) (value_under s.entries) (contains nat_eq s.confirmed) s.again

@@ -18,7 +18,7 @@ use Rattle.mq_books.specs.Standings.{SessionFilters, waits_weight}
 -- those of void connections, those that a client used before the session began, and those of SUBSCRIBEs and of UNSUBSCRIBEs without an answer
 abbrev pub inflight_weighs : Inflight → ℕ
 inflight_weighs s =
-    index_map_len s.entries + index_set_len s.confirmed + index_set_len s.stray + index_set_len s.unanswered + index_set_len s.void
+    ids_kept s.entries + index_set_len s.confirmed + index_set_len s.stray + index_set_len s.unanswered + index_set_len s.void
     + index_set_len s.earlier.first + index_set_len s.subscribing + index_set_len s.unsubscribing
 
 -- an exchange: the identifiers with a cause in the session

@@ -2,7 +2,7 @@
 ghost use Rattle.std.specs.Prelude.{refl};
 ghost use Rattle.std.specs.Prelude.{false, ◌≡◌, ◌∷◌, ◌<◌, ◌≤◌, ◌+◌, ◌*◌, ℕ, ◌&&◌, ◌||◌, not, cond, is_some, length, List, Option, OnOk, OnErr, nat_eq, [], Some, None};
 ghost use Rattle.std.specs.Option.{option_or};
-ghost use Rattle.indexmap.specs.IndexMap.{get, IsUnique};
+ghost use Rattle.mq_rules.specs.KeptOrder.{value_under};
 ghost use Rattle.indexmap.specs.IndexSet.{contains};
 ghost use Rattle.mq_rules.specs.declared.role.Tested.{Tested as TheTested};
 ghost use Rattle.mq_rules.specs.declared.fate.Fate.{Fate as TheFate};
@@ -34,6 +34,7 @@ mod entry;
 mod moving;
 mod resends;
 mod resuming;
+mod values;
 
 use crate::asked::opened_after;
 use crate::fated::Fated;
@@ -41,7 +42,7 @@ use crate::messages::is_acknowledged;
 use crate::pings::ended_after;
 use crate::quota::{flown, may_count, peer_after};
 use crate::selective::Selective;
-use crate::sizes::{map_size, set_size};
+use crate::sizes::set_size;
 use crate::taken::Taken;
 use broken::{
     Broken, all_excused, is_out_of_order, is_past_pubrel, is_twice, is_unopened, judge_all,
@@ -49,11 +50,11 @@ use broken::{
 };
 use earlier::Earlier;
 use entry::{Entry, take_entries};
-use indexmap::{IndexMap, IndexSet};
+use indexmap::IndexSet;
 use mq_log::{Direction, Place3};
 use mq_rules::{
-    Bare, BareFields, Fate, Faults, ItemNote, Memory, Note, NoteRef, Noted, PacketFields, Role,
-    Rule, Tested,
+    Bare, BareFields, CountedByIdentifier, Fate, Faults, ItemNote, Memory, Note, NoteRef, Noted,
+    PacketFields, Role, Rule, Tested,
 };
 use resends::{
     Bounds, Resent, bounded_after, bounds_after, excused_by_itself, excused_now, passed_since,
@@ -70,7 +71,7 @@ pub struct Inflight {
     /// Whether PUBLISH packets have to be sent again in their order.
     ordered: bool,
     /// The identifiers that are open in the session.
-    entries: IndexMap<u16, Entry>,
+    entries: CountedByIdentifier<Entry>,
     /// Those of them for which a PUBREC below 0x80 came.
     confirmed: IndexSet<u16>,
     /// What is known not to be due on the connection.
@@ -149,11 +150,11 @@ fn take_void(void: &mut IndexSet<u16>, fate: Fate, note: &Note) -> Result<(), Me
 fn take_stray(
     stray: &mut IndexSet<u16>,
     alloc: Global,
-    entries: &IndexMap<u16, Entry>,
+    entries: &CountedByIdentifier<Entry>,
     fate: Fate,
     note: &Note,
 ) -> Result<(), Memory>
-    ensures { OnOk result ((i : ℕ) → contains nat_eq stray.new i ≡ stray_next fate note.now (get nat_eq entries.now) i (contains nat_eq stray.old i)) }
+    ensures { OnOk result ((i : ℕ) → contains nat_eq stray.new i ≡ stray_next fate note.now (value_under entries.now) i (contains nat_eq stray.old i)) }
 {
     let begun = unkept(entries, fate, note.delivery());
     let ended = note.closer();
@@ -162,12 +163,12 @@ fn take_stray(
 }
 
 // The identifier of a PUBLISH, if no entry keeps that it was sent.
-fn unkept(entries: &IndexMap<u16, Entry>, fate: Fate, delivery: Option<u16>) -> Option<u16>
-    ensures { (i : ℕ) → is_id i result ≡ (is_id i delivery && not (accepts fate && is_some (get nat_eq entries.now i))) }
+fn unkept(entries: &CountedByIdentifier<Entry>, fate: Fate, delivery: Option<u16>) -> Option<u16>
+    ensures { (i : ℕ) → is_id i result ≡ (is_id i delivery && not (accepts fate && is_some (value_under entries.now i))) }
 {
     match delivery {
         Some(i) => {
-            if fate.accepts() && entries.contains_key(&i) {
+            if fate.accepts() && entries.contains(i) {
                 return None;
             }
             Some(i)
@@ -260,7 +261,7 @@ impl Inflight {
             role: tested.role,
             fate: Fate::Void,
             ordered: Rule::S05.is_judged(tested),
-            entries: IndexMap::new(alloc),
+            entries: CountedByIdentifier::new(alloc),
             confirmed: IndexSet::new(alloc),
             again: Resent {
                 all: false,
@@ -312,7 +313,7 @@ impl Inflight {
 
     // Takes in what is known of the connection, by what was open before.
     fn take_connection(&mut self, at: Place3, fate: Fate, note: &Note)
-        ensures state { self.new ≡ record self.old { fate = fate; resent = resent_next note.now (get nat_eq self.old.entries) self.old.resent; ended = ends_by note.now || (not (opens note.now) && self.old.ended); opened = cond (opens note.now) at.position self.old.opened; peer = option_or (cond (opens note.now) None self.old.peer) (announced self.old.role note.now); in_flight = self.new.in_flight; bounds = bounds_next self.old.role note.now self.old.bounds; bounded = bounded_next note.now self.old.fate self.old.bounds self.old.opened self.old.bounded } }
+        ensures state { self.new ≡ record self.old { fate = fate; resent = resent_next note.now (value_under self.old.entries) self.old.resent; ended = ends_by note.now || (not (opens note.now) && self.old.ended); opened = cond (opens note.now) at.position self.old.opened; peer = option_or (cond (opens note.now) None self.old.peer) (announced self.old.role note.now); in_flight = self.new.in_flight; bounds = bounds_next self.old.role note.now self.old.bounds; bounded = bounded_next note.now self.old.fate self.old.bounds self.old.opened self.old.bounded } }
         ensures flying { self.old.in_flight < at.position → self.new.in_flight ≡ flown_by (counts_now self.old.role self.old.peer) note.now self.old.in_flight }
     {
         self.bounded = bounded_after(note, self.fate, self.bounds, self.opened, self.bounded);
@@ -331,7 +332,7 @@ impl Inflight {
     // is open was taken in before.
     fn take_waiting(&mut self, fate: Fate, note: &Note) -> Result<(), Memory>
         ensures same { OnOk result (self.new ≡ record self.old { stray = self.new.stray; unanswered = self.new.unanswered; void = self.new.void; subscribing = self.new.subscribing; unsubscribing = self.new.unsubscribing }) }
-        ensures stray { OnOk result ((i : ℕ) → contains nat_eq self.new.stray i ≡ stray_next fate note.now (get nat_eq self.old.entries) i (contains nat_eq self.old.stray i)) }
+        ensures stray { OnOk result ((i : ℕ) → contains nat_eq self.new.stray i ≡ stray_next fate note.now (value_under self.old.entries) i (contains nat_eq self.old.stray i)) }
         ensures unanswered { OnOk result ((i : ℕ) → contains nat_eq self.new.unanswered i ≡ unanswered_next fate note.now i (contains nat_eq self.old.unanswered i)) }
         ensures void { OnOk result ((i : ℕ) → contains nat_eq self.new.void i ≡ void_next fate note.now i (contains nat_eq self.old.void i)) }
         ensures subscribing { OnOk result ((i : ℕ) → contains nat_eq self.new.subscribing i ≡ waits_next (sent_as subscribe_in note.now) (received_as suback_in note.now) (is_boundary note.now) i (contains nat_eq self.old.subscribing i)) }
@@ -351,22 +352,21 @@ impl Inflight {
         ensures role { OnOk result (self.new.role ≡ self.old.role) }
         ensures fate { OnOk result (self.new.fate ≡ fate) }
         ensures ordered { OnOk result (self.new.ordered ≡ self.old.ordered) }
-        ensures distinct { IsUnique nat_eq self.old.entries → OnOk result (IsUnique nat_eq self.new.entries) }
-        ensures entries { OnOk result ((i : ℕ) → get nat_eq self.new.entries i ≡ entry_next fate note.now self.old.bounded at i (get nat_eq self.old.entries i)) }
-        ensures stray { OnOk result ((i : ℕ) → contains nat_eq self.new.stray i ≡ stray_next fate note.now (get nat_eq self.new.entries) i (contains nat_eq self.old.stray i)) }
+        ensures entries { OnOk result ((i : ℕ) → value_under self.new.entries i ≡ entry_next fate note.now self.old.bounded at i (value_under self.old.entries i)) }
+        ensures stray { OnOk result ((i : ℕ) → contains nat_eq self.new.stray i ≡ stray_next fate note.now (value_under self.new.entries) i (contains nat_eq self.old.stray i)) }
         ensures unanswered { OnOk result ((i : ℕ) → contains nat_eq self.new.unanswered i ≡ unanswered_next fate note.now i (contains nat_eq self.old.unanswered i)) }
         ensures void { OnOk result ((i : ℕ) → contains nat_eq self.new.void i ≡ void_next fate note.now i (contains nat_eq self.old.void i)) }
         ensures subscribing { OnOk result ((i : ℕ) → contains nat_eq self.new.subscribing i ≡ waits_next (sent_as subscribe_in note.now) (received_as suback_in note.now) (is_boundary note.now) i (contains nat_eq self.old.subscribing i)) }
         ensures unsubscribing { OnOk result ((i : ℕ) → contains nat_eq self.new.unsubscribing i ≡ waits_next (sent_as unsubscribe_in note.now) (received_as unsuback_in note.now) (is_boundary note.now) i (contains nat_eq self.old.unsubscribing i)) }
         ensures earlier { OnOk result (GoesOn self.old.earlier self.new.earlier self.old.role self.old.fate fate known note.now) }
-        ensures resent { OnOk result (self.new.resent ≡ resent_next note.now (get nat_eq self.old.entries) self.old.resent) }
+        ensures resent { OnOk result (self.new.resent ≡ resent_next note.now (value_under self.old.entries) self.old.resent) }
         ensures ended { OnOk result (self.new.ended ≡ (ends_by note.now || (not (opens note.now) && self.old.ended))) }
         ensures opened { OnOk result (self.new.opened ≡ cond (opens note.now) at.position self.old.opened) }
         ensures peer { OnOk result (self.new.peer ≡ option_or (cond (opens note.now) None self.old.peer) (announced self.old.role note.now)) }
         ensures flying { self.old.in_flight < at.position → OnOk result (self.new.in_flight ≡ flown_by (counts_now self.old.role self.old.peer) note.now self.old.in_flight) }
         ensures bounds { OnOk result (self.new.bounds ≡ bounds_next self.old.role note.now self.old.bounds) }
         ensures bounded { OnOk result (self.new.bounded ≡ bounded_next note.now self.old.fate self.old.bounds self.old.opened self.old.bounded) }
-        ensures again { self.old.opened ≤ at.position → self.old.bounded ≤ self.old.opened → (opens note.now ≡ false → self.old.fate ≡ fate) → IsResent self.old.opened (by_itself self.old.fate self.old.bounds self.old.opened self.old.bounded) (get nat_eq self.old.entries) (contains nat_eq self.old.confirmed) self.old.again → OnOk result (IsResent self.new.opened (by_itself self.new.fate self.new.bounds self.new.opened self.new.bounded) (get nat_eq self.new.entries) (contains nat_eq self.new.confirmed) self.new.again) }
+        ensures again { self.old.opened ≤ at.position → self.old.bounded ≤ self.old.opened → (opens note.now ≡ false → self.old.fate ≡ fate) → IsResent self.old.opened (by_itself self.old.fate self.old.bounds self.old.opened self.old.bounded) (value_under self.old.entries) (contains nat_eq self.old.confirmed) self.old.again → OnOk result (IsResent self.new.opened (by_itself self.new.fate self.new.bounds self.new.opened self.new.bounded) (value_under self.new.entries) (contains nat_eq self.new.confirmed) self.new.again) }
     {
         let alloc = self.alloc;
         let role = self.role;
@@ -377,7 +377,7 @@ impl Inflight {
         self.again = resent_still(self.again, &self.entries, self.opened, note);
         self.take_connection(at, fate, note);
         take_confirmed(&mut self.confirmed, alloc, &self.entries, fate, note)?;
-        take_entries(&mut self.entries, alloc, bounded, at, fate, note)?;
+        take_entries(&mut self.entries, bounded, at, fate, note)?;
         self.take_waiting(fate, note)?;
         Ok(())
     }
@@ -413,9 +413,10 @@ impl Fated for Inflight {
         }
     }
 
-    // The map and all seven sets of the struct.
+    // The table and all seven sets of the struct.
     fn weight(&self) -> usize {
-        map_size(&self.entries)
+        self.entries
+            .len()
             .saturating_add(set_size(&self.confirmed))
             .saturating_add(set_size(&self.stray))
             .saturating_add(set_size(&self.unanswered))

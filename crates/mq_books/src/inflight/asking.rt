@@ -1,7 +1,7 @@
 //! How often the statements on identifiers are put to the test.
 ghost use Rattle.std.specs.Prelude.{◌≡◌, ◌<◌, Bool, true, false, [], ◌∷◌, Some, None, List, Option, nat_eq, is_some};
 ghost use Rattle.std.specs.List.{list_any};
-ghost use Rattle.indexmap.specs.IndexMap.{get, values};
+ghost use Rattle.mq_rules.specs.KeptOrder.{value_under, values_of};
 ghost use Rattle.mq_log.specs.declared.place.Place3.{Place3 as ThePlace};
 ghost use Rattle.mq_rules.specs.declared.role.Tested.{Tested as TheTested};
 ghost use Rattle.mq_rules.specs.declared.fate.Fate.{Fate as TheFate};
@@ -20,19 +20,22 @@ ghost use Rattle.mq_books.specs.InflightPlaces.{CountsInflight};
 ghost use Rattle.mq_books.specs.Moving.{Moves};
 
 use super::Inflight;
-use super::broken::is_taken;
+use super::broken::{is_held, is_taken};
 use super::entry::Entry;
 use super::moving::opened_by;
 use super::resends::passed_since;
 use super::resuming::{ResumedPlaces, count_moved, count_resumed};
+use super::values::values_in;
 use crate::counting::{Asks, pick};
 use crate::fated::Fated;
 use crate::known::excuse;
 use crate::selective::Discerning;
 use crate::taken::Taken;
-use indexmap::{IndexMap, IndexSet};
+use indexmap::IndexSet;
 use mq_log::{Direction, Place3};
-use mq_rules::{Bare, BareFields, Fate, Faults, Memory, NoteRef, Noted, Rule, places_after};
+use mq_rules::{
+    Bare, BareFields, CountedByIdentifier, Fate, Faults, Memory, NoteRef, Noted, Rule, places_after,
+};
 
 /// How often S01 to S05 were put to the test.
 #[derive(Drop)]
@@ -56,22 +59,32 @@ fn has_any(identifiers: &IndexSet<u16>) -> bool
     !identifiers.is_empty()
 }
 
-// Whether something is open that can't have been discarded. Mostly the first is.
-fn is_any_taken(entries: &IndexMap<u16, Entry>, since: u32) -> bool
-    ensures { result ≡ list_any (λ o. taken since o) (values entries.now) }
+// Whether something is open that can't have been discarded. Identifiers mostly go round, so what
+// comes before this one is looked at first: the search from the least one can be long.
+fn is_any_taken(entries: &CountedByIdentifier<Entry>, since: u32, identifier: u16) -> bool
+    ensures { result ≡ list_any (λ o. taken since o) (values_of (value_under entries.now)) }
 {
-    entries.values().any(|entry| is_taken(entry, since))
+    if is_held(entries, since, identifier.wrapping_sub(1)) {
+        return true;
+    }
+    for entry in values_in(entries) {
+        if is_taken(&entry, since) {
+            return true;
+        }
+    }
+    false
 }
 
 impl Inflight {
-    // Whether something is in use on a connection of this fate.
-    fn has_any_used(&self, fate: Fate) -> bool
+    // Whether something is in use on a connection of this fate, where this identifier is taken.
+    fn has_any_used(&self, fate: Fate, identifier: u16) -> bool
         ensures { result ≡ tried.any_used self.now fate }
     {
         (has_any(&self.subscribing) || has_any(&self.unsubscribing))
             || is_any_taken(
                 &self.entries,
                 passed_since(fate, self.bounds, self.opened, self.bounded),
+                identifier,
             )
     }
 
@@ -81,7 +94,10 @@ impl Inflight {
         ensures { result ≡ tried.tries_taking self.now fate known (note_in event.entry) }
     {
         let taking = fate.accepts()
-            && (event.taken_identifier(self.role).is_some() && self.has_any_used(fate));
+            && match event.taken_identifier(self.role) {
+                Some(i) => self.has_any_used(fate, i),
+                None => false,
+            };
         excuse(fate.is_unasked(), known, taking)
     }
 
@@ -97,9 +113,9 @@ impl Inflight {
 
     // Whether an identifier is open by a PUBLISH of QoS 2 whose PUBREL was sent since.
     fn is_released(&self, i: u16) -> bool
-        ensures { result ≡ past_pubrel (get nat_eq self.now.entries) i }
+        ensures { result ≡ past_pubrel (value_under self.now.entries) i }
     {
-        match self.entries.get(&i) {
+        match self.entries.get(i) {
             Some(entry) => entry.exactly_once && entry.released,
             None => false,
         }
@@ -120,10 +136,10 @@ impl Inflight {
     // Whether what is sent again is open.
     #[inline(always)]
     fn is_open_again(&self, event: NoteRef<'_>) -> bool
-        ensures { result ≡ is_some_and (λ i. is_some (get nat_eq self.now.entries i)) (resend_of (note_in event.entry)) }
+        ensures { result ≡ is_some_and (λ i. is_some (value_under self.now.entries i)) (resend_of (note_in event.entry)) }
     {
         match event.resend() {
-            Some(i) => self.entries.contains_key(&i),
+            Some(i) => self.entries.contains(i),
             None => false,
         }
     }
@@ -280,7 +296,7 @@ impl Inflight {
     fn count_new(&self, places: &mut InflightPlaces, at: Place3, fate: Fate, identifier: u16)
         ensures { accepts fate ≡ true → (n : TheNote) (exactly_once : Bool) (tested : TheTested) (past : List TheSeen) → Moves n (Some identifier) exactly_once None None None → IsUnder tested fate at.position (seen at n) past → IsUsing self.now tested (fate_before tested fate (seen at n) past) past → CountsInflight places.old tested (fate_before tested fate (seen at n) past) past → CountsInflight places.new tested (Some fate) (seen at n ∷ past) }
     {
-        let taking = self.has_any_used(fate);
+        let taking = self.has_any_used(fate, identifier);
         places.at_once.taking = places_after(taking, places.at_once.taking, at.position);
         count_moved(self, &mut places.resumed, true, identifier);
     }

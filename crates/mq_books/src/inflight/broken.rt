@@ -1,6 +1,6 @@
 //! Which statements on Packet Identifiers an event breaks (MQTT 5.0, sections 2.2.1, 4.3 and 4.4).
 ghost use Rattle.std.specs.Prelude.{◌≡◌, ◌&&◌, ◌||◌, not, nat_eq, nat_lt, OnOk, OnErr, is_some};
-ghost use Rattle.indexmap.specs.IndexMap.{get};
+ghost use Rattle.mq_rules.specs.KeptOrder.{value_under};
 ghost use Rattle.indexmap.specs.IndexSet.{contains};
 ghost use Rattle.mq_rules.specs.Words.{is_some_and};
 ghost use Rattle.mq_rules.specs.Notes.{resend_of};
@@ -13,9 +13,9 @@ ghost use Rattle.mq_books.specs.Using.{in_delivery, is_taken as taken, takes_bus
 use super::earlier::Earlier;
 use super::entry::Entry;
 use crate::known::{excuse, judge_by};
-use indexmap::{IndexMap, IndexSet};
+use indexmap::IndexSet;
 use mq_log::Place3;
-use mq_rules::{Fate, Faults, Memory, Note, Role, Rule};
+use mq_rules::{CountedByIdentifier, Fate, Faults, Memory, Note, Role, Rule};
 
 /// Which statements an event breaks.
 #[derive(Drop)]
@@ -54,25 +54,25 @@ pub fn is_taken(entry: &Entry, since: u32) -> bool
     entry.confirmed || !(entry.passed || entry.sent < since)
 }
 
-// Whether an identifier is open, and what is open is in use.
-fn is_held(entries: &IndexMap<u16, Entry>, since: u32, i: u16) -> bool
-    ensures { result ≡ is_some_and (taken since) (get nat_eq entries.now i) }
+/// Whether an identifier is open, and what is open is in use.
+pub fn is_held(entries: &CountedByIdentifier<Entry>, since: u32, i: u16) -> bool
+    ensures { result ≡ is_some_and (taken since) (value_under entries.now i) }
 {
-    match entries.get(&i) {
-        Some(entry) => is_taken(entry, since),
+    match entries.get(i) {
+        Some(entry) => is_taken(&entry, since),
         None => false,
     }
 }
 
 // Whether an identifier is in use.
 fn is_busy(
-    entries: &IndexMap<u16, Entry>,
+    entries: &CountedByIdentifier<Entry>,
     since: u32,
     subscribing: &IndexSet<u16>,
     unsubscribing: &IndexSet<u16>,
     i: u16,
 ) -> bool
-    ensures { result ≡ (is_some_and (taken since) (get nat_eq entries.now i) || (contains nat_eq subscribing.now i || contains nat_eq unsubscribing.now i)) }
+    ensures { result ≡ (is_some_and (taken since) (value_under entries.now i) || (contains nat_eq subscribing.now i || contains nat_eq unsubscribing.now i)) }
 {
     is_held(entries, since, i) || (subscribing.contains(&i) || unsubscribing.contains(&i))
 }
@@ -83,12 +83,12 @@ pub fn takes(
     fate: Fate,
     role: Role,
     note: &Note,
-    entries: &IndexMap<u16, Entry>,
+    entries: &CountedByIdentifier<Entry>,
     since: u32,
     subscribing: &IndexSet<u16>,
     unsubscribing: &IndexSet<u16>,
 ) -> bool
-    ensures { result ≡ takes_busy fate role note.now since (get nat_eq entries.now) (contains nat_eq subscribing.now) (contains nat_eq unsubscribing.now) }
+    ensures { result ≡ takes_busy fate role note.now since (value_under entries.now) (contains nat_eq subscribing.now) (contains nat_eq unsubscribing.now) }
 {
     fate.accepts()
         && match note.taken_identifier(role) {
@@ -102,26 +102,30 @@ pub fn takes(
 pub fn is_unopened(
     fate: Fate,
     note: &Note,
-    entries: &IndexMap<u16, Entry>,
+    entries: &CountedByIdentifier<Entry>,
     void: &IndexSet<u16>,
     earlier: &Earlier,
 ) -> bool
-    ensures { result ≡ (accepts fate && is_some_and (unopened (get nat_eq entries.now) (contains nat_eq void.now) (may_resend earlier.now fate)) (resend_of note.now)) }
+    ensures { result ≡ (accepts fate && is_some_and (unopened (value_under entries.now) (contains nat_eq void.now) (may_resend earlier.now fate)) (resend_of note.now)) }
 {
     fate.accepts()
         && match note.resend() {
-            Some(i) => !(entries.contains_key(&i)
-                || (void.contains(&i) || earlier.may_resend(fate, i))),
+            Some(i) => !(entries.contains(i) || (void.contains(&i) || earlier.may_resend(fate, i))),
             None => false,
         }
 }
 
 // Whether a PUBLISH was sent under an identifier on the connection, and not acknowledged since.
-fn is_delivering(entries: &IndexMap<u16, Entry>, opened: u32, stray: &IndexSet<u16>, i: u16) -> bool
-    ensures { result ≡ in_delivery opened (get nat_eq entries.now) (contains nat_eq stray.now) i }
+fn is_delivering(
+    entries: &CountedByIdentifier<Entry>,
+    opened: u32,
+    stray: &IndexSet<u16>,
+    i: u16,
+) -> bool
+    ensures { result ≡ in_delivery opened (value_under entries.now) (contains nat_eq stray.now) i }
 {
     stray.contains(&i)
-        || match entries.get(&i) {
+        || match entries.get(i) {
             Some(entry) => opened <= entry.published,
             None => false,
         }
@@ -132,11 +136,11 @@ fn is_delivering(entries: &IndexMap<u16, Entry>, opened: u32, stray: &IndexSet<u
 pub fn is_twice(
     fate: Fate,
     note: &Note,
-    entries: &IndexMap<u16, Entry>,
+    entries: &CountedByIdentifier<Entry>,
     opened: u32,
     stray: &IndexSet<u16>,
 ) -> bool
-    ensures { result ≡ (accepts fate && is_some_and (in_delivery opened (get nat_eq entries.now) (contains nat_eq stray.now)) (resend_of note.now)) }
+    ensures { result ≡ (accepts fate && is_some_and (in_delivery opened (value_under entries.now) (contains nat_eq stray.now)) (resend_of note.now)) }
 {
     fate.accepts()
         && match note.resend() {
@@ -146,12 +150,12 @@ pub fn is_twice(
 }
 
 /// Whether an event sends a PUBLISH of QoS 2 again after its PUBREL.
-pub fn is_past_pubrel(fate: Fate, note: &Note, entries: &IndexMap<u16, Entry>) -> bool
-    ensures { result ≡ (accepts fate && is_some_and (past_pubrel (get nat_eq entries.now)) (resend_of note.now)) }
+pub fn is_past_pubrel(fate: Fate, note: &Note, entries: &CountedByIdentifier<Entry>) -> bool
+    ensures { result ≡ (accepts fate && is_some_and (past_pubrel (value_under entries.now)) (resend_of note.now)) }
 {
     fate.accepts()
         && match note.resend() {
-            Some(i) => match entries.get(&i) {
+            Some(i) => match entries.get(i) {
                 Some(entry) => entry.exactly_once && entry.released,
                 None => false,
             },
@@ -164,15 +168,15 @@ pub fn is_out_of_order(
     bound: bool,
     fate: Fate,
     note: &Note,
-    entries: &IndexMap<u16, Entry>,
+    entries: &CountedByIdentifier<Entry>,
     resent: u32,
 ) -> bool
-    ensures { result ≡ (bound && (accepts fate && is_some_and (out_of_order (get nat_eq entries.now) resent) (resend_of note.now))) }
+    ensures { result ≡ (bound && (accepts fate && is_some_and (out_of_order (value_under entries.now) resent) (resend_of note.now))) }
 {
     bound
         && (fate.accepts()
             && match note.resend() {
-                Some(i) => match entries.get(&i) {
+                Some(i) => match entries.get(i) {
                     Some(entry) => entry.place.position < resent,
                     None => false,
                 },
@@ -181,11 +185,11 @@ pub fn is_out_of_order(
 }
 
 // The position of the opener of an identifier that is sent again, or 0.
-fn resent_now(note: &Note, entries: &IndexMap<u16, Entry>) -> u32
-    ensures { result ≡ resent_by (resend_of note.now) (get nat_eq entries.now) }
+fn resent_now(note: &Note, entries: &CountedByIdentifier<Entry>) -> u32
+    ensures { result ≡ resent_by (resend_of note.now) (value_under entries.now) }
 {
     match note.resend() {
-        Some(i) => match entries.get(&i) {
+        Some(i) => match entries.get(i) {
             Some(entry) => entry.place.position,
             None => 0,
         },
@@ -194,8 +198,8 @@ fn resent_now(note: &Note, entries: &IndexMap<u16, Entry>) -> u32
 }
 
 /// The greatest position of an opener that was sent again on the connection, after an event.
-pub fn resent_after(resent: u32, note: &Note, entries: &IndexMap<u16, Entry>) -> u32
-    ensures { result ≡ resent_next note.now (get nat_eq entries.now) resent }
+pub fn resent_after(resent: u32, note: &Note, entries: &CountedByIdentifier<Entry>) -> u32
+    ensures { result ≡ resent_next note.now (value_under entries.now) resent }
 {
     if note.is_open() {
         return 0;

@@ -1,16 +1,14 @@
 //! What is kept of a Packet Identifier that is open in a session (MQTT 5.0, section 2.2.1).
 ghost use Rattle.std.specs.Prelude.{◌≡◌, ℕ, OnOk, IfOk, nat_eq};
 ghost use Rattle.std.specs.Option.{option_and_then};
-ghost use Rattle.indexmap.specs.IndexMap.{get, IsUnique};
+ghost use Rattle.mq_rules.specs.KeptOrder.{value_under};
 ghost use Rattle.mq_rules.specs.Words.{is_id, is_some_and};
 ghost use Rattle.mq_rules.specs.Notes.{is_exactly_once, sent_publish};
 ghost use Rattle.mq_books.specs.Opened.{sends_retained, sent_if, released_if, confirmed_if, closed_if, opened_if, entry_after, entry_next};
 
-use indexmap::IndexMap;
 use mq_log::Place3;
 use mq_packet::Qos;
-use mq_rules::{Fate, Memory, Note};
-use std::alloc::Global;
+use mq_rules::{CountedByIdentifier, Fate, Memory, Note};
 
 /// What is kept of an identifier that is open.
 #[derive(Clone, Copy)]
@@ -56,15 +54,23 @@ fn is_sent_retained(note: &Note) -> bool
 
 // Takes in that a PUBLISH is sent under an identifier, where connections before this one that
 // passed over began up to `bounded`.
-fn send(entries: &mut IndexMap<u16, Entry>, identifier: Option<u16>, bounded: u32, position: u32)
-    ensures entries { (i : ℕ) → get nat_eq entries.new i ≡ sent_if (is_id i identifier) bounded position (get nat_eq entries.old i) }
-    ensures unique { IsUnique nat_eq entries.old → IsUnique nat_eq entries.new }
+fn send(
+    entries: &mut CountedByIdentifier<Entry>,
+    identifier: Option<u16>,
+    bounded: u32,
+    position: u32,
+)
+    ensures entries { (i : ℕ) → value_under entries.new i ≡ sent_if (is_id i identifier) bounded position (value_under entries.old i) }
 {
     if let Some(i) = identifier {
-        if let Some(entry) = entries.get_mut(&i) {
-            entry.passed = entry.sent < bounded || entry.passed;
-            entry.sent = position;
-            entry.published = position;
+        if let Some(entry) = entries.get(i) {
+            let sent = Entry {
+                passed: entry.sent < bounded || entry.passed,
+                sent: position,
+                published: position,
+                ..entry
+            };
+            entries.replace(i, sent);
         }
     }
 }
@@ -73,59 +79,63 @@ fn send(entries: &mut IndexMap<u16, Entry>, identifier: Option<u16>, bounded: u3
 /// passed over began up to `bounded`.
 #[inline(always)]
 pub fn release(
-    entries: &mut IndexMap<u16, Entry>,
+    entries: &mut CountedByIdentifier<Entry>,
     identifier: Option<u16>,
     bounded: u32,
     position: u32,
 )
-    ensures entries { (i : ℕ) → get nat_eq entries.new i ≡ released_if (is_id i identifier) bounded position (get nat_eq entries.old i) }
-    ensures unique { IsUnique nat_eq entries.old → IsUnique nat_eq entries.new }
+    ensures entries { (i : ℕ) → value_under entries.new i ≡ released_if (is_id i identifier) bounded position (value_under entries.old i) }
 {
     if let Some(i) = identifier {
-        if let Some(entry) = entries.get_mut(&i) {
-            entry.released = true;
-            entry.passed = entry.sent < bounded || entry.passed;
-            entry.sent = position;
+        if let Some(entry) = entries.get(i) {
+            let released = Entry {
+                released: true,
+                passed: entry.sent < bounded || entry.passed,
+                sent: position,
+                ..entry
+            };
+            entries.replace(i, released);
         }
     }
 }
 
 /// Takes in that a PUBREC below 0x80 is received under an identifier.
 #[inline(always)]
-pub fn confirm(entries: &mut IndexMap<u16, Entry>, identifier: Option<u16>)
-    ensures entries { (i : ℕ) → get nat_eq entries.new i ≡ confirmed_if (is_id i identifier) (get nat_eq entries.old i) }
-    ensures unique { IsUnique nat_eq entries.old → IsUnique nat_eq entries.new }
+pub fn confirm(entries: &mut CountedByIdentifier<Entry>, identifier: Option<u16>)
+    ensures entries { (i : ℕ) → value_under entries.new i ≡ confirmed_if (is_id i identifier) (value_under entries.old i) }
 {
     if let Some(i) = identifier {
-        if let Some(entry) = entries.get_mut(&i) {
-            entry.confirmed = true;
+        if let Some(entry) = entries.get(i) {
+            let confirmed = Entry {
+                confirmed: true,
+                ..entry
+            };
+            entries.replace(i, confirmed);
         }
     }
 }
 
 /// Takes in that an identifier is set free.
 #[inline(always)]
-pub fn close(entries: &mut IndexMap<u16, Entry>, identifier: Option<u16>)
-    ensures entries { (i : ℕ) → get nat_eq entries.new i ≡ closed_if (is_id i identifier) (get nat_eq entries.old i) }
-    ensures unique { IsUnique nat_eq entries.old → IsUnique nat_eq entries.new }
+pub fn close(entries: &mut CountedByIdentifier<Entry>, identifier: Option<u16>)
+    ensures entries { (i : ℕ) → value_under entries.new i ≡ closed_if (is_id i identifier) (value_under entries.old i) }
 {
     if let Some(i) = identifier {
-        entries.swap_remove(&i);
+        entries.remove(i);
     }
 }
 
 /// Takes in that an identifier is opened, and returns what was kept of it before.
 #[inline(always)]
 pub fn open_new(
-    entries: &mut IndexMap<u16, Entry>,
+    entries: &mut CountedByIdentifier<Entry>,
     identifier: Option<u16>,
     exactly_once: bool,
     retained: bool,
     at: Place3,
 ) -> Result<Option<Entry>, Memory>
-    ensures entries { OnOk result ((i : ℕ) → get nat_eq entries.new i ≡ opened_if (is_id i identifier) exactly_once retained at (get nat_eq entries.old i)) }
-    ensures unique { IsUnique nat_eq entries.old → OnOk result (IsUnique nat_eq entries.new) }
-    ensures old { IfOk result (λ old. old ≡ option_and_then (get nat_eq entries.old) identifier) }
+    ensures entries { OnOk result ((i : ℕ) → value_under entries.new i ≡ opened_if (is_id i identifier) exactly_once retained at (value_under entries.old i)) }
+    ensures old { IfOk result (λ old. old ≡ option_and_then (value_under entries.old) identifier) }
 {
     if let Some(i) = identifier {
         let entry = Entry {
@@ -138,20 +148,21 @@ pub fn open_new(
             sent: at.position,
             published: at.position,
         };
-        return Ok(entries.insert(i, entry)?);
+        let old = entries.get(i);
+        entries.insert(i, entry)?;
+        return Ok(old);
     }
     Ok(None)
 }
 
 // Takes in an event of the session.
 fn take_in(
-    entries: &mut IndexMap<u16, Entry>,
+    entries: &mut CountedByIdentifier<Entry>,
     bounded: u32,
     at: Place3,
     note: &Note,
 ) -> Result<(), Memory>
-    ensures entries { OnOk result ((i : ℕ) → get nat_eq entries.new i ≡ entry_after bounded i note.now at (get nat_eq entries.old i)) }
-    ensures unique { IsUnique nat_eq entries.old → OnOk result (IsUnique nat_eq entries.new) }
+    ensures entries { OnOk result ((i : ℕ) → value_under entries.new i ≡ entry_after bounded i note.now at (value_under entries.old i)) }
 {
     send(entries, note.delivery(), bounded, at.position);
     release(entries, note.sent_pubrel(), bounded, at.position);
@@ -170,20 +181,17 @@ fn take_in(
 /// Takes in an event of a connection that has this fate, where connections before it that passed
 /// over began up to `bounded`.
 pub fn take_entries(
-    entries: &mut IndexMap<u16, Entry>,
-    alloc: Global,
+    entries: &mut CountedByIdentifier<Entry>,
     bounded: u32,
     at: Place3,
     fate: Fate,
     note: &Note,
 ) -> Result<(), Memory>
-    ensures entries { OnOk result ((i : ℕ) → get nat_eq entries.new i ≡ entry_next fate note.now bounded at i (get nat_eq entries.old i)) }
-    ensures unique { IsUnique nat_eq entries.old → OnOk result (IsUnique nat_eq entries.new) }
+    ensures entries { OnOk result ((i : ℕ) → value_under entries.new i ≡ entry_next fate note.now bounded at i (value_under entries.old i)) }
 {
     if note.is_open() {
         if fate.begins() {
-            // A large map that is cleared costs its size each time.
-            *entries = IndexMap::new(alloc);
+            entries.clear();
         }
         return Ok(());
     }

@@ -2,7 +2,7 @@
 //! PUBLISH, and what acknowledges one.
 ghost use Rattle.std.specs.Prelude.{◌≡◌, ◌∷◌, ◌+◌, ◌<◌, ◌&&◌, ◌||◌, ℕ, List, Option, true, false, not, OnOk, OnErr, IfOk, Some, None, is_some, length, nat_eq, cond};
 ghost use Rattle.std.specs.Option.{option_or};
-ghost use Rattle.indexmap.specs.IndexMap.{get, IsUnique};
+ghost use Rattle.mq_rules.specs.KeptOrder.{value_under};
 ghost use Rattle.indexmap.specs.IndexSet.{contains};
 ghost use Rattle.mq_rules.specs.declared.role.Tested.{Tested};
 ghost use Rattle.mq_rules.specs.declared.fate.Fate.{Fate as TheFate};
@@ -27,10 +27,10 @@ use crate::fated::Fated;
 use crate::known::judge_by;
 use crate::messages::is_acknowledged as acknowledges;
 use crate::quota::{flown_by, may_count};
-use indexmap::{IndexMap, IndexSet};
+use indexmap::IndexSet;
 use mq_log::{Direction, Place3};
 use mq_packet::Qos;
-use mq_rules::{Bare, BareFields, Fate, Faults, Memory, Rule};
+use mq_rules::{Bare, BareFields, CountedByIdentifier, Fate, Faults, Memory, Rule};
 
 /// The identifier that a PUBLISH opens: its QoS is above 0, and DUP is 0.
 #[inline(always)]
@@ -54,11 +54,11 @@ fn is_exactly_once(qos: Qos) -> bool
 // Whether a PUBREC below 0x80 comes for an identifier that is open and wasn't sent again on the
 // connection.
 #[inline(always)]
-fn confirms_late(entries: &IndexMap<u16, Entry>, opened: u32, pubrec: Option<u16>) -> bool
-    ensures { result ≡ untouched opened (get nat_eq entries.now) pubrec }
+fn confirms_late(entries: &CountedByIdentifier<Entry>, opened: u32, pubrec: Option<u16>) -> bool
+    ensures { result ≡ untouched opened (value_under entries.now) pubrec }
 {
     match pubrec {
-        Some(i) => match entries.get(&i) {
+        Some(i) => match entries.get(i) {
             Some(entry) => entry.sent < opened,
             None => false,
         },
@@ -158,7 +158,7 @@ impl Inflight {
         pubrec: Option<u16>,
     ) -> Result<Option<Entry>, Memory>
         ensures moved { OnOk result (IsMoved at opener exactly_once closer pubrel pubrec self.old self.new) }
-        ensures old { (i : ℕ) → opener ≡ Some i → closer ≡ None → pubrel ≡ None → pubrec ≡ None → IfOk result (λ old. old ≡ get nat_eq self.old.entries i) }
+        ensures old { (i : ℕ) → opener ≡ Some i → closer ≡ None → pubrel ≡ None → pubrec ≡ None → IfOk result (λ old. old ≡ value_under self.old.entries i) }
     {
         let late = confirms_late(&self.entries, self.opened, pubrec);
         self.again = Resent {

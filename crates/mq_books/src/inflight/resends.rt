@@ -1,7 +1,7 @@
 //! What a resumed session owes (MQTT 5.0, section 4.4).
 ghost use Rattle.std.specs.Prelude.{◌≡◌, ◌==◌, ◌&&◌, ◌||◌, ℕ, Bool, true, false, OnOk, OnErr, IfOk, cond, not, nat_eq, nat_lt, is_some};
 ghost use Rattle.std.specs.List.{list_any};
-ghost use Rattle.indexmap.specs.IndexMap.{get, values};
+ghost use Rattle.mq_rules.specs.KeptOrder.{value_under, values_of};
 ghost use Rattle.indexmap.specs.IndexSet.{contains, index_set_len};
 ghost use Rattle.mq_rules.specs.Words.{is_some_and, is_id};
 ghost use Rattle.mq_rules.specs.Notes.{note_in, is_open as opens};
@@ -12,9 +12,12 @@ ghost use Rattle.mq_books.specs.Resending.{by_itself, bounded_next, entire, due_
 
 use super::Inflight;
 use super::entry::Entry;
+use super::values::values_in;
 use crate::quota::RECEIVE_MAXIMUM;
-use indexmap::{IndexMap, IndexSet};
-use mq_rules::{Fate, Fault, FaultKey, Faults, Memory, Note, NoteRef, Role, Rule};
+use indexmap::IndexSet;
+use mq_rules::{
+    CountedByIdentifier, Fate, Fault, FaultKey, Faults, Memory, Note, NoteRef, Role, Rule,
+};
 use std::alloc::Global;
 
 /// What the peer announced of what may be sent.
@@ -215,11 +218,11 @@ pub struct Resent {
 /// what wasn't sent again.
 pub fn resent_still(
     resent: Resent,
-    entries: &IndexMap<u16, Entry>,
+    entries: &CountedByIdentifier<Entry>,
     opened: u32,
     note: &Note,
 ) -> Resent
-    ensures { result ≡ record { all = not (opens note.now) && (resent.all && not (confirms_untouched note.now opened (get nat_eq entries.now))); confirmed = not (opens note.now) && (resent.confirmed && not (confirms_untouched note.now opened (get nat_eq entries.now))) } }
+    ensures { result ≡ record { all = not (opens note.now) && (resent.all && not (confirms_untouched note.now opened (value_under entries.now))); confirmed = not (opens note.now) && (resent.confirmed && not (confirms_untouched note.now opened (value_under entries.now))) } }
 {
     let late = confirms(entries, opened, note);
     Resent {
@@ -230,11 +233,11 @@ pub fn resent_still(
 
 // Whether a PUBREC below 0x80 is received for an identifier that wasn't sent again on the
 // connection.
-fn confirms(entries: &IndexMap<u16, Entry>, opened: u32, note: &Note) -> bool
-    ensures { result ≡ confirms_untouched note.now opened (get nat_eq entries.now) }
+fn confirms(entries: &CountedByIdentifier<Entry>, opened: u32, note: &Note) -> bool
+    ensures { result ≡ confirms_untouched note.now opened (value_under entries.now) }
 {
     match note.received_accepting_pubrec() {
-        Some(i) => match entries.get(&i) {
+        Some(i) => match entries.get(i) {
             Some(entry) => entry.sent < opened,
             None => false,
         },
@@ -247,11 +250,11 @@ fn confirms(entries: &IndexMap<u16, Entry>, opened: u32, note: &Note) -> bool
 pub fn take_confirmed(
     confirmed: &mut IndexSet<u16>,
     alloc: Global,
-    entries: &IndexMap<u16, Entry>,
+    entries: &CountedByIdentifier<Entry>,
     fate: Fate,
     note: &Note,
 ) -> Result<(), Memory>
-    ensures { OnOk result ((i : ℕ) → contains nat_eq confirmed.new i ≡ confirmed_next fate note.now (get nat_eq entries.now) i (contains nat_eq confirmed.old i)) }
+    ensures { OnOk result ((i : ℕ) → contains nat_eq confirmed.new i ≡ confirmed_next fate note.now (value_under entries.now) i (contains nat_eq confirmed.old i)) }
 {
     if note.is_open() {
         if fate.begins() {
@@ -276,14 +279,14 @@ pub fn take_confirmed(
 #[inline(always)]
 pub fn keep_confirmed(
     confirmed: &mut IndexSet<u16>,
-    entries: &IndexMap<u16, Entry>,
+    entries: &CountedByIdentifier<Entry>,
     begun: Option<u16>,
     ended: Option<u16>,
 ) -> Result<(), Memory>
-    ensures { OnOk result ((i : ℕ) → contains nat_eq confirmed.new i ≡ (not (is_id i ended) && (contains nat_eq confirmed.old i || (is_id i begun && is_some (get nat_eq entries.now i))))) }
+    ensures { OnOk result ((i : ℕ) → contains nat_eq confirmed.new i ≡ (not (is_id i ended) && (contains nat_eq confirmed.old i || (is_id i begun && is_some (value_under entries.now i))))) }
 {
     if let Some(i) = begun {
-        if entries.contains_key(&i) {
+        if entries.contains(i) {
             confirmed.insert(i)?;
         }
     }
@@ -297,25 +300,34 @@ pub fn keep_confirmed(
 }
 
 // Whether some identifier that is open is due.
-fn any_due(entries: &IndexMap<u16, Entry>, opened: u32, excused: Excused) -> bool
-    ensures { result ≡ list_any (λ o. resending.is_due opened excused o) (values entries.now) }
+fn any_due(entries: &CountedByIdentifier<Entry>, opened: u32, excused: Excused) -> bool
+    ensures { result ≡ list_any (λ o. resending.is_due opened excused o) (values_of (value_under entries.now)) }
 {
-    entries.values().any(|entry| is_due(opened, excused, entry))
+    for entry in values_in(entries) {
+        if is_due(opened, excused, &entry) {
+            return true;
+        }
+    }
+    false
 }
 
 // Whether an identifier is open and due, excused or not.
-fn is_due_under(entries: &IndexMap<u16, Entry>, opened: u32, i: u16) -> bool
-    ensures { result ≡ is_some_and (resending.is_due opened entire) (get nat_eq entries.now i) }
+fn is_due_under(entries: &CountedByIdentifier<Entry>, opened: u32, i: u16) -> bool
+    ensures { result ≡ is_some_and (resending.is_due opened entire) (value_under entries.now i) }
 {
-    match entries.get(&i) {
-        Some(entry) => is_due(opened, ENTIRE, entry),
+    match entries.get(i) {
+        Some(entry) => is_due(opened, ENTIRE, &entry),
         None => false,
     }
 }
 
 // Whether some of these identifiers is.
-fn any_due_under(confirmed: &IndexSet<u16>, entries: &IndexMap<u16, Entry>, opened: u32) -> bool
-    ensures { result ≡ list_any (λ i. is_some_and (resending.is_due opened entire) (get nat_eq entries.now i)) confirmed.now.keys }
+fn any_due_under(
+    confirmed: &IndexSet<u16>,
+    entries: &CountedByIdentifier<Entry>,
+    opened: u32,
+) -> bool
+    ensures { result ≡ list_any (λ i. is_some_and (resending.is_due opened entire) (value_under entries.now i)) confirmed.now.keys }
 {
     confirmed.iter().any(|i| is_due_under(entries, opened, *i))
 }
@@ -323,35 +335,35 @@ fn any_due_under(confirmed: &IndexSet<u16>, entries: &IndexMap<u16, Entry>, open
 // Adds the faults of what is due.
 #[tactic(auto, using(crate::proofs::PlacesLaws::keeps_next, crate::proofs::PlacesLaws::keeps_due))]
 fn blame_due(
-    entries: &IndexMap<u16, Entry>,
+    entries: &CountedByIdentifier<Entry>,
     opened: u32,
     excused: Excused,
     decided: u32,
     faults: &mut Faults,
 ) -> Result<(), Memory>
-    ensures ok { OnOk result (faults.new ≡ blamed_due opened excused decided (values entries.now) faults.old) }
+    ensures ok { OnOk result (faults.new ≡ blamed_due opened excused decided (values_of (value_under entries.now)) faults.old) }
     ensures memory { OnErr result (Keeps faults.old faults.new) }
-    ensures partial { OnErr result (Keeps faults.new (blamed_due opened excused decided (values entries.now) faults.old)) }
+    ensures partial { OnErr result (Keeps faults.new (blamed_due opened excused decided (values_of (value_under entries.now)) faults.old)) }
 {
-    for entry in entries.values() {
-        blame_one(entry, opened, excused, decided, faults)?;
+    for entry in values_in(entries) {
+        blame_one(&entry, opened, excused, decided, faults)?;
     }
     Ok(())
 }
 
 // Adds the fault of an identifier, if it is due, excused or not.
 fn blame_under(
-    entries: &IndexMap<u16, Entry>,
+    entries: &CountedByIdentifier<Entry>,
     opened: u32,
     i: u16,
     decided: u32,
     faults: &mut Faults,
 ) -> Result<(), Memory>
-    ensures ok { OnOk result (faults.new ≡ told_under (get nat_eq entries.now i) opened decided faults.old) }
+    ensures ok { OnOk result (faults.new ≡ told_under (value_under entries.now i) opened decided faults.old) }
     ensures unchanged { OnErr result (faults.new ≡ faults.old) }
 {
-    match entries.get(&i) {
-        Some(entry) => blame_one(entry, opened, ENTIRE, decided, faults),
+    match entries.get(i) {
+        Some(entry) => blame_one(&entry, opened, ENTIRE, decided, faults),
         None => Ok(()),
     }
 }
@@ -360,14 +372,14 @@ fn blame_under(
 #[tactic(auto, using(crate::proofs::PlacesLaws::keeps_under_next, crate::proofs::PlacesLaws::keeps_under))]
 fn blame_confirmed(
     confirmed: &IndexSet<u16>,
-    entries: &IndexMap<u16, Entry>,
+    entries: &CountedByIdentifier<Entry>,
     opened: u32,
     decided: u32,
     faults: &mut Faults,
 ) -> Result<(), Memory>
-    ensures ok { OnOk result (faults.new ≡ blamed_under (get nat_eq entries.now) opened decided confirmed.now.keys faults.old) }
+    ensures ok { OnOk result (faults.new ≡ blamed_under (value_under entries.now) opened decided confirmed.now.keys faults.old) }
     ensures memory { OnErr result (Keeps faults.old faults.new) }
-    ensures partial { OnErr result (Keeps faults.new (blamed_under (get nat_eq entries.now) opened decided confirmed.now.keys faults.old)) }
+    ensures partial { OnErr result (Keeps faults.new (blamed_under (value_under entries.now) opened decided confirmed.now.keys faults.old)) }
 {
     for i in confirmed.iter() {
         blame_under(entries, opened, *i, decided, faults)?;
@@ -380,16 +392,16 @@ fn blame_confirmed(
 #[tactic(auto, using(crate::proofs::BlameLaws::keeps_same))]
 fn settle_all(
     resent: Resent,
-    entries: &IndexMap<u16, Entry>,
+    entries: &CountedByIdentifier<Entry>,
     opened: u32,
     excused: Excused,
     decided: u32,
     faults: &mut Faults,
 ) -> Result<Resent, Memory>
-    ensures ok { OnOk result (faults.new ≡ cond resent.all faults.old (blamed_due opened excused decided (values entries.now) faults.old)) }
-    ensures resent { (confirmed : ℕ → Bool) → IsResent opened excused (get nat_eq entries.now) confirmed resent → IfOk result (IsResent opened excused (get nat_eq entries.now) confirmed) }
+    ensures ok { OnOk result (faults.new ≡ cond resent.all faults.old (blamed_due opened excused decided (values_of (value_under entries.now)) faults.old)) }
+    ensures resent { (confirmed : ℕ → Bool) → IsResent opened excused (value_under entries.now) confirmed resent → IfOk result (IsResent opened excused (value_under entries.now) confirmed) }
     ensures memory { OnErr result (Keeps faults.old faults.new) }
-    ensures partial { OnErr result (Keeps faults.new (cond resent.all faults.old (blamed_due opened excused decided (values entries.now) faults.old))) }
+    ensures partial { OnErr result (Keeps faults.new (cond resent.all faults.old (blamed_due opened excused decided (values_of (value_under entries.now)) faults.old))) }
 {
     if resent.all {
         return Ok(resent);
@@ -406,16 +418,16 @@ fn settle_all(
 #[tactic(auto, using(crate::proofs::BlameLaws::keeps_same))]
 fn settle_confirmed(
     resent: Resent,
-    entries: &IndexMap<u16, Entry>,
+    entries: &CountedByIdentifier<Entry>,
     confirmed: &IndexSet<u16>,
     opened: u32,
     decided: u32,
     faults: &mut Faults,
 ) -> Result<Resent, Memory>
-    ensures ok { OnOk result (faults.new ≡ cond resent.confirmed faults.old (blamed_under (get nat_eq entries.now) opened decided confirmed.now.keys faults.old)) }
-    ensures resent { (single : TheExcused) → IsResent opened single (get nat_eq entries.now) (contains nat_eq confirmed.now) resent → IfOk result (IsResent opened single (get nat_eq entries.now) (contains nat_eq confirmed.now)) }
+    ensures ok { OnOk result (faults.new ≡ cond resent.confirmed faults.old (blamed_under (value_under entries.now) opened decided confirmed.now.keys faults.old)) }
+    ensures resent { (single : TheExcused) → IsResent opened single (value_under entries.now) (contains nat_eq confirmed.now) resent → IfOk result (IsResent opened single (value_under entries.now) (contains nat_eq confirmed.now)) }
     ensures memory { OnErr result (Keeps faults.old faults.new) }
-    ensures partial { OnErr result (Keeps faults.new (cond resent.confirmed faults.old (blamed_under (get nat_eq entries.now) opened decided confirmed.now.keys faults.old))) }
+    ensures partial { OnErr result (Keeps faults.new (cond resent.confirmed faults.old (blamed_under (value_under entries.now) opened decided confirmed.now.keys faults.old))) }
 {
     if resent.confirmed {
         return Ok(resent);
@@ -437,10 +449,10 @@ impl Inflight {
         decided: u32,
         faults: &mut Faults,
     ) -> Result<Resent, Memory>
-        ensures ok { OnOk result (faults.new ≡ told settles self.now.again excused self.now.opened decided (values self.now.entries) (get nat_eq self.now.entries) self.now.confirmed.keys faults.old) }
-        ensures resent { IsResent self.now.opened (resending.apart excused) (get nat_eq self.now.entries) (contains nat_eq self.now.confirmed) self.now.again → IfOk result (IsResent self.now.opened (resending.apart excused) (get nat_eq self.now.entries) (contains nat_eq self.now.confirmed)) }
+        ensures ok { OnOk result (faults.new ≡ told settles self.now.again excused self.now.opened decided (values_of (value_under self.now.entries)) (value_under self.now.entries) self.now.confirmed.keys faults.old) }
+        ensures resent { IsResent self.now.opened (resending.apart excused) (value_under self.now.entries) (contains nat_eq self.now.confirmed) self.now.again → IfOk result (IsResent self.now.opened (resending.apart excused) (value_under self.now.entries) (contains nat_eq self.now.confirmed)) }
         ensures memory { OnErr result (Keeps faults.old faults.new) }
-        ensures partial { OnErr result (Keeps faults.new (told settles self.now.again excused self.now.opened decided (values self.now.entries) (get nat_eq self.now.entries) self.now.confirmed.keys faults.old)) }
+        ensures partial { OnErr result (Keeps faults.new (told settles self.now.again excused self.now.opened decided (values_of (value_under self.now.entries)) (value_under self.now.entries) self.now.confirmed.keys faults.old)) }
     {
         if !settles {
             return Ok(self.again);

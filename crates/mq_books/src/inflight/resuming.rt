@@ -1,6 +1,6 @@
 //! How often it is put to the test that a resumed session's packets are sent again.
 ghost use Rattle.std.specs.Prelude.{◌≡◌, ◌<◌, ◌+◌, ◌&&◌, [], ◌∷◌, true, cond, nat_le, List, Option, Some, is_some, nat_eq};
-ghost use Rattle.indexmap.specs.IndexMap.{get};
+ghost use Rattle.mq_rules.specs.KeptOrder.{value_under};
 ghost use Rattle.mq_rules.specs.declared.role.Tested.{Tested as TheTested};
 ghost use Rattle.mq_rules.specs.declared.fate.Fate.{Fate as TheFate};
 ghost use Rattle.mq_rules.specs.declared.fate.Fate.TheVariants.{Void};
@@ -18,9 +18,8 @@ ghost use Rattle.mq_books.specs.Resumings.{CountsResumed, ended_at, moved_on, re
 use super::Inflight;
 use super::entry::Entry;
 use super::resends::settles_now;
-use indexmap::IndexMap;
 use mq_log::Place3;
-use mq_rules::{Fate, NoteRef};
+use mq_rules::{CountedByIdentifier, Fate, NoteRef};
 
 /// How often S06 was put to the test, and what is kept to count each opener once. Its numbers are
 /// changed at an event without a look at what is open.
@@ -54,11 +53,11 @@ fn moved_identifier(fate: Fate, event: NoteRef<'_>) -> Option<u16>
 }
 
 // Where what is open under an identifier was opened.
-fn opener_place(entries: &IndexMap<u16, Entry>, identifier: Option<u16>) -> Option<u32>
-    ensures { result ≡ ended_at (get nat_eq entries.now) identifier }
+fn opener_place(entries: &CountedByIdentifier<Entry>, identifier: Option<u16>) -> Option<u32>
+    ensures { result ≡ ended_at (value_under entries.now) identifier }
 {
     match identifier {
-        Some(i) => match entries.get(&i) {
+        Some(i) => match entries.get(i) {
             Some(entry) => Some(entry.place.position),
             None => None,
         },
@@ -179,8 +178,8 @@ pub fn count_resumed(
 #[inline(always)]
 pub fn count_moved(flight: &Inflight, places: &mut ResumedPlaces, opens: bool, identifier: u16)
     ensures same { places.new ≡ record places.old { fresh = places.new.fresh; opened = places.new.opened } }
-    ensures fresh { places.old.fresh < 4294967295 → places.new.fresh ≡ remaining places.old.settled opens (ended_at (get nat_eq flight.now.entries) (Some identifier)) places.old.fresh }
-    ensures opened { places.old.opened < 4294967295 → places.new.opened ≡ remaining flight.now.opened opens (ended_at (get nat_eq flight.now.entries) (Some identifier)) places.old.opened }
+    ensures fresh { places.old.fresh < 4294967295 → places.new.fresh ≡ remaining places.old.settled opens (ended_at (value_under flight.now.entries) (Some identifier)) places.old.fresh }
+    ensures opened { places.old.opened < 4294967295 → places.new.opened ≡ remaining flight.now.opened opens (ended_at (value_under flight.now.entries) (Some identifier)) places.old.opened }
 {
     let ended = opener_place(&flight.entries, Some(identifier));
     places.go_on(opens, ended, flight.opened);

@@ -1,5 +1,5 @@
-use Rattle.std.proofs.Common.{rules, ◌≡◌, nat_eq, Some, None, refl, sym, ◌∙◌}
-use Rattle.indexmap.specs.IndexMap.{get}
+use Rattle.std.proofs.Common.{rules, ◌≡◌, Some, None, refl, sym, ◌∙◌}
+use Rattle.mq_rules.specs.KeptOrder.{value_under}
 use Rattle.mq_books.proofs.inflight.Inflight.new.Goals as goal
 
 pub returns : goal.returns
@@ -7,7 +7,6 @@ returns c = record {
   same_role = refl;
   same_fate = refl;
   is_ordered = search rules;
-  distinct = search rules;
   entries_are = search rules;
   delivering_are = search rules;
   stray_are = search rules;
@@ -24,6 +23,6 @@ returns c = record {
   flying = search rules;
   bounds_are = search rules;
   bounded_is = refl;
-  passed_are = λ i o h. absurd (let none : get nat_eq c.new.result i ≡ None = search rules in let bad : None ≡ Some o = sym none ∙ h in cc);
+  passed_are = λ i o h. absurd (let none : value_under c.new.result i ≡ None = search rules in let bad : None ≡ Some o = sym none ∙ h in cc);
   resent_are = search rules;
 }

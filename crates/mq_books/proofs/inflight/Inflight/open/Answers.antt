@@ -1,5 +1,5 @@
 use Rattle.std.proofs.Common.{◌≡◌, ◌||◌, nat_eq, Some, None, refl, ap, sym, ◌∙◌}
-use Rattle.indexmap.specs.IndexMap.{get}
+use Rattle.mq_rules.specs.KeptOrder.{value_under}
 use Rattle.mq_rules.specs.declared.rule.Rule.TheVariants.{S01}
 use Rattle.mq_rules.specs.Words.{is_some_and}
 use Rattle.mq_rules.specs.Under.{seen}
@@ -15,7 +15,7 @@ returns-clause-ok c = λ accepted n tested taken past moves follows known u.
     let t = c.shift.new.self in
     let old = c.in_ok-old.old in
     let others = c.in_ok-old.ensures.moved.others in
-    let held : c.is_busy-busy.result ≡ is_some_and (is_taken (passed_since s.fate s.bounds s.opened s.bounded)) (get nat_eq s.entries c.args.i) =
+    let held : c.is_busy-busy.result ≡ is_some_and (is_taken (passed_since s.fate s.bounds s.opened s.bounded)) (value_under s.entries c.args.i) =
     c.is_busy-busy.ensures
     ∙ ap (λ f. is_some_and (is_taken (passed_since f t.bounds t.opened t.bounded)) old) others.fate
     ∙ ap (λ b. is_some_and (is_taken (passed_since s.fate b t.opened t.bounded)) old) others.bounds
@@ -24,4 +24,4 @@ returns-clause-ok c = λ accepted n tested taken past moves follows known u.
     ∙ ap (is_some_and (is_taken (passed_since s.fate s.bounds s.opened s.bounded))) (c.in_ok-old.ensures.old c.args.i refl refl refl refl) in
     moved-step tested s t taken (seen c.args.at n) past c.args.faults.now c.judge_by.new.faults (Some c.args.i) c.args.exactly_once None None None follows known u moves accepted c.in_ok-old.ensures.moved
     (c.in_ok-judge_by.ensures.ok ∙ ap (λ b. judged_by b S01 c.args.at c.args.at.position c.args.faults.now)
-    (c.either.ensures ∙ ap (λ b. b || c.is_awaited-awaited.result) held ∙ ap (λ b. is_some_and (is_taken (passed_since s.fate s.bounds s.opened s.bounded)) (get nat_eq s.entries c.args.i) || b) c.is_awaited-awaited.ensures))
+    (c.either.ensures ∙ ap (λ b. b || c.is_awaited-awaited.result) held ∙ ap (λ b. is_some_and (is_taken (passed_since s.fate s.bounds s.opened s.bounded)) (value_under s.entries c.args.i) || b) c.is_awaited-awaited.ensures))

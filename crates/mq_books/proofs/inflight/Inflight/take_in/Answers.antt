@@ -1,5 +1,5 @@
 use Rattle.std.proofs.Common.{nat_eq, cond, subst, sym, ap, ◌∙◌}
-use Rattle.indexmap.specs.IndexMap.{get, IsUnique}
+use Rattle.mq_rules.specs.KeptOrder.{value_under}
 use Rattle.indexmap.specs.IndexSet.{contains}
 use Rattle.mq_rules.specs.Notes.{is_open, is_boundary, sent_as, received_as, subscribe_in, suback_in, unsubscribe_in, unsuback_in}
 use Rattle.mq_books.specs.declared.inflight.Inflight.{Inflight}
@@ -19,22 +19,17 @@ returns-clause-fate c = ap (λ (s : Inflight). s.fate) c.in_ok-take_waiting.ensu
 pub returns-clause-ordered : goal.returns-clause-ordered
 returns-clause-ordered c = ap (λ (s : Inflight). s.ordered) c.in_ok-take_waiting.ensures.same ∙ ap (λ (s : Inflight). s.ordered) c.take_connection.ensures.state
 
-pub returns-clause-distinct : goal.returns-clause-distinct
-returns-clause-distinct c = λ unique.
-    subst (λ (s : Inflight). IsUnique nat_eq s.entries) (sym c.in_ok-take_waiting.ensures.same)
-    (c.in_ok-take_entries.ensures.unique (subst (λ (s : Inflight). IsUnique nat_eq s.entries) (sym c.take_connection.ensures.state) unique))
-
 pub returns-clause-entries : goal.returns-clause-entries
 returns-clause-entries c = λ i.
-    ap (λ (s : Inflight). get nat_eq s.entries i) c.in_ok-take_waiting.ensures.same
+    ap (λ (s : Inflight). value_under s.entries i) c.in_ok-take_waiting.ensures.same
     ∙ c.in_ok-take_entries.ensures.entries i
-    ∙ ap (λ (s : Inflight). entry_next c.args.fate c.args.note.now c.args.self.now.bounded c.args.at i (get nat_eq s.entries i)) c.take_connection.ensures.state
+    ∙ ap (λ (s : Inflight). entry_next c.args.fate c.args.note.now c.args.self.now.bounded c.args.at i (value_under s.entries i)) c.take_connection.ensures.state
 
 pub returns-clause-stray : goal.returns-clause-stray
 returns-clause-stray c = λ i.
     c.in_ok-take_waiting.ensures.stray i
-    ∙ ap (λ (s : Inflight). stray_next c.args.fate c.args.note.now (get nat_eq s.entries) i (contains nat_eq c.take_connection.new.self.stray i)) (sym c.in_ok-take_waiting.ensures.same)
-    ∙ ap (λ (s : Inflight). stray_next c.args.fate c.args.note.now (get nat_eq c.take_waiting.new.self.entries) i (contains nat_eq s.stray i)) c.take_connection.ensures.state
+    ∙ ap (λ (s : Inflight). stray_next c.args.fate c.args.note.now (value_under s.entries) i (contains nat_eq c.take_connection.new.self.stray i)) (sym c.in_ok-take_waiting.ensures.same)
+    ∙ ap (λ (s : Inflight). stray_next c.args.fate c.args.note.now (value_under c.take_waiting.new.self.entries) i (contains nat_eq s.stray i)) c.take_connection.ensures.state
 
 pub returns-clause-unanswered : goal.returns-clause-unanswered
 returns-clause-unanswered c = λ i. c.in_ok-take_waiting.ensures.unanswered i ∙ ap (λ (s : Inflight). unanswered_next c.args.fate c.args.note.now i (contains nat_eq s.unanswered i)) c.take_connection.ensures.state
@@ -83,11 +78,11 @@ returns-clause-again c = λ le within same is.
     let confirmed = c.take_confirmed.new.confirmed in
     let before = by_itself s.fate s.bounds s.opened s.bounded in
     let after = by_itself c.args.fate (bounds_next s.role n s.bounds) (cond (is_open n) c.args.at.position s.opened) (bounded_next n s.fate s.bounds s.opened s.bounded) in
-    subst (λ (x : Inflight). IsResent x.opened (by_itself x.fate x.bounds x.opened x.bounded) (get nat_eq x.entries) (contains nat_eq x.confirmed) x.again) (sym c.in_ok-take_waiting.ensures.same)
-    (subst (λ (x : Inflight). IsResent x.opened (by_itself x.fate x.bounds x.opened x.bounded) (get nat_eq entries) (contains nat_eq confirmed) x.again) (sym c.take_connection.ensures.state)
-    (subst (λ (r : Resent). IsResent (cond (is_open n) c.args.at.position s.opened) after (get nat_eq entries) (contains nat_eq confirmed) r) (sym c.resent_still-self.ensures)
-    (again-next c.args.fate n s.bounded c.args.at s.opened before after (get nat_eq s.entries) (get nat_eq entries) (contains nat_eq s.confirmed) (contains nat_eq confirmed) s.again le
+    subst (λ (x : Inflight). IsResent x.opened (by_itself x.fate x.bounds x.opened x.bounded) (value_under x.entries) (contains nat_eq x.confirmed) x.again) (sym c.in_ok-take_waiting.ensures.same)
+    (subst (λ (x : Inflight). IsResent x.opened (by_itself x.fate x.bounds x.opened x.bounded) (value_under entries) (contains nat_eq confirmed) x.again) (sym c.take_connection.ensures.state)
+    (subst (λ (r : Resent). IsResent (cond (is_open n) c.args.at.position s.opened) after (value_under entries) (contains nat_eq confirmed) r) (sym c.resent_still-self.ensures)
+    (again-next c.args.fate n s.bounded c.args.at s.opened before after (value_under s.entries) (value_under entries) (contains nat_eq s.confirmed) (contains nat_eq confirmed) s.again le
     (bounds-keep s.role n c.args.fate s.fate s.bounds s.opened s.bounded c.args.at.position within same)
-    (λ i. c.in_ok-take_entries.ensures.entries i ∙ ap (λ (x : Inflight). entry_next c.args.fate n s.bounded c.args.at i (get nat_eq x.entries i)) c.take_connection.ensures.state)
-    (λ i. c.in_ok-take_confirmed.ensures i ∙ ap (λ (x : Inflight). confirmed_next c.args.fate n (get nat_eq x.entries) i (contains nat_eq x.confirmed i)) c.take_connection.ensures.state)
+    (λ i. c.in_ok-take_entries.ensures.entries i ∙ ap (λ (x : Inflight). entry_next c.args.fate n s.bounded c.args.at i (value_under x.entries i)) c.take_connection.ensures.state)
+    (λ i. c.in_ok-take_confirmed.ensures i ∙ ap (λ (x : Inflight). confirmed_next c.args.fate n (value_under x.entries) i (contains nat_eq x.confirmed i)) c.take_connection.ensures.state)
     is)))

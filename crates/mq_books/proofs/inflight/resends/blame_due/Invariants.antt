@@ -1,5 +1,5 @@
 use Rattle.std.proofs.Common.{◌≡◌}
-use Rattle.indexmap.specs.IndexMap.{values}
+use Rattle.mq_rules.specs.KeptOrder.{value_under, values_of}
 use Rattle.mq_books.specs.Owings.{Keeps}
 use Rattle.mq_books.specs.Resending.{blamed_due}
 use Rattle.mq_books.proofs.inflight.resends.blame_due.Given as goal
@@ -7,6 +7,6 @@ use Rattle.mq_books.proofs.inflight.resends.blame_due.Given as goal
 -- with those that are left, the faults come to all
 abbrev pub invariant-loop-entry : goal.invariant-loop-entry
 invariant-loop-entry l = record {
-  told : blamed_due l.fn.opened l.fn.excused l.fn.decided l.entry-iterator l.faults ≡ blamed_due l.fn.opened l.fn.excused l.fn.decided (values l.fn.entries) l.initial.faults;
+  told : blamed_due l.fn.opened l.fn.excused l.fn.decided l.entry-iterator l.faults ≡ blamed_due l.fn.opened l.fn.excused l.fn.decided (values_of (value_under l.fn.entries)) l.initial.faults;
   kept : Keeps l.initial.faults l.faults;
 }

@@ -1,5 +1,5 @@
 use Rattle.std.proofs.Common.{cond, ap, sym, subst, ◌∙◌, ◌∷◌, arith, nat_eq, Some}
-use Rattle.indexmap.specs.IndexMap.{get}
+use Rattle.mq_rules.specs.KeptOrder.{value_under}
 use Rattle.mq_rules.specs.Connections.{latest_fate}
 use Rattle.mq_rules.specs.Notes.{note_in}
 use Rattle.mq_rules.specs.Under.{seen}
@@ -25,6 +25,6 @@ returns c = λ tested past under kept was.
     let same = c.go_on.ensures.same in
     go-on-next tested c.args.flight.now c.args.fate c.args.decided (seen c.args.at (note_in c.args.event)) past c.args.places.now c.go_on.new.self c.opens_one.result c.opener_place-ended.result under kept
     (sym c.settles_now.ensures ∙ c.if-settles_now.false) (sym c.is_open.ensures ∙ c.if-is_open.false) was (omega arith)
-    c.opens_one.ensures (c.opener_place-ended.ensures ∙ ap (ended_at (get nat_eq c.args.flight.now.entries)) c.moved_identifier.ensures)
+    c.opens_one.ensures (c.opener_place-ended.ensures ∙ ap (ended_at (value_under c.args.flight.now.entries)) c.moved_identifier.ensures)
     (ap (λ (p : ResumedPlaces). p.counted) same) (ap (λ (p : ResumedPlaces). p.due) same) (ap (λ (p : ResumedPlaces). p.settled) same)
     c.go_on.ensures.fresh c.go_on.ensures.opened
