@@ -7,7 +7,7 @@ use Rattle.mq_rules.specs.declared.role.Role.TheVariants.{Client, Server}
 use Rattle.mq_rules.specs.declared.role.Tested.{Tested}
 use Rattle.mq_rules.specs.declared.fate.Fate.{Fate}
 use Rattle.mq_rules.specs.declared.rule.Rule.{Rule}
-use Rattle.mq_rules.specs.declared.rule.Rule.TheVariants.{C03, C06, C07, C08, C10, C11, C12, C13, C14, C15, C16, C17, C20, C21, C22, C23, F01, F02, F03, F04, F05, F06, A02}
+use Rattle.mq_rules.specs.declared.rule.Rule.TheVariants.{C03, C06, C07, C08, C10, C11, C12, C13, C14, C15, C16, C17, C20, C21, C22, C23, F01, F02, F03, F04, F05, F06, A01, A02}
 use Rattle.mq_rules.specs.declared.note.Seen.{Seen}
 use Rattle.mq_rules.specs.Moments.{Moment, moment}
 use Rattle.mq_rules.specs.Connections.{number, fate}
@@ -30,6 +30,7 @@ client-past F01 h f t k = refl
 client-past F02 h f t k = refl
 client-past F03 h f t k = refl
 client-past F04 h f t k = refl
+client-past A01 h f t k = refl
 client-past A02 h f t k = refl
 client-past _ h f t k = absurd (cc)
 

@@ -89,6 +89,7 @@ impl ConnectionTrail {
             Rule::F02 => Some(handshake.connack()),
             Rule::F03 => Some(handshake.connack()),
             Rule::F04 => Some(handshake.connack()),
+            Rule::A01 => Some(handshake.connect()),
             Rule::A02 => Some(handshake.connect()),
             _ => None,
         }

@@ -104,6 +104,7 @@ pub fn explanation(rule: Rule) -> &'static str
         Rule::V03 => further::V03,
         Rule::V04 => further::V04,
         Rule::V06 => further::V06,
+        Rule::A01 => further::A01,
         Rule::A02 => further::A02,
     }
 }

@@ -1,16 +1,18 @@
--- Further statements on one packet and on the past of its connection (F01 to F06, V03, V04, V06 and A02). They are judged as C01 to C23 are, on every connection, but only
--- if the further statements are asked for. Only packets count.
+-- Further statements on one packet and on the past of its connection (F01 to F06, V03, V04, V06, A01 and A02). They are judged as C01 to C23 are, on every connection, but
+-- only if the further statements are asked for. In A01 bytes that break a rule count by their type; elsewhere only packets count.
 use Rattle.std.specs.Prelude.{ℕ, ◌==◌, nat_le, nat_lt, Bool, ◌&&◌, ◌||◌, not, Option, is_some}
 use Rattle.std.specs.Option.{option_and_then}
+use Rattle.mq_packet.specs.declared.packet.PacketType.TheVariants as types
 use Rattle.mq_rules.specs.declared.role.Role.{Role}
 use Rattle.mq_rules.specs.declared.role.Role.TheVariants.{Client, Server}
+use Rattle.mq_rules.specs.declared.note.Note.{Note}
 use Rattle.mq_rules.specs.declared.packet_note.ConnectNote.{ConnectNote}
 use Rattle.mq_rules.specs.declared.packet_note.ConnackNote.{ConnackNote}
 use Rattle.mq_rules.specs.declared.packet_note.WillNote.{WillNote}
 use Rattle.mq_rules.specs.Words.{is_some_and, is_id}
-use Rattle.mq_rules.specs.Notes.{qos_number, sent_connack, sent_disconnect, sent_publish, sent_receipt_code, sent_wishes, sends_auth}
+use Rattle.mq_rules.specs.Notes.{is_typed, qos_number, received_item, receives_type, sends_type, sent_connack, sent_disconnect, sent_publish, sent_receipt_code, sent_wishes, sends_auth}
 use Rattle.mq_rules.specs.Moments.{Moment, note}
-use Rattle.mq_rules.specs.Pasts.{connack_before, connect_before}
+use Rattle.mq_rules.specs.Pasts.{came_before, connack_before, connect_before, sends_typed}
 
 -- ---- words
 
@@ -18,9 +20,20 @@ use Rattle.mq_rules.specs.Pasts.{connack_before, connect_before}
 abbrev pub will_in : Option ConnectNote → Option WillNote
 will_in connect = option_and_then (λ c. c.will) connect
 
--- there is a CONNECT, and it has no Authentication Method (MQTT 5.0, section 3.1.2.11.9)
+-- there is a CONNECT, and it has an Authentication Method, or none (MQTT 5.0, section 3.1.2.11.9)
+abbrev pub has_method : Option ConnectNote → Bool
+has_method connect = is_some_and (λ c. c.has_authentication_method) connect
+
 abbrev pub lacks_method : Option ConnectNote → Bool
 lacks_method connect = is_some_and (λ c. not c.has_authentication_method) connect
+
+-- A CONNACK is heard: something of that type is received, or what can't be cut into packets, which has no type and may be one.
+abbrev pub hears_connack : Note → Bool
+hears_connack n = receives_type types.Connack n || is_some_and (λ item. not (is_typed item)) (received_item n)
+
+-- On the moment's connection a client sent a CONNECT with an Authentication Method before it, and heard no CONNACK (MQTT 5.0, section 3.1.2.11.9).
+abbrev pub is_authenticating : Moment → Bool
+is_authenticating k = has_method (connect_before Client k) && not (came_before hears_connack k)
 
 -- There is a CONNACK, by which the server keeps no retained messages, or takes no wildcards, no Subscription Identifiers or no shared subscriptions (MQTT 5.0, sections
 -- 3.2.2.3.5 and 3.2.2.3.11 to 3.2.2.3.13).
@@ -115,6 +128,13 @@ applies_V06 Server k = is_some (sent_disconnect (note k))
 unfoldable pub breaks_V06 : Role → Moment → Bool
 breaks_V06 Client k = is_some_and (λ d. is_code_of_servers d.code) (sent_disconnect (note k)) || is_some_and is_receipt_of_servers (sent_receipt_code (note k))
 breaks_V06 Server k = is_some_and (λ d. is_code_of_clients d.code) (sent_disconnect (note k))
+
+-- A01: whatever is sent but a CONNECT, after a CONNECT with an Authentication Method and before a CONNACK was heard, is an AUTH or a DISCONNECT.
+unfoldable pub applies_A01 : Moment → Bool
+applies_A01 k = sends_typed k && (not (sends_type types.Connect (note k)) && is_authenticating k)
+
+unfoldable pub breaks_A01 : Moment → Bool
+breaks_A01 k = sends_typed k && (not (sends_type types.Connect (note k) || (sends_type types.Auth (note k) || sends_type types.Disconnect (note k))) && is_authenticating k)
 
 -- A02: whenever an AUTH is sent after the CONNECT, or by a server a CONNACK with an Authentication Method, the CONNECT had a method.
 unfoldable pub applies_A02 : Role → Moment → Bool

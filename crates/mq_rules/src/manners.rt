@@ -1,21 +1,22 @@
 //! The further statements on one packet and on the past of its connection, in one pass: F01 to F06,
-//! V03, V04, V06 and A02.
+//! V03, V04, V06, A01 and A02.
 //!
-//! The client's CONNECT and the server's CONNACK are kept.
-ghost use Rattle.std.specs.Prelude.{◌≡◌, ◌∷◌, ◌+◌, ◌<◌, ◌&&◌, ◌||◌, not, ℕ, [], cond, length, List, Option, Some, None, OnOk, OnErr, nat_lt, option_map, is_some, ◌==◌};
+//! The client's CONNECT and the server's CONNACK are kept, and whether a CONNACK was heard.
+ghost use Rattle.std.specs.Prelude.{◌≡◌, ◌∷◌, ◌+◌, ◌<◌, ◌&&◌, ◌||◌, not, false, ℕ, [], cond, length, List, Option, Some, None, OnOk, OnErr, nat_lt, option_map, is_some, ◌==◌};
+ghost use Rattle.mq_packet.specs.declared.packet.PacketType.TheVariants as types;
 ghost use Rattle.mq_rules.specs.declared.role.Role.TheVariants as roles;
 ghost use Rattle.mq_rules.specs.declared.role.Tested.{Tested as TheTested};
 ghost use Rattle.mq_rules.specs.declared.fate.Fate.{Fate as TheFate};
 ghost use Rattle.mq_rules.specs.declared.fate.Fate.TheVariants.{Void};
 ghost use Rattle.mq_rules.specs.declared.note.Seen.{Seen as TheSeen};
 ghost use Rattle.mq_rules.specs.Words.{is_some_and, is_id};
-ghost use Rattle.mq_rules.specs.Notes.{sends_auth as sends_an_auth, sent_connack as connack_of, sent_disconnect as disconnect_of, sent_publish as publish_of, sent_receipt_code as receipt_code_of, sent_wishes as wishes_of, qos_number as number_of};
+ghost use Rattle.mq_rules.specs.Notes.{sends_auth as sends_an_auth, sends_type, sent_connack as connack_of, sent_disconnect as disconnect_of, sent_publish as publish_of, sent_receipt_code as receipt_code_of, sent_wishes as wishes_of, qos_number as number_of};
 ghost use Rattle.mq_rules.specs.FurtherPasts as pasts;
 ghost use Rattle.mq_rules.specs.FurtherPasts.{will_in, lacks_method};
 ghost use Rattle.mq_rules.specs.Growing.{Judges, JudgesWithin};
 ghost use Rattle.mq_rules.specs.Keeping.{is_among};
 ghost use Rattle.mq_rules.specs.Manners as keeping;
-ghost use Rattle.mq_rules.specs.Manners.{CountsManners, IsManners, connack_after, connect_after, further_verdicts};
+ghost use Rattle.mq_rules.specs.Manners.{CountsManners, IsManners, connack_after, connect_after, further_verdicts, heard_after};
 ghost use Rattle.mq_rules.specs.Occasions.{places};
 ghost use Rattle.mq_rules.specs.Statements.{is_on_further};
 ghost use Rattle.mq_rules.specs.Steps.{turns};
@@ -31,6 +32,7 @@ use crate::role::{Role, Tested};
 use crate::rule::Rule;
 use crate::watch::{Brisk, Watch, step_apart};
 use mq_log::Place3;
+use mq_packet::PacketType;
 
 /// The Reason Code QoS not supported of a CONNACK (MQTT 5.0, section 3.2.2.2).
 const QOS_NOT_SUPPORTED: u8 = 0x9B;
@@ -45,8 +47,8 @@ const NO_MATCH: u8 = 0x10;
 /// The Reason Code Disconnect with Will Message of a DISCONNECT (MQTT 5.0, section 3.14.2.1).
 const WITH_WILL: u8 = 0x04;
 
-/// Watches F01 to F06, V03, V04, V06 and A02, if the further statements are asked for. It takes in
-/// each event of a log.
+/// Watches F01 to F06, V03, V04, V06, A01 and A02, if the further statements are asked for. It takes
+/// in each event of a log.
 #[derive(Drop)]
 pub struct Manners {
     role: Role,
@@ -56,6 +58,9 @@ pub struct Manners {
     connect: Option<ConnectNote>,
     /// The server's first CONNACK there.
     connack: Option<ConnackNote>,
+    /// Whether a CONNACK was heard there: something of that type was received, or what can't be cut
+    /// into packets.
+    has_heard_connack: bool,
 }
 
 impl Manners {
@@ -68,27 +73,30 @@ impl Manners {
             further: tested.further,
             connect: None,
             connack: None,
+            has_heard_connack: false,
         }
     }
 
     // Takes in an event.
     fn consume(&mut self, note: &Note)
-        ensures { self.new ≡ record { role = self.old.role; further = self.old.further; connect = connect_after self.old.role self.old.connect note.now; connack = connack_after self.old.role self.old.connack note.now } }
+        ensures { self.new ≡ record { role = self.old.role; further = self.old.further; connect = connect_after self.old.role self.old.connect note.now; connack = connack_after self.old.role self.old.connack note.now; has_heard_connack = heard_after self.old.has_heard_connack note.now } }
     {
         if note.is_open() {
             self.connect = None;
             self.connack = None;
+            self.has_heard_connack = false;
         }
         self.connect = self.connect.or(note.connect(self.role).copied());
         self.connack = self.connack.or(note.connack(self.role).copied());
+        self.has_heard_connack |= hears_connack(note);
     }
 
     // Judges an event, and then takes it in.
     #[inline(never)]
     fn take(&mut self, place: Place3, note: &Note, faults: &mut Faults) -> Result<(), Memory>
-        ensures kept { OnOk result (self.new ≡ record { role = self.old.role; further = self.old.further; connect = connect_after self.old.role self.old.connect note.now; connack = connack_after self.old.role self.old.connack note.now }) }
-        ensures ok { OnOk result (Judges (is_among (further_verdicts self.old.role self.old.connect self.old.connack note.now)) place faults.old faults.new) }
-        ensures memory { OnErr result (JudgesWithin (is_among (further_verdicts self.old.role self.old.connect self.old.connack note.now)) place faults.old faults.new) }
+        ensures kept { OnOk result (self.new ≡ record { role = self.old.role; further = self.old.further; connect = connect_after self.old.role self.old.connect note.now; connack = connack_after self.old.role self.old.connack note.now; has_heard_connack = heard_after self.old.has_heard_connack note.now }) }
+        ensures ok { OnOk result (Judges (is_among (further_verdicts self.old.role self.old.connect self.old.connack self.old.has_heard_connack note.now)) place faults.old faults.new) }
+        ensures memory { OnErr result (JudgesWithin (is_among (further_verdicts self.old.role self.old.connect self.old.connack self.old.has_heard_connack note.now)) place faults.old faults.new) }
     {
         self.judge(place, note, faults)?;
         self.consume(note);
@@ -97,12 +105,13 @@ impl Manners {
 
     // Judges an event by what is kept.
     fn judge(&self, place: Place3, note: &Note, faults: &mut Faults) -> Result<(), Memory>
-        ensures ok { OnOk result (Judges (is_among (further_verdicts self.now.role self.now.connect self.now.connack note.now)) place faults.old faults.new) }
-        ensures memory { OnErr result (JudgesWithin (is_among (further_verdicts self.now.role self.now.connect self.now.connack note.now)) place faults.old faults.new) }
+        ensures ok { OnOk result (Judges (is_among (further_verdicts self.now.role self.now.connect self.now.connack self.now.has_heard_connack note.now)) place faults.old faults.new) }
+        ensures memory { OnErr result (JudgesWithin (is_among (further_verdicts self.now.role self.now.connect self.now.connack self.now.has_heard_connack note.now)) place faults.old faults.new) }
     {
         match self.role {
             Role::Client => {
-                let verdicts = client_verdicts(self.connect, self.connack, note);
+                let heard = self.has_heard_connack;
+                let verdicts = client_verdicts(self.connect, self.connack, heard, note);
                 judge_each(place, &verdicts, faults)
             }
             Role::Server => judge_each(place, &server_verdicts(self.connect, note), faults),
@@ -146,13 +155,15 @@ impl Brisk for Manners {
     }
 }
 
-// The statements on what a client sends, after this CONNECT and this CONNACK.
+// The statements on what a client sends, by what is kept: this CONNECT, this CONNACK, and whether a
+// CONNACK was heard.
 fn client_verdicts(
     connect: Option<ConnectNote>,
     connack: Option<ConnackNote>,
+    has_heard_connack: bool,
     note: &Note,
-) -> [Verdict; 8]
-    ensures { result ≡ further_verdicts roles.Client connect connack note.now }
+) -> [Verdict; 9]
+    ensures { result ≡ further_verdicts roles.Client connect connack has_heard_connack note.now }
 {
     [
         (Rule::F01, retains_anew(note) && lacks_retain(connack)),
@@ -165,13 +176,14 @@ fn client_verdicts(
         (Rule::V03, misnames_share(note)),
         (Rule::V04, shares_with_no_local(note)),
         (Rule::V06, sends_code_of_servers(note)),
+        (Rule::A01, breaks_a01(connect, has_heard_connack, note)),
         (Rule::A02, sends_auth(note) && has_no_method(connect)),
     ]
 }
 
 // The statements on what a server sends, after this CONNECT. None looks at the CONNACK before.
 fn server_verdicts(connect: Option<ConnectNote>, note: &Note) -> [Verdict; 4]
-    ensures { result ≡ further_verdicts roles.Server connect None note.now }
+    ensures { result ≡ further_verdicts roles.Server connect None false note.now }
 {
     [
         (Rule::F05, breaks_f05(connect, note)),
@@ -383,6 +395,33 @@ fn is_to_be_retained(connect: Option<ConnectNote>) -> bool
     }
 }
 
+// A01: whether something else than a CONNECT, an AUTH or a DISCONNECT is sent after a CONNECT with an
+// Authentication Method, and before a CONNACK was heard.
+fn breaks_a01(connect: Option<ConnectNote>, has_heard_connack: bool, note: &Note) -> bool
+    ensures { result ≡ keeping.finds_A01 connect has_heard_connack note.now }
+{
+    note.is_typed_sent() && !may_precede_connack(note) && has_method(connect) && !has_heard_connack
+}
+
+// Whether something of a type is sent that may come before the CONNACK.
+fn may_precede_connack(note: &Note) -> bool
+    ensures { result ≡ (sends_type types.Connect note.now || (sends_type types.Auth note.now || sends_type types.Disconnect note.now)) }
+{
+    note.sends_type(PacketType::Connect)
+        || note.sends_type(PacketType::Auth)
+        || note.sends_type(PacketType::Disconnect)
+}
+
+// Whether a CONNACK is heard: something of that type is received, or what can't be cut into packets.
+fn hears_connack(note: &Note) -> bool
+    ensures { result ≡ pasts.hears_connack note.now }
+{
+    match note.received_item() {
+        Some(item) => item.is_of_type(PacketType::Connack) || !item.is_typed(),
+        None => false,
+    }
+}
+
 // A02, of a server.
 fn breaks_a02(connect: Option<ConnectNote>, note: &Note) -> bool
     ensures { result ≡ keeping.finds_A02 roles.Server connect note.now }
@@ -406,6 +445,16 @@ fn names_method(connack: Option<&ConnackNote>) -> bool
 {
     match connack {
         Some(connack) => connack.has_authentication_method,
+        None => false,
+    }
+}
+
+// Whether there is a CONNECT, and it has an Authentication Method.
+fn has_method(connect: Option<ConnectNote>) -> bool
+    ensures { result ≡ pasts.has_method connect }
+{
+    match connect {
+        Some(connect) => connect.has_authentication_method,
         None => false,
     }
 }
@@ -439,13 +488,14 @@ struct MannersPlaces {
     v03: u32,
     v04: u32,
     v06: u32,
+    a01: u32,
     a02: u32,
 }
 
 impl MannersPlaces {
     // The counts of nothing.
     fn none() -> MannersPlaces
-        ensures { result ≡ record { f01 = 0; f02 = 0; f03 = 0; f04 = 0; f05 = 0; f06 = 0; v03 = 0; v04 = 0; v06 = 0; a02 = 0 } }
+        ensures { result ≡ record { f01 = 0; f02 = 0; f03 = 0; f04 = 0; f05 = 0; f06 = 0; v03 = 0; v04 = 0; v06 = 0; a01 = 0; a02 = 0 } }
     {
         MannersPlaces {
             f01: 0,
@@ -457,6 +507,7 @@ impl MannersPlaces {
             v03: 0,
             v04: 0,
             v06: 0,
+            a01: 0,
             a02: 0,
         }
     }
@@ -472,10 +523,12 @@ impl MannersPlaces {
         ensures v03 { self.old.v03 < position → self.new.v03 ≡ cond (keeping.tries_shares manners.now.role note.now) 1 0 + self.old.v03 }
         ensures v04 { self.old.v04 < position → self.new.v04 ≡ cond (keeping.tries_shares manners.now.role note.now) 1 0 + self.old.v04 }
         ensures v06 { self.old.v06 < position → self.new.v06 ≡ cond (keeping.tries_V06 manners.now.role note.now) 1 0 + self.old.v06 }
+        ensures a01 { self.old.a01 < position → self.new.a01 ≡ cond (keeping.tries_A01 manners.now.role manners.now.connect manners.now.has_heard_connack note.now) 1 0 + self.old.a01 }
         ensures a02 { self.old.a02 < position → self.new.a02 ≡ cond (keeping.tries_A02 manners.now.role manners.now.connect note.now) 1 0 + self.old.a02 }
     {
         let role = manners.role;
         let (connect, connack) = (manners.connect, manners.connack);
+        let heard = manners.has_heard_connack;
         self.f01 = places_after(tries_f01(role, connack, note), self.f01, position);
         self.f02 = places_after(tries_f02(role, connack, note), self.f02, position);
         self.f03 = places_after(tries_f03(role, connack, note), self.f03, position);
@@ -485,6 +538,7 @@ impl MannersPlaces {
         self.v03 = places_after(tries_shares(role, note), self.v03, position);
         self.v04 = places_after(tries_shares(role, note), self.v04, position);
         self.v06 = places_after(tries_v06(role, note), self.v06, position);
+        self.a01 = places_after(tries_a01(role, connect, heard, note), self.a01, position);
         self.a02 = places_after(tries_a02(role, connect, note), self.a02, position);
     }
 }
@@ -591,6 +645,21 @@ fn retains_nothing(connack: Option<&ConnackNote>) -> bool
     }
 }
 
+// Whether an event puts A01 to the test.
+fn tries_a01(role: Role, connect: Option<ConnectNote>, has_heard_connack: bool, note: &Note) -> bool
+    ensures { result ≡ keeping.tries_A01 role connect has_heard_connack note.now }
+{
+    match role {
+        Role::Client => {
+            note.is_typed_sent()
+                && !note.sends_type(PacketType::Connect)
+                && has_method(connect)
+                && !has_heard_connack
+        }
+        Role::Server => false,
+    }
+}
+
 // Whether an event puts A02 to the test.
 fn tries_a02(role: Role, connect: Option<ConnectNote>, note: &Note) -> bool
     ensures { result ≡ keeping.tries_A02 role connect note.now }
@@ -652,6 +721,9 @@ impl CountingManners {
         }
         if rule == Rule::V06 {
             return Some(self.places.v06);
+        }
+        if rule == Rule::A01 {
+            return Some(self.places.a01);
         }
         if rule == Rule::A02 {
             return Some(self.places.a02);

@@ -133,6 +133,8 @@ impl Rule {
             Rule::V03 => "A shared filter has a name without wildcards, and a filter after it.",
             Rule::V04 => "No Local is 0 for a shared filter.",
             Rule::V06 => "A Reason Code is one that this end may send.",
+            Rule::A01 =>
+                "A client that uses an Authentication Method sends only AUTH and DISCONNECT before a CONNACK was received.",
             Rule::A02 =>
                 "Without an Authentication Method in CONNECT there is no enhanced authentication.",
         }

@@ -194,6 +194,9 @@ pub enum Rule {
     V04,
     /// A Reason Code is one that this end may send (MQTT 5.0, sections 3.4.2.1 and 3.14.2.1).
     V06,
+    /// A client that uses an Authentication Method sends only AUTH and DISCONNECT before a CONNACK
+    /// was received (MQTT 5.0, section 3.1.2.11.9).
+    A01,
     /// Without an Authentication Method in CONNECT there is no enhanced authentication (MQTT 5.0,
     /// section 4.12).
     A02,

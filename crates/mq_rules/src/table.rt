@@ -37,7 +37,7 @@ pub enum Judged {
 pub type Row = (Rule, &'static str, Ends, &'static str, &'static str, Judged);
 
 /// Each statement's row, in the order of reports.
-pub const TABLE: [Row; 84] = [
+pub const TABLE: [Row; 85] = [
     (W01, "W01", Both, "MQTT-2.1.3-1", "MQTT-2.1.3-1", Always),
     (W02, "W02", Both, "sec-2.1.2", "sec-2.1.2", Always),
     (W03, "W03", Both, "MQTT-1.5.5-1", "MQTT-1.5.5-1", Always),
@@ -163,6 +163,7 @@ pub const TABLE: [Row; 84] = [
         "sec-3.14.2.1",
         OnRequest,
     ),
+    (A01, "A01", OnlyClient, "MQTT-3.1.2-30", "", OnRequest),
     (
         A02,
         "A02",
@@ -174,7 +175,7 @@ pub const TABLE: [Row; 84] = [
 ];
 
 /// The statements, in the order of reports.
-const RULES: [Rule; 84] = [
+const RULES: [Rule; 85] = [
     Rule::W01,
     Rule::W02,
     Rule::W03,
@@ -258,6 +259,7 @@ const RULES: [Rule; 84] = [
     Rule::V03,
     Rule::V04,
     Rule::V06,
+    Rule::A01,
     Rule::A02,
 ];
 

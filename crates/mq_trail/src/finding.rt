@@ -62,6 +62,7 @@ fn is_on_connection(role: Role, rule: Rule) -> bool
                 | Rule::F02
                 | Rule::F03
                 | Rule::F04
+                | Rule::A01
                 | Rule::A02
         ),
         Role::Server => matches!(

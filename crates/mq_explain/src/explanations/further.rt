@@ -1,5 +1,5 @@
-//! The texts of `explain` for the further statements (F01 to F06, V03, V04, V06 and A02), which are
-//! judged on request.
+//! The texts of `explain` for the further statements (F01 to F06, V03, V04, V06, A01 and A02), which
+//! are judged on request.
 
 /// The text of `explain F01`.
 pub const F01: &str = "F01 client MQTT-3.2.2-14\n\
@@ -125,6 +125,23 @@ pub const V06: &str = "V06 both sec-3.14.2.1,sec-3.4.2.1;sec-3.14.2.1\n\
     0x98 for what is its own decision; acknowledge with 0x00 what nobody wanted.\n\
     In a server: It answers a DISCONNECT of 0x04 with the same code. Answer nothing.\n\n\
     See: MQTT 5.0, sections 3.4.2.1 and 3.14.2.1.\n";
+
+/// The text of `explain A01`.
+pub const A01: &str = "A01 client MQTT-3.1.2-30\n\
+    A client that uses an Authentication Method sends only AUTH and DISCONNECT\n\
+    before a CONNACK was received.\n\n\
+    Why: Until the CONNACK the server is finding out who the client is, and can do\n\
+    nothing for it. AUTH is for that, and DISCONNECT gives it up.\n\n\
+    Judged: At a packet other than CONNECT, AUTH and DISCONNECT, after a CONNECT\n\
+    with an Authentication Method and before a CONNACK was received, on every\n\
+    connection. Bytes that break a rule count by their type; received ones that\n\
+    can't be cut into packets count as a CONNACK. Decided at once. It is a further\n\
+    statement: it is judged with --all.\n\n\
+    To see it tested: Let the client connect with an Authentication Method, and send\n\
+    an AUTH before it gets a CONNACK.\n\n\
+    In a client: It sends at once what waits, as it may without a method. Hold all\n\
+    but AUTH and DISCONNECT back until the CONNACK.\n\n\
+    See: MQTT 5.0, section 3.1.2.11.9.\n";
 
 /// The text of `explain A02`.
 pub const A02: &str = "A02 both MQTT-4.12.0-7;MQTT-4.12.0-6\n\

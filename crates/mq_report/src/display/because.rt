@@ -139,6 +139,7 @@ fn event_words(rule: Rule) -> &'static str
         Rule::F04 => ": the CONNACK, with Shared Subscription Available 0",
         Rule::F05 => ": the CONNECT, with a Will QoS above the announced maximum",
         Rule::F06 => ": the CONNECT, with Will Retain 1",
+        Rule::A01 => ": the CONNECT, with an Authentication Method, and no CONNACK before",
         Rule::A02 => ": the CONNECT, without an Authentication Method",
         _ => "",
     }

@@ -39,5 +39,8 @@ returns-in-F03 c = rw c.in-F03.is (λ at past is. ap (λ x. Some x) (c.connack-i
 pub returns-in-F04 : goal.returns-in-F04
 returns-in-F04 c = rw c.in-F04.is (λ at past is. ap (λ x. Some x) (c.connack-in-F04.ensures Client (latest_connection past) is))
 
+pub returns-in-A01 : goal.returns-in-A01
+returns-in-A01 c = rw c.in-A01.is (λ at past is. ap (λ x. Some x) (c.connect.ensures Client (latest_connection past) is))
+
 pub returns-in-A02 : goal.returns-in-A02
-returns-in-A02 c = rw c.in-A02.is (λ at past is. ap (λ x. Some x) (c.connect.ensures Client (latest_connection past) is))
+returns-in-A02 c = rw c.in-A02.is (λ at past is. ap (λ x. Some x) (c.connect-in-A02.ensures Client (latest_connection past) is))

@@ -22,7 +22,7 @@ pub returns-clause-agrees : goal.returns-clause-agrees
 returns-clause-agrees c = λ tested taken past follows takes here.
     let kept = c.in_ok-take.ensures.kept in
     manners-next c.args.self.now c.take.new.self tested taken (latest_fate tested.role (seen c.args.at c.args.note.now ∷ past)) (seen c.args.at c.args.note.now) past here
-    (ap (λ m. m.role) kept) (ap (λ m. m.further) kept) (λ asked. ap (λ m. m.connect) kept) (λ asked. ap (λ m. m.connack) kept)
+    (ap (λ m. m.role) kept) (ap (λ m. m.further) kept) (λ asked. ap (λ m. m.connect) kept) (λ asked. ap (λ m. m.connack) kept) (λ asked. ap (λ m. m.has_heard_connack) kept)
 
 pub returns-clause-grows : goal.returns-clause-grows
 returns-clause-grows c = λ tested taken past follows takes here.
