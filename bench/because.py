@@ -483,6 +483,12 @@ def accepts_a_will_to_retain(log: Log, k: int) -> Evidence:
     return Evidence("the CONNECT, with Will Retain 1", connect_of(log, k))
 
 
+@says("A01")
+def goes_on_while_authenticating(log: Log, k: int) -> Evidence:
+    """The CONNECT, which names a method."""
+    return Evidence("the CONNECT, with an Authentication Method, and no CONNACK before", connect_of(log, k))
+
+
 @says("A02")
 def authenticates_unasked(log: Log, k: int) -> Evidence:
     """The CONNECT, which names no method."""

@@ -213,13 +213,13 @@ def has_heard_connack(log: Log, k: int) -> bool:
 
 @applies("A01")
 def sends_while_authenticating(log: Log, k: int) -> bool:
-    """Something is sent after a CONNECT with a method, and no CONNACK was received."""
-    return type_of(log.sent(k)) is not None and method(log, k) is not None and not has_heard_connack(log, k)
+    """Something other than a CONNECT is sent after a CONNECT with a method, and no CONNACK was received."""
+    return type_of(log.sent(k)) not in (None, CONNECT) and method(log, k) is not None and not has_heard_connack(log, k)
 
 
 @fails("A01", sent([*ANY, BROKEN]))
 def goes_on_while_authenticating(log: Log, k: int) -> bool:
-    return sends_while_authenticating(log, k) and type_of(log.sent(k)) not in (CONNECT, AUTH, DISCONNECT)
+    return sends_while_authenticating(log, k) and type_of(log.sent(k)) not in (AUTH, DISCONNECT)
 
 
 def sends_connack(log: Log, k: int) -> bool:

@@ -41,7 +41,7 @@ P01 - sec-3.3.4 A Subscription Identifier is that of a matching subscription
 P02 - MQTT-3.3.4-3 A PUBLISH has an identifier if each matching subscription has one
 R01 - MQTT-3.3.1-11,MQTT-3.3.1-12 RETAIN is 0 where no matching subscription can make it 1
 R02 - sec-4.8.2 No retained message is sent for a shared subscription
-A01 MQTT-3.1.2-30 - With a method only AUTH and DISCONNECT are sent before the CONNACK
+A01 MQTT-3.1.2-30 - A client that uses an Authentication Method sends only AUTH and DISCONNECT before a CONNACK was received
 A02 MQTT-4.12.0-7 MQTT-4.12.0-6 Without an Authentication Method in CONNECT there is no enhanced authentication
 A03 MQTT-4.12.0-5,MQTT-4.12.1-1 MQTT-4.12.0-5 AUTH and CONNACK have the Authentication Method of the CONNECT
 K01 MQTT-3.1.2-20,MQTT-3.2.2-21 - A client isn't silent for longer than the Keep Alive
@@ -54,7 +54,7 @@ for line in SHAPES.strip().split("\n"):
     CITATIONS[code] = {role: text for role, text in (("client", client), ("server", server)) if text != "-"}
     SENTENCES[code] = sentence
 # That the program judges too, if `--all` asks for them.
-JUDGED = ("F01", "F02", "F03", "F04", "F05", "F06", "V03", "V04", "V06", "A02")
+JUDGED = ("F01", "F02", "F03", "F04", "F05", "F06", "V03", "V04", "V06", "A01", "A02")
 TIMED = {"K01", "K02"}  # that look at moments
 OF_SESSIONS = {code for code in CITATIONS if code[0] in "BPR"}  # that are judged only where the session is known
 

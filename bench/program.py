@@ -103,6 +103,7 @@ FURTHER_OF_CLIENT = {
     "V03": "MQTT-4.8.2-1,MQTT-4.8.2-2",
     "V04": "MQTT-3.8.3-4",
     "V06": "sec-3.14.2.1,sec-3.4.2.1",
+    "A01": "MQTT-3.1.2-30",
     "A02": "MQTT-4.12.0-7",
 }
 
@@ -157,7 +158,7 @@ CODES = (
     + "E1A E1R E1O E2A E2R E2O E3A E3R E3O E4A E4R E5A E5R E6A E6R E7R L1 L2 L3 B01 B02 B03 B04".split()
 )
 # Those that are judged only on request, and named all the same.
-FURTHER = ["F01", "F02", "F03", "F04", "F05", "F06", "V03", "V04", "V06", "A02"]
+FURTHER = ["F01", "F02", "F03", "F04", "F05", "F06", "V03", "V04", "V06", "A01", "A02"]
 FURTHER_ROWS = """\
 F01 client MQTT-3.2.2-14 A new PUBLISH has RETAIN 0 where Retain Available is 0.
 F02 client sec-3.2.2.3.11 No filter has a wildcard where the server takes none.
@@ -168,6 +169,7 @@ F06 server MQTT-3.2.2-13 A Will with Will Retain 1 is refused where Retain Avail
 V03 client MQTT-4.8.2-1,MQTT-4.8.2-2 A shared filter has a name without wildcards, and a filter after it.
 V04 client MQTT-3.8.3-4 No Local is 0 for a shared filter.
 V06 both sec-3.14.2.1,sec-3.4.2.1;sec-3.14.2.1 A Reason Code is one that this end may send.
+A01 client MQTT-3.1.2-30 A client that uses an Authentication Method sends only AUTH and DISCONNECT before a CONNACK was received.
 A02 both MQTT-4.12.0-7;MQTT-4.12.0-6 Without an Authentication Method in CONNECT there is no enhanced authentication.
 """
 OF_CLIENT = """\
@@ -178,6 +180,7 @@ F04 client sec-3.2.2.3.13 No SUBSCRIBE has a shared filter where the server take
 V03 client MQTT-4.8.2-1,MQTT-4.8.2-2 A shared filter has a name without wildcards, and a filter after it.
 V04 client MQTT-3.8.3-4 No Local is 0 for a shared filter.
 V06 both sec-3.14.2.1,sec-3.4.2.1 A Reason Code is one that this end may send.
+A01 client MQTT-3.1.2-30 A client that uses an Authentication Method sends only AUTH and DISCONNECT before a CONNACK was received.
 A02 both MQTT-4.12.0-7 Without an Authentication Method in CONNECT there is no enhanced authentication.
 """
 NO_X99 = f"""\
@@ -663,7 +666,9 @@ def listed(program: Path) -> Iterator[tuple[str, tuple, tuple]]:
         code, ends, citation, sentence = row.split(" ", 3)
         for word in (code, code.lower(), *citation.split(";")):
             status, text, errors = run(program, ["explain", word], b"")
-            yield f"explain {word}", (status, text[: text.find("\n\n")], errors), (0, f"{code} {ends} {citation}\n{sentence}", "")
+            # A long sentence goes over two lines.
+            first, *lines = text[: text.find("\n\n")].split("\n")
+            yield f"explain {word}", (status, f"{first}\n{' '.join(lines)}", errors), (0, f"{code} {ends} {citation}\n{sentence}", "")
 
 
 def held(path: Path) -> bytes | None:

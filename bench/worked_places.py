@@ -209,6 +209,10 @@ def sends(item: Packet | Bad | Lost) -> Event:
     return Event(SENT, 0, item)
 
 
+def gets(item: Packet | Bad | Lost) -> Event:
+    return Event(RECV, 0, item)
+
+
 WORDS: dict[str, Callable] = {
     "true": lambda: True,
     "false": lambda: False,
@@ -220,10 +224,12 @@ WORDS: dict[str, Callable] = {
     "Rest": lambda: Event(REST, 0),
     "Release": lambda i: Event(RELEASE, 0, released=i),
     "sends": sends,
-    "gets": lambda item: Event(RECV, 0, item),
+    "gets": gets,
     "sends_sized": lambda size, item: sends(replace(item, size=size)),
     "sends_bad": lambda first, rule: sends(Bad(rule, 2, bytes([first]))),
+    "gets_bad": lambda first, rule: gets(Bad(rule, 2, bytes([first]))),
     "sends_lost": lambda: sends(Lost(5)),
+    "gets_lost": lambda: gets(Lost(5)),
     "lasting": lambda: connect(True),
     "again": lambda: connect(False),
     "unnamed": lambda: connect(True, None, named=False),

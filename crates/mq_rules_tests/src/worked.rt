@@ -4,7 +4,7 @@
 ghost use Rattle.std.specs.Prelude.{◌≡◌, ◌∷◌, [], true, false, Some, None};
 ghost use Rattle.mq_packet.specs.declared.packet.Qos.TheVariants as quality;
 ghost use Rattle.mq_packet.specs.declared.rule.PacketRule.TheVariants as packets;
-ghost use Rattle.mq_rules.specs.declared.rule.Rule.TheVariants.{W01, W02, W03, W04, W05, W06, W07, W08, W09, W10, W11, W12, W13, W14, W15, W16, W17, W18, W19, W20, W21, C01, C02, C03, C04, C05, C06, C07, C08, C09, C10, C11, C12, C13, C14, C15, C16, C17, C18, C19, C20, C21, C22, C23, S01, S02, S03, S04, S05, S06, S07, E1A, E1R, E1O, E2A, E2R, E2O, E3A, E3R, E3O, E4A, E4R, E5A, E5R, E6A, E6R, E7R, L1, L2, L3, B01, B02, B03, B04, F01, F02, F03, F04, F05, F06, V03, V04, V06, A02};
+ghost use Rattle.mq_rules.specs.declared.rule.Rule.TheVariants.{W01, W02, W03, W04, W05, W06, W07, W08, W09, W10, W11, W12, W13, W14, W15, W16, W17, W18, W19, W20, W21, C01, C02, C03, C04, C05, C06, C07, C08, C09, C10, C11, C12, C13, C14, C15, C16, C17, C18, C19, C20, C21, C22, C23, S01, S02, S03, S04, S05, S06, S07, E1A, E1R, E1O, E2A, E2R, E2O, E3A, E3R, E3O, E4A, E4R, E5A, E5R, E6A, E6R, E7R, L1, L2, L3, B01, B02, B03, B04, F01, F02, F03, F04, F05, F06, V03, V04, V06, A01, A02};
 ghost use Rattle.mq_rules.specs.declared.note.Note.TheVariants.{Open, Rest, Release};
 ghost use Rattle.mq_rules.specs.declared.packet_note.PacketFields.TheVariants.{Puback, Pubrec, Pubrel, Pubcomp, Suback, Unsubscribe, Unsuback, Pingreq, Pingresp, Auth};
 ghost use Rattle.mq_rules.specs.Worked.{client, client_unrecorded, server, failing, Close, Cut, sends, gets, sends_sized, sends_explained, sends_bad, gets_bad, sends_lost, gets_lost, lasting, again, fleeting, unnamed, asking, connack_with, accepting, resuming, refusing, limiting, retaining, assigning, informing, leaving, at_most_once, once, exactly, retained_once, retained_exactly, expiring, aliased, subscribed, asks_a, asks_b, asking_again, client_asked, server_asked, with_will, with_method, announcing, naming_method, lacking, leaving_by, retained_at_most_once, retained_again, asks_plainly, asks_widely, asks_identified, asks_to_share, asks_misnamed, asks_no_local};
@@ -371,6 +371,25 @@ pub fn unbound_ends()
     ensures client_answers { failing client E5A (Open ∷ sends lasting ∷ gets accepting ∷ sends (Suback 1 []) ∷ []) ≡ [] }
     ensures unrecorded_completes { failing client_unrecorded L3 (Open ∷ sends lasting ∷ gets accepting ∷ gets (exactly false 1) ∷ gets (Pubrel 1 0) ∷ sends (Pubcomp 1 0) ∷ []) ≡ [] }
     ensures client_publishes { failing client B01 (Open ∷ sends lasting ∷ gets accepting ∷ sends at_most_once ∷ []) ≡ [] }
+{}
+
+/// What a client with an Authentication Method sends before a CONNACK (A01).
+pub fn before_a_connack()
+    ensures packet_breaks { failing client_asked A01 (Open ∷ sends with_method ∷ sends Auth ∷ sends Pingreq ∷ gets naming_method ∷ sends Pingreq ∷ []) ≡ 4 ∷ [] }
+    ensures packet_keeps { failing client_asked A01 (Open ∷ sends with_method ∷ sends Auth ∷ gets naming_method ∷ sends Pingreq ∷ []) ≡ [] }
+    ensures auth_breaks { failing client_asked A01 (Open ∷ sends with_method ∷ gets Auth ∷ sends Pingreq ∷ []) ≡ 4 ∷ [] }
+    ensures leaving_keeps { failing client_asked A01 (Open ∷ sends with_method ∷ sends (leaving_by 0) ∷ []) ≡ [] }
+    ensures connect_keeps { failing client_asked A01 (Open ∷ sends with_method ∷ sends lasting ∷ []) ≡ [] }
+    ensures bytes_break { failing client_asked A01 (Open ∷ sends with_method ∷ sends_bad 192 packets.W01 ∷ []) ≡ 3 ∷ [] }
+    ensures bytes_keep { failing client_asked A01 (Open ∷ sends with_method ∷ sends_bad 224 packets.W13 ∷ sends_lost ∷ []) ≡ [] }
+    ensures refusal_keeps { failing client_asked A01 (Open ∷ sends with_method ∷ gets refusing ∷ sends Pingreq ∷ []) ≡ [] }
+    ensures bad_connack_keeps { failing client_asked A01 (Open ∷ sends with_method ∷ gets_bad 32 packets.W13 ∷ sends Pingreq ∷ []) ≡ [] }
+    ensures bad_auth_breaks { failing client_asked A01 (Open ∷ sends with_method ∷ gets_bad 240 packets.W13 ∷ sends Pingreq ∷ []) ≡ 4 ∷ [] }
+    ensures lost_keeps { failing client_asked A01 (Open ∷ sends with_method ∷ gets_lost ∷ sends Pingreq ∷ []) ≡ [] }
+    ensures plain_keeps { failing client_asked A01 (Open ∷ sends lasting ∷ sends with_method ∷ sends Pingreq ∷ []) ≡ [] }
+    ensures anew_breaks { failing client_asked A01 (Open ∷ sends with_method ∷ gets naming_method ∷ Close ∷ Open ∷ sends with_method ∷ sends Pingreq ∷ []) ≡ 7 ∷ [] }
+    ensures unasked_keeps { failing client A01 (Open ∷ sends with_method ∷ sends Pingreq ∷ []) ≡ [] }
+    ensures server_keeps { failing server_asked A01 (Open ∷ gets with_method ∷ sends Pingresp ∷ []) ≡ [] }
 {}
 
 /// What a server accepts in a CONNECT (F05 and F06), and enhanced authentication (A02).

@@ -4,7 +4,7 @@
 ghost use Rattle.std.specs.Prelude.{◌≡◌, ◌∷◌, [], true, false, Some, None};
 ghost use Rattle.mq_packet.specs.declared.rule.PacketRule.TheVariants as packets;
 ghost use Rattle.mq_packet.specs.declared.packet.Qos.TheVariants as quality;
-ghost use Rattle.mq_rules.specs.declared.rule.Rule.TheVariants.{C01, C02, C03, C04, C05, C06, C07, C08, C09, C10, C11, C12, C13, C14, C15, C16, C17, C18, C19, C20, C21, C22, C23, S01, S02, S03, S04, S05, S06, S07, E1A, E1R, E1O, E2A, E2R, E2O, E3A, E3R, E3O, E4A, E4R, E5A, E5R, E6A, E6R, E7R, L1, L2, L3, B01, B02, B03, B04, F01, F02, F03, F04, F05, F06, V03, V04, V06, A02};
+ghost use Rattle.mq_rules.specs.declared.rule.Rule.TheVariants.{C01, C02, C03, C04, C05, C06, C07, C08, C09, C10, C11, C12, C13, C14, C15, C16, C17, C18, C19, C20, C21, C22, C23, S01, S02, S03, S04, S05, S06, S07, E1A, E1R, E1O, E2A, E2R, E2O, E3A, E3R, E3O, E4A, E4R, E5A, E5R, E6A, E6R, E7R, L1, L2, L3, B01, B02, B03, B04, F01, F02, F03, F04, F05, F06, V03, V04, V06, A01, A02};
 ghost use Rattle.mq_rules.specs.declared.note.Note.TheVariants.{Open, Rest, Release};
 ghost use Rattle.mq_rules.specs.declared.packet_note.PacketFields.TheVariants.{Puback, Pubrec, Pubrel, Pubcomp, Suback, Unsubscribe, Unsuback, Pingreq, Pingresp, Auth};
 ghost use Rattle.mq_rules.specs.Worked.{client, client_unrecorded, server, applying, Close, Cut, sends, gets, sends_sized, sends_bad, sends_lost, lasting, again, unnamed, asking, accepting, resuming, refusing, limiting, retaining, assigning, informing, leaving, at_most_once, once, exactly, retained_once, expiring, aliased, asks_a, asks_shared, client_asked, server_asked, with_will, with_method, announcing, naming_method, lacking, leaving_by, retained_at_most_once, retained_again, asks_plainly, asks_widely, asks_identified, asks_to_share};
@@ -167,6 +167,14 @@ pub fn places_of_nothing()
     ensures undecided { applying client E1A (Open ∷ sends lasting ∷ sends (Puback 1 0) ∷ []) ≡ [] }
     ensures refused { applying client E1A (Open ∷ sends lasting ∷ sends (Puback 1 0) ∷ gets refusing ∷ []) ≡ [] }
     ensures unknown { applying server E1A (Open ∷ gets lasting ∷ sends accepting ∷ Close ∷ Open ∷ gets lasting ∷ Close ∷ Open ∷ gets again ∷ sends resuming ∷ gets (once false 1) ∷ sends (Puback 1 0) ∷ []) ≡ [] }
+{}
+
+/// What a client with an Authentication Method sends before a CONNACK (A01).
+pub fn places_before_a_connack()
+    ensures sent { applying client_asked A01 (Open ∷ sends with_method ∷ sends Auth ∷ sends with_method ∷ sends_bad 192 packets.W01 ∷ sends_lost ∷ sends (leaving_by 0) ∷ []) ≡ 7 ∷ 5 ∷ 3 ∷ [] }
+    ensures answered { applying client_asked A01 (Open ∷ sends with_method ∷ sends Auth ∷ gets naming_method ∷ sends Pingreq ∷ []) ≡ 3 ∷ [] }
+    ensures plain { applying client_asked A01 (Open ∷ sends lasting ∷ sends Auth ∷ []) ≡ [] }
+    ensures unasked { applying client A01 (Open ∷ sends with_method ∷ sends Auth ∷ []) ≡ [] }
 {}
 
 /// What a server accepts in a CONNECT (F05 and F06), and enhanced authentication (A02).
