@@ -140,6 +140,17 @@ class Readings(unittest.TestCase):
         self.assertEqual([{"refused", "refilled"} <= tags for tags in tags_at(found, "S07")], [False, True])
         self.assertLessEqual({"maximum-2", "q1", "new"}, tags_at(found, "S07")[0])
 
+    def test_before_the_connack_of_who_authenticates_itself(self) -> None:
+        asked = [(OPEN, b""), (SENT, connect("a", True, [(Prop.AUTHENTICATION_METHOD, b"m")])), (SENT, packet(Type.AUTH))]
+        answers = {connack(): [3], packet(Type.CONNACK, b"\x00\xff\x00"): [3], b"\x20\x83\x00\x00\x00\x00": [3],
+                   packet(Type.AUTH): [3, 5]}
+        for answer, wanted in answers.items():
+            log = log_of(*asked, (RECV, answer), (SENT, PING), is_server=False)
+            for bad in ({}, {4: "W13"}):
+                found = [place.position for place in read(log, bad, is_of_all=True).places if place.code == "A01"]
+                self.assertEqual(found, wanted)
+            self.assertNotIn("A01", read(log).tested)
+
     def test_silence(self) -> None:
         asked = [*opened(), (RECV, PING), (SENT, PONG)]
         self.assertNotIn("E7R", read(log_of(*asked)).tested)

@@ -29,7 +29,7 @@ BOTH = frozenset(
 BINDING = {True: SERVER_ONLY | BOTH, False: CLIENT_ONLY | BOTH}  # by whether the tested end is a server
 FURTHER_OF_BOTH = frozenset(("V06", "A02"))
 FURTHER = {True: FURTHER_OF_BOTH | {"F05", "F06"},  # what binds too if the further statements are asked for
-           False: FURTHER_OF_BOTH | {"F01", "F02", "F03", "F04", "V03", "V04"}}
+           False: FURTHER_OF_BOTH | {"F01", "F02", "F03", "F04", "V03", "V04", "A01"}}
 FOREIGN = {True: CLIENT_ONLY & frozenset("W15 W16 W17 W18 W19".split()), False: frozenset(("W20",))}  # out of reach
 STURDY = "WCFVA"  # the letters of the statements that hold whatever the peer does
 NEEDS_PEER = frozenset(("C08",))  # but this one: whether there is a session depends on the peer

@@ -20,6 +20,7 @@ WIDTH = 18  # of the words at the left
 NAMED = 6  # scenarios that are named in a line
 SEEN = 12  # lines of what isn't judged
 WHY_NOT = {  # what a broker didn't do, where a statement isn't tested
+    "A01": "it sent nothing between a CONNECT with an Authentication Method and the CONNACK",
     "A02": "it sent no AUTH",
     "C10": "it assigned no Client Identifier",
     "C11": "it sent no DISCONNECT",

@@ -290,7 +290,7 @@ class Packet:
         elif kind in PACKET_IDENTIFIER_FIRST:
             self.identifier = fields.number(2)
             self._read_identified(fields)
-        elif kind == Type.DISCONNECT:
+        elif kind in (Type.DISCONNECT, Type.AUTH):
             self.code = fields.number(1) if self.body else 0
             self.properties = fields.properties() if fields.at < len(self.body) else []
 

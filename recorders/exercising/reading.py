@@ -5,7 +5,7 @@ from collections import Counter
 from collections.abc import Iterable, Mapping
 from dataclasses import dataclass, field
 
-from exercising.evidence import CLOSE, OPEN, REST, SENT, Event, Place, of_bytes, tags_of
+from exercising.evidence import CLOSE, OPEN, RECV, REST, SENT, Event, Place, of_bytes, tags_of
 from exercising.packets import RESERVED, Packet, Prop, Type
 
 CAUSES = {Type.PUBREL: "E4", Type.SUBSCRIBE: "E5", Type.UNSUBSCRIBE: "E6"}  # the other three depend on more
@@ -71,6 +71,7 @@ class Connection:
     used: int = 0  # of the send quota
     closers: set[str] = field(default_factory=set)  # tags of what closed messages
     has_connack: bool = False  # the tested end sent one, whatever its bytes are
+    has_heard_connack: bool = False  # it received one, whatever its bytes are, or bytes that can't be read
     aliases: dict[int, bytes] = field(default_factory=dict)
 
     @property
@@ -148,6 +149,8 @@ class Reading:
             self.here.is_bad = True
         else:
             self._got(event.packet)
+        if event.kind == RECV and (event.packet is None or event.packet.kind == Type.CONNACK):
+            self.here.has_heard_connack = True
 
     def _close(self) -> None:
         self._after_end(CLOSE)
@@ -312,6 +315,8 @@ class Reading:
                 self.place("C02")
             if kind == Type.CONNECT:
                 self.place("C03")
+            elif here.connect is not None and here.connect.has(Prop.AUTHENTICATION_METHOD) and not here.has_heard_connack:
+                self.place("A01", more=tags)
             return
         asked = ["clean" if here.connect is None or here.connect.clean else "asks-to-resume"]
         asked += ["pipelined"] if here.owed or here.pings else []

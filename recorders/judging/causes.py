@@ -57,6 +57,7 @@ WORDS = (  # of statements: what the event is, with its numbers; and what is sai
     ("F04", "the CONNACK, with Shared Subscription Available 0", ""),
     ("F05", "the CONNECT, with a Will QoS above the announced maximum", ""),
     ("F06", "the CONNECT, with Will Retain 1", ""),
+    ("A01", "the CONNECT, with an Authentication Method, and no CONNACK before", ""),
     ("A02", "the CONNECT, without an Authentication Method", ""),
 )
 CASES = {code: (event, none) for codes, event, none in WORDS for code in codes.split()}
