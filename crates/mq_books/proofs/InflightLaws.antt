@@ -37,9 +37,9 @@ use Rattle.mq_books.proofs.ResendsLaws.{bounds-next, resends-gains}
 
 pub inflight-gains : (tested : Tested) (s : Inflight) (f : Fate) (at : ℕ) (e : Seen) (past : List Seen) (m : FaultMap) (b : Broken) (rests : Bool) (excused : Excused) → IsUnder tested f at e past → IsUsing s tested (fate_before tested f e past) past
     → b ≡ all_excused f (at == e.place.position) (breaks s f e.note) → rests ≡ (settles f (at == e.place.position) s.ended e.note && (index_set_len s.unanswered == 0)) → excused ≡ excuses s.peer s.in_flight (by_itself s.fate s.bounds s.opened s.bounded)
-    → Gains (λ k r. is_inflight r && turns_with tested f e past k r) tested (e ∷ past) at m (told rests s.again excused s.opened at (values_of (value_under s.entries)) (value_under s.entries) s.confirmed.keys (judged_all b e.place at m))
+    → Gains (λ k r. is_inflight r && turns_with tested f e past k r) tested (e ∷ past) at m (told rests s.again excused s.opened at (values_of (value_under s.entries)) (judged_all b e.place at m))
 inflight-gains tested s f at e past m b rests excused under u b_is rest_is excused_is =
-    gains_either is_at_once (λ r. same_rule r S06) (λ k r. turns_with tested f e past k r) tested (e ∷ past) at m (judged_all b e.place at m) (told rests s.again excused s.opened at (values_of (value_under s.entries)) (value_under s.entries) s.confirmed.keys (judged_all b e.place at m))
+    gains_either is_at_once (λ r. same_rule r S06) (λ k r. turns_with tested f e past k r) tested (e ∷ past) at m (judged_all b e.place at m) (told rests s.again excused s.opened at (values_of (value_under s.entries)) (judged_all b e.place at m))
     (using-gains tested s f at e past m b under u b_is)
     (resends-gains tested s f at e past (judged_all b e.place at m) rests excused under u rest_is excused_is)
 
@@ -54,7 +54,7 @@ pub inflight-next : (tested : Tested) (s t : Inflight) (f : Fate) (at : ℕ) (e 
     → ((i : ℕ) → contains nat_eq t.unsubscribing i ≡ waits_next (sent_as unsubscribe_in e.note) (received_as unsuback_in e.note) (is_boundary e.note) i (contains nat_eq s.unsubscribing i))
     → t.resent ≡ resent_next e.note (value_under s.entries) s.resent → t.ended ≡ (ends_by e.note || (not (is_open e.note) && s.ended)) → t.opened ≡ cond (is_open e.note) e.place.position s.opened
     → t.peer ≡ option_or (cond (is_open e.note) None s.peer) (announced s.role e.note) → (s.in_flight < e.place.position → t.in_flight ≡ flown (may_count s.role s.peer) e.note s.in_flight)
-    → t.bounds ≡ bounds_next s.role e.note s.bounds → t.bounded ≡ bounded_next e.note s.fate s.bounds s.opened s.bounded → IsResent t.opened (by_itself t.fate t.bounds t.opened t.bounded) (value_under t.entries) (contains nat_eq t.confirmed) t.again → IsUsing t tested (Some f) (e ∷ past)
+    → t.bounds ≡ bounds_next s.role e.note s.bounds → t.bounded ≡ bounded_next e.note s.fate s.bounds s.opened s.bounded → IsResent t.opened (by_itself t.fate t.bounds t.opened t.bounded) (value_under t.entries) t.again → IsUsing t tested (Some f) (e ∷ past)
 inflight-next tested s t f at e past under u role fate ordered entries stray unanswered void earlier subscribing unsubscribing resent ended opened peer flying bounds bounded again = record {
   same_role = role ∙ u.same_role;
   same_fate = ap Some (sym fate);

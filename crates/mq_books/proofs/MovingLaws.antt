@@ -37,7 +37,7 @@ use Rattle.mq_books.specs.Moving.{Moves, KeepsOthers, IsMoved, moved, untouched,
 use Rattle.mq_books.specs.Opened.{entry_after, entry_next, opened_if, closed_if, confirmed_if, released_if, sent_if, sends_exactly_once, sends_retained}
 use Rattle.mq_books.specs.Pingings.{ends_by}
 use Rattle.mq_books.specs.Quotas.{announced, may_count, flown, judged_by}
-use Rattle.mq_books.specs.Resending.{by_itself, bounds_by, confirmed_next, confirms_untouched, excuses, settles, IsResent, is_limited, passed_since}
+use Rattle.mq_books.specs.Resending.{by_itself, bounds_by, confirms_untouched, excuses, settles, IsResent, is_limited, passed_since}
 use Rattle.mq_books.specs.Using.{delivering, stray_next, void_next, resent_next, breaks, unopened, past_pubrel, out_of_order, is_inflight, IsUsing, unanswered_next, is_taken}
 use Rattle.mq_books.specs.Earlier.{may_resend, GoesOn}
 use Rattle.mq_books.proofs.EarlierLaws.{earlier-stays, inside-uncut}
@@ -87,21 +87,12 @@ flown-moves n counted old opener x closer pubrel pubrec m =
     ∙ ap (λ o. cond counted (cond (is_some o) (old + 1) (cond (is_some (closer_of n)) (old - 1) old)) old) m.delivers
     ∙ ap (λ o. cond counted (cond (is_some opener) (old + 1) (cond (is_some o) (old - 1) old)) old) m.closes)
 
-confirmed-moves : (f : Fate) (n : Note) (entry : ℕ → Option Entry) (i : ℕ) (old : Bool) (opener : Option ℕ) (x : Bool) (closer pubrel pubrec : Option ℕ) → Moves n opener x closer pubrel pubrec → accepts f ≡ true
-    → (not (is_id i closer) && (old || (is_id i pubrec && is_some (entry i)))) ≡ confirmed_next f n entry i old
-confirmed-moves f n entry i old opener x closer pubrel pubrec m accepted =
-    sym (
-    ap (λ b. cond b (cond (begins (Some f)) false old) (cond (accepts f) (not (is_id i (closer_of n)) && (old || (is_id i (received_as accepting_pubrec_in n) && is_some (entry i)))) old)) m.closed
-    ∙ ap (λ b. cond b (not (is_id i (closer_of n)) && (old || (is_id i (received_as accepting_pubrec_in n) && is_some (entry i)))) old) accepted
-    ∙ ap (λ o. not (is_id i o) && (old || (is_id i (received_as accepting_pubrec_in n) && is_some (entry i)))) m.closes
-    ∙ ap (λ o. not (is_id i closer) && (old || (is_id i o && is_some (entry i)))) m.confirms)
-
-resent-moves : (n : Note) (opened at : ℕ) (single : Excused) (entry new : ℕ → Option Entry) (confirmed : ℕ → Bool) (r : Resent) (opener : Option ℕ) (x : Bool) (closer pubrel pubrec : Option ℕ) → Moves n opener x closer pubrel pubrec
-    → IsResent (cond (is_open n) at opened) single new confirmed (record { all = not (is_open n) && (r.all && not (confirms_untouched n opened entry)); confirmed = not (is_open n) && (r.confirmed && not (confirms_untouched n opened entry)) })
-    → IsResent opened single new confirmed (record { all = r.all && not (untouched opened entry pubrec); confirmed = r.confirmed && not (untouched opened entry pubrec) })
-resent-moves n opened at single entry new confirmed r opener x closer pubrel pubrec m is =
-    subst (λ o. IsResent opened single new confirmed (record { all = r.all && not (untouched opened entry o); confirmed = r.confirmed && not (untouched opened entry o) })) m.confirms
-    (subst (λ b. IsResent (cond b at opened) single new confirmed (record { all = not b && (r.all && not (confirms_untouched n opened entry)); confirmed = not b && (r.confirmed && not (confirms_untouched n opened entry)) })) m.closed is)
+resent-moves : (n : Note) (opened at : ℕ) (single : Excused) (entry new : ℕ → Option Entry) (r : Resent) (opener : Option ℕ) (x : Bool) (closer pubrel pubrec : Option ℕ) → Moves n opener x closer pubrel pubrec
+    → IsResent (cond (is_open n) at opened) single new (record { all = not (is_open n) && (r.all && not (confirms_untouched n opened entry)); confirmed = not (is_open n) && (r.confirmed && not (confirms_untouched n opened entry)) })
+    → IsResent opened single new (record { all = r.all && not (untouched opened entry pubrec); confirmed = r.confirmed && not (untouched opened entry pubrec) })
+resent-moves n opened at single entry new r opener x closer pubrel pubrec m is =
+    subst (λ o. IsResent opened single new (record { all = r.all && not (untouched opened entry o); confirmed = r.confirmed && not (untouched opened entry o) })) m.confirms
+    (subst (λ b. IsResent (cond b at opened) single new (record { all = not b && (r.all && not (confirms_untouched n opened entry)); confirmed = not b && (r.confirmed && not (confirms_untouched n opened entry)) })) m.closed is)
 
 -- ---- what is kept
 
@@ -124,14 +115,13 @@ moved-next tested s t f at e past opener x closer pubrel pubrec under now u m ac
     (λ below. w.flying below ∙ flown-moves n (may_count s.role s.peer) s.in_flight opener x closer pubrel pubrec m)
     (w.others.bounds ∙ sym (ap (λ o. option_or (cond (is_open n) None s.bounds) o) (m.bounds s.role) ∙ ap (λ b. option_or (cond b None s.bounds) None) m.closed ∙ option_or-none s.bounds))
     (w.others.bounded ∙ sym (ap (λ b. cond (b && (resumes s.fate && is_limited s.bounds)) s.opened s.bounded) m.closed))
-    (subst (λ r. IsResent t.opened (by_itself t.fate t.bounds t.opened t.bounded) (value_under t.entries) (contains nat_eq t.confirmed) r) (sym w.again)
-    (subst (λ o. IsResent o (by_itself t.fate t.bounds o t.bounded) (value_under t.entries) (contains nat_eq t.confirmed) known) (sym w.others.opened)
-    (subst (λ o. IsResent s.opened (by_itself t.fate o s.opened t.bounded) (value_under t.entries) (contains nat_eq t.confirmed) known) (sym w.others.bounds)
-    (subst (λ o. IsResent s.opened (by_itself o s.bounds s.opened t.bounded) (value_under t.entries) (contains nat_eq t.confirmed) known) (sym w.others.fate)
-    (subst (λ o. IsResent s.opened (by_itself s.fate s.bounds s.opened o) (value_under t.entries) (contains nat_eq t.confirmed) known) (sym w.others.bounded)
-    (resent-moves n s.opened e.place.position single (value_under s.entries) (value_under t.entries) (contains nat_eq t.confirmed) s.again opener x closer pubrel pubrec m
-    (again-next f n s.bounded e.place s.opened single single (value_under s.entries) (value_under t.entries) (contains nat_eq s.confirmed) (contains nat_eq t.confirmed) s.again below (λ closed y h. h) entries
-    (λ i. w.confirmed i ∙ confirmed-moves f n (value_under s.entries) i (contains nat_eq s.confirmed i) opener x closer pubrel pubrec m accepted) u.resent_are)))))))
+    (subst (λ r. IsResent t.opened (by_itself t.fate t.bounds t.opened t.bounded) (value_under t.entries) r) (sym w.again)
+    (subst (λ o. IsResent o (by_itself t.fate t.bounds o t.bounded) (value_under t.entries) known) (sym w.others.opened)
+    (subst (λ o. IsResent s.opened (by_itself t.fate o s.opened t.bounded) (value_under t.entries) known) (sym w.others.bounds)
+    (subst (λ o. IsResent s.opened (by_itself o s.bounds s.opened t.bounded) (value_under t.entries) known) (sym w.others.fate)
+    (subst (λ o. IsResent s.opened (by_itself s.fate s.bounds s.opened o) (value_under t.entries) known) (sym w.others.bounded)
+    (resent-moves n s.opened e.place.position single (value_under s.entries) (value_under t.entries) s.again opener x closer pubrel pubrec m
+    (again-next f n s.bounded e.place s.opened single single (value_under s.entries) (value_under t.entries) s.again below (λ closed y h. h) entries u.resent_are)))))))
   where
     n : Note
     n = e.note

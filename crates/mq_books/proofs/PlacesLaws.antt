@@ -12,7 +12,7 @@ use Rattle.mq_rules.specs.KeptOrder.{found_from, values_of}
 use Rattle.mq_books.specs.declared.inflight.entry.Entry.{Entry}
 use Rattle.mq_books.specs.declared.inflight.resends.Excused.{Excused}
 use Rattle.mq_books.specs.Owings.{blamed, Keeps}
-use Rattle.mq_books.specs.Resending.{entire, is_due, due_places, due_next, told_under, blamed_due, blamed_under}
+use Rattle.mq_books.specs.Resending.{is_due, due_places, due_next, blamed_due}
 use Rattle.mq_books.proofs.BlameLaws.{place_at, keeps_with_fault, keeps_blamed}
 
 -- ---- faults that are added stay
@@ -115,91 +115,3 @@ due-found k i opened excused entry start (suc n) o h due at low high = go (nat_e
 pub key-due : (k i opened : ℕ) (excused : Excused) (entry : ℕ → Option Entry) (o : Entry) → entry i ≡ Some o → i < 65536 → is_due opened excused o ≡ true → k ≡ o.place.position → is_some (place_at k (due_places opened excused (values_of entry))) ≡ true
 unfolding values_of
 key-due k i opened excused entry o h small due at = due-found k i opened excused entry 0 65536 o h due at (omega arith) (omega (arith, small))
-
--- ---- those of some identifiers
-
-abbrev onto : ℕ → Option Entry → List Place3 → List Place3
-onto opened None places = places
-onto opened (Some o) places = cond (is_due opened entire o) (o.place ∷ places) places
-
-abbrev pub places_under : (ℕ → Option Entry) → ℕ → List ℕ → List Place3
-places_under entry opened [] = []
-places_under entry opened (i ∷ is) = onto opened (entry i) (places_under entry opened is)
-
-pub blamed_under-is : (entry : ℕ → Option Entry) (opened at : ℕ) (is : List ℕ) (m : FaultMap) → blamed_under entry opened at is m ≡ blamed S06 at (places_under entry opened is) m
-blamed_under-is entry opened at [] m = refl
-blamed_under-is entry opened at (i ∷ is) m = go (entry i) (λ n. blamed_under-is entry opened at is n)
-  where
-    go : (q : Option Entry) → ((n : FaultMap) → blamed_under entry opened at is n ≡ blamed S06 at (places_under entry opened is) n)
-        → blamed_under entry opened at is (told_under q opened at m) ≡ blamed S06 at (onto opened q (places_under entry opened is)) m
-    go None rest = rest m
-    go (Some o) rest = by (is_due opened entire o)
-      where
-        with_o : FaultMap
-        with_o = with_fault (record { position = o.place.position; rule = S06 }) (record { decided = at; record_no = o.place.record_no; offset = None }) m
-
-        by : (b : Bool) → blamed_under entry opened at is (cond b with_o m) ≡ blamed S06 at (cond b (o.place ∷ places_under entry opened is) (places_under entry opened is)) m
-        by true = rest with_o
-        by false = rest m
-
-pub keeps_under : (entry : ℕ → Option Entry) (opened at : ℕ) (is : List ℕ) (m : FaultMap) → Keeps m (blamed_under entry opened at is m)
-keeps_under entry opened at is m = subst (λ (n : FaultMap). Keeps m n) (sym (blamed_under-is entry opened at is m)) (keeps_blamed S06 at (places_under entry opened is) m)
-
-pub keeps_under_next : (old mid : FaultMap) (opened at : ℕ) (q : Option Entry) → Keeps old mid → Keeps old (told_under q opened at mid)
-keeps_under_next old mid opened at None h = h
-keeps_under_next old mid opened at (Some o) h = keeps_next old mid opened entire at o h
-
-pub under-due : (k opened : ℕ) (entry : ℕ → Option Entry) (is : List ℕ) (p : Place3) → place_at k (places_under entry opened is) ≡ Some p → IsDueAt k opened entire entry p
-under-due k opened entry [] p h = absurd (cc)
-under-due k opened entry (i ∷ is) p h = go (entry i) refl h (under-due k opened entry is p)
-  where
-    rest_of : List Place3
-    rest_of = places_under entry opened is
-
-    go : (q : Option Entry) → entry i ≡ q → place_at k (onto opened q rest_of) ≡ Some p → (place_at k rest_of ≡ Some p → IsDueAt k opened entire entry p) → IsDueAt k opened entire entry p
-    go None n h rest = rest h
-    go (Some o) n h rest = by (is_due opened entire o) refl h
-      where
-        one : is_due opened entire o ≡ true → (b : Bool) → (k == o.place.position) ≡ b → cond b (Some o.place) (place_at k rest_of) ≡ Some p → IsDueAt k opened entire entry p
-        one due true t h =
-            let same : p ≡ o.place = cc in
-            record {
-              identifier = i;
-              kept = o;
-              is_kept = n;
-              due = due;
-              same_place = same;
-              here = eqb-true k o.place.position t ∙ ap (λ (x : Place3). x.position) (sym same);
-            }
-        one due false t h = rest h
-
-        by : (b : Bool) → is_due opened entire o ≡ b → place_at k (cond b (o.place ∷ rest_of) rest_of) ≡ Some p → IsDueAt k opened entire entry p
-        by true due h = one due (k == o.place.position) refl h
-        by false due h = rest h
-
-pub listed-due : (k i opened : ℕ) (entry : ℕ → Option Entry) (is : List ℕ) (o : Entry) → entry i ≡ Some o → is_due opened entire o ≡ true → k ≡ o.place.position → list_any (nat_eq i) is ≡ true → is_some (place_at k (places_under entry opened is)) ≡ true
-listed-due k i opened entry [] o h due at here = absurd (cc)
-listed-due k i opened entry (j ∷ is) o h due at here = go (nat_eq i j) refl here (λ q. listed-due k i opened entry is o h due at q)
-  where
-    rest_of : List Place3
-    rest_of = places_under entry opened is
-
-    more : (q : Option Entry) → is_some (place_at k rest_of) ≡ true → is_some (place_at k (onto opened q rest_of)) ≡ true
-    more None h = h
-    more (Some x) h = by (is_due opened entire x)
-      where
-        one : (b : Bool) → is_some (cond b (Some x.place) (place_at k rest_of)) ≡ true
-        one true = refl
-        one false = h
-
-        by : (b : Bool) → is_some (place_at k (cond b (x.place ∷ rest_of) rest_of)) ≡ true
-        by true = one (k == x.place.position)
-        by false = h
-
-    go : (b : Bool) → nat_eq i j ≡ b → (b || list_any (nat_eq i) is) ≡ true → (list_any (nat_eq i) is ≡ true → is_some (place_at k rest_of) ≡ true) → is_some (place_at k (onto opened (entry j) rest_of)) ≡ true
-    go true n here rest =
-        let same : i ≡ j = eqb-true i j n in
-        ap (λ q. is_some (place_at k (onto opened q rest_of))) (ap entry (sym same) ∙ h)
-        ∙ ap (λ b. is_some (place_at k (cond b (o.place ∷ rest_of) rest_of))) due
-        ∙ ap (λ b. is_some (cond b (Some o.place) (place_at k rest_of))) (eq-eqb k o.place.position at)
-    go false n here rest = more (entry j) (rest here)

@@ -37,7 +37,7 @@ use Rattle.mq_rules.specs.Growing.{Gains}
 use Rattle.mq_books.specs.Quotas.{peer_room}
 use Rattle.mq_books.specs.Owings.{binds_by, blamed}
 use Rattle.mq_books.specs.Opened.{entry_in}
-use Rattle.mq_books.specs.Resending.{connect_bounds, connack_bounds, peer_bounds, passed_since, is_passed, bounds_next, by_itself, excuses, apart, entire, is_due, due_places, blamed_due, blamed_under, told, settles}
+use Rattle.mq_books.specs.Resending.{connect_bounds, connack_bounds, peer_bounds, passed_since, is_passed, bounds_next, by_itself, excuses, apart, entire, is_due, due_places, blamed_due, told, settles}
 use Rattle.mq_books.specs.Using.{waits, IsUsing}
 use Rattle.mq_books.proofs.PingLaws.{binding-under}
 use Rattle.mq_books.proofs.BlameLaws.{place_at, blame_of, gains_blamed, gains_none}
@@ -45,8 +45,7 @@ use Rattle.mq_books.proofs.QuotaLaws.{room-kept}
 use Rattle.mq_books.proofs.OpenedLaws.{entry-is, IsEntry}
 use Rattle.mq_books.proofs.PassingLaws.{over-is, resumed-accepts}
 use Rattle.mq_books.proofs.DueLaws.{owes, due-owes, owes-due}
-use Rattle.mq_books.proofs.PlacesLaws.{IsDueAt, value-due, key-due, places_under, under-due, listed-due, blamed_due-is, blamed_under-is}
-use Rattle.mq_books.proofs.AgainLaws.{due-listed}
+use Rattle.mq_books.proofs.PlacesLaws.{IsDueAt, value-due, key-due, blamed_due-is}
 
 pub binds-S06 : (role : Role) (releases further : Bool) → binds S06 (record { role = role; releases = releases; further = further }) ≡ true
 unfolding line_of found_line lines
@@ -211,7 +210,7 @@ due-blamed tested f at opened x e past entry places placed resumed opened_is are
 
 pub resends-gains : (tested : Tested) (s : Inflight) (f : Fate) (at : ℕ) (e : Seen) (past : List Seen) (m : FaultMap) (rests : Bool) (excused : Excused) → IsUnder tested f at e past → IsUsing s tested (fate_before tested f e past) past
     → rests ≡ (settles f (at == e.place.position) s.ended e.note && (index_set_len s.unanswered == 0)) → excused ≡ excuses s.peer s.in_flight (by_itself s.fate s.bounds s.opened s.bounded)
-    → Gains (λ k r. same_rule r S06 && turns_with tested f e past k r) tested (e ∷ past) at m (told rests s.again excused s.opened at (values_of (value_under s.entries)) (value_under s.entries) s.confirmed.keys m)
+    → Gains (λ k r. same_rule r S06 && turns_with tested f e past k r) tested (e ∷ past) at m (told rests s.again excused s.opened at (values_of (value_under s.entries)) m)
 resends-gains tested s f at e past m rests excused under u rest_is excused_is = go rests refl
   where
     entry : ℕ → Option Entry
@@ -311,17 +310,16 @@ resends-gains tested s f at e past m rests excused under u rest_is excused_is = 
     itself = ap apart excused_is
 
     by : resumes f ≡ true → is_binding tested.role (newest e past) ≡ true → vacant ≡ true → IsUsing s tested (Some f) past → (x : Bool) → excused.all ≡ x → (a : Bool) → s.again.all ≡ a → (c : Bool) → s.again.confirmed ≡ c
-        → all (cond x (cond c m (blamed_under entry s.opened at s.confirmed.keys m)) (cond a m (blamed_due s.opened (apart excused) at (values_of entry) m)))
+        → all (cond x (cond c m (blamed_due s.opened entire at (values_of entry) m)) (cond a m (blamed_due s.opened (apart excused) at (values_of entry) m)))
     by resumed b v n true x_is a a_is true c_is =
         from resumed b v n [] (absent excused) (nothing excused (λ i o h due.
         let none : is_some_and (is_due s.opened entire) (entry i) ≡ false = n.resent_are.confirmed_are c_is i in
         let bad : true ≡ false = sym (ap (is_some_and (is_due s.opened entire)) h ∙ sym (whole x_is o) ∙ due) ∙ none in
         absurd (cc)))
     by resumed b v n true x_is a a_is false c_is =
-        subst all (sym (blamed_under-is entry s.opened at s.confirmed.keys m))
-        (from resumed b v n (places_under entry s.opened s.confirmed.keys) (λ k p h. as_due entire (λ o. sym (whole x_is o)) k p (under-due k s.opened entry s.confirmed.keys p h))
-        (λ k i o h due at_k. let due_too : is_due s.opened entire o ≡ true = sym (whole x_is o) ∙ due in
-        listed-due k i s.opened entry s.confirmed.keys o h due_too at_k (due-listed s.opened (by_itself s.fate s.bounds s.opened s.bounded) entry (contains nat_eq s.confirmed) s.again n.resent_are i o h due_too)))
+        subst all (sym (blamed_due-is s.opened entire at (values_of entry) m))
+        (from resumed b v n (due_places s.opened entire (values_of entry)) (λ k p h. as_due entire (λ o. sym (whole x_is o)) k p (value-due k s.opened entire entry p h))
+        (λ k i o h due at_k. key-due k i s.opened entire entry o h (under-within s.entries i (ap is_some h)) (sym (whole x_is o) ∙ due) at_k))
     by resumed b v n false x_is true a_is c c_is =
         from resumed b v n [] (absent excused) (nothing excused (λ i o h due.
         let none : is_some_and (is_due s.opened (by_itself s.fate s.bounds s.opened s.bounded)) (entry i) ≡ false = n.resent_are.all_are a_is i in
@@ -332,7 +330,7 @@ resends-gains tested s f at e past m rests excused under u rest_is excused_is = 
         (from resumed b v n (due_places s.opened (apart excused) (values_of entry)) (λ k p h. as_due (apart excused) (λ o. sym (single x_is o)) k p (value-due k s.opened (apart excused) entry p h))
         (λ k i o h due at_k. key-due k i s.opened (apart excused) entry o h (under-within s.entries i (ap is_some h)) (sym (single x_is o) ∙ due) at_k))
 
-    go : (t : Bool) → rests ≡ t → all (told t s.again excused s.opened at (values_of entry) entry s.confirmed.keys m)
+    go : (t : Bool) → rests ≡ t → all (told t s.again excused s.opened at (values_of entry) m)
     go false h = gains_none tested S06 f e past at m (none (is_binding tested.role (newest e past)) refl (resumes f) refl vacant refl (sym is ∙ h))
     go true h =
         let all_parts = both_true (resumes f && is_binding tested.role (newest e past)) vacant (sym is ∙ h) in

@@ -75,7 +75,6 @@ pub record IsMoved (place : Place3) (opener : Option ℕ) (exactly_once : Bool) 
   pub others : KeepsOthers old new
   pub entries : (i : ℕ) → value_under new.entries i
       ≡ opened_if (is_id i opener) exactly_once false place (closed_if (is_id i closer) (confirmed_if (is_id i pubrec) (released_if (is_id i pubrel) old.bounded place.position (value_under old.entries i))))
-  pub confirmed : (i : ℕ) → contains nat_eq new.confirmed i ≡ (not (is_id i closer) && (contains nat_eq old.confirmed i || (is_id i pubrec && is_some (value_under old.entries i))))
   pub stray : (i : ℕ) → contains nat_eq new.stray i ≡ (not (is_id i closer) && contains nat_eq old.stray i)
   pub unanswered : (i : ℕ) → contains nat_eq new.unanswered i ≡ cond (resumes old.fate) (is_id i (option_or opener pubrel) || (not (is_id i closer) && contains nat_eq old.unanswered i)) (contains nat_eq old.unanswered i)
   pub flying : old.in_flight < place.position → new.in_flight ≡ moved (may_count old.role old.peer) opener closer old.in_flight

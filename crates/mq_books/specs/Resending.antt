@@ -98,32 +98,17 @@ abbrev pub blamed_due : ℕ → Excused → ℕ → List Entry → FaultMap → 
 blamed_due opened excused at [] faults = faults
 blamed_due opened excused at (o ∷ os) faults = blamed_due opened excused at os (due_next opened excused at o faults)
 
--- the same of what is kept of an identifier, excused or not; of several identifiers
-abbrev pub told_under : Option Entry → ℕ → ℕ → FaultMap → FaultMap
-told_under None opened at faults = faults
-told_under (Some o) opened at faults = due_next opened entire at o faults
-
-abbrev pub blamed_under : (ℕ → Option Entry) → ℕ → ℕ → List ℕ → FaultMap → FaultMap
-blamed_under entry opened at [] faults = faults
-blamed_under entry opened at (i ∷ is) faults = blamed_under entry opened at is (told_under (entry i) opened at faults)
-
 -- the faults after a REST, if it binds: where nothing is known to be due nothing is looked at, and where all that isn't confirmed is excused, only what is
-abbrev pub told : Bool → Resent → Excused → ℕ → ℕ → List Entry → (ℕ → Option Entry) → List ℕ → FaultMap → FaultMap
-told rests r excused opened at entries entry confirmed faults =
-    cond rests (cond excused.all (cond r.confirmed faults (blamed_under entry opened at confirmed faults)) (cond r.all faults (blamed_due opened (apart excused) at entries faults))) faults
+abbrev pub told : Bool → Resent → Excused → ℕ → ℕ → List Entry → FaultMap → FaultMap
+told rests r excused opened at entries faults =
+    cond rests (cond excused.all (cond r.confirmed faults (blamed_due opened entire at entries faults)) (cond r.all faults (blamed_due opened (apart excused) at entries faults))) faults
 
 -- a PUBREC below 0x80 is received for an identifier that is open and wasn't sent again since this OPEN
 abbrev pub confirms_untouched : Note → ℕ → (ℕ → Option Entry) → Bool
 confirms_untouched n opened entry = is_some_and (λ i. is_some_and (λ o. nat_lt o.sent opened) (entry i)) (received_as accepting_pubrec_in n)
 
--- whether an identifier is open and such a PUBREC was received for it, after an event of a connection with this fate
-abbrev pub confirmed_next : Fate → Note → (ℕ → Option Entry) → ℕ → Bool → Bool
-confirmed_next f n entry i old = cond (is_open n) (cond (begins (Some f)) false old) (cond (accepts f) (not (is_id i (closer_of n)) && (old || (is_id i (received_as accepting_pubrec_in n) && is_some (entry i)))) old)
-
--- The listed identifiers are open, and all that are confirmed are listed. What is known not to be due since this OPEN isn't, where this is excused by itself.
-pub record IsResent (opened : ℕ) (single : Excused) (entry : ℕ → Option Entry) (confirmed : ℕ → Bool) (r : Resent) : Type 0 where
-  pub listed : (i : ℕ) → is_some_and (λ o. o.confirmed) (entry i) ≡ true → confirmed i ≡ true
-  pub opened_are : (i : ℕ) → confirmed i ≡ true → is_some (entry i) ≡ true
+-- What is known not to be due since this OPEN isn't, where this is excused by itself.
+pub record IsResent (opened : ℕ) (single : Excused) (entry : ℕ → Option Entry) (r : Resent) : Type 0 where
   pub all_are : r.all ≡ true → (i : ℕ) → is_some_and (is_due opened single) (entry i) ≡ false
   pub confirmed_are : r.confirmed ≡ true → (i : ℕ) → is_some_and (is_due opened entire) (entry i) ≡ false
 

@@ -148,4 +148,4 @@ pub record IsUsing (s : Inflight) (tested : Tested) (taken : Option Fate) (past 
   pub bounds_are : s.bounds ≡ peer_bounds tested.role past
   pub bounded_is : s.bounded ≡ bounded_at tested.role past
   pub passed_are : (i : ℕ) (o : Entry) → value_under s.entries i ≡ Some o → is_passed s.bounded o ≡ passed_before tested.role i o.place.position past
-  pub resent_are : IsResent s.opened (by_itself s.fate s.bounds s.opened s.bounded) (value_under s.entries) (contains nat_eq s.confirmed) s.again
+  pub resent_are : IsResent s.opened (by_itself s.fate s.bounds s.opened s.bounded) (value_under s.entries) s.again

@@ -7,18 +7,20 @@ use Rattle.mq_rules.specs.declared.note.Seen.{Seen}
 use Rattle.mq_rules.specs.KeptOrder.{ids_kept}
 use Rattle.mq_books.specs.declared.asked.Asked.{Asked}
 use Rattle.mq_books.specs.declared.counts.Counts.{Counts}
+use Rattle.mq_books.specs.declared.grants.Grants.{Grants}
 use Rattle.mq_books.specs.declared.inflight.Inflight.{Inflight}
 use Rattle.mq_books.specs.declared.owed.Owed.{Owed}
 use Rattle.mq_books.specs.declared.releases.Releases.{Releases}
 use Rattle.mq_books.specs.declared.subs.Deliveries.{Deliveries}
 use Rattle.mq_books.specs.Holding.{event_size}
+use Rattle.mq_books.specs.Burden.{at_least_one}
 use Rattle.mq_books.specs.Standings.{SessionFilters, waits_weight}
 
--- what is sent: the identifiers that are open, those that a PUBREC confirmed, those in delivery beside them, those without an answer on a resumed connection,
+-- what is sent: the identifiers that are open, those in delivery beside them, those without an answer on a resumed connection,
 -- those of void connections, those that a client used before the session began, and those of SUBSCRIBEs and of UNSUBSCRIBEs without an answer
 abbrev pub inflight_weighs : Inflight → ℕ
 inflight_weighs s =
-    ids_kept s.entries + index_set_len s.confirmed + index_set_len s.stray + index_set_len s.unanswered + index_set_len s.void
+    ids_kept s.entries + index_set_len s.stray + index_set_len s.unanswered + index_set_len s.void
     + index_set_len s.earlier.first + index_set_len s.subscribing + index_set_len s.unsubscribing
 
 -- an exchange: the identifiers with a cause in the session

@@ -58,7 +58,7 @@ use mq_rules::{
 };
 use resends::{
     Bounds, Resent, bounded_after, bounds_after, excused_by_itself, excused_now, passed_since,
-    resent_still, settles_now, take_confirmed,
+    resent_still, settles_now,
 };
 use std::alloc::Global;
 
@@ -72,8 +72,6 @@ pub struct Inflight {
     ordered: bool,
     /// The identifiers that are open in the session.
     entries: CountedByIdentifier<Entry>,
-    /// Those of them for which a PUBREC below 0x80 came.
-    confirmed: IndexSet<u16>,
     /// What is known not to be due on the connection.
     again: Resent,
     /// Those of PUBLISH packets that were sent on the connection that is open, and not acknowledged
@@ -262,7 +260,6 @@ impl Inflight {
             fate: Fate::Void,
             ordered: Rule::S05.is_judged(tested),
             entries: CountedByIdentifier::new(alloc),
-            confirmed: IndexSet::new(alloc),
             again: Resent {
                 all: false,
                 confirmed: false,
@@ -366,7 +363,7 @@ impl Inflight {
         ensures flying { self.old.in_flight < at.position → OnOk result (self.new.in_flight ≡ flown_by (counts_now self.old.role self.old.peer) note.now self.old.in_flight) }
         ensures bounds { OnOk result (self.new.bounds ≡ bounds_next self.old.role note.now self.old.bounds) }
         ensures bounded { OnOk result (self.new.bounded ≡ bounded_next note.now self.old.fate self.old.bounds self.old.opened self.old.bounded) }
-        ensures again { self.old.opened ≤ at.position → self.old.bounded ≤ self.old.opened → (opens note.now ≡ false → self.old.fate ≡ fate) → IsResent self.old.opened (by_itself self.old.fate self.old.bounds self.old.opened self.old.bounded) (value_under self.old.entries) (contains nat_eq self.old.confirmed) self.old.again → OnOk result (IsResent self.new.opened (by_itself self.new.fate self.new.bounds self.new.opened self.new.bounded) (value_under self.new.entries) (contains nat_eq self.new.confirmed) self.new.again) }
+        ensures again { self.old.opened ≤ at.position → self.old.bounded ≤ self.old.opened → (opens note.now ≡ false → self.old.fate ≡ fate) → IsResent self.old.opened (by_itself self.old.fate self.old.bounds self.old.opened self.old.bounded) (value_under self.old.entries) self.old.again → OnOk result (IsResent self.new.opened (by_itself self.new.fate self.new.bounds self.new.opened self.new.bounded) (value_under self.new.entries) self.new.again) }
     {
         let alloc = self.alloc;
         let role = self.role;
@@ -376,7 +373,6 @@ impl Inflight {
             .take_in(alloc, role, before, fate, known, note)?;
         self.again = resent_still(self.again, &self.entries, self.opened, note);
         self.take_connection(at, fate, note);
-        take_confirmed(&mut self.confirmed, alloc, &self.entries, fate, note)?;
         take_entries(&mut self.entries, bounded, at, fate, note)?;
         self.take_waiting(fate, note)?;
         Ok(())
@@ -390,7 +386,7 @@ impl Fated for Inflight {
 
     ghost weighs = { inflight_weighs };
 
-    ghost bound = { λ tested taken past. 2 * open_ids tested.role taken past + 2 * delivering_ids past + void_ids tested.role taken past + first_ids tested.role taken past + subscribing_ids past + unsubscribing_ids past };
+    ghost bound = { λ tested taken past. open_ids tested.role taken past + 2 * delivering_ids past + void_ids tested.role taken past + first_ids tested.role taken past + subscribing_ids past + unsubscribing_ids past };
 
     #[inline(always)]
     fn fated<E: Taken>(
@@ -413,11 +409,10 @@ impl Fated for Inflight {
         }
     }
 
-    // The table and all seven sets of the struct.
+    // The table and all six sets of the struct.
     fn weight(&self) -> usize {
         self.entries
             .len()
-            .saturating_add(set_size(&self.confirmed))
             .saturating_add(set_size(&self.stray))
             .saturating_add(set_size(&self.unanswered))
             .saturating_add(set_size(&self.void))

@@ -21,7 +21,7 @@ ghost use Rattle.mq_books.specs.Using.{is_taken, IsUsing};
 
 use super::broken::is_taken as held;
 use super::entry::{Entry, close, confirm, open_new, release};
-use super::resends::{Resent, keep_confirmed, passed_since as since_now};
+use super::resends::{Resent, passed_since as since_now};
 use super::{Inflight, keep_unanswered};
 use crate::fated::Fated;
 use crate::known::judge_by;
@@ -172,7 +172,6 @@ impl Inflight {
             self.in_flight,
             at.position,
         );
-        keep_confirmed(&mut self.confirmed, &self.entries, pubrec, closer)?;
         release(&mut self.entries, pubrel, self.bounded, at.position);
         confirm(&mut self.entries, pubrec);
         close(&mut self.entries, closer);

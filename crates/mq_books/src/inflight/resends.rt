@@ -1,14 +1,14 @@
 //! What a resumed session owes (MQTT 5.0, section 4.4).
-ghost use Rattle.std.specs.Prelude.{◌≡◌, ◌==◌, ◌&&◌, ◌||◌, ℕ, Bool, true, false, OnOk, OnErr, IfOk, cond, not, nat_eq, nat_lt, is_some};
+ghost use Rattle.std.specs.Prelude.{◌≡◌, ◌==◌, ◌&&◌, ◌||◌, true, false, OnOk, OnErr, IfOk, cond, not, is_some};
 ghost use Rattle.std.specs.List.{list_any};
 ghost use Rattle.mq_rules.specs.KeptOrder.{value_under, values_of};
-ghost use Rattle.indexmap.specs.IndexSet.{contains, index_set_len};
-ghost use Rattle.mq_rules.specs.Words.{is_some_and, is_id};
+ghost use Rattle.indexmap.specs.IndexSet.{index_set_len};
+ghost use Rattle.mq_rules.specs.Words.{is_some_and};
 ghost use Rattle.mq_rules.specs.Notes.{note_in, is_open as opens};
 ghost use Rattle.mq_books.specs.Owings.{Keeps};
 ghost use Rattle.mq_books.specs.Resending as resending;
 ghost use Rattle.mq_books.specs.declared.inflight.resends.Excused.{Excused as TheExcused};
-ghost use Rattle.mq_books.specs.Resending.{by_itself, bounded_next, entire, due_next, told_under, blamed_due, blamed_under, told, excuses, settles, bounds_next, confirmed_next, confirms_untouched, IsResent};
+ghost use Rattle.mq_books.specs.Resending.{by_itself, bounded_next, entire, due_next, blamed_due, told, excuses, settles, bounds_next, confirms_untouched, IsResent};
 
 use super::Inflight;
 use super::entry::Entry;
@@ -245,60 +245,6 @@ fn confirms(entries: &CountedByIdentifier<Entry>, opened: u32, note: &Note) -> b
     }
 }
 
-/// Keeps the identifiers that are open and for which a PUBREC below 0x80 came. The event isn't
-/// taken in yet.
-pub fn take_confirmed(
-    confirmed: &mut IndexSet<u16>,
-    alloc: Global,
-    entries: &CountedByIdentifier<Entry>,
-    fate: Fate,
-    note: &Note,
-) -> Result<(), Memory>
-    ensures { OnOk result ((i : ℕ) → contains nat_eq confirmed.new i ≡ confirmed_next fate note.now (value_under entries.now) i (contains nat_eq confirmed.old i)) }
-{
-    if note.is_open() {
-        if fate.begins() {
-            // A large set that is cleared costs its size each time.
-            *confirmed = IndexSet::new(alloc);
-        }
-        return Ok(());
-    }
-    if !fate.accepts() {
-        return Ok(());
-    }
-    keep_confirmed(
-        confirmed,
-        entries,
-        note.received_accepting_pubrec(),
-        note.closer(),
-    )
-}
-
-/// Keeps the identifier for which a PUBREC below 0x80 came, if it is open, and no longer the one
-/// that is set free.
-#[inline(always)]
-pub fn keep_confirmed(
-    confirmed: &mut IndexSet<u16>,
-    entries: &CountedByIdentifier<Entry>,
-    begun: Option<u16>,
-    ended: Option<u16>,
-) -> Result<(), Memory>
-    ensures { OnOk result ((i : ℕ) → contains nat_eq confirmed.new i ≡ (not (is_id i ended) && (contains nat_eq confirmed.old i || (is_id i begun && is_some (value_under entries.now i))))) }
-{
-    if let Some(i) = begun {
-        if entries.contains(i) {
-            confirmed.insert(i)?;
-        }
-    }
-    if let Some(i) = ended {
-        // In most logs none is kept.
-        if !confirmed.is_empty() {
-            confirmed.swap_remove(&i);
-        }
-    }
-    Ok(())
-}
-
 // Whether some identifier that is open is due.
 fn any_due(entries: &CountedByIdentifier<Entry>, opened: u32, excused: Excused) -> bool
     ensures { result ≡ list_any (λ o. resending.is_due opened excused o) (values_of (value_under entries.now)) }
@@ -309,27 +255,6 @@ fn any_due(entries: &CountedByIdentifier<Entry>, opened: u32, excused: Excused) 
         }
     }
     false
-}
-
-// Whether an identifier is open and due, excused or not.
-fn is_due_under(entries: &CountedByIdentifier<Entry>, opened: u32, i: u16) -> bool
-    ensures { result ≡ is_some_and (resending.is_due opened entire) (value_under entries.now i) }
-{
-    match entries.get(i) {
-        Some(entry) => is_due(opened, ENTIRE, &entry),
-        None => false,
-    }
-}
-
-// Whether some of these identifiers is.
-fn any_due_under(
-    confirmed: &IndexSet<u16>,
-    entries: &CountedByIdentifier<Entry>,
-    opened: u32,
-) -> bool
-    ensures { result ≡ list_any (λ i. is_some_and (resending.is_due opened entire) (value_under entries.now i)) confirmed.now.keys }
-{
-    confirmed.iter().any(|i| is_due_under(entries, opened, *i))
 }
 
 // Adds the faults of what is due.
@@ -351,42 +276,6 @@ fn blame_due(
     Ok(())
 }
 
-// Adds the fault of an identifier, if it is due, excused or not.
-fn blame_under(
-    entries: &CountedByIdentifier<Entry>,
-    opened: u32,
-    i: u16,
-    decided: u32,
-    faults: &mut Faults,
-) -> Result<(), Memory>
-    ensures ok { OnOk result (faults.new ≡ told_under (value_under entries.now i) opened decided faults.old) }
-    ensures unchanged { OnErr result (faults.new ≡ faults.old) }
-{
-    match entries.get(i) {
-        Some(entry) => blame_one(&entry, opened, ENTIRE, decided, faults),
-        None => Ok(()),
-    }
-}
-
-// Adds the faults of those of these identifiers that are due, excused or not.
-#[tactic(auto, using(crate::proofs::PlacesLaws::keeps_under_next, crate::proofs::PlacesLaws::keeps_under))]
-fn blame_confirmed(
-    confirmed: &IndexSet<u16>,
-    entries: &CountedByIdentifier<Entry>,
-    opened: u32,
-    decided: u32,
-    faults: &mut Faults,
-) -> Result<(), Memory>
-    ensures ok { OnOk result (faults.new ≡ blamed_under (value_under entries.now) opened decided confirmed.now.keys faults.old) }
-    ensures memory { OnErr result (Keeps faults.old faults.new) }
-    ensures partial { OnErr result (Keeps faults.new (blamed_under (value_under entries.now) opened decided confirmed.now.keys faults.old)) }
-{
-    for i in confirmed.iter() {
-        blame_under(entries, opened, *i, decided, faults)?;
-    }
-    Ok(())
-}
-
 // Adds the faults of what is due at a REST that binds, where this is excused by itself. What is
 // known not to be due isn't looked for: so an identifier that isn't due is looked at once.
 #[tactic(auto, using(crate::proofs::BlameLaws::keeps_same))]
@@ -399,7 +288,7 @@ fn settle_all(
     faults: &mut Faults,
 ) -> Result<Resent, Memory>
     ensures ok { OnOk result (faults.new ≡ cond resent.all faults.old (blamed_due opened excused decided (values_of (value_under entries.now)) faults.old)) }
-    ensures resent { (confirmed : ℕ → Bool) → IsResent opened excused (value_under entries.now) confirmed resent → IfOk result (IsResent opened excused (value_under entries.now) confirmed) }
+    ensures resent { IsResent opened excused (value_under entries.now) resent → IfOk result (IsResent opened excused (value_under entries.now)) }
     ensures memory { OnErr result (Keeps faults.old faults.new) }
     ensures partial { OnErr result (Keeps faults.new (cond resent.all faults.old (blamed_due opened excused decided (values_of (value_under entries.now)) faults.old))) }
 {
@@ -414,28 +303,27 @@ fn settle_all(
 }
 
 // Adds the faults of what was confirmed and is due at a REST that binds, where what wasn't
-// confirmed is excused.
+// confirmed is excused. What is known not to be due isn't looked for either.
 #[tactic(auto, using(crate::proofs::BlameLaws::keeps_same))]
 fn settle_confirmed(
     resent: Resent,
     entries: &CountedByIdentifier<Entry>,
-    confirmed: &IndexSet<u16>,
     opened: u32,
     decided: u32,
     faults: &mut Faults,
 ) -> Result<Resent, Memory>
-    ensures ok { OnOk result (faults.new ≡ cond resent.confirmed faults.old (blamed_under (value_under entries.now) opened decided confirmed.now.keys faults.old)) }
-    ensures resent { (single : TheExcused) → IsResent opened single (value_under entries.now) (contains nat_eq confirmed.now) resent → IfOk result (IsResent opened single (value_under entries.now) (contains nat_eq confirmed.now)) }
+    ensures ok { OnOk result (faults.new ≡ cond resent.confirmed faults.old (blamed_due opened entire decided (values_of (value_under entries.now)) faults.old)) }
+    ensures resent { (single : TheExcused) → IsResent opened single (value_under entries.now) resent → IfOk result (IsResent opened single (value_under entries.now)) }
     ensures memory { OnErr result (Keeps faults.old faults.new) }
-    ensures partial { OnErr result (Keeps faults.new (cond resent.confirmed faults.old (blamed_under (value_under entries.now) opened decided confirmed.now.keys faults.old))) }
+    ensures partial { OnErr result (Keeps faults.new (cond resent.confirmed faults.old (blamed_due opened entire decided (values_of (value_under entries.now)) faults.old))) }
 {
     if resent.confirmed {
         return Ok(resent);
     }
-    blame_confirmed(confirmed, entries, opened, decided, faults)?;
+    blame_due(entries, opened, ENTIRE, decided, faults)?;
     Ok(Resent {
         all: resent.all,
-        confirmed: !any_due_under(confirmed, entries, opened),
+        confirmed: !any_due(entries, opened, ENTIRE),
     })
 }
 
@@ -449,23 +337,16 @@ impl Inflight {
         decided: u32,
         faults: &mut Faults,
     ) -> Result<Resent, Memory>
-        ensures ok { OnOk result (faults.new ≡ told settles self.now.again excused self.now.opened decided (values_of (value_under self.now.entries)) (value_under self.now.entries) self.now.confirmed.keys faults.old) }
-        ensures resent { IsResent self.now.opened (resending.apart excused) (value_under self.now.entries) (contains nat_eq self.now.confirmed) self.now.again → IfOk result (IsResent self.now.opened (resending.apart excused) (value_under self.now.entries) (contains nat_eq self.now.confirmed)) }
+        ensures ok { OnOk result (faults.new ≡ told settles self.now.again excused self.now.opened decided (values_of (value_under self.now.entries)) faults.old) }
+        ensures resent { IsResent self.now.opened (resending.apart excused) (value_under self.now.entries) self.now.again → IfOk result (IsResent self.now.opened (resending.apart excused) (value_under self.now.entries)) }
         ensures memory { OnErr result (Keeps faults.old faults.new) }
-        ensures partial { OnErr result (Keeps faults.new (told settles self.now.again excused self.now.opened decided (values_of (value_under self.now.entries)) (value_under self.now.entries) self.now.confirmed.keys faults.old)) }
+        ensures partial { OnErr result (Keeps faults.new (told settles self.now.again excused self.now.opened decided (values_of (value_under self.now.entries)) faults.old)) }
     {
         if !settles {
             return Ok(self.again);
         }
         if excused.all {
-            return settle_confirmed(
-                self.again,
-                &self.entries,
-                &self.confirmed,
-                self.opened,
-                decided,
-                faults,
-            );
+            return settle_confirmed(self.again, &self.entries, self.opened, decided, faults);
         }
         settle_all(
             self.again,

@@ -5,7 +5,7 @@ use Rattle.mq_rules.specs.Notes.{is_open, is_boundary, sent_as, received_as, sub
 use Rattle.mq_books.specs.declared.inflight.Inflight.{Inflight}
 use Rattle.mq_books.specs.declared.inflight.resends.Resent.{Resent}
 use Rattle.mq_books.specs.Opened.{entry_next}
-use Rattle.mq_books.specs.Resending.{by_itself, bounds_next, bounded_next, IsResent, confirmed_next}
+use Rattle.mq_books.specs.Resending.{by_itself, bounds_next, bounded_next, IsResent}
 use Rattle.mq_books.specs.Using.{waits_next, stray_next, unanswered_next, void_next}
 use Rattle.mq_books.proofs.AgainLaws.{again-next, bounds-keep}
 use Rattle.mq_books.proofs.inflight.Inflight.take_in.Goals as goal
@@ -75,14 +75,12 @@ returns-clause-again c = λ le within same is.
     let s = c.args.self.now in
     let n = c.args.note.now in
     let entries = c.take_entries.new.entries in
-    let confirmed = c.take_confirmed.new.confirmed in
     let before = by_itself s.fate s.bounds s.opened s.bounded in
     let after = by_itself c.args.fate (bounds_next s.role n s.bounds) (cond (is_open n) c.args.at.position s.opened) (bounded_next n s.fate s.bounds s.opened s.bounded) in
-    subst (λ (x : Inflight). IsResent x.opened (by_itself x.fate x.bounds x.opened x.bounded) (value_under x.entries) (contains nat_eq x.confirmed) x.again) (sym c.in_ok-take_waiting.ensures.same)
-    (subst (λ (x : Inflight). IsResent x.opened (by_itself x.fate x.bounds x.opened x.bounded) (value_under entries) (contains nat_eq confirmed) x.again) (sym c.take_connection.ensures.state)
-    (subst (λ (r : Resent). IsResent (cond (is_open n) c.args.at.position s.opened) after (value_under entries) (contains nat_eq confirmed) r) (sym c.resent_still-self.ensures)
-    (again-next c.args.fate n s.bounded c.args.at s.opened before after (value_under s.entries) (value_under entries) (contains nat_eq s.confirmed) (contains nat_eq confirmed) s.again le
+    subst (λ (x : Inflight). IsResent x.opened (by_itself x.fate x.bounds x.opened x.bounded) (value_under x.entries) x.again) (sym c.in_ok-take_waiting.ensures.same)
+    (subst (λ (x : Inflight). IsResent x.opened (by_itself x.fate x.bounds x.opened x.bounded) (value_under entries) x.again) (sym c.take_connection.ensures.state)
+    (subst (λ (r : Resent). IsResent (cond (is_open n) c.args.at.position s.opened) after (value_under entries) r) (sym c.resent_still-self.ensures)
+    (again-next c.args.fate n s.bounded c.args.at s.opened before after (value_under s.entries) (value_under entries) s.again le
     (bounds-keep s.role n c.args.fate s.fate s.bounds s.opened s.bounded c.args.at.position within same)
     (λ i. c.in_ok-take_entries.ensures.entries i ∙ ap (λ (x : Inflight). entry_next c.args.fate n s.bounded c.args.at i (value_under x.entries i)) c.take_connection.ensures.state)
-    (λ i. c.in_ok-take_confirmed.ensures i ∙ ap (λ (x : Inflight). confirmed_next c.args.fate n (value_under x.entries) i (contains nat_eq x.confirmed i)) c.take_connection.ensures.state)
     is)))

@@ -1,6 +1,5 @@
-use Rattle.std.proofs.Common.{◌≡◌, ℕ, Option, Some, false, cond, ◌≤◌, ◌&&◌, ◌∷◌, nat_eq, arith, subst, sym, ap, ◌∙◌}
+use Rattle.std.proofs.Common.{◌≡◌, ℕ, Option, Some, false, cond, ◌≤◌, ◌&&◌, ◌∷◌, arith, subst, sym, ap, ◌∙◌}
 use Rattle.mq_rules.specs.KeptOrder.{value_under, values_of}
-use Rattle.indexmap.specs.IndexSet.{contains}
 use Rattle.mq_rules.specs.declared.rule.Rule.TheVariants.{S06}
 use Rattle.mq_rules.specs.Rules.{same_rule}
 use Rattle.mq_rules.specs.FaultKeys.{FaultMap}
@@ -40,16 +39,16 @@ returns-clause-agrees c = λ tested past under u.
     let same : is_open c.args.note.now ≡ false → s.fate ≡ c.args.fate = λ closed. let h : Some s.fate ≡ Some c.args.fate = sym u.same_fate ∙ ap (λ b. cond b (latest_fate tested.role past) (Some c.args.fate)) closed in cc in
     inflight-next tested c.args.self.now c.take_in.new.self c.args.fate c.args.decided (seen c.args.at c.args.note.now) past under u t.role t.fate t.ordered t.entries t.stray t.unanswered t.void t.earlier t.subscribing t.unsubscribing t.resent t.ended t.opened t.peer t.flying t.bounds t.bounded
     (t.again below order same
-    (same-single s.opened (apart c.excused_now-excused.result) single (value_under s.entries) (contains nat_eq s.confirmed) _ itself
+    (same-single s.opened (apart c.excused_now-excused.result) single (value_under s.entries) _ itself
     (c.in_ok-self.ensures.resent
-    (same-single s.opened single (apart c.excused_now-excused.result) (value_under s.entries) (contains nat_eq s.confirmed) s.again (sym itself) u.resent_are))))
+    (same-single s.opened single (apart c.excused_now-excused.result) (value_under s.entries) s.again (sym itself) u.resent_are))))
 
 pub returns-clause-grows : goal.returns-clause-grows
 returns-clause-grows c = λ tested past under u.
     let s = c.args.self.now in
     let e = seen c.args.at c.args.note.now in
     subst (λ (n : FaultMap). Gains (λ k r. is_inflight r && turns_with tested c.args.fate e past k r) tested (e ∷ past) c.args.decided c.args.faults.now n)
-    (sym (c.in_ok-self.ensures.ok ∙ ap (λ n. told c.settles_now-settles.result s.again c.excused_now-excused.result s.opened c.args.decided (values_of (value_under s.entries)) (value_under s.entries) s.confirmed.keys n) c.in_ok-judge_all.ensures.ok))
+    (sym (c.in_ok-self.ensures.ok ∙ ap (λ n. told c.settles_now-settles.result s.again c.excused_now-excused.result s.opened c.args.decided (values_of (value_under s.entries)) n) c.in_ok-judge_all.ensures.ok))
     (inflight-gains tested s c.args.fate c.args.decided e past c.args.faults.now c.broken_by-broken.result c.settles_now-settles.result c.excused_now-excused.result under u c.broken_by-broken.ensures c.settles_now-settles.ensures (excused_as c.args.self.now.peer c.args.self.now.in_flight _ _ _ c.excused_now-excused.ensures c.excused_by_itself-single.ensures))
 
 pub returns-in_err-judge_all-clause-memory : goal.returns-in_err-judge_all-clause-memory
@@ -73,7 +72,7 @@ returns-in_err-self-clause-memory c =
     within_either_second is_at_once (λ r. same_rule r S06) (λ k r. turns_with tested c.args.fate e past k r) tested (e ∷ past) c.args.decided m mid c.settle.new.faults
     (subst (λ (n : FaultMap). Gains (λ k r. is_at_once r && turns_with tested c.args.fate e past k r) tested (e ∷ past) c.args.decided m n) (sym c.in_ok-judge_all.ensures.ok)
     (using-gains tested s c.args.fate c.args.decided e past m c.broken_by-broken.result under u c.broken_by-broken.ensures))
-    (within_kept (λ k r. same_rule r S06 && turns_with tested c.args.fate e past k r) tested (e ∷ past) c.args.decided mid c.settle.new.faults (told c.settles_now-settles.result s.again c.excused_now-excused.result s.opened c.args.decided (values_of (value_under s.entries)) (value_under s.entries) s.confirmed.keys mid)
+    (within_kept (λ k r. same_rule r S06 && turns_with tested c.args.fate e past k r) tested (e ∷ past) c.args.decided mid c.settle.new.faults (told c.settles_now-settles.result s.again c.excused_now-excused.result s.opened c.args.decided (values_of (value_under s.entries)) mid)
     (resends-gains tested s c.args.fate c.args.decided e past mid c.settles_now-settles.result c.excused_now-excused.result under u c.settles_now-settles.ensures (excused_as c.args.self.now.peer c.args.self.now.in_flight _ _ _ c.excused_now-excused.ensures c.excused_by_itself-single.ensures))
     c.in_err-self.ensures.memory c.in_err-self.ensures.partial))
 
@@ -84,5 +83,5 @@ returns-in_err-take_in-clause-memory c =
     let e = seen c.args.at c.args.note.now in
     within_all (λ k r. is_inflight r && turns_with tested c.args.fate e past k r) tested (e ∷ past) c.args.decided c.args.faults.now c.settle.new.faults
     (subst (λ (n : FaultMap). Gains (λ k r. is_inflight r && turns_with tested c.args.fate e past k r) tested (e ∷ past) c.args.decided c.args.faults.now n)
-    (sym (c.in_ok-self.ensures.ok ∙ ap (λ n. told c.settles_now-settles.result s.again c.excused_now-excused.result s.opened c.args.decided (values_of (value_under s.entries)) (value_under s.entries) s.confirmed.keys n) c.in_ok-judge_all.ensures.ok))
+    (sym (c.in_ok-self.ensures.ok ∙ ap (λ n. told c.settles_now-settles.result s.again c.excused_now-excused.result s.opened c.args.decided (values_of (value_under s.entries)) n) c.in_ok-judge_all.ensures.ok))
     (inflight-gains tested s c.args.fate c.args.decided e past c.args.faults.now c.broken_by-broken.result c.settles_now-settles.result c.excused_now-excused.result under u c.broken_by-broken.ensures c.settles_now-settles.ensures (excused_as c.args.self.now.peer c.args.self.now.in_flight _ _ _ c.excused_now-excused.ensures c.excused_by_itself-single.ensures))))
