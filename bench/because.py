@@ -23,6 +23,7 @@ from pathlib import Path
 sys.dont_write_bytecode = True  # the repository stays as it is
 import on_request
 import reference
+from further_manners import waits_for_auth
 from further_table import JUDGED
 from reading import (
     CONNACK, CONNECT, DISCONNECT, NAMES, PINGREQ, PINGRESP, PUBREC, PUBREL, Recording, SUBACK, SUBSCRIBE, UNSUBACK, UNSUBSCRIBE,
@@ -453,7 +454,14 @@ def counts_wrongly(exchange: str) -> Reason:
 REASONS["B03"] = counts_wrongly("E5")
 REASONS["B04"] = counts_wrongly("E6")
 
-# -- F, V and A, of further statements: the CONNACK or the CONNECT of the connection; of a value in one packet nothing earlier
+
+@says("B05")
+def grants_too_much(log: Log, k: int) -> Evidence:
+    """The SUBSCRIBE that is answered."""
+    return Evidence("the SUBSCRIBE, which asks for less", first_unanswered(log, "E5", k, log.sent_packet(k).identifier))
+
+
+# -- F, V, C24, D and A, of further statements: the CONNACK or the CONNECT of the connection, or a REST; of a value in one packet nothing earlier
 
 
 def announces_0(property: str) -> Reason:
@@ -481,6 +489,19 @@ def accepts_too_high_a_will(log: Log, k: int) -> Evidence:
 def accepts_a_will_to_retain(log: Log, k: int) -> Evidence:
     """The CONNECT, whose Will is to be retained."""
     return Evidence("the CONNECT, with Will Retain 1", connect_of(log, k))
+
+
+@says("C24")
+def leaves_a_connect(log: Log, k: int) -> Evidence:
+    """The first REST after it on its connection at which the server doesn't wait for an AUTH."""
+    is_idle = lambda t: t > k and log.is_rest(t) and not waits_for_auth(log, t)
+    return Evidence("the REST, with no CONNACK before it", earliest(log.connection_positions[log.places[k]], is_idle))
+
+
+@says("D01", "D02")
+def keeps_a_connection(log: Log, k: int) -> Evidence:
+    """The first REST after it on its connection."""
+    return Evidence("the REST, and the connection was still open", earliest(log.connection_positions[log.places[k]], lambda t: t > k and log.is_rest(t)))
 
 
 @says("A01")

@@ -36,7 +36,7 @@ def is_first_of(kind: Kind, log: Log, k: int) -> bool:
 
 def open_rest(log: Log, k: int) -> int | None:
     """The first REST after k, if nothing excuses that the connection is still open there."""
-    t = rests_after(log, k)
+    t = next(iter(rests_after(log, k)), None)
     return None if t is None or is_excused(log, k) or is_leaving(log, t) else t
 
 

@@ -152,44 +152,51 @@ def gives_a_foreign_reason(log: Log, k: int) -> bool:
 SMALLEST_CONNACK = 5  # bytes: one without properties
 
 
-def rests_after(log: Log, k: int) -> int | None:
-    """The first REST after k on k's connection."""
-    return next((t for t in log.connection_positions[log.places[k]] if t > k and log.is_rest(t)), None)
+def rests_after(log: Log, k: int) -> list[int]:
+    """The RESTs after k on k's connection."""
+    return [t for t in log.connection_positions[log.places[k]] if t > k and log.is_rest(t)]
 
 
-def is_first_connect(log: Log, k: int) -> bool:
-    return log.role == "server" and log.received_packet(k, CONNECT) is not None and log.first_connect(log.places[k]) == k
+def takes_connack(connect: Packet) -> bool:
+    """The Maximum Packet Size isn't below the size of the smallest CONNACK."""
+    most = connect.get(MAXIMUM_PACKET_SIZE)
+    return most is None or most >= SMALLEST_CONNACK
 
 
-def may_go_unanswered(log: Log, t: int) -> bool:
-    """Before t on its connection something stands that breaks a rule, or a DISCONNECT; or the server waits for an AUTH."""
+def is_owed_connack(log: Log, k: int) -> bool:
+    """The first CONNECT is received, and its client takes a CONNACK. Bytes that break a rule count by their type."""
+    connect = log.received_packet(k, CONNECT) if log.role == "server" else None
+    return connect is not None and takes_connack(connect) and not any(type_of(log.received(j)) == CONNECT for j in log.before_on(k))
+
+
+def is_settled(log: Log, t: int) -> bool:
+    """Before t on its connection a CONNACK was sent, or something stands that breaks a rule, or a DISCONNECT."""
     before = log.before_on(t)
     items = [log.event(j).item for j in before]
     if any(isinstance(item, (Bad, Lost)) or (isinstance(item, Packet) and item.type == DISCONNECT) for item in items):
         return True
-    asked = sum(log.sent_packet(j, AUTH) is not None for j in before)
-    return asked > sum(log.received_packet(j, AUTH) is not None for j in before)
+    return any(log.sent_packet(j, CONNACK) for j in before)
 
 
-def takes_no_connack(log: Log, k: int) -> bool:
-    """The Maximum Packet Size of the CONNECT is below the size of the smallest CONNACK."""
-    most = log.received_packet(k, CONNECT).get(MAXIMUM_PACKET_SIZE)
-    return most is not None and most < SMALLEST_CONNACK
+def waits_for_auth(log: Log, t: int) -> bool:
+    """Of the AUTHs before t on its connection, of either direction, the latest was sent."""
+    latest = next((j for j in reversed(log.before_on(t)) if type_of(log.event(j).item) == AUTH), None)
+    return latest is not None and log.sent(latest) is not None
 
 
 @fails_later("C24", received([CONNECT]))
 def leaves_a_connect(log: Log, k: int) -> int | None:
-    t = rests_after(log, k) if is_first_connect(log, k) else None
-    if t is None or takes_no_connack(log, k) or may_go_unanswered(log, t):
+    """Any REST that leaves it unanswered; the first such decides."""
+    if not is_owed_connack(log, k):
         return None
-    return None if any(log.sent_packet(j, CONNACK) for j in log.before_on(t)) else t
+    return next((t for t in rests_after(log, k) if not is_settled(log, t) and not waits_for_auth(log, t)), None)
 
 
 @applies("C24")
 def answers_or_rests(log: Log, k: int) -> bool:
-    """The first CONNECT is received, and a CONNACK is sent after it, or it is left without one."""
+    """The first CONNECT is received, its client takes a CONNACK, and one is sent after it, or it is left without one."""
     later = [j for j in log.connection_positions[log.places[k]] if j > k]
-    return is_first_connect(log, k) and (any(log.sent_packet(j, CONNACK) for j in later) or leaves_a_connect(log, k) is not None)
+    return is_owed_connack(log, k) and (any(log.sent_packet(j, CONNACK) for j in later) or leaves_a_connect(log, k) is not None)
 
 
 # ---- A, of enhanced authentication, where a CONNECT stands before the position

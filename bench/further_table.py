@@ -16,6 +16,13 @@ from sessions import Log
 
 # code, citation for a client, citation for a server (`-`: isn't bound), and the sentence
 SHAPES = """
+B05 - sec-3.9.3 A SUBACK grants no more than was asked for
+B06 - MQTT-3.10.4-1 No UNSUBACK says of a subscription that it doesn't exist
+B07 - sec-3.11.3 No UNSUBACK says that a filter was deleted which was never subscribed
+B08 - MQTT-3.3.2-3 A PUBLISH matches a subscription, where some are shared too
+B09 - MQTT-3.8.4-8,MQTT-4.8.2-3 Its QoS isn't above what was granted, where some are shared too
+B10 - MQTT-3.10.4-2 Nothing comes for a filter that was unsubscribed before a REST
+B11 - MQTT-3.8.4-3 The QoS of a subscription that was replaced holds no longer
 F01 MQTT-3.2.2-14 - A new PUBLISH has RETAIN 0 where Retain Available is 0
 F02 sec-3.2.2.3.11 - No filter has a wildcard where the server takes none
 F03 sec-3.2.2.3.12 - No SUBSCRIBE has a Subscription Identifier where the server takes none
@@ -30,13 +37,6 @@ D01 - MQTT-4.13.1-1 After a Malformed Packet the server closes the connection
 D02 - MQTT-3.1.0-2 After a second CONNECT the server closes the connection
 D03 - MQTT-4.13.1-1 After a Protocol Error the server closes the connection
 D05 - sec-3.3.4 After more PUBLISHes than its Receive Maximum the server closes
-B05 - sec-3.9.3 A SUBACK grants no more than was asked for
-B06 - MQTT-3.10.4-1 No UNSUBACK says of a subscription that it doesn't exist
-B07 - sec-3.11.3 No UNSUBACK says that a filter was deleted which was never subscribed
-B08 - MQTT-3.3.2-3 A PUBLISH matches a subscription, where some are shared too
-B09 - MQTT-3.8.4-8,MQTT-4.8.2-3 Its QoS isn't above what was granted, where some are shared too
-B10 - MQTT-3.10.4-2 Nothing comes for a filter that was unsubscribed before a REST
-B11 - MQTT-3.8.4-3 The QoS of a subscription that was replaced holds no longer
 P01 - sec-3.3.4 A Subscription Identifier is that of a matching subscription
 P02 - MQTT-3.3.4-3 A PUBLISH has an identifier if each matching subscription has one
 R01 - MQTT-3.3.1-11,MQTT-3.3.1-12 RETAIN is 0 where no matching subscription can make it 1
@@ -54,7 +54,7 @@ for line in SHAPES.strip().split("\n"):
     CITATIONS[code] = {role: text for role, text in (("client", client), ("server", server)) if text != "-"}
     SENTENCES[code] = sentence
 # That the program judges too, if `--all` asks for them.
-JUDGED = ("F01", "F02", "F03", "F04", "F05", "F06", "V03", "V04", "V06", "A01", "A02")
+JUDGED = ("B05", "F01", "F02", "F03", "F04", "F05", "F06", "V03", "V04", "V06", "C24", "D01", "D02", "A01", "A02")
 TIMED = {"K01", "K02"}  # that look at moments
 OF_SESSIONS = {code for code in CITATIONS if code[0] in "BPR"}  # that are judged only where the session is known
 

@@ -263,6 +263,7 @@ WORDS: dict[str, Callable] = {
     "expiring": lambda i: publish(2, i, message_expiry=60),
     "aliased": lambda topic, alias: publish(0, None, topic=bytes(topic), alias=alias),
     "asks_a": asks(b"a"),
+    "asks_both": lambda i, *options: packet(SUBSCRIBE, identifier=i, filters=list(zip((b"a", b"b"), options))),
     "asks_shared": asks(b"$share/g/a"),
     "asks_plainly": lambda: asks(b"a")(1),
     "asks_widely": lambda: asks(b"#")(1),

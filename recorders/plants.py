@@ -526,6 +526,8 @@ def of_requests() -> Iterator[Plant]:
     }
     for code, (only, key, value) in announced.items():
         yield Plant(code, code, only, on(Type.CONNACK, lambda got, _, one=(key, value): reconnack(got, more=[one])))
+    yield Plant("B05", "B05", "subscribe-granted-0", on(Type.SUBACK, lambda got, _: codes(
+        Type.SUBACK, got.identifier or 0, b"\1") if got.codes == b"\0" else None))
     for name, only in {"new": "takeover-clean-300", "resumed": "takeover-3-times"}.items():
         yield Plant(f"V06-{name}", "V06", only, on(Type.DISCONNECT, lambda got, _: disconnect(4)))
 

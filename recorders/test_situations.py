@@ -22,7 +22,7 @@ from exercising.client_verbs import HOSTS
 from exercising.client_verbs import NEEDS as CLIENT_NEEDS
 from exercising.evidence import CLOSE, OPEN, RECV, REST, SENT, Evidence, binding, events_of, read
 from exercising.outcome import Outcome
-from exercising.packets import PING, PONG, Prop, Type, acknowledgement, connack, connect, packet, publish, subscribe
+from exercising.packets import PING, PONG, Prop, Type, acknowledgement, codes, connack, connect, packet, publish, subscribe
 from exercising.running import Fate, Result
 from exercising.situations import (
     PLAIN,
@@ -150,6 +150,61 @@ class Readings(unittest.TestCase):
                 found = [place.position for place in read(log, bad, is_of_all=True).places if place.code == "A01"]
                 self.assertEqual(found, wanted)
             self.assertNotIn("A01", read(log).tested)
+
+    def test_what_a_suback_grants(self) -> None:
+        asked = [*opened(), (RECV, subscribe(1, [("a", 0), ("b", 2)]))]
+        for answer, wanted in {b"\0\2": [5], b"\x87\2": [5], b"\x87\x80": [], b"\x87\x80\1": [], b"": []}.items():
+            found = read(log_of(*asked, (SENT, codes(Type.SUBACK, 1, answer))), is_of_all=True)
+            self.assertEqual([place.position for place in found.places if place.code == "B05"], wanted)
+        self.assertNotIn("B05", read(log_of(*asked, (SENT, codes(Type.SUBACK, 1, b"\0\2")))).tested)
+
+    def test_after_a_second_connect(self) -> None:
+        again = [(OPEN, b""), (RECV, connect("a", True)), (SENT, connack()), (RECV, connect("a", True))]
+        for shown in ((REST, b""), (CLOSE, b""), (SENT, packet(Type.DISCONNECT))):
+            found = [place.position for place in read(log_of(*again, shown, (REST, b"")), {}, is_of_all=True).places if place.code == "D02"]
+            self.assertEqual(found, [4])
+        for before, after in (([], [(SENT, PONG)]), ([(RECV, packet(Type.DISCONNECT))], [(CLOSE, b"")])):
+            log = log_of(*again[:3], *before, again[3], *after)
+            self.assertNotIn("D02", read(log, {}, is_of_all=True).tested)
+        self.assertNotIn("D02", read(log_of(*again, (REST, b""))).tested)
+
+    def test_after_a_malformed_packet(self) -> None:
+        """What can't be read is malformed, not what can be, and only the first of it counts."""
+        flags, identifier, overlong = b"\xc1\0", acknowledgement(Type.PUBACK, 0), b"\x30\x80\0"
+        for bytes_, code, wanted in ((flags, "W01", [4]), (identifier, "W09", []), (overlong, "", [4])):
+            bad = {4: code, 5: "W01"} if code else {}
+            for shown in ((REST, b""), (CLOSE, b""), (SENT, packet(Type.DISCONNECT))):
+                log = log_of(*opened(), (RECV, bytes_), shown, (REST, b""))
+                found = [place.position for place in read(log, bad, is_of_all=True).places if place.code == "D01"]
+                self.assertEqual(found, wanted)
+        again = log_of(*opened(), (RECV, flags), (RECV, flags), (REST, b""))
+        found = read(again, {4: "W01", 5: "W01"}, is_of_all=True)
+        self.assertEqual([place.position for place in found.places if place.code == "D01"], [4])
+        for before, after in (([], [(SENT, PONG)]), ([(RECV, packet(Type.DISCONNECT))], [(CLOSE, b"")])):
+            log = log_of(*opened(), *before, (RECV, flags), *after)
+            self.assertNotIn("D01", read(log, {4 + len(before): "W01"}, is_of_all=True).tested)
+        self.assertNotIn("D01", read(again, {4: "W01", 5: "W01"}).tested)
+
+    def test_after_a_connect(self) -> None:
+        """It is answered, or left at a REST at which the server doesn't wait for an AUTH."""
+        plain, asks = connect("a", True), connect("a", True, [(Prop.AUTHENTICATION_METHOD, b"m")])
+        auth, small = packet(Type.AUTH), connect("a", True, [(Prop.MAXIMUM_PACKET_SIZE, 4)])
+        rest, close, answer = (REST, b""), (CLOSE, b""), (SENT, connack())
+        logs = {
+            (plain, answer): [2], (plain, rest): [2], (plain, close): [], (small, answer): [], (small, rest): [],
+            (asks, (SENT, auth), rest): [], (asks, (RECV, auth), (SENT, auth), rest): [],
+            (asks, (SENT, auth), rest, (RECV, auth), rest): [2], (plain, (RECV, packet(Type.DISCONNECT)), rest): [],
+            (plain, (RECV, plain), rest): [2], (plain, (RECV, b"\x30\x80\0"), rest): [],
+        }
+        for (hello, *others), wanted in logs.items():
+            log = log_of((OPEN, b""), (RECV, hello), *others)
+            found = [place.position for place in read(log, {}, is_of_all=True).places if place.code == "C24"]
+            self.assertEqual(found, wanted, others)
+        log = log_of((OPEN, b""), (RECV, plain), (RECV, b"\xc1\0"), rest)
+        self.assertNotIn("C24", read(log, {3: "W01"}, is_of_all=True).tested)
+        log = log_of((OPEN, b""), (RECV, plain), (RECV, plain), answer)
+        self.assertNotIn("C24", read(log, {2: "W06"}, is_of_all=True).tested)
+        self.assertNotIn("C24", read(log).tested)
 
     def test_silence(self) -> None:
         asked = [*opened(), (RECV, PING), (SENT, PONG)]

@@ -28,10 +28,10 @@ BOTH = frozenset(
 )
 BINDING = {True: SERVER_ONLY | BOTH, False: CLIENT_ONLY | BOTH}  # by whether the tested end is a server
 FURTHER_OF_BOTH = frozenset(("V06", "A02"))
-FURTHER = {True: FURTHER_OF_BOTH | {"F05", "F06"},  # what binds too if the further statements are asked for
+FURTHER = {True: FURTHER_OF_BOTH | {"B05", "F05", "F06", "C24", "D01", "D02"},  # what binds too if the further statements are asked for
            False: FURTHER_OF_BOTH | {"F01", "F02", "F03", "F04", "V03", "V04", "A01"}}
 FOREIGN = {True: CLIENT_ONLY & frozenset("W15 W16 W17 W18 W19".split()), False: frozenset(("W20",))}  # out of reach
-STURDY = "WCFVA"  # the letters of the statements that hold whatever the peer does
+STURDY = "WCFVDA"  # the letters of the statements that hold whatever the peer does
 NEEDS_PEER = frozenset(("C08",))  # but this one: whether there is a session depends on the peer
 OF_TYPES = {Type.SUBSCRIBE: {"W15", "W16", "W17"}, Type.UNSUBSCRIBE: {"W15", "W16"}, Type.CONNECT: {"W18", "W19"},
             Type.CONNACK: {"W20"}}
@@ -67,7 +67,7 @@ def events_of(log: bytes, bad: Mapping[int, str]) -> Iterator[Event]:
     for kind, body, _ in records(log):
         if kind not in (SENT, RECV):
             if kind == OPEN:
-                cutters = {SENT: Cutter(), RECV: Cutter()}
+                cutters = {SENT: Cutter(is_strict=True), RECV: Cutter(is_strict=True)}
             position += 1
             yield Event(position, kind)
         elif kind in cutters and not cutters[kind].is_lost:

@@ -22,6 +22,7 @@ SEEN = 12  # lines of what isn't judged
 WHY_NOT = {  # what a broker didn't do, where a statement isn't tested
     "A01": "it sent nothing between a CONNECT with an Authentication Method and the CONNACK",
     "A02": "it sent no AUTH",
+    "B05": "it granted nothing",
     "C10": "it assigned no Client Identifier",
     "C11": "it sent no DISCONNECT",
     "C12": "it never refused a connection",
@@ -31,6 +32,9 @@ WHY_NOT = {  # what a broker didn't do, where a statement isn't tested
     "C21": "it sent nothing that could have an explanation",
     "C22": "it sent no Response Information",
     "C23": "it sent no DISCONNECT, and refused no connection",
+    "C24": "it answered no CONNECT, and was at rest after none",
+    "D01": "it had no Malformed Packet on a connection",
+    "D02": "it had no second CONNECT on a connection",
     "F01": "it published nothing where Retain Available is 0",
     "F05": "it announced no Maximum QoS to who has a Will, and refused none for it",
     "F06": "it announced no Retain Available 0 to who has a Will, and refused none for it",

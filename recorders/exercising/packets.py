@@ -319,10 +319,12 @@ class Packet:
 
 
 class Cutter:
-    """Cuts the bytes of one direction into packets. After an invalid Remaining Length there are none any more."""
+    """Cuts the bytes of one direction into packets. After an invalid Remaining Length there are none any more. If it is strict,
+    one in more bytes than it needs is invalid too, as it is in a log."""
 
-    def __init__(self) -> None:
+    def __init__(self, is_strict: bool = False) -> None:
         self._left = b""
+        self.is_strict = is_strict
         self.is_lost = False
 
     @property
@@ -352,6 +354,8 @@ class Cutter:
                 return None
             byte = self._left[position]
             length |= (byte & 0x7F) << (7 * place)
+            if self.is_strict and place and not byte:
+                break
             if byte < 0x80:
                 end = position + 1 + length
                 return end if end <= len(self._left) else None

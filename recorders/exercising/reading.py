@@ -22,6 +22,9 @@ KEPT_MOST = 1_000  # places with the same tags: a flood has a million of them
 FEW_LEFT = 2  # bytes up to a Maximum Packet Size
 DEFAULT_MAXIMUM = 65_535
 RETAIN_NOT_SUPPORTED, QOS_NOT_SUPPORTED = 0x9A, 0x9B
+SMALLEST_CONNACK = 5  # bytes
+# The rules of which D01 says that who breaks one sends what can't be read.
+MALFORMED = frozenset("W01 W02 W04 W05 W06 W07 W10 W11 W12 W16 W17 W18 W19 W21".split())
 MISSING = {"F02": Prop.WILDCARD_AVAILABLE, "F03": Prop.SUBSCRIPTION_IDENTIFIER_AVAILABLE, "F04": Prop.SHARED_AVAILABLE}
 
 
@@ -60,6 +63,7 @@ class Connection:
     sent: int = 0
     pings: int = 0
     owed: dict[tuple[str, int], int] = field(default_factory=dict)  # answers, by exchange and Packet Identifier
+    filters: dict[int, int] = field(default_factory=dict)  # how many the first SUBSCRIBE has that waits, by its identifier
     asked: list[Place] = field(default_factory=list)  # what a REST would test
     pending: list[Place] = field(default_factory=list)  # places on a session, before the CONNACK
     in_flight: set[int] = field(default_factory=set)  # what was sent here and not closed
@@ -72,6 +76,13 @@ class Connection:
     closers: set[str] = field(default_factory=set)  # tags of what closed messages
     has_connack: bool = False  # the tested end sent one, whatever its bytes are
     has_heard_connack: bool = False  # it received one, whatever its bytes are, or bytes that can't be read
+    connects: int = 0  # that it received, whatever their bytes are
+    has_malformed: bool = False  # it received what can't be read
+    has_ended: bool = False  # either end said that it closes the connection
+    owes_close: list[Place] = field(default_factory=list)  # errors, of which nothing shows yet what a server did about them
+    owes_connack: Place | None = None  # the first CONNECT, of which nothing shows yet whether a server answers it
+    is_settled: bool = False  # it is answered, or may have been the last that the server looked at
+    awaits_auth: bool = False  # the server sent an AUTH, and received none after it
     aliases: dict[int, bytes] = field(default_factory=dict)
 
     @property
@@ -151,6 +162,49 @@ class Reading:
             self._got(event.packet)
         if event.kind == RECV and (event.packet is None or event.packet.kind == Type.CONNACK):
             self.here.has_heard_connack = True
+        if self.is_server:
+            self._after_connect(event)
+            self._after_error(event)
+
+    def _after_connect(self, event: Event) -> None:
+        """C24: a server answers the first CONNECT by a CONNACK, or is at rest."""
+        here, packet = self.here, event.packet if not event.is_bad else None
+        is_connack = event.kind == SENT and packet is not None and packet.kind == Type.CONNACK
+        is_left = event.kind == REST and not here.is_settled and not here.awaits_auth
+        if here.owes_connack is not None and (is_connack or is_left):
+            self._keep(here.owes_connack)
+            here.owes_connack = None
+        if event.kind == RECV and packet is not None and packet.kind == Type.CONNECT and not here.connects:
+            if packet.number(Prop.MAXIMUM_PACKET_SIZE, SMALLEST_CONNACK) >= SMALLEST_CONNACK:
+                here.owes_connack = Place("C24", self.at, frozenset(self._context()))
+        is_leaving = packet is not None and packet.kind == Type.DISCONNECT
+        here.is_settled = here.is_settled or is_connack or is_leaving or event.is_bad or event.is_lost
+        if packet is not None and packet.kind == Type.AUTH:
+            here.awaits_auth = event.kind == SENT
+
+    def _after_error(self, event: Event) -> None:
+        """D01 and D02: after what can't be read, and after a second CONNECT, a server says that it closes the connection,
+        closes it, or is at rest."""
+        here, packet = self.here, event.packet
+        is_goodbye = event.kind == SENT and packet is not None and not event.is_bad and (
+            packet.kind == Type.DISCONNECT or (packet.kind == Type.CONNACK and (packet.code or 0) >= RESERVED))
+        if is_goodbye or event.kind in (CLOSE, REST):
+            for place in here.owes_close:
+                self._keep(place)
+            here.owes_close.clear()
+        if event.kind == RECV and (event.is_lost or (event.is_bad and self.bad[self.at] in MALFORMED)):
+            self._owe_close("D01", is_first=not here.has_malformed)
+            here.has_malformed = True
+        if event.kind == RECV and packet is not None and packet.kind == Type.CONNECT:
+            here.connects += 1
+            self._owe_close("D02", is_first=here.connects == 2)
+        here.has_ended = here.has_ended or is_goodbye or (
+            event.kind == RECV and packet is not None and not event.is_bad and packet.kind == Type.DISCONNECT)
+
+    def _owe_close(self, code: str, is_first: bool) -> None:
+        """The first error of its kind, if neither end had said that it closes the connection."""
+        if is_first and not self.here.has_ended:
+            self.here.owes_close.append(Place(code, self.at, frozenset(self._context())))
 
     def _close(self) -> None:
         self._after_end(CLOSE)
@@ -249,6 +303,8 @@ class Reading:
                     *(["large"] if packet.size > LARGE else []),
                     *(["many-filters"] if len(packet.filters) >= 50 else []), *self._context()}
             here.asked.append(Place(f"{exchange}R", self.at, frozenset(tags)))
+            if exchange == "E5":
+                here.filters[identifier] = len(packet.filters)
         here.owed[exchange, identifier] = here.owed.get((exchange, identifier), 0) + 1
 
     def _subscribes(self, packet: Packet, identifier: int) -> None:
@@ -523,6 +579,8 @@ class Reading:
                 self.place(f"{exchange}O", more=own)
             if exchange in ("E5", "E6") and self.is_server:
                 self.place("B03" if exchange == "E5" else "B04", more=own)
+            if exchange == "E5" and any(code < RESERVED for code in packet.codes[: here.filters[identifier]]):
+                self.place("B05", more=own)
         self.completed.add((exchange, identifier))
         if kind == Type.PUBREL:
             self._sent_pubrel(identifier)

@@ -15,7 +15,8 @@ TABLE = "table.json"  # of a run, in its folder
 ABOUT = "survey.json"  # what was surveyed, in the folder of all
 PROVOKED, FOREIGN_SIGN, UNBOUND = "provoked", "out of reach", "unbound"
 NEED_RELEASES = ("L1", "L2", "L3")
-FAMILIES = "WCSELBFVA"  # the order of reports
+FAMILIES = "WCSELBFVDA"  # the order of reports
+BESIDE = {"C24": "D"}  # those that stand there with another family
 
 
 @dataclass(frozen=True)
@@ -148,7 +149,7 @@ def of_its_own(kinds: Iterable[Kind]) -> list[Kind]:
 
 def order_of(code: str) -> tuple[int, str]:
     """Where a statement stands in the order of reports."""
-    return FAMILIES.index(code[0]), code
+    return FAMILIES.index(BESIDE.get(code, code[0])), code
 
 
 def every_code(surveyed: Iterable[Surveyed]) -> list[str]:

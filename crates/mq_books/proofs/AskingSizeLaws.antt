@@ -131,40 +131,42 @@ unanswered-by i n h = go (sent_grant n) (sym (subscribes_so.answers_are n i) ∙
         let other : (a.identifier == i) ≡ false = grind (arith, nat_tests) in
         ap (λ b. option_map (λ (a : Grant). a.codes) (only b (Some a))) other
 
+-- one on the open connection after which no SUBACK under its identifier was sent waits
+pub waits-here : (i : ℕ) (log : List Seen) → is_connected log ≡ true → (j : Moment) → Among j (connection log) → causes subscribe_suback i j ≡ true → ((m : Moment) → Among m (connection log) → position j < position m → answers subscribe_suback i m ≡ false)
+    → (q : Subscription) × (received_subscription (note j) ≡ Some q) × ((i == q.identifier) ≡ true) × (waiting_from log j ≡ Some (asked q))
+waits-here i log connected j there passes none_after = (r.0, r.1, r.2, waits)
+  where
+    on_it : (number j == begun log) ≡ true
+    on_it = (those-among (λ m. number m == begun log) (moments log) j there).1
+
+    same : number j ≡ begun log
+    same = eqb-true (number j) (begun log) on_it
+
+    r : (q : Subscription) × (received_subscription (note j) ≡ Some q) × ((i == q.identifier) ≡ true)
+    r = request-of i (note j) passes
+
+    later : (m : Moment) → Among m (those (λ m. is_after m j) (of_connection (number j) log)) → codes_under i (note m) ≡ None
+    later m a =
+        let parts = those-among (λ m. is_after m j) (of_connection (number j) log) m a in
+        let inside : Among m (connection log) = subst (λ c. Among m (of_connection c log)) same parts.0 in
+        let after : position j < position m = ltb-true (position j) (position m) parts.1 in
+        unanswered-by i (note m) (none_after m inside after)
+
+    no-codes : codes_in log j i ≡ None
+    no-codes = none-first_found (codes_under i) (those (λ m. is_after m j) (of_connection (number j) log)) later
+
+    waits : waiting_from log j ≡ Some (asked r.0)
+    waits =
+        ap (λ b. waiting_by b (codes_in log j) (received_subscription (note j))) (ap (λ b. b && (begun log == number j)) connected ∙ eq-eqb (begun log) (number j) (sym same))
+        ∙ ap (waiting_by true (codes_in log j)) r.1
+        ∙ ap (λ c. only (is_none {T = List ℕ} c) (Some (asked r.0))) (ap (codes_in log j) (sym (eqb-true i r.0.identifier r.2)) ∙ no-codes)
+
 waits-connected : (i : ℕ) (log : List Seen) → is_connected log ≡ true → since (causes subscribe_suback i) (answers subscribe_suback i) (connection log) ≡ true → list_any (nat_eq i) (named log (connection log)) ≡ true
 waits-connected i log connected h =
-    named-there log i (connection log) s.at (asked r.0) s.there waits r.2
-  where
-    here : Moment → Bool
-    here m = number m == begun log
-
-    s : HoldsSince (causes subscribe_suback i) (answers subscribe_suback i) (connection log)
-    s = since-stands (causes subscribe_suback i) (answers subscribe_suback i) (connection log) (those-descend here (moments log) (moments-descend log)) h
-
-    on_it : (number s.at == begun log) ≡ true
-    on_it = (those-among here (moments log) s.at s.there).1
-
-    same : number s.at ≡ begun log
-    same = eqb-true (number s.at) (begun log) on_it
-
-    r : (q : Subscription) × (received_subscription (note s.at) ≡ Some q) × ((i == q.identifier) ≡ true)
-    r = request-of i (note s.at) s.passes
-
-    later : (m : Moment) → Among m (those (λ m. is_after m s.at) (of_connection (number s.at) log)) → codes_under i (note m) ≡ None
-    later m a =
-        let parts = those-among (λ m. is_after m s.at) (of_connection (number s.at) log) m a in
-        let inside : Among m (connection log) = subst (λ c. Among m (of_connection c log)) same parts.0 in
-        let after : position s.at < position m = ltb-true (position s.at) (position m) parts.1 in
-        unanswered-by i (note m) (s.none_after m inside after)
-
-    no-codes : codes_in log s.at i ≡ None
-    no-codes = none-first_found (codes_under i) (those (λ m. is_after m s.at) (of_connection (number s.at) log)) later
-
-    waits : waiting_from log s.at ≡ Some (asked r.0)
-    waits =
-        ap (λ b. waiting_by b (codes_in log s.at) (received_subscription (note s.at))) (ap (λ b. b && (begun log == number s.at)) connected ∙ eq-eqb (begun log) (number s.at) (sym same))
-        ∙ ap (waiting_by true (codes_in log s.at)) r.1
-        ∙ ap (λ c. only (is_none {T = List ℕ} c) (Some (asked r.0))) (ap (codes_in log s.at) (sym (eqb-true i r.0.identifier r.2)) ∙ no-codes)
+    let s : HoldsSince (causes subscribe_suback i) (answers subscribe_suback i) (connection log) =
+    since-stands (causes subscribe_suback i) (answers subscribe_suback i) (connection log) (those-descend (λ m. number m == begun log) (moments log) (moments-descend log)) h in
+    let w = waits-here i log connected s.at s.there s.passes s.none_after in
+    named-there log i (connection log) s.at (asked w.0) s.there w.3 w.2
 
 waits-unanswered : (i : ℕ) (log : List Seen) → since (causes subscribe_suback i) (answers subscribe_suback i) (on_open log) ≡ true → list_any (nat_eq i) (named log (connection log)) ≡ true
 waits-unanswered i log h = go (is_connected log) refl h

@@ -14,7 +14,7 @@ use Rattle.mq_rules.specs.Moments.{Moment, newest, moment, is_next}
 use Rattle.mq_rules.specs.Connections.{latest_fate, gives_fate, accepts, is_binding}
 use Rattle.mq_rules.specs.Rules.{binds}
 use Rattle.mq_rules.specs.FaultKeys.{FaultMap}
-use Rattle.mq_rules.specs.Statements.{Statement, on_bytes, on_past, in_session, at_release, at_rest, statement}
+use Rattle.mq_rules.specs.Statements.{Statement, on_bytes, on_past, in_session, at_release, at_rest, by_later, statement}
 use Rattle.mq_rules.specs.Under.{shows_with, turns_with, fate_before, IsUnder, IsKnown, turns_known}
 use Rattle.mq_rules.specs.Growing.{Gains, GainsWithin}
 use Rattle.mq_books.specs.Holding.{is_nothing, CanHand, CanPass, fate_after, turns_held, turns_session}
@@ -40,6 +40,7 @@ turned-there tested f e past k r h = go (statement tested.role r) (both_true (bi
     go (on_past breaks) t = absurd (cc)
     go (in_session breaks) t = now (both_true (is_next past k) (accepts f && breaks f (newest e past)) t).0
     go (at_release breaks) t = now (both_true (is_next past k) (breaks f (newest e past)) t).0
+    go (by_later test) t = absurd (cc)
     go (at_rest test) t = before (moment past k) (test (newest e past)) refl (both_true (is_binding tested.role (newest e past)) (is_some_and (test (newest e past)) (moment past k)) t).1
 
 moment-same : (e : Seen) (past : List Seen) (k : ℕ) → is_some (moment past k) ≡ true → moment past k ≡ moment (e ∷ past) k

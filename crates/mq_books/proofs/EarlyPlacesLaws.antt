@@ -7,7 +7,7 @@ use Rattle.mq_rules.specs.Words.{is_some_and}
 use Rattle.mq_rules.specs.Moments.{newest, moment, is_next}
 use Rattle.mq_rules.specs.Connections.{latest_fate}
 use Rattle.mq_rules.specs.Rules.{binds}
-use Rattle.mq_rules.specs.Statements.{Statement, on_bytes, on_past, in_session, at_release, at_rest, where_accepted}
+use Rattle.mq_rules.specs.Statements.{Statement, on_bytes, on_past, in_session, at_release, at_rest, by_later, where_accepted}
 use Rattle.mq_rules.specs.Occasions.{occasion, places, comes, adds_place}
 use Rattle.mq_rules.proofs.Exports.{and_false, from-zero, places-once}
 use Rattle.mq_books.specs.Holding.{AreHeld}
@@ -23,6 +23,7 @@ undecided-adds tested rule e past k on none = go (occasion tested.role rule) on
     go None h = absurd (cc)
     go (Some (on_bytes bytes)) h = absurd (cc)
     go (Some (on_past test)) h = absurd (cc)
+    go (Some (by_later test)) h = absurd (cc)
     go (Some (in_session test)) h = ap (λ b. binds rule tested && b) (shows-nothing tested.role (where_accepted test) e past k none) ∙ and_false (binds rule tested)
     go (Some (at_release test)) h = ap (λ b. binds rule tested && b) (shows-nothing tested.role test e past k none) ∙ and_false (binds rule tested)
     go (Some (at_rest test)) h = ap (λ b. binds rule tested && (b && is_some_and (test (newest e past)) (moment past k))) (unbound-after tested.role e past none) ∙ and_false (binds rule tested)

@@ -12,7 +12,7 @@ use Rattle.mq_rules.specs.Notes.{is_open, is_rest, decides}
 use Rattle.mq_rules.specs.Moments.{Moment, newest, moment, is_next, some}
 use Rattle.mq_rules.specs.Connections.{begun, number, connection, fate, latest_fate, accepts, accepted, ends_binding, is_binding, gives_fate}
 use Rattle.mq_rules.specs.Rules.{binds}
-use Rattle.mq_rules.specs.Statements.{Statement, on_bytes, on_past, in_session, at_release, at_rest, statement, is_so_under, where_accepted}
+use Rattle.mq_rules.specs.Statements.{Statement, on_bytes, on_past, in_session, at_release, at_rest, by_later, statement, is_so_under, where_accepted}
 use Rattle.mq_rules.specs.Steps.{given, shows_under, shows, turns}
 use Rattle.mq_rules.proofs.Exports.{and-over, and_false, begun-closed, begun-open-of-given as begun-open, given-gives, latest_fate-same, moment-next, not_true, number-within, or-turn, or_false, rest-opens-nothing}
 use Rattle.mq_rules.specs.Under.{is_by_session, shows_with, turns_with}
@@ -79,6 +79,7 @@ undecided-turns tested e past none k r = go (statement tested.role r)
     go : (s : Statement) → (is_by_session s && (binds r tested && shows tested.role s e past k)) ≡ false
     go (on_bytes rule) = refl
     go (on_past breaks) = refl
+    go (by_later test) = refl
     go (in_session breaks) = ap (λ b. binds r tested && b) (shows-nothing tested.role (where_accepted breaks) e past k none) ∙ and_false (binds r tested)
     go (at_release breaks) = ap (λ b. binds r tested && b) (shows-nothing tested.role breaks e past k none) ∙ and_false (binds r tested)
     go (at_rest test) = ap (λ b. binds r tested && (b && is_some_and (test (newest e past)) (moment past k))) (unbound-after tested.role e past none) ∙ and_false (binds r tested)
@@ -184,6 +185,7 @@ deciding-turns tested f e hs base held known closed h k r =
     go : (s : Statement) → (binds r tested && (told_shape tested.role f s hs base k || shows_with tested.role f s e (hs ++ base) k)) ≡ (is_by_session s && (binds r tested && shows tested.role s e (hs ++ base) k))
     go (on_bytes rule) = ap (λ b. binds r tested && (b || false)) (told-bytes tested.role f (on_bytes rule) hs base k (λ e past. refl)) ∙ and_false (binds r tested)
     go (on_past breaks) = ap (λ b. binds r tested && (b || false)) (told-bytes tested.role f (on_past breaks) hs base k (λ e past. refl)) ∙ and_false (binds r tested)
+    go (by_later test) = ap (λ b. binds r tested && (b || false)) (told-bytes tested.role f (by_later test) hs base k (λ e past. refl)) ∙ and_false (binds r tested)
     go (in_session breaks) =
         ap (λ b. binds r tested && (b || (is_next (hs ++ base) k && (accepts f && breaks f (newest e (hs ++ base)))))) (told-session tested.role f breaks hs base k)
         ∙ ap (λ b. binds r tested && b) (sym (decided-shows tested.role f (where_accepted breaks) e hs base k held known closed h))

@@ -31,7 +31,10 @@ pub mod PlacesLaws
 pub mod AgainLaws
 pub mod ResendsLaws
 pub mod InflightLaws
+pub mod FirstLaws
 pub mod CountLaws
+pub mod GrantLaws
+pub mod GrantSizeLaws
 pub mod StandingLaws
 pub mod DeliveryLaws
 pub mod KeepLaws

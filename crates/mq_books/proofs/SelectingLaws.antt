@@ -6,7 +6,7 @@ use Rattle.mq_packet.specs.declared.packet.Qos.TheVariants as quality
 use Rattle.mq_rules.specs.declared.role.Role.{Role}
 use Rattle.mq_rules.specs.declared.role.Role.TheVariants as roles
 use Rattle.mq_rules.specs.declared.role.Tested.{Tested}
-use Rattle.mq_rules.specs.declared.rule.Rule.TheVariants.{B01}
+use Rattle.mq_rules.specs.declared.rule.Rule.TheVariants.{B01, B05}
 use Rattle.mq_rules.specs.declared.note.Note.{Note}
 use Rattle.mq_rules.specs.declared.note.Note.TheVariants as notes
 use Rattle.mq_rules.specs.declared.note.ItemNote.TheVariants as items
@@ -22,8 +22,8 @@ use Rattle.mq_rules.specs.declared.bare.BareFields.TheVariants as bares
 use Rattle.mq_rules.specs.Notes.{bare_note, bare_fields, note_of_bare, is_acknowledged}
 use Rattle.mq_rules.specs.Exchanges.{Exchange, publish_puback, publish_pubrec, pubrec_pubrel, pubrel_pubcomp, subscribe_suback, unsubscribe_unsuback}
 use Rattle.mq_rules.specs.Rules.{binds}
-use Rattle.mq_rules.proofs.Exports.{or_false}
-use Rattle.mq_books.specs.Concerns.{concerns_asked, concerns_owed, concerns_count, concerns_deliveries, concerns_releases, concerns_pings, concerns_quota, concerns_flight}
+use Rattle.mq_rules.proofs.Exports.{and_false, or_false}
+use Rattle.mq_books.specs.Concerns.{concerns_asked, concerns_owed, concerns_count, concerns_deliveries, concerns_releases, concerns_pings, concerns_quota, concerns_flight, concerns_grants}
 use Rattle.mq_books.specs.Countings.{subscribes, unsubscribes}
 use Rattle.mq_books.specs.Selecting.{may_concern_messages, answers_message, asks_by_message, may_concern_requests, answers_request, asks_by_request, may_concern_releases, ends_release, brings_message, may_concern_subscriptions, delivers_or_grants, subscribes_or_not, may_concern_identifiers, uses_identifier, frees_identifier, may_concern_quota, takes_quota, gives_quota, may_concern_pings, answers_ping, pings}
 use Rattle.mq_books.proofs.ConcernLaws.{neither, nothing, only-none}
@@ -470,17 +470,27 @@ subscriptions-received tested bound is size a b Pingresp h = refl
 subscriptions-received tested bound is size a b (Disconnect note) h = refl
 subscriptions-received tested bound is size a b Auth h = refl
 
-pub subscriptions-unconcerned : (tested : Tested) (bound : Bool) → bound ≡ binds B01 tested → (n : Note) → may_concern_subscriptions bound n ≡ false → (concerns_deliveries tested n || (concerns_count subscribes n || concerns_count unsubscribes n)) ≡ false
-subscriptions-unconcerned tested bound is notes.Open h = absurd (cc)
-subscriptions-unconcerned tested bound is (notes.Close cuts) h = absurd (cc)
-subscriptions-unconcerned tested bound is notes.Rest h = refl
-subscriptions-unconcerned tested bound is (notes.Release i) h = refl
-subscriptions-unconcerned tested bound is (notes.Sent (items.Packet p)) h = subscriptions-sent tested bound is p.size p.has_reason_string p.has_user_property p.fields h
-subscriptions-unconcerned tested bound is (notes.Sent (items.Bad first rule at)) h = refl
-subscriptions-unconcerned tested bound is (notes.Sent items.Lost) h = refl
-subscriptions-unconcerned tested bound is (notes.Recv (items.Packet p)) h = subscriptions-received tested bound is p.size p.has_reason_string p.has_user_property p.fields h
-subscriptions-unconcerned tested bound is (notes.Recv (items.Bad first rule at)) h = refl
-subscriptions-unconcerned tested bound is (notes.Recv items.Lost) h = refl
+answers-unconcerned : (tested : Tested) (bound : Bool) → bound ≡ binds B01 tested → (n : Note) → may_concern_subscriptions bound n ≡ false → (concerns_deliveries tested n || (concerns_count subscribes n || concerns_count unsubscribes n)) ≡ false
+answers-unconcerned tested bound is notes.Open h = absurd (cc)
+answers-unconcerned tested bound is (notes.Close cuts) h = absurd (cc)
+answers-unconcerned tested bound is notes.Rest h = refl
+answers-unconcerned tested bound is (notes.Release i) h = refl
+answers-unconcerned tested bound is (notes.Sent (items.Packet p)) h = subscriptions-sent tested bound is p.size p.has_reason_string p.has_user_property p.fields h
+answers-unconcerned tested bound is (notes.Sent (items.Bad first rule at)) h = refl
+answers-unconcerned tested bound is (notes.Sent items.Lost) h = refl
+answers-unconcerned tested bound is (notes.Recv (items.Packet p)) h = subscriptions-received tested bound is p.size p.has_reason_string p.has_user_property p.fields h
+answers-unconcerned tested bound is (notes.Recv (items.Bad first rule at)) h = refl
+answers-unconcerned tested bound is (notes.Recv items.Lost) h = refl
+
+pub subscriptions-unconcerned : (tested : Tested) (bound : Bool) → bound ≡ binds B01 tested → (n : Note) → may_concern_subscriptions bound n ≡ false
+    → (concerns_deliveries tested n || (concerns_count subscribes n || (concerns_count unsubscribes n || concerns_grants tested n))) ≡ false
+subscriptions-unconcerned tested bound is n h = go (concerns_deliveries tested n) (concerns_count subscribes n) (concerns_count unsubscribes n) (binds B05 tested) (answers-unconcerned tested bound is n h)
+  where
+    go : (d a u b : Bool) → (d || (a || u)) ≡ false → (d || (a || (u || (b && a)))) ≡ false
+    go true a u b h = absurd (cc)
+    go false true u b h = absurd (cc)
+    go false false true b h = absurd (cc)
+    go false false false b h = and_false b
 
 -- ---- a bare packet is no SUBSCRIBE or UNSUBSCRIBE, and answers none
 
@@ -503,6 +513,12 @@ counts-unconcerned-note Recv size bares.Pingresp = refl
 pub counts-unconcerned : (b : Bare) → (concerns_count subscribes (note_of_bare b) || concerns_count unsubscribes (note_of_bare b)) ≡ false
 unfolding note_of_bare
 counts-unconcerned b = counts-unconcerned-note b.direction b.size b.fields
+
+pub asking-unconcerned : (b : Bare) → concerns_count subscribes (note_of_bare b) ≡ false
+asking-unconcerned b = (neither (concerns_count subscribes (note_of_bare b)) (concerns_count unsubscribes (note_of_bare b)) (counts-unconcerned b)).0
+
+pub grants-unconcerned : (tested : Tested) (b : Bare) → concerns_grants tested (note_of_bare b) ≡ false
+grants-unconcerned tested b = ap (λ t. binds B05 tested && t) (asking-unconcerned b) ∙ and_false (binds B05 tested)
 
 -- ---- one that is received doesn't concern subscriptions
 

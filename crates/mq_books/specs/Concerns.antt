@@ -3,7 +3,7 @@ use Rattle.std.specs.Prelude.{ℕ, Bool, ◌&&◌, ◌||◌, List, ◌∷◌, is
 use Rattle.mq_rules.specs.declared.role.Tested.{Tested}
 use Rattle.mq_rules.specs.declared.fate.Fate.{Fate}
 use Rattle.mq_rules.specs.declared.rule.Rule.{Rule}
-use Rattle.mq_rules.specs.declared.rule.Rule.TheVariants.{B01}
+use Rattle.mq_rules.specs.declared.rule.Rule.TheVariants.{B01, B05}
 use Rattle.mq_rules.specs.declared.note.Note.{Note}
 use Rattle.mq_rules.specs.declared.note.Seen.{Seen}
 use Rattle.mq_rules.specs.Notes.{is_open, is_boundary, is_rest, is_release, released_id, received_exactly_once, sent_as, received_as, ended_in, unmatched_pubrec_in, success_pubcomp_in, received_subscription, sent_grant, sent_publish, delivery_of, closer_of, opener_of, resend_of, pubrel_in, accepting_pubrec_in, subscribe_in, suback_in, unsubscribe_in, unsuback_in, is_received_pingreq, is_sent_pingresp}
@@ -16,7 +16,7 @@ use Rattle.mq_rules.specs.Growing.{Gains}
 use Rattle.mq_books.specs.Pingings.{ends_by}
 use Rattle.mq_books.specs.Quotas.{announced}
 use Rattle.mq_books.specs.Resending.{bounds_by}
-use Rattle.mq_books.specs.Countings.{Counting}
+use Rattle.mq_books.specs.Countings.{Counting, subscribes}
 
 -- With the event a state that agreed with the events before agrees with all of them, and no statement that is judged turns out to fail.
 pub record Passes (agrees : List Seen → Type 0) (judges : Rule → Bool) (tested : Tested) (f : Fate) (at : ℕ) (e : Seen) (past : List Seen) : Type 0 where
@@ -27,6 +27,10 @@ pub record Passes (agrees : List Seen → Type 0) (judges : Rule → Bool) (test
 
 abbrev pub concerns_count : Counting → Note → Bool
 concerns_count c n = is_boundary n || (is_some (c.request n) || is_some (c.reply n))
+
+-- what a SUBACK grants, if that is judged
+abbrev pub concerns_grants : Tested → Note → Bool
+concerns_grants tested n = binds B05 tested && concerns_count subscribes n
 
 -- whether answers were asked for
 abbrev pub concerns_asked : Exchange → Note → Bool

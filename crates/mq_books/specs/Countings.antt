@@ -1,6 +1,6 @@
 -- What the books of SUBACKs and UNSUBACKs keep: how many filters the first packet of an identifier has that isn't answered.
-use Rattle.std.specs.Prelude.{ℕ, ◌≡◌, ◌==◌, Bool, not, cond, List, length, Option, Some, None, option_map, is_some, refl}
-use Rattle.std.specs.Option.{option_or, option_and_then}
+use Rattle.std.specs.Prelude.{ℕ, ◌≡◌, ◌==◌, Bool, not, List, length, Option, Some, None, option_map, is_some, refl}
+use Rattle.std.specs.Option.{option_and_then}
 use Rattle.std.proofs.Common.{ap, ◌∙◌}
 use Rattle.mq_rules.specs.declared.fate.Fate.{Fate}
 use Rattle.mq_rules.specs.declared.note.Note.{Note}
@@ -9,11 +9,11 @@ use Rattle.mq_rules.specs.declared.packet_note.PacketFields.{PacketFields}
 use Rattle.mq_rules.specs.declared.packet_note.PacketFields.TheVariants.{Subscribe, Suback, Unsubscribe, Unsuback}
 use Rattle.mq_rules.specs.Words.{is_some_and, is_id}
 use Rattle.mq_rules.specs.Notes.{Subscription, Grant, Number, received_fields, sent_fields, subscribe_in, suback_in, unsubscribe_in, unsuback_in, subscription_in, grant_in, unsubscription_in, unsuback_count_in, received_subscription, sent_grant, received_unsubscription, sent_unsuback}
-use Rattle.mq_rules.specs.Moments.{Moment, note, earliest_since}
-use Rattle.mq_rules.specs.Connections.{on_open}
-use Rattle.mq_rules.specs.Exchanges.{Exchange, causes, answers, first_unanswered, subscribe_suback, unsubscribe_unsuback}
+use Rattle.mq_rules.specs.Moments.{Moment, note}
+use Rattle.mq_rules.specs.Exchanges.{Exchange, first_unanswered, subscribe_suback, unsubscribe_unsuback}
 use Rattle.mq_rules.specs.Subscriptions.{applies_B03, applies_B04, breaks_B03, breaks_B04}
 use Rattle.mq_books.specs.declared.counts.Counted.{Counted}
+use Rattle.mq_books.specs.Firsts.{first_kept, first_next}
 
 -- ---- counts
 
@@ -50,11 +50,11 @@ pub record IsCounting (c : Counting) (breaks : Moment → Bool) : Type 0 where
 
 -- the count of the first unanswered cause of i on the open connection
 abbrev pub first_count : Counting → ℕ → List Seen → Option ℕ
-first_count c i past = option_and_then (λ m. count_in (c.request (note m))) (earliest_since (causes c.exchange i) (answers c.exchange i) (on_open past))
+first_count c i past = first_kept c.exchange (λ n. count_in (c.request n)) i past
 
 -- what is kept after an event, with which a connection begins or ends, or not
 abbrev pub counted_next : Bool → Option Counted → Option Counted → ℕ → Option ℕ → Option ℕ
-counted_next boundary request reply i old = option_or (cond (names i reply) None (cond boundary None old)) (cond (names i request) (count_in request) None)
+counted_next boundary request reply i old = first_next boundary (names i request) (names i reply) (count_in request) old
 
 -- an answer whose count isn't the one that is kept
 abbrev pub differs : (ℕ → Option ℕ) → Option Counted → Bool

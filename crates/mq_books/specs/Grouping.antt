@@ -2,7 +2,7 @@
 use Rattle.std.specs.Prelude.{◌≡◌, Bool, true, false, ◌&&◌, ◌||◌, not, Option, Some, None, refl}
 use Rattle.mq_rules.specs.declared.rule.Rule.{Rule}
 use Rattle.mq_rules.specs.declared.role.Role.{Role}
-use Rattle.mq_rules.specs.declared.rule.Rule.TheVariants.{W01, S07, E1A, E1R, E1O, E2A, E2R, E2O, E3A, E3R, E3O, E4A, E4R, E5A, E5R, E6A, E6R, E7R, L1, L2, L3, B01, B02, B03, B04}
+use Rattle.mq_rules.specs.declared.rule.Rule.TheVariants.{W01, S07, E1A, E1R, E1O, E2A, E2R, E2O, E3A, E3R, E3O, E4A, E4R, E5A, E5R, E6A, E6R, E7R, L1, L2, L3, B01, B02, B03, B04, B05}
 use Rattle.mq_rules.specs.Words.{is_some_and}
 use Rattle.mq_rules.specs.Rules.{same_rule}
 use Rattle.mq_rules.specs.Under.{either_adds}
@@ -55,7 +55,7 @@ requests_add r t =
 -- ---- subscriptions, as they are watched
 
 abbrev pub of_subscriptions : Rule → Bool
-of_subscriptions r = (same_rule r B01 || same_rule r B02) || (same_rule r B03 || same_rule r B04)
+of_subscriptions r = (same_rule r B01 || same_rule r B02) || (same_rule r B03 || (same_rule r B04 || same_rule r B05))
 
 -- ---- all statements on sessions
 

@@ -16,7 +16,9 @@ pub mod Opened
 pub mod Resending
 pub mod Releasing
 pub mod Receiving
+pub mod Firsts
 pub mod Countings
+pub mod Grantings
 pub mod Standings
 pub mod Grouping
 pub mod Requesting

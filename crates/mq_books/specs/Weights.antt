@@ -39,6 +39,10 @@ releases_weighs s = ids_kept s.brought + ids_kept s.released + ids_kept s.due
 abbrev pub counts_weighs : {R : Type 0} → Counts R → ℕ
 counts_weighs s = ids_kept s.counts
 
+-- what SUBSCRIBEs without their answer ask for: an entry for each, with what its first filter asks for, and its other filters
+abbrev pub grants_weigh : Grants → ℕ
+grants_weigh s = sum_by (λ e. at_least_one (length e.1)) s.wanted.entries
+
 -- filters: those that stand, the topics for which some were looked up, and the SUBSCRIBEs that wait, each with its filters
 abbrev pub filters_weigh : SessionFilters → ℕ
 filters_weigh f = length f.settled + f.found + sum_by waits_weight f.waiting

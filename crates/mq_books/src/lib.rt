@@ -1,4 +1,4 @@
-//! Watchers of the statements on sessions: S01 to S07, E1A to E7R, L1 to L3 and B01 to B04. Each
+//! Watchers of the statements on sessions: S01 to S07, E1A to E7R, L1 to L3 and B01 to B05. Each
 //! event is taken in once, and what is kept doesn't grow with the log.
 //!
 //! A session packet may come before the CONNACK that decides its connection: `Early` holds the
@@ -15,6 +15,7 @@ mod early;
 mod exchange;
 mod fated;
 mod filters;
+mod grants;
 mod inflight;
 mod judging;
 mod known;
@@ -40,6 +41,7 @@ pub use debts::Debts;
 pub use early::Early;
 pub use exchange::{E1, E2, E3, E4, E5, E6, Exchange};
 pub use fated::Fated;
+pub use grants::Grants;
 pub use inflight::Inflight;
 pub use judging::{watch_all, watch_sessions};
 pub use known::judge_by;

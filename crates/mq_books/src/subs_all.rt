@@ -1,6 +1,6 @@
-//! What a server may deliver and how it answers what asks for it: B01 to B04.
+//! What a server may deliver and how it answers what asks for it: B01 to B05.
 ghost use Rattle.std.specs.Prelude.{◌≡◌, ◌&&◌, ◌||◌, [], Some, refl};
-ghost use Rattle.mq_rules.specs.declared.rule.Rule.TheVariants.{B01, B02, B03, B04};
+ghost use Rattle.mq_rules.specs.declared.rule.Rule.TheVariants.{B01, B02, B03, B04, B05};
 ghost use Rattle.mq_rules.specs.Rules.{same_rule};
 ghost use Rattle.mq_rules.specs.declared.fate.Fate.TheVariants.{Void};
 ghost use Rattle.mq_rules.specs.Notes.{note_in, note_of_bare};
@@ -10,6 +10,7 @@ ghost use Rattle.mq_books.specs.Selecting as selecting;
 use crate::counting::Asks;
 use crate::counts::{Counts, Subacks, Unsubacks};
 use crate::fated::{Fated, fated_apart};
+use crate::grants::Grants;
 use crate::selective::{Discerning, Selecting, Selective};
 use crate::subs::Deliveries;
 use crate::taken::Taken;
@@ -19,9 +20,12 @@ use mq_rules::{
 };
 use std::alloc::Global;
 
-/// Watches B01 to B04.
+/// Watches B01 to B05.
 pub struct Subs {
-    watchers: Both<Deliveries, Both<Selecting<Counts<Subacks>>, Selecting<Counts<Unsubacks>>>>,
+    watchers: Both<
+        Deliveries,
+        Both<Selecting<Counts<Subacks>>, Both<Selecting<Counts<Unsubacks>>, Selecting<Grants>>>,
+    >,
 }
 
 // As a derived one, but a call of its own.
@@ -44,7 +48,10 @@ impl Subs {
                 Deliveries::new(alloc, tested),
                 Both::new(
                     Selecting::new(Counts::new(alloc, tested)),
-                    Selecting::new(Counts::new(alloc, tested)),
+                    Both::new(
+                        Selecting::new(Counts::new(alloc, tested)),
+                        Selecting::new(Grants::new(alloc, tested)),
+                    ),
                 ),
             ),
         }
@@ -52,13 +59,13 @@ impl Subs {
 }
 
 impl Fated for Subs {
-    ghost agrees = { λ s. ⟦<Both<Deliveries, Both<Selecting<Counts<Subacks>>, Selecting<Counts<Unsubacks>>>> as Fated>⟧.agrees s.watchers };
+    ghost agrees = { λ s. ⟦<Both<Deliveries, Both<Selecting<Counts<Subacks>>, Both<Selecting<Counts<Unsubacks>>, Selecting<Grants>>>> as Fated>⟧.agrees s.watchers };
 
-    ghost judges = { ⟦<Both<Deliveries, Both<Selecting<Counts<Subacks>>, Selecting<Counts<Unsubacks>>>> as Fated>⟧.judges };
+    ghost judges = { ⟦<Both<Deliveries, Both<Selecting<Counts<Subacks>>, Both<Selecting<Counts<Unsubacks>>, Selecting<Grants>>>> as Fated>⟧.judges };
 
-    ghost weighs = { λ s. ⟦<Both<Deliveries, Both<Selecting<Counts<Subacks>>, Selecting<Counts<Unsubacks>>>> as Fated>⟧.weighs s.watchers };
+    ghost weighs = { λ s. ⟦<Both<Deliveries, Both<Selecting<Counts<Subacks>>, Both<Selecting<Counts<Unsubacks>>, Selecting<Grants>>>> as Fated>⟧.weighs s.watchers };
 
-    ghost bound = { ⟦<Both<Deliveries, Both<Selecting<Counts<Subacks>>, Selecting<Counts<Unsubacks>>>> as Fated>⟧.bound };
+    ghost bound = { ⟦<Both<Deliveries, Both<Selecting<Counts<Subacks>>, Both<Selecting<Counts<Unsubacks>>, Selecting<Grants>>>> as Fated>⟧.bound };
 
     // A call of its own: few packets concern it.
     #[inline(always)]
@@ -80,7 +87,7 @@ impl Fated for Subs {
 }
 
 impl Selective for Subs {
-    ghost concerns = { ⟦<Both<Deliveries, Both<Selecting<Counts<Subacks>>, Selecting<Counts<Unsubacks>>>> as Selective>⟧.concerns };
+    ghost concerns = { ⟦<Both<Deliveries, Both<Selecting<Counts<Subacks>>, Both<Selecting<Counts<Unsubacks>>, Selecting<Grants>>>> as Selective>⟧.concerns };
 
     fn passes(&self) {
         self.watchers.passes();
@@ -95,25 +102,26 @@ impl Selective for Subs {
 impl Asks for Subs {
     type Places = <Both<
         Deliveries,
-        Both<Selecting<Counts<Subacks>>, Selecting<Counts<Unsubacks>>>,
+        Both<Selecting<Counts<Subacks>>, Both<Selecting<Counts<Unsubacks>>, Selecting<Grants>>>,
     > as Asks>::Places;
 
-    ghost counts = { ⟦<Both<Deliveries, Both<Selecting<Counts<Subacks>>, Selecting<Counts<Unsubacks>>>> as Asks>⟧.counts };
+    ghost counts = { ⟦<Both<Deliveries, Both<Selecting<Counts<Subacks>>, Both<Selecting<Counts<Unsubacks>>, Selecting<Grants>>>> as Asks>⟧.counts };
 
     ghost counted = { of_subscriptions };
 
     ghost on_sessions = { on_subscriptions };
 
     fn tests(rule: Rule) -> bool {
-        <Both<Deliveries, Both<Selecting<Counts<Subacks>>, Selecting<Counts<Unsubacks>>>>>::tests(
-            rule,
-        )
+        <Both<
+            Deliveries,
+            Both<Selecting<Counts<Subacks>>, Both<Selecting<Counts<Unsubacks>>, Selecting<Grants>>>,
+        >>::tests(rule)
     }
 
     fn no_places() -> Self::Places {
         <Both<
             Deliveries,
-            Both<Selecting<Counts<Subacks>>, Selecting<Counts<Unsubacks>>>,
+            Both<Selecting<Counts<Subacks>>, Both<Selecting<Counts<Unsubacks>>, Selecting<Grants>>>,
         >>::no_places()
     }
 
@@ -132,7 +140,7 @@ impl Asks for Subs {
     fn places_of(places: &Self::Places, rule: Rule) -> u32 {
         <Both<
             Deliveries,
-            Both<Selecting<Counts<Subacks>>, Selecting<Counts<Unsubacks>>>,
+            Both<Selecting<Counts<Subacks>>, Both<Selecting<Counts<Unsubacks>>, Selecting<Grants>>>,
         >>::places_of(places, rule)
     }
 }

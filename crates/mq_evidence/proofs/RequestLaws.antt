@@ -9,10 +9,11 @@ use Rattle.mq_rules.specs.Words.{is_id}
 use Rattle.mq_rules.specs.Notes.{Number, Grant, received_fields, received_subscription, received_unsubscription, subscription_in, unsubscription_in, received_as, sent_as, subscribe_in, unsubscribe_in, suback_in, unsuback_in, sent_grant, sent_unsuback}
 use Rattle.mq_rules.specs.Moments.{Moment, position, note, earliest_since}
 use Rattle.mq_evidence.specs.declared.evidence.Evidence.{Evidence}
+use Rattle.mq_evidence.specs.declared.evidence.Numbers.TheVariants.{Nothing}
 use Rattle.mq_evidence.specs.declared.requests.Request.{Request}
-use Rattle.mq_evidence.specs.Evidence.{nothing, it_with, two_of}
+use Rattle.mq_evidence.specs.Evidence.{nothing, it, it_with, two_of}
 use Rattle.mq_evidence.specs.Stretches.{longer, has_id}
-use Rattle.mq_evidence.specs.Requests.{filters_of, count_of, first_subscribe, first_unsubscribe, request_of, request_next, compared, of_grant, of_unsuback}
+use Rattle.mq_evidence.specs.Requests.{filters_of, count_of, first_subscribe, first_unsubscribe, request_of, request_next, compared, of_grant, of_too_much, of_unsuback}
 
 abbrev request_by : ℕ → ℕ → Request
 request_by filters p = record { position = p; filters = filters }
@@ -126,3 +127,17 @@ of_unsuback-is ms n i codes e = go (sent_unsuback n)
         → e ≡ unwrap_or (option_map (λ a. told_of_unsuback ms (a.identifier, a.count)) o) nothing
     go None h is = absurd (cc)
     go (Some a) h is = let same : (a.identifier, a.count) ≡ (i, codes) = cc in is ∙ compared-count i codes ms ∙ ap (told_of_unsuback ms) (sym same)
+
+-- what is said of an event without numbers; where a request is
+abbrev pub by_event : Option ℕ → Evidence
+by_event because = record { because = because; numbers = Nothing }
+
+abbrev pub place_in : Option Request → Option ℕ
+place_in r = option_map (λ q. q.position) r
+
+pub of_too_much-is : (ms : List Moment) (n : Note) (i : ℕ) (e : Evidence) → sent_as suback_in n ≡ Some i → e ≡ by_event (place_in (option_map (request_of filters_of) (first_subscribe i ms))) → e ≡ of_too_much ms n
+of_too_much-is ms n i e answers is = is ∙ go (first_subscribe i ms) ∙ ap (λ o. unwrap_or (option_map (λ i. it (first_subscribe i ms)) o) nothing) (sym answers)
+  where
+    go : (o : Option Moment) → by_event (place_in (option_map (request_of filters_of) o)) ≡ it o
+    go None = refl
+    go (Some m) = refl

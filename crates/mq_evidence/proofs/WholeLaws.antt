@@ -8,7 +8,7 @@ use Rattle.mq_rules.specs.declared.role.Role.TheVariants.{Client, Server}
 use Rattle.mq_rules.specs.declared.role.Tested.{Tested}
 use Rattle.mq_rules.specs.declared.fate.Fate.{Fate}
 use Rattle.mq_rules.specs.declared.rule.Rule.{Rule}
-use Rattle.mq_rules.specs.declared.rule.Rule.TheVariants.{S01, S02, S03, S04, S05, B01, B02, S07, E7R, E1A, E2A, E3A, E4A, E5A, E6A, E1O, E2O, E3O, B03, B04, L1, L2, L3}
+use Rattle.mq_rules.specs.declared.rule.Rule.TheVariants.{S01, S02, S03, S04, S05, B01, B02, S07, E7R, E1A, E2A, E3A, E4A, E5A, E6A, E1O, E2O, E3O, B03, B04, B05, L1, L2, L3}
 use Rattle.mq_rules.specs.declared.note.Note.{Note}
 use Rattle.mq_rules.specs.declared.note.Note.TheVariants as notes
 use Rattle.mq_rules.specs.declared.note.Seen.{Seen}
@@ -19,9 +19,9 @@ use Rattle.mq_rules.specs.Connections.{number, fate, accepts, is_binding}
 use Rattle.mq_rules.specs.Identifiers.{breaks_S01, breaks_S02, breaks_S03, breaks_S04, breaks_S05, breaks_S07}
 use Rattle.mq_rules.specs.Exchanges.{breaks_A, breaks_O, breaks_E7R}
 use Rattle.mq_rules.specs.Releases.{breaks_L1, breaks_L2, breaks_L3}
-use Rattle.mq_rules.specs.Subscriptions.{breaks_B01, breaks_B02, breaks_B03, breaks_B04}
+use Rattle.mq_rules.specs.Subscriptions.{breaks_B01, breaks_B02, breaks_B03, breaks_B04, breaks_B05}
 use Rattle.mq_rules.specs.Rules.{binds}
-use Rattle.mq_rules.specs.Statements.{Statement, on_bytes, on_past, in_session, at_release, at_rest, statement, is_so, is_so_under, where_accepted, fails}
+use Rattle.mq_rules.specs.Statements.{Statement, on_bytes, on_past, in_session, at_release, at_rest, by_later, statement, is_so, is_so_under, where_accepted, fails}
 use Rattle.mq_rules.specs.Faults.{decided}
 use Rattle.mq_rules.specs.Under.{seen, is_on_session}
 use Rattle.mq_rules.proofs.Exports.{both_true}
@@ -51,6 +51,7 @@ found-unshown role E2O f t m h = refl
 found-unshown role E3O f t m h = refl
 found-unshown role B03 f t m h = refl
 found-unshown role B04 f t m h = refl
+found-unshown role B05 f t m h = refl
 found-unshown role L1 f t m h = refl
 found-unshown role L2 f t m h = refl
 found-unshown role L3 f t m h = refl
@@ -65,9 +66,10 @@ breaks_at (on_past breaks) f m = false
 breaks_at (in_session breaks) f m = breaks f m
 breaks_at (at_release breaks) f m = breaks f m
 breaks_at (at_rest shows) f m = false
+breaks_at (by_later shows) f m = false
 
 unbroken : (role : Role) (r : Rule) (f : Fate) (p : Place3) (past : List Seen) → is_found r ≡ true → breaks_at (statement role r) f (newest (seen p notes.Open) past) ≡ false
-unfolding breaks_S01 breaks_S02 breaks_S03 breaks_S04 breaks_S05 breaks_S07 breaks_A breaks_O breaks_E7R breaks_L1 breaks_L2 breaks_L3 breaks_B01 breaks_B02 breaks_B03 breaks_B04 is_binding
+unfolding breaks_S01 breaks_S02 breaks_S03 breaks_S04 breaks_S05 breaks_S07 breaks_A breaks_O breaks_E7R breaks_L1 breaks_L2 breaks_L3 breaks_B01 breaks_B02 breaks_B03 breaks_B04 breaks_B05 is_binding
 unbroken Client S01 f p past h = refl
 unbroken Server S01 f p past h = refl
 unbroken role S02 f p past h = refl
@@ -89,6 +91,7 @@ unbroken role E2O f p past h = refl
 unbroken role E3O f p past h = refl
 unbroken role B03 f p past h = refl
 unbroken role B04 f p past h = refl
+unbroken role B05 f p past h = refl
 unbroken role L1 f p past h = refl
 unbroken role L2 f p past h = refl
 unbroken role L3 f p past h = refl
@@ -101,6 +104,7 @@ is_direct (on_past breaks) = false
 is_direct (in_session breaks) = true
 is_direct (at_release breaks) = true
 is_direct (at_rest shows) = false
+is_direct (by_later shows) = false
 
 direct : (role : Role) (r : Rule) → is_found r ≡ true → is_direct (statement role r) ≡ true
 direct role S01 h = refl
@@ -123,6 +127,7 @@ direct role E2O h = refl
 direct role E3O h = refl
 direct role B03 h = refl
 direct role B04 h = refl
+direct role B05 h = refl
 direct role L1 h = refl
 direct role L2 h = refl
 direct role L3 h = refl
@@ -162,6 +167,7 @@ shut-where-fails tested log k r finds failing =
     go (on_bytes rule) d none o at so = absurd (cc)
     go (on_past breaks) d none o at so = absurd (cc)
     go (at_rest shows) d none o at so = absurd (cc)
+    go (by_later shows) d none o at so = absurd (cc)
     go (in_session breaks) d none None at so = absurd (let never = sym (ap (λ o. is_some_and (λ m. is_so_under (where_accepted breaks) m (fates (number m))) o) at) ∙ so in cc)
     go (in_session breaks) d none (Some m) at so = open_or (is_open (note m)) refl
       where
@@ -217,6 +223,7 @@ on-session tested E2O h = refl
 on-session tested E3O h = refl
 on-session tested B03 h = refl
 on-session tested B04 h = refl
+on-session tested B05 h = refl
 on-session tested L1 h = refl
 on-session tested L2 h = refl
 on-session tested L3 h = refl

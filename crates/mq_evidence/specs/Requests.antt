@@ -1,4 +1,4 @@
--- What is kept of the requests that wait for their answers, for B03 and B04.
+-- What is kept of the requests that wait for their answers, for B03 to B05.
 use Rattle.std.specs.Prelude.{ℕ, ◌≡◌, Bool, cond, List, length, Option, Some, None, option_map, unwrap_or}
 use Rattle.std.specs.Option.{option_and_then, option_or}
 use Rattle.mq_rules.specs.ByIdentifier.{kept}
@@ -8,7 +8,7 @@ use Rattle.mq_rules.specs.Moments.{Moment, position, note, earliest_since}
 use Rattle.mq_evidence.specs.declared.evidence.Evidence.{Evidence}
 use Rattle.mq_evidence.specs.declared.requests.Request.{Request}
 use Rattle.mq_evidence.specs.declared.requests.Requests.{Requests}
-use Rattle.mq_evidence.specs.Evidence.{nothing, it_with, two_of}
+use Rattle.mq_evidence.specs.Evidence.{nothing, it, it_with, two_of}
 use Rattle.mq_evidence.specs.Stretches.{Stretches, has_id}
 
 -- how many Topic Filters a SUBSCRIBE, or an UNSUBSCRIBE, has that was received; 0 if there is none
@@ -35,6 +35,10 @@ abbrev pub of_unsuback : List Moment → Note → Evidence
 of_unsuback ms n = unwrap_or (option_map (λ a. it_with (first_unsubscribe a.identifier ms)
     (two_of (option_map (λ u. u.count) (option_and_then (λ j. received_unsubscription (note j)) (first_unsubscribe a.identifier ms))) (Some a.count)))
     (sent_unsuback n)) nothing
+
+-- what a SUBACK conflicts with that grants more than was asked for
+abbrev pub of_too_much : List Moment → Note → Evidence
+of_too_much ms n = unwrap_or (option_map (λ i. it (first_subscribe i ms)) (sent_as suback_in n)) nothing
 
 -- ---- what is kept
 

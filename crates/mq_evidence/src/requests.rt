@@ -1,12 +1,12 @@
 //! The requests that wait for their answers, with their numbers of Topic Filters (MQTT 5.0,
-//! sections 3.9.3 and 3.11.3): the evidence of B03 and B04.
+//! sections 3.9.3 and 3.11.3): the evidence of B03 to B05.
 ghost use Rattle.std.specs.Prelude.{◌≡◌, ℕ, OnOk, Some, length, option_map};
 ghost use Rattle.mq_rules.specs.ByIdentifier.{kept};
 ghost use Rattle.mq_rules.specs.Words.{is_id};
 ghost use Rattle.mq_rules.specs.Notes.{sent_grant, sent_unsuback};
 ghost use Rattle.mq_rules.specs.Moments.{Moment};
 ghost use Rattle.mq_evidence.specs.Stretches.{Stretches, Comes, advanced, nothing_yet};
-ghost use Rattle.mq_evidence.specs.Requests.{IsRequests, request_next, filters_of, count_of, compared, of_grant, of_unsuback};
+ghost use Rattle.mq_evidence.specs.Requests.{IsRequests, request_next, filters_of, count_of, compared, of_grant, of_too_much, of_unsuback};
 
 use crate::evidence::{Evidence, Numbers};
 use crate::turn::Turn;
@@ -114,6 +114,16 @@ fn compare(request: Option<Request>, codes: u64) -> Evidence
     }
 }
 
+// Where a request is, if there is one.
+fn place_of(request: Option<Request>) -> Option<u32>
+    ensures { result ≡ option_map (λ r. r.position) request }
+{
+    match request {
+        Some(request) => Some(request.position),
+        None => None,
+    }
+}
+
 // What such an answer under this identifier conflicts with.
 fn compare_under(requests: &ByIdentifier<Request>, i: u16, codes: u64) -> Evidence
     ensures { result ≡ compared (kept requests.now i) codes }
@@ -179,6 +189,17 @@ impl Requests {
         match granted(note) {
             Some((i, codes)) => compare_under(&self.subscribes, i, codes),
             None => compare(None, 0),
+        }
+    }
+
+    /// What a SUBACK conflicts with that grants more than its SUBSCRIBE asks for: that SUBSCRIBE.
+    /// An event that sends no SUBACK conflicts with nothing.
+    pub fn of_granting(&self, note: &Note) -> Evidence
+        ensures { (s : Stretches) → IsRequests self.now s → result ≡ of_too_much s.connection note.now }
+    {
+        match note.sent_suback() {
+            Some(i) => Evidence::of(place_of(self.subscribes.get(i))),
+            None => Evidence::nothing(),
         }
     }
 

@@ -95,6 +95,7 @@ pub fn explanation(rule: Rule) -> &'static str
         Rule::B02 => deliveries::B02,
         Rule::B03 => deliveries::B03,
         Rule::B04 => deliveries::B04,
+        Rule::B05 => further::B05,
         Rule::F01 => further::F01,
         Rule::F02 => further::F02,
         Rule::F03 => further::F03,
@@ -104,6 +105,9 @@ pub fn explanation(rule: Rule) -> &'static str
         Rule::V03 => further::V03,
         Rule::V04 => further::V04,
         Rule::V06 => further::V06,
+        Rule::C24 => further::C24,
+        Rule::D01 => further::D01,
+        Rule::D02 => further::D02,
         Rule::A01 => further::A01,
         Rule::A02 => further::A02,
     }

@@ -13,7 +13,7 @@ use Rattle.mq_rules.specs.Notes.{is_open}
 use Rattle.mq_rules.specs.Moments.{Moment, newest, moment, is_next}
 use Rattle.mq_rules.specs.Connections.{latest_fate, accepts, is_binding, gives_fate}
 use Rattle.mq_rules.specs.Rules.{binds}
-use Rattle.mq_rules.specs.Statements.{Statement, on_bytes, on_past, in_session, at_release, at_rest, statement}
+use Rattle.mq_rules.specs.Statements.{Statement, on_bytes, on_past, in_session, at_release, at_rest, by_later, statement}
 use Rattle.mq_rules.specs.Steps.{turns}
 use Rattle.mq_rules.specs.Under.{shows_with, turns_with}
 use Rattle.mq_rules.specs.FaultKeys.{FaultMap, fault_at}
@@ -49,6 +49,7 @@ turned-there tested f e past k r h = go (statement tested.role r) (both_true (bi
     go : (s : Statement) → shows_with tested.role f s e past k ≡ true → is_some (moment (e ∷ past) k) ≡ true
     go (on_bytes rule) t = absurd (cc)
     go (on_past breaks) t = absurd (cc)
+    go (by_later test) t = absurd (cc)
     go (in_session breaks) t = now (both_true (is_next past k) (accepts f && breaks f (newest e past)) t).0
     go (at_release breaks) t = now (both_true (is_next past k) (breaks f (newest e past)) t).0
     go (at_rest test) t = before (moment past k) (test (newest e past)) refl (both_true (is_binding tested.role (newest e past)) (is_some_and (test (newest e past)) (moment past k)) t).1

@@ -24,7 +24,7 @@ use Rattle.mq_rules.specs.Notes.{is_open, is_rest, released_id, sent_fields, rec
 use Rattle.mq_rules.specs.Moments.{Moment, newest, note, moment, moments, some, those, count, is_next}
 use Rattle.mq_rules.specs.Connections.{latest_fate, accepts, resumed, connection, begun, number, is_binding}
 use Rattle.mq_rules.specs.Rules.{binds, found_line, lines, line_of}
-use Rattle.mq_rules.specs.Statements.{Statement, on_bytes, on_past, in_session, at_release, at_rest, statement}
+use Rattle.mq_rules.specs.Statements.{Statement, on_bytes, on_past, in_session, at_release, at_rest, by_later, statement}
 use Rattle.mq_rules.specs.Under.{is_by_session, shows_with, turns_with}
 use Rattle.mq_rules.specs.Identifiers.{taken_by, breaks_S01, breaks_S02, breaks_S03, breaks_S04, breaks_S05, breaks_S07, is_waiting, shows_S06}
 use Rattle.mq_rules.specs.Exchanges.{breaks_A, breaks_O, breaks_E7R, shows_R}
@@ -213,6 +213,7 @@ record IsIdle (role : Role) (e : Seen) (past : List Seen) : Type 0 where
 abbrev IsNever : Bool → Statement → Moment → Type 0
 IsNever bound (on_bytes bytes) m = ⊥
 IsNever bound (on_past breaks) m = ⊥
+IsNever bound (by_later shows_it) m = ⊥
 IsNever bound (in_session breaks) m = bound ≡ true → (f : Fate) → breaks f m ≡ false
 IsNever bound (at_release breaks) m = bound ≡ true → (f : Fate) → breaks f m ≡ false
 IsNever bound (at_rest shows_it) m = (k : Moment) → asks (note k) ≡ false → shows_it m k ≡ false
@@ -312,6 +313,7 @@ never-turns : (tested : Tested) (rule : Rule) (s : Statement) (f : Fate) (e : Se
 unfolding turns_with
 never-turns tested rule (on_bytes bytes) f e past k says quiet h = absurd h
 never-turns tested rule (on_past breaks) f e past k says quiet h = absurd h
+never-turns tested rule (by_later shows_it) f e past k says quiet h = absurd h
 never-turns tested rule (in_session breaks) f e past k says quiet h =
     ap (λ s. binds rule tested && shows_with tested.role f s e past k) says
     ∙ nowhere (binds rule tested) (is_next past k) (accepts f && breaks f (newest e past)) (λ bound. ap (λ b. accepts f && b) (h bound f) ∙ and_false (accepts f))
@@ -397,18 +399,26 @@ silent_lb = record {
 }
 
 -- they are all on sessions
-sessions-of : (role : Role) (rule : Rule) → is_plain_rule rule ≡ is_by_session (statement role rule)
-sessions-of role S01 = refl
-sessions-of role _ = refl
+none-apart : (role : Role) (rule : Rule) → (is_plain_rule rule && not (is_by_session (statement role rule))) ≡ false
+none-apart role S01 = refl
+none-apart role _ = refl
+
+sessions-of : (role : Role) (rule : Rule) → is_plain_rule rule ≡ true → is_by_session (statement role rule) ≡ true
+sessions-of role rule chosen = go (is_plain_rule rule) (is_by_session (statement role rule)) (none-apart role rule) chosen
+  where
+    go : (a b : Bool) → (a && not b) ≡ false → a ≡ true → b ≡ true
+    go true true h t = refl
+    go true false h t = absurd (cc)
+    go false b h t = absurd (cc)
 
 pub sessions_plain : AreOnSessions is_plain_rule
-sessions_plain = record { each = λ tested rule chosen. sym (sessions-of tested.role rule) ∙ chosen }
+sessions_plain = record { each = λ tested rule chosen. sessions-of tested.role rule chosen }
 
 pub sessions_se : AreOnSessions is_plain_se
-sessions_se = record { each = λ tested rule chosen. sym (sessions-of tested.role rule) ∙ one-of (is_plain_se rule) (is_plain_lb rule) chosen }
+sessions_se = record { each = λ tested rule chosen. sessions-of tested.role rule (one-of (is_plain_se rule) (is_plain_lb rule) chosen) }
 
 pub sessions_lb : AreOnSessions is_plain_lb
-sessions_lb = record { each = λ tested rule chosen. sym (sessions-of tested.role rule) ∙ other-of (is_plain_se rule) (is_plain_lb rule) chosen }
+sessions_lb = record { each = λ tested rule chosen. sessions-of tested.role rule (other-of (is_plain_se rule) (is_plain_lb rule) chosen) }
 
 -- Where no statement turns out false under the fate, nothing is added.
 gains-none : (chosen : Rule → Bool) (tested : Tested) (f : Fate) (e : Seen) (past : List Seen) (at : ℕ) (faults : FaultMap) → ((k : ℕ) (r : Rule) → chosen r ≡ true → turns_with tested f e past k r ≡ false)

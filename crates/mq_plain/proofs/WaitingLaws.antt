@@ -14,7 +14,7 @@ use Rattle.mq_rules.specs.Notes.{is_open, is_rest}
 use Rattle.mq_rules.specs.Moments.{Moment, newest, moment, is_next, some}
 use Rattle.mq_rules.specs.Connections.{begun, number, connection, fate, latest_fate, accepted, ends_binding, is_binding, gives_fate}
 use Rattle.mq_rules.specs.Rules.{binds}
-use Rattle.mq_rules.specs.Statements.{Statement, on_bytes, on_past, in_session, at_release, at_rest, statement, is_so_under, where_accepted}
+use Rattle.mq_rules.specs.Statements.{Statement, on_bytes, on_past, in_session, at_release, at_rest, by_later, statement, is_so_under, where_accepted}
 use Rattle.mq_rules.specs.Steps.{given, shows_under, shows, turns}
 use Rattle.mq_rules.specs.Under.{is_by_session, is_on_session, shows_with, turns_with}
 use Rattle.mq_rules.proofs.Exports.{and-over, and_false, begun-open, begun-same, given-gives, latest_fate-open, latest_fate-same, moment-next, not_true, number-within, or-turn, or_false, or_left, rest-opens-nothing}
@@ -117,6 +117,7 @@ undecided-turns tested e past k r none session = go (statement tested.role r) se
     go : (s : Statement) → is_by_session s ≡ true → (binds r tested && shows tested.role s e past k) ≡ false
     go (on_bytes rule) t = absurd (cc)
     go (on_past breaks) t = absurd (cc)
+    go (by_later test) t = absurd (cc)
     go (in_session breaks) t = ap (λ b. binds r tested && b) (shows-nothing tested.role (where_accepted breaks) e past k none) ∙ and_false (binds r tested)
     go (at_release breaks) t = ap (λ b. binds r tested && b) (shows-nothing tested.role breaks e past k none) ∙ and_false (binds r tested)
     go (at_rest test) t = ap (λ b. binds r tested && (b && is_some_and (test (newest e past)) (moment past k))) (unbound tested.role e past none) ∙ and_false (binds r tested)
@@ -236,6 +237,7 @@ decided-turns tested f n e past k r now at session =
         → (some_after (λ d older. bound && shows_with tested.role f s d older k) (settled tested.role past) past || (bound && shows_with tested.role f s e past k)) ≡ (bound && shows tested.role s e past k)
     go (on_bytes rule) t = absurd (cc)
     go (on_past breaks) t = absurd (cc)
+    go (by_later test) t = absurd (cc)
     go (in_session breaks) t = both (λ d older. is_next older k && where_accepted breaks f (newest d older)) _ (sym (decided-shows tested.role f (where_accepted breaks) e past k now))
     go (at_release breaks) t = both (λ d older. is_next older k && breaks f (newest d older)) _ (sym (decided-shows tested.role f breaks e past k now))
     go (at_rest test) t = both (λ d older. is_binding tested.role (newest d older) && is_some_and (test (newest d older)) (moment older k)) _

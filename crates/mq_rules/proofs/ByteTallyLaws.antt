@@ -11,7 +11,7 @@ use Rattle.mq_rules.specs.declared.rule.Rule.{Rule}
 use Rattle.mq_rules.specs.declared.byte_tally.ByteTally.{ByteTally}
 use Rattle.mq_rules.specs.Words.{is_some_and}
 use Rattle.mq_rules.specs.Rules.{binds}
-use Rattle.mq_rules.specs.Statements.{Statement, on_bytes, on_past, in_session, at_release, at_rest, statement, is_by_bytes}
+use Rattle.mq_rules.specs.Statements.{Statement, on_bytes, on_past, in_session, at_release, at_rest, by_later, statement, is_by_bytes}
 use Rattle.mq_rules.specs.Trials.{tried_by, item_sent, tries_statement, places_bytes}
 use Rattle.mq_rules.specs.ByteTallies.{count_of, CountsBytes}
 use Rattle.mq_rules.proofs.TrialLaws.{bytes-most}
@@ -141,6 +141,7 @@ other_shape true (on_past breaks) e h = refl
 other_shape true (in_session breaks) e h = refl
 other_shape true (at_release breaks) e h = refl
 other_shape true (at_rest shows) e h = refl
+other_shape true (by_later shows) e h = refl
 other_shape false s e h = refl
 
 none_yet : (tested : Tested) (rule : Rule) (p : Placed) (past : List Placed) → is_by_bytes (statement tested.role rule) ≡ false → 0 ≡ places_bytes tested past rule → 0 ≡ places_bytes tested (p ∷ past) rule
@@ -159,6 +160,7 @@ not_bytes role rule (on_past breaks) is none = refl
 not_bytes role rule (in_session breaks) is none = refl
 not_bytes role rule (at_release breaks) is none = refl
 not_bytes role rule (at_rest shows) is none = refl
+not_bytes role rule (by_later shows) is none = refl
 
 pub no-places : (tested : Tested) (events : List Placed) (rule : Rule) → ((bytes : PacketRule) → rule ≡ rule_of bytes → ⊥) → 0 ≡ places_bytes tested events rule
 no-places tested events rule none = others_none tested events rule (not_bytes tested.role rule (statement tested.role rule) refl none)

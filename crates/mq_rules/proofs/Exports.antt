@@ -6,7 +6,7 @@ pub use Rattle.mq_rules.proofs.CounterLaws.{apart as delivery-apart, full-counte
 pub use Rattle.mq_rules.proofs.DecidedLaws.{decided-fails, decided-within, fault_in-start, fault_in-step}
 pub use Rattle.mq_rules.proofs.DropLaws.{fault_in-dropped}
 pub use Rattle.mq_rules.proofs.FateLaws.{accepted-gives, begins-gives, begun-least, begun-open, begun-same, connection-next, fate-elsewhere, fate-next, fate-outcome, gives-decides, latest_fate-next, latest_fate-open, latest_fate-same, open-decides}
-pub use Rattle.mq_rules.proofs.FatedLaws.{decided-under, fated-known, fated-on, fated-open}
+pub use Rattle.mq_rules.proofs.FatedLaws.{decided-under, fated-known, fated-later, fated-on, fated-open}
 pub use Rattle.mq_rules.proofs.FaultKeyLaws.{fault_at-judged, fault_at-with_fault, on_err}
 pub use Rattle.mq_rules.proofs.FoldLaws.{session_since-next, under-next}
 pub use Rattle.mq_rules.proofs.GainLaws.{gains_either, gains_in, gains_nothing, gains_same, gains_then, within_all, within_either_first, within_either_second, within_first, within_in, within_nothing, within_same, within_second}

@@ -20,7 +20,7 @@ use Rattle.mq_rules.specs.Moments.{Moment, newest, note, moment, some}
 use Rattle.mq_rules.specs.Connections.{connection}
 use Rattle.mq_rules.specs.Pasts.{set_alias, is_sent_disconnect, is_sent_refusal, breaks_C01, breaks_C02, breaks_C03, breaks_C04, breaks_C05, breaks_C06, breaks_C07, breaks_C08, breaks_C09, breaks_C10, breaks_C11, breaks_C12, breaks_C13, breaks_C14, breaks_C15, breaks_C16, breaks_C17, breaks_C18, breaks_C19, breaks_C20, breaks_C21, breaks_C22, breaks_C23}
 use Rattle.mq_rules.specs.Rules.{same_rule, binds, found_line, is_further, lines, line_of}
-use Rattle.mq_rules.specs.Statements.{Statement, on_bytes, on_past, in_session, at_release, at_rest, statement, is_by_past, is_on_past}
+use Rattle.mq_rules.specs.Statements.{Statement, on_bytes, on_past, in_session, at_release, at_rest, by_later, statement, is_by_past, is_on_past}
 use Rattle.mq_rules.specs.Steps.{shows, turns}
 use Rattle.mq_rules.specs.Growing.{at_place, Judges, JudgesWithin, news, GrowsBy, GrowsByWithin}
 use Rattle.mq_rules.specs.Keeping.{kept, is_alias_set, item_verdicts, packet_verdicts, publish_verdicts, connack_verdicts, disconnect_verdicts, rest_verdicts, is_among, is_found, connection_after, Agrees}
@@ -76,6 +76,7 @@ past_says (on_past breaks) m = breaks m
 past_says (in_session breaks) m = false
 past_says (at_release breaks) m = false
 past_says (at_rest test) m = false
+past_says (by_later test) m = false
 
 abbrev pub client : Bool → Bool → Tested
 client releases further = record { role = Client; releases = releases; further = further }
@@ -167,6 +168,7 @@ found_news (on_bytes rule) own b found role e past k placed is = ap (at_place e.
 found_news (in_session breaks) own b found role e past k placed is = ap (at_place e.place k) (is ∙ ap (λ t. t && b) (and_false own)) ∙ nothing_at e.place k
 found_news (at_release breaks) own b found role e past k placed is = ap (at_place e.place k) (is ∙ ap (λ t. t && b) (and_false own)) ∙ nothing_at e.place k
 found_news (at_rest test) own b found role e past k placed is = ap (at_place e.place k) (is ∙ ap (λ t. t && b) (and_false own)) ∙ nothing_at e.place k
+found_news (by_later test) own b found role e past k placed is = ap (at_place e.place k) (is ∙ ap (λ t. t && b) (and_false own)) ∙ nothing_at e.place k
 found_news (on_past breaks) own b found role e past k placed is =
     ap (at_place e.place k) is
     ∙ ap (λ n. cond {A = Option Fault} ((k == n) && ((own && breaks (newest e past)) && b)) (Some (record { decided = n; record_no = e.place.record_no; offset = None })) None) placed

@@ -6,6 +6,9 @@ pub mod StepLaws
 pub mod DecidedLaws
 pub mod LateLaws
 mod MannersLaws
+mod LaterLaws
+mod DutyLaws
+mod DutiesLaws
 mod WishesLaws
 pub mod FindLaws
 pub mod GrowLaws

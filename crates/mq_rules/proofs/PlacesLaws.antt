@@ -39,7 +39,7 @@ applies-nowhere tested log k rule none =
     ap (λ b. binds rule tested && b) (occurs-nowhere tested.role (λ c. fate tested.role c log) (occasion tested.role rule) log k none) ∙ and_false (binds rule tested)
 
 -- the position of the next event isn't one yet
-unmet : (tested : Tested) (past : List Seen) (rule : Rule) → applies tested past (length past + 1) rule ≡ false
+pub unmet : (tested : Tested) (past : List Seen) (rule : Rule) → applies tested past (length past + 1) rule ≡ false
 unmet tested past rule = applies-nowhere tested past (length past + 1) rule (moment-beyond past (length past + 1) (omega arith))
 
 -- ---- counting moments

@@ -20,7 +20,7 @@ use Rattle.mq_rules.specs.Words.{is_some_and}
 use Rattle.mq_rules.specs.Notes.{sent_fault}
 use Rattle.mq_rules.specs.Moments.{newest, moment, IsPlaced}
 use Rattle.mq_rules.specs.Rules.{same_rule, binds, found_line, lines, line_of}
-use Rattle.mq_rules.specs.Statements.{Statement, on_bytes, on_past, in_session, at_release, at_rest, statement, breaks_bytes, is_by_bytes, is_on_bytes}
+use Rattle.mq_rules.specs.Statements.{Statement, on_bytes, on_past, in_session, at_release, at_rest, by_later, statement, breaks_bytes, is_by_bytes, is_on_bytes}
 use Rattle.mq_rules.specs.Steps.{shows, turns}
 use Rattle.mq_rules.specs.FaultKeys.{FaultMap, fault_at, with_fault}
 use Rattle.mq_rules.specs.Faults.{record_of, offset_of, Grows, GrowsWithin}
@@ -91,6 +91,7 @@ is_own rule (on_past breaks) = true
 is_own rule (in_session breaks) = true
 is_own rule (at_release breaks) = true
 is_own rule (at_rest test) = true
+is_own rule (by_later test) = true
 
 own : (role : Role) (rule : Rule) → is_own rule (statement role rule) ≡ true
 unfolding is_own rule_of
@@ -108,6 +109,7 @@ is_bound (on_past breaks) b = true
 is_bound (in_session breaks) b = true
 is_bound (at_release breaks) b = true
 is_bound (at_rest test) b = true
+is_bound (by_later test) b = true
 
 bound_for : (role : Role) (releases further : Bool) (rule : Rule) → is_bound (statement role rule) (binds rule (record { role = role; releases = releases; further = further })) ≡ true
 unfolding is_bound found_line lines line_of
@@ -142,6 +144,7 @@ news-none (on_past breaks) b role e past k none = refl
 news-none (in_session breaks) b role e past k none = refl
 news-none (at_release breaks) b role e past k none = refl
 news-none (at_rest test) b role e past k none = refl
+news-none (by_later test) b role e past k none = refl
 
 pub bytes-none : (tested : Tested) (e : Seen) (past : List Seen) (m : FaultMap) → sent_fault e.note ≡ None → GrowsBy (is_on_bytes tested) tested e past m m
 unfolding turns
@@ -205,6 +208,7 @@ news-some tested rule name e past k b (on_past breaks) placed broke name_is is =
 news-some tested rule name e past k b (in_session breaks) placed broke name_is is = none_of tested rule name e k b (other_shape tested rule name b.rule (in_session breaks) is refl name_is)
 news-some tested rule name e past k b (at_release breaks) placed broke name_is is = none_of tested rule name e k b (other_shape tested rule name b.rule (at_release breaks) is refl name_is)
 news-some tested rule name e past k b (at_rest test) placed broke name_is is = none_of tested rule name e k b (other_shape tested rule name b.rule (at_rest test) is refl name_is)
+news-some tested rule name e past k b (by_later test) placed broke name_is is = none_of tested rule name e k b (other_shape tested rule name b.rule (by_later test) is refl name_is)
 
 pub bytes-some : (tested : Tested) (e : Seen) (past : List Seen) (m : FaultMap) (name : Rule) (b : BodyFault) → e.place.position ≡ length past + 1
     → sent_fault e.note ≡ Some b → statement tested.role name ≡ on_bytes b.rule

@@ -9,9 +9,9 @@ use Rattle.mq_rules.specs.declared.rule.Rule.{Rule}
 use Rattle.mq_rules.specs.declared.note.Seen.{Seen}
 use Rattle.mq_rules.specs.Words.{is_some_and}
 use Rattle.mq_rules.specs.Moments.{Moment, newest, position, moments, moment, is_next, is_after, some}
-use Rattle.mq_rules.specs.Connections.{number, fate, gives_fate, is_binding}
+use Rattle.mq_rules.specs.Connections.{number, fate, gives_fate, is_beside, is_binding}
 use Rattle.mq_rules.specs.Rules.{binds}
-use Rattle.mq_rules.specs.Statements.{Statement, on_bytes, on_past, in_session, at_release, at_rest, statement, breaks_bytes, is_so_under, where_accepted, is_so, fails}
+use Rattle.mq_rules.specs.Statements.{Statement, on_bytes, on_past, in_session, at_release, at_rest, by_later, statement, breaks_bytes, is_so_under, where_accepted, is_so, fails}
 use Rattle.mq_rules.specs.Steps.{given, shows_under, shows, turns}
 use Rattle.mq_rules.proofs.FateLaws.{fate-next}
 use Rattle.mq_rules.proofs.BoolLaws.{and_false, or_false, and-over, or-last, or-turn, not_true, differ}
@@ -107,37 +107,49 @@ none-after m test (e ∷ past) h =
     ap (λ b. (b && test (newest e past)) || some (λ t. is_after t m && test t) (moments past)) (not_true (nat_lt (position m) (length past + 1)) (λ t. let lt : position m < length past + 1 = ltb-true (position m) (length past + 1) t in omega arith))
     ∙ none-after m test past (omega arith)
 
--- a later REST shows what it shows of an earlier moment
+-- a later moment shows what it shows of an earlier one
+later-step : (test : Moment → Moment → Bool) (e : Seen) (past : List Seen) (k : ℕ)
+    → is_some_and (λ m. some (λ t. is_after t m && test t m) (moments (e ∷ past))) (moment (e ∷ past) k)
+    ≡ (is_some_and (λ m. some (λ t. is_after t m && test t m) (moments past)) (moment past k) || is_some_and (test (newest e past)) (moment past k))
+later-step test e past k = go (is_next past k) refl (moment past k) refl
+  where
+    old : Moment → Bool
+    old m = some (λ t. is_after t m && test t m) (moments past)
+
+    now : Moment → Bool
+    now m = some (λ t. is_after t m && test t m) (moments (e ∷ past))
+
+    shown : Option Moment → Bool
+    shown o = is_some_and old o || is_some_and (test (newest e past)) o
+
+    -- nothing stands after the newest event
+    last : now (newest e past) ≡ false
+    last =
+        ap (λ b. (b && test (newest e past) (newest e past)) || old (newest e past)) (not_true (nat_lt (length past + 1) (length past + 1)) (λ t. let lt : length past + 1 < length past + 1 = ltb-true (length past + 1) (length past + 1) t in omega arith))
+        ∙ none-after (newest e past) (λ t. test t (newest e past)) past (omega arith)
+
+    earlier : (o : Option Moment) → moment past k ≡ o → is_some_and now o ≡ shown o
+    earlier None at = refl
+    earlier (Some m) at =
+        let le : position m ≤ length past = moment-within past k m at in
+        ap (λ b. (b && test (newest e past) m) || old m) (lt-ltb (position m) (length past + 1) (omega arith))
+        ∙ or-turn (test (newest e past) m) (old m)
+
+    go : (b : Bool) → is_next past k ≡ b → (o : Option Moment) → moment past k ≡ o → is_some_and now (cond b (Some (newest e past)) o) ≡ shown o
+    go true t o at = last ∙ sym (ap shown (sym at ∙ moment-next past k t))
+    go false t o at = earlier o at
+
+-- a later REST that binds
 pub rest-step : (role : Role) (test : Moment → Moment → Bool) (e : Seen) (past : List Seen) (k : ℕ)
     → is_some_and (λ m. some (λ t. is_after t m && (is_binding role t && test t m)) (moments (e ∷ past))) (moment (e ∷ past) k)
     ≡ (is_some_and (λ m. some (λ t. is_after t m && (is_binding role t && test t m)) (moments past)) (moment past k) || (is_binding role (newest e past) && is_some_and (test (newest e past)) (moment past k)))
-rest-step role test e past k = go (is_next past k) refl (moment past k) refl
+rest-step role test e past k =
+    later-step (λ t m. is_binding role t && test t m) e past k
+    ∙ ap (λ b. is_some_and (λ m. some (λ t. is_after t m && (is_binding role t && test t m)) (moments past)) (moment past k) || b) (outside (moment past k))
   where
-    old : Moment → Bool
-    old m = some (λ t. is_after t m && (is_binding role t && test t m)) (moments past)
-
-    now : Moment → Bool
-    now m = some (λ t. is_after t m && (is_binding role t && test t m)) (moments (e ∷ past))
-
-    shown : Option Moment → Bool
-    shown o = is_some_and old o || (is_binding role (newest e past) && is_some_and (test (newest e past)) o)
-
-    -- no REST stands after the newest event
-    last : now (newest e past) ≡ false
-    last =
-        ap (λ b. (b && (is_binding role (newest e past) && test (newest e past) (newest e past))) || old (newest e past)) (not_true (nat_lt (length past + 1) (length past + 1)) (λ t. let lt : length past + 1 < length past + 1 = ltb-true (length past + 1) (length past + 1) t in omega arith))
-        ∙ none-after (newest e past) (λ t. is_binding role t && test t (newest e past)) past (omega arith)
-
-    earlier : (o : Option Moment) → moment past k ≡ o → is_some_and now o ≡ shown o
-    earlier None at = sym (and_false (is_binding role (newest e past)))
-    earlier (Some m) at =
-        let le : position m ≤ length past = moment-within past k m at in
-        ap (λ b. (b && (is_binding role (newest e past) && test (newest e past) m)) || old m) (lt-ltb (position m) (length past + 1) (omega arith))
-        ∙ or-turn (is_binding role (newest e past) && test (newest e past) m) (old m)
-
-    go : (b : Bool) → is_next past k ≡ b → (o : Option Moment) → moment past k ≡ o → is_some_and now (cond b (Some (newest e past)) o) ≡ shown o
-    go true t o at = last ∙ sym (ap shown (sym at ∙ moment-next past k t) ∙ and_false (is_binding role (newest e past)))
-    go false t o at = earlier o at
+    outside : (o : Option Moment) → is_some_and (λ m. is_binding role (newest e past) && test (newest e past) m) o ≡ (is_binding role (newest e past) && is_some_and (test (newest e past)) o)
+    outside None = sym (and_false (is_binding role (newest e past)))
+    outside (Some m) = refl
 
 -- a statement of any shape
 pub false-step : (role : Role) (s : Statement) (e : Seen) (past : List Seen) (k : ℕ)
@@ -147,6 +159,7 @@ false-step role (on_past breaks) e past k = one-more breaks e past k
 false-step role (in_session breaks) e past k = fated-step role (where_accepted breaks) e past k
 false-step role (at_release breaks) e past k = fated-step role breaks e past k
 false-step role (at_rest test) e past k = rest-step role test e past k
+false-step role (by_later test) e past k = later-step (λ t m. is_beside t m && test t m) e past k
 
 -- ---- what fails
 
@@ -168,6 +181,7 @@ false-nowhere role fates (on_past breaks) log k none = ap (is_some_and breaks) n
 false-nowhere role fates (in_session breaks) log k none = ap (is_some_and (λ m. is_so_under (where_accepted breaks) m (fates (number m)))) none
 false-nowhere role fates (at_release breaks) log k none = ap (is_some_and (λ m. is_so_under breaks m (fates (number m)))) none
 false-nowhere role fates (at_rest test) log k none = ap (is_some_and (λ m. some (λ t. is_after t m && (is_binding role t && test t m)) (moments log))) none
+false-nowhere role fates (by_later test) log k none = ap (is_some_and (λ m. some (λ t. is_after t m && (is_beside t m && test t m)) (moments log))) none
 
 pub fails-nowhere : (tested : Tested) (log : List Seen) (k : ℕ) (rule : Rule) → moment log k ≡ None → fails tested log k rule ≡ false
 unfolding fails

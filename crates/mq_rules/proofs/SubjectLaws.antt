@@ -6,7 +6,7 @@ use Rattle.mq_rules.specs.declared.role.Role.TheVariants.{Client, Server}
 use Rattle.mq_rules.specs.declared.role.Tested.{Tested}
 use Rattle.mq_rules.specs.declared.fate.Fate.{Fate}
 use Rattle.mq_rules.specs.declared.rule.Rule.{Rule}
-use Rattle.mq_rules.specs.declared.rule.Rule.TheVariants.{S01, S02, S03, S04, S05, S07, E1A, E1O, E2A, E2O, E3A, E3O, E4A, E5A, E6A, E7R, L1, L2, L3, B01, B02, B03, B04}
+use Rattle.mq_rules.specs.declared.rule.Rule.TheVariants.{S01, S02, S03, S04, S05, S07, E1A, E1O, E2A, E2O, E3A, E3O, E4A, E5A, E6A, E7R, L1, L2, L3, B01, B02, B03, B04, B05}
 use Rattle.mq_rules.specs.declared.note.Note.{Note}
 use Rattle.mq_rules.specs.declared.note.Note.TheVariants as notes
 use Rattle.mq_rules.specs.declared.note.Seen.{Seen}
@@ -20,8 +20,8 @@ use Rattle.mq_rules.specs.Rules.{binds}
 use Rattle.mq_rules.specs.Identifiers.{taken_by, breaks_S01, breaks_S02, breaks_S03, breaks_S04, breaks_S05, is_delivery, breaks_S07}
 use Rattle.mq_rules.specs.Exchanges.{Exchange, publish_puback, publish_pubrec, pubrec_pubrel, pubrel_pubcomp, subscribe_suback, unsubscribe_unsuback, breaks_A, breaks_O}
 use Rattle.mq_rules.specs.Releases.{breaks_L1, breaks_L2, breaks_L3}
-use Rattle.mq_rules.specs.Subscriptions.{breaks_B01, breaks_B02, breaks_B03, breaks_B04}
-use Rattle.mq_rules.specs.Statements.{Statement, on_bytes, on_past, in_session, at_release, at_rest, statement, knowing, knowing_resumed, where_placed}
+use Rattle.mq_rules.specs.Subscriptions.{breaks_B01, breaks_B02, breaks_B03, breaks_B04, breaks_B05}
+use Rattle.mq_rules.specs.Statements.{Statement, on_bytes, on_past, in_session, at_release, at_rest, by_later, statement, knowing, knowing_resumed, where_placed}
 use Rattle.mq_rules.specs.Steps.{JudgedAtOnce, IsLate}
 use Rattle.mq_rules.proofs.BoolLaws.{both_true}
 use Rattle.mq_rules.proofs.LateLaws.{in_order-late, rest-late, late-turns, release-turns}
@@ -141,6 +141,7 @@ IsLateInOrder role (on_past breaks) = Unit {0}
 IsLateInOrder role (in_session breaks) = (log : List Seen) → IsInOrder role log → IsLate role breaks log
 IsLateInOrder role (at_release breaks) = (log : List Seen) → IsInOrder role log → IsLate role breaks log
 IsLateInOrder role (at_rest test) = Unit {0}
+IsLateInOrder role (by_later test) = Unit {0}
 
 -- its predicate is true only where it has a subject, and the subject needs a session
 by_subject : {A : Type 0} (role : Role) (breaks : Fate → Moment → Bool) (subject : Note → Option A) → ((n : Note) → is_some (subject n) ≡ true → needs_session n ≡ true)
@@ -172,7 +173,7 @@ placed : (role : Role) (breaks : Fate → Moment → Bool) → ((log : List Seen
 placed role breaks = late_less role breaks (where_placed role breaks) (λ f m t. (both_true (breaks f m) (is_placed_release role f m) t).0)
 
 all_late : (role : Role) (rule : Rule) → IsLateInOrder role (statement role rule)
-unfolding breaks_S01 breaks_S02 breaks_S03 breaks_S04 breaks_S05 breaks_S07 breaks_L1 breaks_L2 breaks_L3 breaks_B01 breaks_B02 breaks_B03 breaks_B04
+unfolding breaks_S01 breaks_S02 breaks_S03 breaks_S04 breaks_S05 breaks_S07 breaks_L1 breaks_L2 breaks_L3 breaks_B01 breaks_B02 breaks_B03 breaks_B04 breaks_B05
 all_late role S01 = known_resumed role (breaks_S01 role) (by_subject role (breaks_S01 role) (taken_by role) (taken-needs role) (λ f m t. is_there _ (taken_by role (note m)) t))
 all_late role S02 = known role (breaks_S02 role) (by_subject role (breaks_S02 role) resend_of resend-needs (λ f m t. is_there _ (resend_of (note m)) t))
 all_late role S03 = by_subject role (λ f. breaks_S03) resend_of resend-needs (λ f m t. is_there _ (resend_of (note m)) t)
@@ -196,6 +197,7 @@ all_late role B01 = by_subject role (breaks_B01 role) sent_publish publish-needs
 all_late role B02 = by_subject role (breaks_B02 role) sent_publish publish-needs (λ f m t. is_there _ (sent_publish (note m)) t)
 all_late role B03 = by_subject role (λ f. breaks_B03) (λ n. option_and_then grant_in (sent_fields n)) (sent-needs grant_in grant-session) (λ f m t. is_there _ (option_and_then grant_in (sent_fields (note m))) t)
 all_late role B04 = by_subject role (λ f. breaks_B04) (λ n. option_and_then unsuback_count_in (sent_fields n)) (sent-needs unsuback_count_in unsuback_count-session) (λ f m t. is_there _ (option_and_then unsuback_count_in (sent_fields (note m))) t)
+all_late role B05 = by_subject role (λ f. breaks_B05) (λ n. option_and_then grant_in (sent_fields n)) (sent-needs grant_in grant-session) (λ f m t. is_there _ (option_and_then grant_in (sent_fields (note m))) t)
 all_late role _ = tt
 
 -- so in a log in order it is judged at once

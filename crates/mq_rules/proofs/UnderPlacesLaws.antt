@@ -11,7 +11,7 @@ use Rattle.mq_rules.specs.Notes.{is_open}
 use Rattle.mq_rules.specs.Moments.{Moment, newest, position, moments, moment, is_next, count}
 use Rattle.mq_rules.specs.Connections.{number, begun, fate, fate_under, latest_fate, accepts, is_binding}
 use Rattle.mq_rules.specs.Rules.{binds}
-use Rattle.mq_rules.specs.Statements.{Statement, on_bytes, on_past, in_session, at_release, at_rest, is_so_under, where_accepted, is_so}
+use Rattle.mq_rules.specs.Statements.{Statement, on_bytes, on_past, in_session, at_release, at_rest, by_later, is_so_under, where_accepted, is_so}
 use Rattle.mq_rules.specs.Under.{fate_before, is_by_session, shows_with}
 use Rattle.mq_rules.specs.Occasions.{occasion, occurs, applies, places, applies_under, places_under, comes_with, adds_place_with}
 use Rattle.mq_rules.proofs.BoolLaws.{and_false, or_false, and-over, and-past, differ}
@@ -74,6 +74,7 @@ so-step tested (on_past test) f e past k by = absurd (cc)
 so-step tested (in_session test) f e past k by = under-one tested (where_accepted test) f e past k
 so-step tested (at_release test) f e past k by = under-one tested test f e past k
 so-step tested (at_rest test) f e past k by = rest-step tested.role test e past k
+so-step tested (by_later test) f e past k by = absurd (cc)
 
 -- what is put to the test with one event more was so already, or turns out so
 pub applies-under-step : (tested : Tested) (f : Fate) (e : Seen) (past : List Seen) (k : ℕ) (rule : Rule) (s : Statement) → occasion tested.role rule ≡ Some s → is_by_session s ≡ true

@@ -24,6 +24,10 @@ begun log = count (λ m. is_open (note m)) (moments log)
 abbrev pub number : Moment → ℕ
 number m = begun (m.event ∷ m.past)
 
+-- both moments are of the same connection
+abbrev pub is_beside : Moment → Moment → Bool
+is_beside a b = number a == number b
+
 -- a connection is open: an OPEN came, and no CLOSE after it
 abbrev pub is_connected : List Seen → Bool
 is_connected log = since (λ m. is_open (note m)) (λ m. is_close (note m)) (moments log)

@@ -11,7 +11,7 @@ use Rattle.mq_rules.specs.declared.faults.FaultKey.{FaultKey}
 use Rattle.mq_rules.specs.Notes.{sent_fault}
 use Rattle.mq_rules.specs.Moments.{Moment, note, moment}
 use Rattle.mq_rules.specs.Rules.{all_rules}
-use Rattle.mq_rules.specs.Statements.{Statement, on_bytes, on_past, in_session, at_release, at_rest, statement, fails}
+use Rattle.mq_rules.specs.Statements.{Statement, on_bytes, on_past, in_session, at_release, at_rest, by_later, statement, fails}
 use Rattle.mq_rules.specs.FaultKeys.{FaultMap, fault_at}
 
 -- the length of the shortest beginning of the log in which the statement fails at position k
@@ -31,6 +31,7 @@ offset_of (on_past breaks) m = None
 offset_of (in_session breaks) m = None
 offset_of (at_release breaks) m = None
 offset_of (at_rest test) m = None
+offset_of (by_later test) m = None
 
 -- what is reported of a pair that fails and was decided at this position
 abbrev pub reported : Role → Option Moment → Rule → ℕ → Fault

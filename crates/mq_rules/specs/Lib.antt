@@ -7,6 +7,7 @@ pub mod Moments
 pub mod Connections
 pub mod Pasts
 pub mod FurtherPasts
+pub mod FurtherRests
 pub mod Identifiers
 pub mod Passing
 pub mod Exchanges
@@ -30,6 +31,7 @@ pub mod Weights
 pub mod Keeping
 pub mod Trying
 pub mod Manners
+pub mod Duties
 pub mod Worked
 pub mod Counter
 pub mod FirstRests

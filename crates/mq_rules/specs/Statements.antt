@@ -8,18 +8,19 @@ use Rattle.mq_rules.specs.declared.role.Role.{Role}
 use Rattle.mq_rules.specs.declared.role.Tested.{Tested}
 use Rattle.mq_rules.specs.declared.fate.Fate.{Fate}
 use Rattle.mq_rules.specs.declared.rule.Rule.{Rule}
-use Rattle.mq_rules.specs.declared.rule.Rule.TheVariants.{W01, W02, W03, W04, W05, W06, W07, W08, W09, W10, W11, W12, W13, W14, W15, W16, W17, W18, W19, W20, W21, C01, C02, C03, C04, C05, C06, C07, C08, C09, C10, C11, C12, C13, C14, C15, C16, C17, C18, C19, C20, C21, C22, C23, S01, S02, S03, S04, S05, S06, S07, E1A, E1R, E1O, E2A, E2R, E2O, E3A, E3R, E3O, E4A, E4R, E5A, E5R, E6A, E6R, E7R, L1, L2, L3, B01, B02, B03, B04, F01, F02, F03, F04, F05, F06, V03, V04, V06, A01, A02}
+use Rattle.mq_rules.specs.declared.rule.Rule.TheVariants.{W01, W02, W03, W04, W05, W06, W07, W08, W09, W10, W11, W12, W13, W14, W15, W16, W17, W18, W19, W20, W21, C01, C02, C03, C04, C05, C06, C07, C08, C09, C10, C11, C12, C13, C14, C15, C16, C17, C18, C19, C20, C21, C22, C23, S01, S02, S03, S04, S05, S06, S07, E1A, E1R, E1O, E2A, E2R, E2O, E3A, E3R, E3O, E4A, E4R, E5A, E5R, E6A, E6R, E7R, L1, L2, L3, B01, B02, B03, B04, B05, F01, F02, F03, F04, F05, F06, V03, V04, V06, C24, D01, D02, A01, A02}
 use Rattle.mq_rules.specs.declared.note.Seen.{Seen}
 use Rattle.mq_rules.specs.Words.{is_some_and}
 use Rattle.mq_rules.specs.Notes.{sent_fault}
 use Rattle.mq_rules.specs.Moments.{Moment, note, moments, moment, some, is_after}
-use Rattle.mq_rules.specs.Connections.{number, fate, fate_under, accepts, is_binding, couldnt_know, couldnt_know_resumed, is_placed_release}
+use Rattle.mq_rules.specs.Connections.{number, fate, fate_under, accepts, is_beside, is_binding, couldnt_know, couldnt_know_resumed, is_placed_release}
 use Rattle.mq_rules.specs.Pasts.{breaks_C01, breaks_C02, breaks_C03, breaks_C04, breaks_C05, breaks_C06, breaks_C07, breaks_C08, breaks_C09, breaks_C10, breaks_C11, breaks_C12, breaks_C13, breaks_C14, breaks_C15, breaks_C16, breaks_C17, breaks_C18, breaks_C19, breaks_C20, breaks_C21, breaks_C22, breaks_C23}
 use Rattle.mq_rules.specs.FurtherPasts.{breaks_F01, breaks_F02, breaks_F03, breaks_F04, breaks_F05, breaks_F06, breaks_V03, breaks_V04, breaks_V06, breaks_A01, breaks_A02}
+use Rattle.mq_rules.specs.FurtherRests.{shows_C24, shows_D01, shows_D02}
 use Rattle.mq_rules.specs.Identifiers.{breaks_S01, breaks_S02, breaks_S03, breaks_S04, breaks_S05, shows_S06, breaks_S07}
 use Rattle.mq_rules.specs.Exchanges.{publish_puback, publish_pubrec, pubrec_pubrel, pubrel_pubcomp, subscribe_suback, unsubscribe_unsuback, breaks_A, breaks_O, shows_R, breaks_E7R}
 use Rattle.mq_rules.specs.Releases.{breaks_L1, breaks_L2, breaks_L3}
-use Rattle.mq_rules.specs.Subscriptions.{breaks_B01, breaks_B02, breaks_B03, breaks_B04}
+use Rattle.mq_rules.specs.Subscriptions.{breaks_B01, breaks_B02, breaks_B03, breaks_B04, breaks_B05}
 use Rattle.mq_rules.specs.Rules.{binds, is_further}
 
 -- the bytes that the tested end sent break this packet rule
@@ -38,6 +39,8 @@ pub data Statement : Type 0 where
   at_release : (Fate → Moment → Bool) → Statement
   -- by the past of a session, at the second moment, as the first one shows, which is a later binding REST
   at_rest : (Moment → Moment → Bool) → Statement
+  -- by the past of a connection, at the second moment, as the first one shows, which is a later one of that connection
+  by_later : (Moment → Moment → Bool) → Statement
 
 -- a predicate on a session, but where a client couldn't know of what it breaks; or couldn't know that a session is resumed; or where it isn't known to which session a RELEASE belongs
 abbrev pub knowing : Role → (Fate → Moment → Bool) → Fate → Moment → Bool
@@ -130,6 +133,7 @@ statement role B01 = in_session (breaks_B01 role)
 statement role B02 = in_session (breaks_B02 role)
 statement role B03 = in_session (λ f. breaks_B03)
 statement role B04 = in_session (λ f. breaks_B04)
+statement role B05 = in_session (λ f. breaks_B05)
 statement role F01 = on_past breaks_F01
 statement role F02 = on_past breaks_F02
 statement role F03 = on_past breaks_F03
@@ -139,6 +143,9 @@ statement role F06 = on_past breaks_F06
 statement role V03 = on_past breaks_V03
 statement role V04 = on_past breaks_V04
 statement role V06 = on_past (breaks_V06 role)
+statement role C24 = by_later shows_C24
+statement role D01 = by_later shows_D01
+statement role D02 = by_later shows_D02
 statement role A01 = on_past breaks_A01
 statement role A02 = on_past (breaks_A02 role)
 
@@ -149,6 +156,7 @@ is_by_bytes (on_past breaks) = false
 is_by_bytes (in_session breaks) = false
 is_by_bytes (at_release breaks) = false
 is_by_bytes (at_rest shows) = false
+is_by_bytes (by_later shows) = false
 
 abbrev pub is_by_past : Statement → Bool
 is_by_past (on_bytes rule) = false
@@ -156,6 +164,16 @@ is_by_past (on_past breaks) = true
 is_by_past (in_session breaks) = false
 is_by_past (at_release breaks) = false
 is_by_past (at_rest shows) = false
+is_by_past (by_later shows) = false
+
+-- one that a later moment of the connection shows
+abbrev pub is_by_later : Statement → Bool
+is_by_later (on_bytes rule) = false
+is_by_later (on_past breaks) = false
+is_by_later (in_session breaks) = false
+is_by_later (at_release breaks) = false
+is_by_later (at_rest shows) = false
+is_by_later (by_later shows) = true
 
 abbrev pub is_on_bytes : Tested → Rule → Bool
 is_on_bytes tested rule = is_by_bytes (statement tested.role rule)
@@ -166,6 +184,9 @@ is_on_past tested rule = is_by_past (statement tested.role rule) && not (is_furt
 
 abbrev pub is_on_further : Tested → Rule → Bool
 is_on_further tested rule = is_by_past (statement tested.role rule) && is_further rule
+
+abbrev pub is_on_later : Tested → Rule → Bool
+is_on_later tested rule = is_by_later (statement tested.role rule)
 
 -- it is so at the moment under its connection's fate, if that is decided
 abbrev pub is_so_under : (Fate → Moment → Bool) → Moment → Option Fate → Bool
@@ -181,6 +202,7 @@ is_so role fates (on_past breaks) log k = is_some_and breaks (moment log k)
 is_so role fates (in_session breaks) log k = is_some_and (λ m. is_so_under (where_accepted breaks) m (fates (number m))) (moment log k)
 is_so role fates (at_release breaks) log k = is_some_and (λ m. is_so_under breaks m (fates (number m))) (moment log k)
 is_so role fates (at_rest shows) log k = is_some_and (λ m. some (λ t. is_after t m && (is_binding role t && shows t m)) (moments log)) (moment log k)
+is_so role fates (by_later shows) log k = is_some_and (λ m. some (λ t. is_after t m && (is_beside t m && shows t m)) (moments log)) (moment log k)
 
 -- The statement binds the tested end, and is false at position k of the log.
 unfoldable pub fails : Tested → List Seen → ℕ → Rule → Bool

@@ -8,9 +8,9 @@ use Rattle.mq_rules.specs.declared.note.Seen.{Seen}
 use Rattle.mq_rules.specs.Words.{is_some_and}
 use Rattle.mq_rules.specs.Notes.{is_open}
 use Rattle.mq_rules.specs.Moments.{Moment, newest, note, moment, is_next}
-use Rattle.mq_rules.specs.Connections.{number, fate, latest_fate, is_binding}
+use Rattle.mq_rules.specs.Connections.{number, fate, latest_fate, is_beside, is_binding}
 use Rattle.mq_rules.specs.Rules.{binds}
-use Rattle.mq_rules.specs.Statements.{Statement, on_bytes, on_past, in_session, at_release, at_rest, statement, breaks_bytes, is_so_under, where_accepted}
+use Rattle.mq_rules.specs.Statements.{Statement, on_bytes, on_past, in_session, at_release, at_rest, by_later, statement, breaks_bytes, is_so_under, where_accepted}
 
 -- the fate that this event gives to the connection of this number, which is undecided before it
 abbrev pub given : Role → Seen → List Seen → ℕ → Option Fate
@@ -29,6 +29,7 @@ shows role (on_past breaks) e past k = is_next past k && breaks (newest e past)
 shows role (in_session breaks) e past k = shows_under role (where_accepted breaks) e past k
 shows role (at_release breaks) e past k = shows_under role breaks e past k
 shows role (at_rest test) e past k = is_binding role (newest e past) && is_some_and (test (newest e past)) (moment past k)
+shows role (by_later test) e past k = is_some_and (λ m. is_beside (newest e past) m && test (newest e past) m) (moment past k)
 
 -- With this event the pair turns out to fail.
 unfoldable pub turns : Tested → Seen → List Seen → ℕ → Rule → Bool

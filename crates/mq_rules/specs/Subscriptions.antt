@@ -1,6 +1,6 @@
--- Subscriptions: what a server may send to whom (B01 to B04; MQTT 5.0, sections 3.3.2.1, 3.8 to 3.11 and 4.7). Each statement says when it is put to the test
+-- Subscriptions: what a server may send to whom (B01 to B05; MQTT 5.0, sections 3.3.2.1, 3.8 to 3.11 and 4.7). Each statement says when it is put to the test
 -- (`applies`), and when it is false (`breaks`), at a moment k whose connection is accepted and has the fate f.
-use Rattle.std.specs.Prelude.{ℕ, ◌%◌, ◌==◌, nat_le, Bool, ◌&&◌, not, true, cond, List, [], ◌∷◌, ◌++◌, length, take, codes, Option, Some, None, is_some, unwrap_or, option_map}
+use Rattle.std.specs.Prelude.{ℕ, ◌%◌, ◌==◌, nat_le, nat_lt, Bool, ◌&&◌, ◌||◌, not, true, false, cond, List, [], ◌∷◌, ◌++◌, length, take, codes, Option, Some, None, is_some, unwrap_or, option_map}
 use Rattle.std.specs.Option.{option_and_then, option_or}
 use Rattle.std.specs.Str.{bytes_eq}
 use Rattle.std.specs.List.{list_any}
@@ -112,3 +112,26 @@ applies_B04 k = is_some_and (λ a. is_some (first_unanswered unsubscribe_unsubac
 unfoldable pub breaks_B04 : Moment → Bool
 breaks_B04 k = is_some_and (λ a. is_some_and (λ j. is_some_and (λ u. not (u.count == a.count)) (received_unsubscription (note j)))
     (first_unanswered unsubscribe_unsuback a.identifier k)) (sent_unsuback (note k))
+
+-- the Maximum QoS that each of these filters asks for
+abbrev pub requested_each : List NotedFilter → List ℕ
+requested_each [] = []
+requested_each (f ∷ filters) = requested f ∷ requested_each filters
+
+-- some Reason Code below 0x80, and the QoS that was asked for at its place, pass the test
+abbrev pub some_granted : (ℕ → ℕ → Bool) → List ℕ → List ℕ → Bool
+some_granted test [] codes = false
+some_granted test (qos ∷ others) [] = false
+some_granted test (qos ∷ others) (code ∷ codes) = (not (refuses code) && test qos code) || some_granted test others codes
+
+-- at k a SUBACK answers an unanswered SUBSCRIBE, and grants a filter of the first of these a QoS that passes the test with what the filter asked for
+abbrev pub is_granted_so : Moment → (ℕ → ℕ → Bool) → Bool
+is_granted_so k test = is_some_and (λ a. is_some_and (λ j. is_some_and (λ s. some_granted test (requested_each s.filters) a.codes) (received_subscription (note j)))
+    (first_unanswered subscribe_suback a.identifier k)) (sent_grant (note k))
+
+-- B05: whenever a SUBACK answers an unanswered SUBSCRIBE, and grants a filter of the first of these, it grants no more than the Maximum QoS that the filter asks for.
+unfoldable pub applies_B05 : Moment → Bool
+applies_B05 k = is_granted_so k (λ qos code. true)
+
+unfoldable pub breaks_B05 : Moment → Bool
+breaks_B05 k = is_granted_so k nat_lt

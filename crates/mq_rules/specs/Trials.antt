@@ -10,7 +10,7 @@ use Rattle.mq_rules.specs.declared.role.Tested.{Tested}
 use Rattle.mq_rules.specs.declared.rule.Rule.{Rule}
 use Rattle.mq_rules.specs.Words.{is_some_and}
 use Rattle.mq_rules.specs.Rules.{binds}
-use Rattle.mq_rules.specs.Statements.{Statement, on_bytes, on_past, in_session, at_release, at_rest, statement}
+use Rattle.mq_rules.specs.Statements.{Statement, on_bytes, on_past, in_session, at_release, at_rest, by_later, statement}
 
 -- What is sent puts a rule on a packet's bytes to the test. A packet tries each rule on a part that it has. Bytes that break a rule try that rule alone, since what follows
 -- isn't read; and where a Remaining Length is invalid, so that no more packets are found, what is tried is the rule on such numbers (W03).
@@ -31,6 +31,7 @@ tries_statement (on_past breaks) event = false
 tries_statement (in_session breaks) event = false
 tries_statement (at_release breaks) event = false
 tries_statement (at_rest shows) event = false
+tries_statement (by_later shows) event = false
 
 -- the event at a position, if there is that position; the newest event stands first
 abbrev pub event_of : List Placed → ℕ → Option Event

@@ -13,7 +13,7 @@ use Rattle.mq_rules.specs.Notes.{is_open}
 use Rattle.mq_rules.specs.Moments.{newest, moment, is_next, IsPlaced}
 use Rattle.mq_rules.specs.Connections.{latest_fate, accepts, is_binding, AreOnConnections}
 use Rattle.mq_rules.specs.Rules.{binds}
-use Rattle.mq_rules.specs.Statements.{Statement, on_bytes, on_past, in_session, at_release, at_rest, statement}
+use Rattle.mq_rules.specs.Statements.{Statement, on_bytes, on_past, in_session, at_release, at_rest, by_later, statement}
 
 abbrev pub seen : Place3 → Note → Seen
 seen at n = record { place = at; note = n }
@@ -25,6 +25,7 @@ is_by_session (on_past breaks) = false
 is_by_session (in_session breaks) = true
 is_by_session (at_release breaks) = true
 is_by_session (at_rest test) = true
+is_by_session (by_later test) = false
 
 abbrev pub is_on_session : Tested → Rule → Bool
 is_on_session tested rule = is_by_session (statement tested.role rule)
@@ -36,6 +37,7 @@ shows_with role f (on_past breaks) e past k = false
 shows_with role f (in_session breaks) e past k = is_next past k && (accepts f && breaks f (newest e past))
 shows_with role f (at_release breaks) e past k = is_next past k && breaks f (newest e past)
 shows_with role f (at_rest test) e past k = is_binding role (newest e past) && is_some_and (test (newest e past)) (moment past k)
+shows_with role f (by_later test) e past k = false
 
 -- With this event the pair turns out to fail, where the latest connection has this fate.
 unfoldable pub turns_with : Tested → Fate → Seen → List Seen → ℕ → Rule → Bool

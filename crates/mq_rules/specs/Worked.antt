@@ -231,6 +231,10 @@ asks_a i qos = Subscribe i (record { filter = 97 ∷ []; options = qos } ∷ [])
 abbrev pub asks_b : ℕ → ℕ → PacketFields
 asks_b i qos = Subscribe i (record { filter = 98 ∷ []; options = qos } ∷ []) nothing_wished
 
+-- one to both
+abbrev pub asks_both : ℕ → ℕ → ℕ → PacketFields
+asks_both i qos other = Subscribe i (record { filter = 97 ∷ []; options = qos } ∷ record { filter = 98 ∷ []; options = other } ∷ []) nothing_wished
+
 -- a SUBSCRIBE to the shared subscription `$share/g/a`
 abbrev pub asks_shared : ℕ → PacketFields
 asks_shared i = Subscribe i (record { filter = 36 ∷ 115 ∷ 104 ∷ 97 ∷ 114 ∷ 101 ∷ 47 ∷ 103 ∷ 47 ∷ 97 ∷ []; options = 0 } ∷ []) nothing_wished

@@ -124,6 +124,7 @@ impl Rule {
             Rule::B02 => "A PUBLISH from the server isn't at a QoS above what was granted.",
             Rule::B03 => "A SUBACK has a Reason Code for each filter.",
             Rule::B04 => "An UNSUBACK has a Reason Code for each filter.",
+            Rule::B05 => "A SUBACK grants no more than was asked for.",
             Rule::F01 => "A new PUBLISH has RETAIN 0 where Retain Available is 0.",
             Rule::F02 => "No filter has a wildcard where the server takes none.",
             Rule::F03 => "No SUBSCRIBE has a Subscription Identifier where the server takes none.",
@@ -133,6 +134,9 @@ impl Rule {
             Rule::V03 => "A shared filter has a name without wildcards, and a filter after it.",
             Rule::V04 => "No Local is 0 for a shared filter.",
             Rule::V06 => "A Reason Code is one that this end may send.",
+            Rule::C24 => "A CONNECT is answered by a CONNACK, if the connection stays open.",
+            Rule::D01 => "After a Malformed Packet the server closes the connection.",
+            Rule::D02 => "After a second CONNECT the server closes the connection.",
             Rule::A01 =>
                 "A client that uses an Authentication Method sends only AUTH and DISCONNECT before a CONNACK was received.",
             Rule::A02 =>

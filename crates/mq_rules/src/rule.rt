@@ -173,6 +173,8 @@ pub enum Rule {
     B03,
     /// An UNSUBACK has a Reason Code for each filter (MQTT 5.0, section 3.11.3).
     B04,
+    /// A SUBACK grants no more than was asked for (MQTT 5.0, section 3.9.3).
+    B05,
     /// A new PUBLISH has RETAIN 0 where Retain Available is 0 (MQTT 5.0, section 3.2.2.3.5).
     F01,
     /// No filter has a wildcard where the server takes none (MQTT 5.0, section 3.2.2.3.11).
@@ -194,6 +196,12 @@ pub enum Rule {
     V04,
     /// A Reason Code is one that this end may send (MQTT 5.0, sections 3.4.2.1 and 3.14.2.1).
     V06,
+    /// A CONNECT is answered by a CONNACK, if the connection stays open (MQTT 5.0, section 3.1.4).
+    C24,
+    /// After a Malformed Packet the server closes the connection (MQTT 5.0, section 4.13.1).
+    D01,
+    /// After a second CONNECT the server closes the connection (MQTT 5.0, section 3.1).
+    D02,
     /// A client that uses an Authentication Method sends only AUTH and DISCONNECT before a CONNACK
     /// was received (MQTT 5.0, section 3.1.2.11.9).
     A01,

@@ -37,7 +37,7 @@ pub enum Judged {
 pub type Row = (Rule, &'static str, Ends, &'static str, &'static str, Judged);
 
 /// Each statement's row, in the order of reports.
-pub const TABLE: [Row; 85] = [
+pub const TABLE: [Row; 89] = [
     (W01, "W01", Both, "MQTT-2.1.3-1", "MQTT-2.1.3-1", Always),
     (W02, "W02", Both, "sec-2.1.2", "sec-2.1.2", Always),
     (W03, "W03", Both, "MQTT-1.5.5-1", "MQTT-1.5.5-1", Always),
@@ -140,6 +140,7 @@ pub const TABLE: [Row; 85] = [
     (B02, "B02", OnlyServer, "", "MQTT-3.8.4-8", Always),
     (B03, "B03", OnlyServer, "", "MQTT-3.8.4-6", Always),
     (B04, "B04", OnlyServer, "", "sec-3.11.3", Always),
+    (B05, "B05", OnlyServer, "", "sec-3.9.3", OnRequest),
     (F01, "F01", OnlyClient, "MQTT-3.2.2-14", "", OnRequest),
     (F02, "F02", OnlyClient, "sec-3.2.2.3.11", "", OnRequest),
     (F03, "F03", OnlyClient, "sec-3.2.2.3.12", "", OnRequest),
@@ -163,6 +164,9 @@ pub const TABLE: [Row; 85] = [
         "sec-3.14.2.1",
         OnRequest,
     ),
+    (C24, "C24", OnlyServer, "", "MQTT-3.1.4-5", OnRequest),
+    (D01, "D01", OnlyServer, "", "MQTT-4.13.1-1", OnRequest),
+    (D02, "D02", OnlyServer, "", "MQTT-3.1.0-2", OnRequest),
     (A01, "A01", OnlyClient, "MQTT-3.1.2-30", "", OnRequest),
     (
         A02,
@@ -175,7 +179,7 @@ pub const TABLE: [Row; 85] = [
 ];
 
 /// The statements, in the order of reports.
-const RULES: [Rule; 85] = [
+const RULES: [Rule; 89] = [
     Rule::W01,
     Rule::W02,
     Rule::W03,
@@ -250,6 +254,7 @@ const RULES: [Rule; 85] = [
     Rule::B02,
     Rule::B03,
     Rule::B04,
+    Rule::B05,
     Rule::F01,
     Rule::F02,
     Rule::F03,
@@ -259,6 +264,9 @@ const RULES: [Rule; 85] = [
     Rule::V03,
     Rule::V04,
     Rule::V06,
+    Rule::C24,
+    Rule::D01,
+    Rule::D02,
     Rule::A01,
     Rule::A02,
 ];

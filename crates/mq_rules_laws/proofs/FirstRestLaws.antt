@@ -9,10 +9,12 @@ use Rattle.mq_rules.specs.declared.note.Seen.{Seen}
 use Rattle.mq_rules.specs.Words.{is_some_and}
 use Rattle.mq_rules.specs.Notes.{is_open, is_rest}
 use Rattle.mq_rules.specs.Moments.{Moment, newest, position, note, moments, moment, is_same, is_after, some, since, Among, IsDescending, IsEarliestSince}
-use Rattle.mq_rules.specs.Connections.{begun, number, connection, latest_fate, accepted, ends_binding, is_binding}
+use Rattle.mq_rules.specs.Connections.{begun, number, connection, is_beside, latest_fate, accepted, ends_binding, is_binding}
 use Rattle.mq_rules.specs.Exchanges.{Exchange, answers, first_unanswered, shows_R}
 use Rattle.mq_rules.specs.Statements.{at_rest, is_so}
 use Rattle.mq_rules.specs.FirstRests.{binds_after, first_rest, IsFirstRest}
+use Rattle.mq_rules.specs.FurtherRests.{owes_D01, owes_D02, says_goodbye, shows_D01, shows_D02, stays_open}
+use Rattle.mq_rules.specs.Pasts.{came_before}
 use Rattle.mq_rules.proofs.Exports.{among-moment, among-some, among-within, and_true, begun-least, begun-same, both_true, earliest_since-is, earliest_since-there, moment-among, moments-descend, same_test, since-stands, some-among, stands-since, there, those-among, those-descend}
 use Rattle.mq_rules_laws.proofs.PositionLaws.{among-those, is-earliest_since}
 
@@ -71,6 +73,50 @@ on-connection m log h = let r = those-among (λ m. number m == begun log) (momen
 
 connection-has : (m : Moment) (log : List Seen) → Among m (moments log) → number m ≡ begun log → Among m (connection log)
 connection-has m log h same = among-those (λ m. number m == begun log) (moments log) m h (eq-eqb (number m) (begun log) same)
+
+-- ---- a connection that is still open
+
+-- a REST shows that the server hasn't closed it, if a later one does
+open-earlier : (log : List Seen) (k t u : Moment) → Among k (moments log) → Among t (moments log) → Among u (moments log) → is_after u k ≡ true → is_after t u ≡ true
+    → is_beside u k ≡ true → is_beside t k ≡ true → is_rest (note u) ≡ true → stays_open t ≡ true → stays_open u ≡ true
+open-earlier log k t u k_in t_in u_in after before beside later rests h =
+    let a = both_true (is_rest (note t)) (not (came_before says_goodbye t)) h in
+    and_true (is_rest (note u)) (not (came_before says_goodbye u)) rests (quiet (came_before says_goodbye u) refl a.1)
+  where
+    u_past : Among u (moments t.past)
+    u_past = among-past u t log u_in t_in (ltb-true (position u) (position t) before)
+
+    k_past : Among k (moments u.past)
+    k_past = among-past k u log k_in u_in (ltb-true (position k) (position u) after)
+
+    u_on : begun u.past ≡ number k
+    u_on = begun-before k u k_past (eqb-true (number u) (number k) beside)
+
+    t_on : begun t.past ≡ number k
+    t_on = begun-before k t (past-among k u t.past u_past k_past) (eqb-true (number t) (number k) later)
+
+    quiet : (said : Bool) → came_before says_goodbye u ≡ said → not (came_before says_goodbye t) ≡ true → not said ≡ true
+    quiet false is open_there = refl
+    quiet true is open_there =
+        let n = some-among (λ j. says_goodbye (note j)) (connection u.past) is in
+        let on = on-connection n.0 u.past n.1 in
+        let there_too : Among n.0 (connection t.past) = connection-has n.0 t.past (past-among n.0 u t.past u_past on.0) (on.1 ∙ u_on ∙ sym t_on) in
+        let said : came_before says_goodbye t ≡ true = among-some (λ j. says_goodbye (note j)) (connection t.past) n.0 there_too n.2 in
+        absurd (cc)
+
+pub malformed-earlier : (log : List Seen) (k t u : Moment) → Among k (moments log) → Among t (moments log) → Among u (moments log) → is_after u k ≡ true → is_after t u ≡ true
+    → is_beside u k ≡ true → is_beside t k ≡ true → is_rest (note u) ≡ true → shows_D01 t k ≡ true → shows_D01 u k ≡ true
+unfolding shows_D01
+malformed-earlier log k t u k_in t_in u_in after before beside later rests h =
+    let a = both_true (owes_D01 k) (stays_open t) h in
+    and_true (owes_D01 k) (stays_open u) a.0 (open-earlier log k t u k_in t_in u_in after before beside later rests a.1)
+
+pub repeated-earlier : (log : List Seen) (k t u : Moment) → Among k (moments log) → Among t (moments log) → Among u (moments log) → is_after u k ≡ true → is_after t u ≡ true
+    → is_beside u k ≡ true → is_beside t k ≡ true → is_rest (note u) ≡ true → shows_D02 t k ≡ true → shows_D02 u k ≡ true
+unfolding shows_D02
+repeated-earlier log k t u k_in t_in u_in after before beside later rests h =
+    let a = both_true (owes_D02 k) (stays_open t) h in
+    and_true (owes_D02 k) (stays_open u) a.0 (open-earlier log k t u k_in t_in u_in after before beside later rests a.1)
 
 -- ---- what t shows, u before it shows too
 

@@ -14,7 +14,7 @@ use Rattle.mq_rules.specs.Notes.{note_of, sent_fault, seen}
 use Rattle.mq_rules.specs.Moments.{newest, moment}
 use Rattle.mq_rules.specs.Rules.{binds}
 use Rattle.mq_rules.specs.Connections.{fate}
-use Rattle.mq_rules.specs.Statements.{Statement, on_bytes, on_past, in_session, at_release, at_rest, statement, breaks_bytes, is_by_bytes, is_on_bytes, is_so, fails}
+use Rattle.mq_rules.specs.Statements.{Statement, on_bytes, on_past, in_session, at_release, at_rest, by_later, statement, breaks_bytes, is_by_bytes, is_on_bytes, is_so, fails}
 use Rattle.mq_rules.specs.Trials.{tried_by, item_sent, tries_statement, event_of, applies_bytes, places_bytes}
 use Rattle.mq_rules.proofs.Exports.{and_true, both_true}
 
@@ -47,6 +47,7 @@ so-tried role fates (on_past breaks) events k bytes h = absurd (cc)
 so-tried role fates (in_session breaks) events k bytes h = absurd (cc)
 so-tried role fates (at_release breaks) events k bytes h = absurd (cc)
 so-tried role fates (at_rest shows) events k bytes h = absurd (cc)
+so-tried role fates (by_later shows) events k bytes h = absurd (cc)
 
 pub fails-tried : (tested : Tested) (events : List Placed) (k : ℕ) (rule : Rule) → is_on_bytes tested rule ≡ true → fails tested (map seen events) k rule ≡ true → applies_bytes tested events k rule ≡ true
 unfolding fails applies_bytes

@@ -6,8 +6,8 @@ use Rattle.mq_rules.specs.declared.fate.Fate.{Fate}
 use Rattle.mq_rules.specs.declared.note.Seen.{Seen}
 use Rattle.mq_rules.specs.Words.{is_some_and, is_id}
 use Rattle.mq_rules.specs.Moments.{Moment, moments, moment, is_after, some, since, count, some_stretch}
-use Rattle.mq_rules.specs.Connections.{number, is_binding, accepts, couldnt_know, couldnt_know_resumed, is_placed_release}
-use Rattle.mq_rules.specs.Statements.{on_past, in_session, at_release, at_rest, knowing, knowing_resumed, where_placed, is_so_under, where_accepted, is_so}
+use Rattle.mq_rules.specs.Connections.{number, is_beside, is_binding, accepts, couldnt_know, couldnt_know_resumed, is_placed_release}
+use Rattle.mq_rules.specs.Statements.{on_past, in_session, at_release, at_rest, by_later, knowing, knowing_resumed, where_placed, is_so_under, where_accepted, is_so}
 use Rattle.mq_rules.proofs.Exports.{among-some, and_true, both_true, or_left, or_right, some-among}
 
 -- ---- what may be absent
@@ -123,3 +123,15 @@ wider-rest role fates a b each log k h =
         let p = both_true (is_after t m) (is_binding role t && a t m) h in
         let q = both_true (is_binding role t) (a t m) p.1 in
         and_true (is_after t m) (is_binding role t && b t m) p.0 (and_true (is_binding role t) (b t m) q.0 (each t m q.1))
+
+pub wider-later : (role : Role) (fates : ℕ → Option Fate) (a b : Moment → Moment → Bool) → ((t m : Moment) → a t m ≡ true → b t m ≡ true) → (log : List Seen) (k : ℕ)
+    → is_so role fates (by_later a) log k ≡ true → is_so role fates (by_later b) log k ≡ true
+wider-later role fates a b each log k h =
+    wider-there (λ m. some (λ t. is_after t m && (is_beside t m && a t m)) (moments log)) (λ m. some (λ t. is_after t m && (is_beside t m && b t m)) (moments log))
+    (λ m. wider-some (λ t. is_after t m && (is_beside t m && a t m)) (λ t. is_after t m && (is_beside t m && b t m)) (shown m) (moments log)) (moment log k) h
+  where
+    shown : (m t : Moment) → (is_after t m && (is_beside t m && a t m)) ≡ true → (is_after t m && (is_beside t m && b t m)) ≡ true
+    shown m t h =
+        let p = both_true (is_after t m) (is_beside t m && a t m) h in
+        let q = both_true (is_beside t m) (a t m) p.1 in
+        and_true (is_after t m) (is_beside t m && b t m) p.0 (and_true (is_beside t m) (b t m) q.0 (each t m q.1))

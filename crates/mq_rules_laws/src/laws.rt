@@ -18,7 +18,7 @@ ghost use Rattle.mq_rules.specs.Notes.{is_open, decides, needs_session};
 ghost use Rattle.mq_rules.specs.Moments.{Moment, newest, note, moment, is_next};
 ghost use Rattle.mq_rules.specs.Connections.{begun, fate, latest_fate, gives_fate, accepts, IsInOrder};
 ghost use Rattle.mq_rules.specs.Rules.{binds};
-ghost use Rattle.mq_rules.specs.Statements.{on_bytes, on_past, in_session, at_release, statement, breaks_bytes, fails, fails_under};
+ghost use Rattle.mq_rules.specs.Statements.{on_bytes, on_past, in_session, at_release, statement, is_on_later, breaks_bytes, fails, fails_under};
 ghost use Rattle.mq_rules.specs.Steps.{given, turns, JudgedAtOnce, IsLate};
 ghost use Rattle.mq_rules.specs.Exchanges.{breaks_E7R};
 ghost use Rattle.mq_rules.specs.Faults.{decided, reported, chosen_fault, fault_in, listed_faults};
@@ -105,12 +105,15 @@ pub fn sessions_are_judged_at_once()
 
 /// If the latest connection is taken to have a fate, only the newest position can turn out to fail:
 /// with the event that decides that fate, with another event while the connection is undecided, and
-/// with its OPEN. If that connection has the fate already, what fails under it is what fails.
+/// with its OPEN. If that connection has the fate already, what fails under it is what fails. So is it
+/// with a statement that a later event shows: it doesn't look at that fate, and any position may
+/// turn out to fail.
 pub fn fated_failing_turns()
-    ensures decides { (tested : Tested) (f : Fate) (e : Seen) (past : List Seen) (k : ℕ) (rule : Rule) → latest_fate tested.role past ≡ None → gives_fate tested.role (newest e past) ≡ Some f → fails tested (e ∷ past) k rule ≡ (fails_under tested f past k rule || (is_next past k && fails tested (e ∷ past) k rule)) }
-    ensures goes_on { (tested : Tested) (f : Fate) (e : Seen) (past : List Seen) (k : ℕ) (rule : Rule) → is_open e.note ≡ false → latest_fate tested.role past ≡ None → fails_under tested f (e ∷ past) k rule ≡ (fails_under tested f past k rule || (is_next past k && fails_under tested f (e ∷ past) k rule)) }
-    ensures opens { (tested : Tested) (f : Fate) (e : Seen) (past : List Seen) (k : ℕ) (rule : Rule) → is_open e.note ≡ true → fails_under tested f (e ∷ past) k rule ≡ (fails tested past k rule || (is_next past k && fails_under tested f (e ∷ past) k rule)) }
+    ensures decides { (tested : Tested) (f : Fate) (e : Seen) (past : List Seen) (k : ℕ) (rule : Rule) → is_on_later tested rule ≡ false → latest_fate tested.role past ≡ None → gives_fate tested.role (newest e past) ≡ Some f → fails tested (e ∷ past) k rule ≡ (fails_under tested f past k rule || (is_next past k && fails tested (e ∷ past) k rule)) }
+    ensures goes_on { (tested : Tested) (f : Fate) (e : Seen) (past : List Seen) (k : ℕ) (rule : Rule) → is_on_later tested rule ≡ false → is_open e.note ≡ false → latest_fate tested.role past ≡ None → fails_under tested f (e ∷ past) k rule ≡ (fails_under tested f past k rule || (is_next past k && fails_under tested f (e ∷ past) k rule)) }
+    ensures opens { (tested : Tested) (f : Fate) (e : Seen) (past : List Seen) (k : ℕ) (rule : Rule) → is_on_later tested rule ≡ false → is_open e.note ≡ true → fails_under tested f (e ∷ past) k rule ≡ (fails tested past k rule || (is_next past k && fails_under tested f (e ∷ past) k rule)) }
     ensures known { (tested : Tested) (f : Fate) (log : List Seen) (k : ℕ) (rule : Rule) → latest_fate tested.role log ≡ Some f → fails_under tested f log k rule ≡ fails tested log k rule }
+    ensures later { (tested : Tested) (f : Fate) (log : List Seen) (k : ℕ) (rule : Rule) → is_on_later tested rule ≡ true → fails_under tested f log k rule ≡ fails tested log k rule }
 {}
 
 /// The list of a log's faults has exactly the faults of the statements that are judged, each under

@@ -29,5 +29,5 @@ pub use session_laws::{
     alive_by_connections, connection_goes_on, event_decides_its_connection, fate_stays,
     fold_goes_on, session_by_positions, since_goes_on, unrefused_logs_are_orderly, words_are_folds,
 };
-pub use statement_laws::{first_rest_decides, in_flight_by_a_counter};
+pub use statement_laws::{first_open_rest_decides, first_rest_decides, in_flight_by_a_counter};
 pub use trial_laws::{failing_bytes_apply, places_bytes_grow};

@@ -5,14 +5,16 @@ ghost use Rattle.mq_rules.specs.declared.role.Role.{Role};
 ghost use Rattle.mq_rules.specs.declared.fate.Fate.{Fate};
 ghost use Rattle.mq_rules.specs.declared.note.Seen.{Seen};
 ghost use Rattle.mq_rules.specs.Words.{is_some_and};
-ghost use Rattle.mq_rules.specs.Moments.{Moment, moments, moment, is_after, some, those, count, some_stretch, Among};
-ghost use Rattle.mq_rules.specs.Connections.{connection, is_binding};
+ghost use Rattle.mq_rules.specs.Moments.{Moment, note, moments, moment, is_after, some, those, count, some_stretch, Among};
+ghost use Rattle.mq_rules.specs.Connections.{connection, is_beside, is_binding};
 ghost use Rattle.mq_rules.specs.Pasts.{peer_receive_maximum};
 ghost use Rattle.mq_rules.specs.Identifiers.{is_delivery, is_closer, counts, passes, breaks_S07, is_used_up};
 ghost use Rattle.mq_rules.specs.Exchanges.{Exchange, shows_R};
 ghost use Rattle.mq_rules.specs.Statements.{at_rest, is_so};
 ghost use Rattle.mq_rules.specs.Counter.{in_flight, in_flight_before, quota, keeps_quota};
 ghost use Rattle.mq_rules.specs.FirstRests.{binds_after, first_rest, IsFirstRest};
+ghost use Rattle.mq_rules.specs.FurtherRests.{shows_D01, shows_D02};
+ghost use Rattle.mq_rules.specs.Notes.{is_rest};
 
 /// The send quota by a counter (MQTT 5.0, section 4.9). Over the stretches that end with the newest
 /// of some moments, the greatest surplus of PUBLISHes over closers is the value of a counter of
@@ -42,4 +44,16 @@ pub fn first_rest_decides()
         → some (λ t. is_after t k && (is_binding role t && shows_R x t k)) (moments log) ≡ is_some_and (λ t. shows_R x t k) (first_rest role k log) }
     ensures at { (role : Role) (fates : ℕ → Option Fate) (x : Exchange) (log : List Seen) (n : ℕ)
         → is_so role fates (at_rest (shows_R x)) log n ≡ is_some_and (λ k. is_some_and (λ t. shows_R x t k) (first_rest role k log)) (moment log n) }
+{}
+
+/// D01, by the first REST after the Malformed Packet, and D02, by the first one after the second
+/// CONNECT, on its connection (MQTT 5.0, sections 4.13.1 and 3.1). If a later REST there shows that
+/// the server hasn't closed the connection, each earlier one after the error shows that too: so the
+/// first one decides it. It isn't so with C24: at the first REST after a CONNECT the server may wait
+/// for an AUTH, and at a later one no longer.
+pub fn first_open_rest_decides()
+    ensures malformed { (log : List Seen) (k t u : Moment) → Among k (moments log) → Among t (moments log) → Among u (moments log) → is_after u k ≡ true → is_after t u ≡ true
+        → is_beside u k ≡ true → is_beside t k ≡ true → is_rest (note u) ≡ true → shows_D01 t k ≡ true → shows_D01 u k ≡ true }
+    ensures repeated { (log : List Seen) (k t u : Moment) → Among k (moments log) → Among t (moments log) → Among u (moments log) → is_after u k ≡ true → is_after t u ≡ true
+        → is_beside u k ≡ true → is_beside t k ≡ true → is_rest (note u) ≡ true → shows_D02 t k ≡ true → shows_D02 u k ≡ true }
 {}

@@ -4,10 +4,10 @@
 ghost use Rattle.std.specs.Prelude.{◌≡◌, ◌∷◌, [], true, false, Some, None};
 ghost use Rattle.mq_packet.specs.declared.packet.Qos.TheVariants as quality;
 ghost use Rattle.mq_packet.specs.declared.rule.PacketRule.TheVariants as packets;
-ghost use Rattle.mq_rules.specs.declared.rule.Rule.TheVariants.{W01, W02, W03, W04, W05, W06, W07, W08, W09, W10, W11, W12, W13, W14, W15, W16, W17, W18, W19, W20, W21, C01, C02, C03, C04, C05, C06, C07, C08, C09, C10, C11, C12, C13, C14, C15, C16, C17, C18, C19, C20, C21, C22, C23, S01, S02, S03, S04, S05, S06, S07, E1A, E1R, E1O, E2A, E2R, E2O, E3A, E3R, E3O, E4A, E4R, E5A, E5R, E6A, E6R, E7R, L1, L2, L3, B01, B02, B03, B04, F01, F02, F03, F04, F05, F06, V03, V04, V06, A01, A02};
+ghost use Rattle.mq_rules.specs.declared.rule.Rule.TheVariants.{W01, W02, W03, W04, W05, W06, W07, W08, W09, W10, W11, W12, W13, W14, W15, W16, W17, W18, W19, W20, W21, C01, C02, C03, C04, C05, C06, C07, C08, C09, C10, C11, C12, C13, C14, C15, C16, C17, C18, C19, C20, C21, C22, C23, S01, S02, S03, S04, S05, S06, S07, E1A, E1R, E1O, E2A, E2R, E2O, E3A, E3R, E3O, E4A, E4R, E5A, E5R, E6A, E6R, E7R, L1, L2, L3, B01, B02, B03, B04, B05, F01, F02, F03, F04, F05, F06, V03, V04, V06, C24, D01, D02, A01, A02};
 ghost use Rattle.mq_rules.specs.declared.note.Note.TheVariants.{Open, Rest, Release};
 ghost use Rattle.mq_rules.specs.declared.packet_note.PacketFields.TheVariants.{Puback, Pubrec, Pubrel, Pubcomp, Suback, Unsubscribe, Unsuback, Pingreq, Pingresp, Auth};
-ghost use Rattle.mq_rules.specs.Worked.{client, client_unrecorded, server, failing, Close, Cut, sends, gets, sends_sized, sends_explained, sends_bad, gets_bad, sends_lost, gets_lost, lasting, again, fleeting, unnamed, asking, connack_with, accepting, resuming, refusing, limiting, retaining, assigning, informing, leaving, at_most_once, once, exactly, retained_once, retained_exactly, expiring, aliased, subscribed, asks_a, asks_b, asking_again, client_asked, server_asked, with_will, with_method, announcing, naming_method, lacking, leaving_by, retained_at_most_once, retained_again, asks_plainly, asks_widely, asks_identified, asks_to_share, asks_misnamed, asks_no_local};
+ghost use Rattle.mq_rules.specs.Worked.{client, client_unrecorded, server, failing, Close, Cut, sends, gets, sends_sized, sends_explained, sends_bad, gets_bad, sends_lost, gets_lost, lasting, again, fleeting, unnamed, asking, connack_with, accepting, resuming, refusing, limiting, retaining, assigning, informing, leaving, at_most_once, once, exactly, retained_once, retained_exactly, expiring, aliased, subscribed, asks_a, asks_b, asks_both, asking_again, client_asked, server_asked, with_will, with_method, announcing, naming_method, lacking, leaving_by, retained_at_most_once, retained_again, asks_plainly, asks_widely, asks_identified, asks_to_share, asks_misnamed, asks_no_local};
 
 /// Bytes of a client that break a rule, and those that it receives (W01 to W21).
 pub fn bytes_of_a_client()
@@ -361,6 +361,28 @@ pub fn subscriptions()
     ensures unsuback_keeps { failing server B04 (Open ∷ gets lasting ∷ sends accepting ∷ gets (Unsubscribe 1 1) ∷ sends (Unsuback 1 1) ∷ []) ≡ [] }
 {}
 
+/// What a SUBACK grants (B05).
+pub fn granted_qos()
+    ensures above_breaks { failing server_asked B05 (Open ∷ gets lasting ∷ sends accepting ∷ gets (asks_a 1 0) ∷ sends (Suback 1 (1 ∷ [])) ∷ []) ≡ 5 ∷ [] }
+    ensures equal_keeps { failing server_asked B05 (Open ∷ gets lasting ∷ sends accepting ∷ gets (asks_a 1 1) ∷ sends (Suback 1 (1 ∷ [])) ∷ []) ≡ [] }
+    ensures less_keeps { failing server_asked B05 (Open ∷ gets lasting ∷ sends accepting ∷ gets (asks_a 1 2) ∷ sends (Suback 1 (1 ∷ [])) ∷ []) ≡ [] }
+    ensures refused_keeps { failing server_asked B05 (Open ∷ gets lasting ∷ sends accepting ∷ gets (asks_a 1 0) ∷ sends (Suback 1 (128 ∷ [])) ∷ []) ≡ [] }
+    ensures options_break { failing server_asked B05 (Open ∷ gets lasting ∷ sends accepting ∷ gets (asks_a 1 12) ∷ sends (Suback 1 (1 ∷ [])) ∷ []) ≡ 5 ∷ [] }
+    ensures exchanged_breaks { failing server_asked B05 (Open ∷ gets lasting ∷ sends accepting ∷ gets (asks_both 1 0 2) ∷ sends (Suback 1 (2 ∷ 0 ∷ [])) ∷ []) ≡ 5 ∷ [] }
+    ensures second_breaks { failing server_asked B05 (Open ∷ gets lasting ∷ sends accepting ∷ gets (asks_both 1 2 0) ∷ sends (Suback 1 (135 ∷ 1 ∷ [])) ∷ []) ≡ 5 ∷ [] }
+    ensures in_order_keeps { failing server_asked B05 (Open ∷ gets lasting ∷ sends accepting ∷ gets (asks_both 1 0 2) ∷ sends (Suback 1 (0 ∷ 2 ∷ [])) ∷ []) ≡ [] }
+    ensures many_codes_keep { failing server_asked B05 (Open ∷ gets lasting ∷ sends accepting ∷ gets (asks_a 1 1) ∷ sends (Suback 1 (1 ∷ 2 ∷ [])) ∷ []) ≡ [] }
+    ensures few_codes_break { failing server_asked B05 (Open ∷ gets lasting ∷ sends accepting ∷ gets (asks_both 1 0 2) ∷ sends (Suback 1 (1 ∷ [])) ∷ []) ≡ 5 ∷ [] }
+    ensures first_keeps { failing server_asked B05 (Open ∷ gets lasting ∷ sends accepting ∷ gets (asks_a 1 1) ∷ gets (asks_a 1 0) ∷ sends (Suback 1 (1 ∷ [])) ∷ []) ≡ [] }
+    ensures answered_breaks { failing server_asked B05 (Open ∷ gets lasting ∷ sends accepting ∷ gets (asks_a 1 1) ∷ sends (Suback 1 (1 ∷ [])) ∷ gets (asks_a 1 0) ∷ sends (Suback 1 (1 ∷ [])) ∷ []) ≡ 7 ∷ [] }
+    ensures unknown_keeps { failing server_asked B05 (Open ∷ gets lasting ∷ sends accepting ∷ gets (asks_a 1 0) ∷ sends (Suback 2 (1 ∷ [])) ∷ []) ≡ [] }
+    ensures later_keeps { failing server_asked B05 (Open ∷ gets lasting ∷ sends accepting ∷ gets (asks_a 1 0) ∷ Close ∷ Open ∷ gets again ∷ sends resuming ∷ sends (Suback 1 (1 ∷ [])) ∷ []) ≡ [] }
+    ensures early_breaks { failing server_asked B05 (Open ∷ gets lasting ∷ gets (asks_a 1 0) ∷ sends (Suback 1 (1 ∷ [])) ∷ sends accepting ∷ []) ≡ 4 ∷ [] }
+    ensures turned_away_keeps { failing server_asked B05 (Open ∷ gets lasting ∷ gets (asks_a 1 0) ∷ sends (Suback 1 (1 ∷ [])) ∷ sends refusing ∷ []) ≡ [] }
+    ensures unasked_keeps { failing server B05 (Open ∷ gets lasting ∷ sends accepting ∷ gets (asks_a 1 0) ∷ sends (Suback 1 (1 ∷ [])) ∷ []) ≡ [] }
+    ensures client_keeps { failing client_asked B05 (Open ∷ sends lasting ∷ gets accepting ∷ gets (asks_a 1 0) ∷ sends (Suback 1 (1 ∷ [])) ∷ []) ≡ [] }
+{}
+
 /// Ends that a statement doesn't bind, and an end whose releases aren't recorded, in logs at which
 /// it would be false (a family each).
 pub fn unbound_ends()
@@ -390,6 +412,84 @@ pub fn before_a_connack()
     ensures anew_breaks { failing client_asked A01 (Open ∷ sends with_method ∷ gets naming_method ∷ Close ∷ Open ∷ sends with_method ∷ sends Pingreq ∷ []) ≡ 7 ∷ [] }
     ensures unasked_keeps { failing client A01 (Open ∷ sends with_method ∷ sends Pingreq ∷ []) ≡ [] }
     ensures server_keeps { failing server_asked A01 (Open ∷ gets with_method ∷ sends Pingresp ∷ []) ≡ [] }
+{}
+
+/// What a server does after a CONNECT (C24).
+pub fn after_a_connect()
+    ensures rest_breaks { failing server_asked C24 (Open ∷ gets lasting ∷ Rest ∷ []) ≡ 2 ∷ [] }
+    ensures connack_keeps { failing server_asked C24 (Open ∷ gets lasting ∷ sends accepting ∷ Rest ∷ []) ≡ [] }
+    ensures refusal_keeps { failing server_asked C24 (Open ∷ gets lasting ∷ sends refusing ∷ Rest ∷ []) ≡ [] }
+    ensures late_connack_breaks { failing server_asked C24 (Open ∷ gets lasting ∷ Rest ∷ sends accepting ∷ Rest ∷ []) ≡ 2 ∷ [] }
+    ensures close_keeps { failing server_asked C24 (Open ∷ gets lasting ∷ Close ∷ []) ≡ [] }
+    ensures waiting_keeps { failing server_asked C24 (Open ∷ gets with_method ∷ sends Auth ∷ Rest ∷ []) ≡ [] }
+    ensures authenticated_breaks { failing server_asked C24 (Open ∷ gets with_method ∷ sends Auth ∷ gets Auth ∷ Rest ∷ []) ≡ 2 ∷ [] }
+    ensures later_rest_breaks { failing server_asked C24 (Open ∷ gets with_method ∷ sends Auth ∷ Rest ∷ gets Auth ∷ Rest ∷ []) ≡ 2 ∷ [] }
+    ensures early_auth_keeps { failing server_asked C24 (Open ∷ gets with_method ∷ gets Auth ∷ sends Auth ∷ Rest ∷ []) ≡ [] }
+    ensures late_auth_breaks { failing server_asked C24 (Open ∷ gets with_method ∷ Rest ∷ sends Auth ∷ Rest ∷ []) ≡ 2 ∷ [] }
+    ensures second_breaks { failing server_asked C24 (Open ∷ gets lasting ∷ gets lasting ∷ Rest ∷ []) ≡ 2 ∷ [] }
+    ensures left_keeps { failing server_asked C24 (Open ∷ gets lasting ∷ gets (leaving None) ∷ Rest ∷ []) ≡ [] }
+    ensures goodbye_keeps { failing server_asked C24 (Open ∷ gets lasting ∷ sends (leaving_by 130) ∷ Rest ∷ []) ≡ [] }
+    ensures connack_before_keeps { failing server_asked C24 (Open ∷ sends accepting ∷ gets lasting ∷ Rest ∷ []) ≡ [] }
+    ensures bytes_keep { failing server_asked C24 (Open ∷ gets_bad 16 packets.W13 ∷ Rest ∷ []) ≡ [] }
+    ensures received_bytes_keep { failing server_asked C24 (Open ∷ gets lasting ∷ gets_bad 192 packets.W01 ∷ Rest ∷ []) ≡ [] }
+    ensures sent_bytes_keep { failing server_asked C24 (Open ∷ gets lasting ∷ sends_bad 32 packets.W13 ∷ Rest ∷ []) ≡ [] }
+    ensures lost_keeps { failing server_asked C24 (Open ∷ gets lasting ∷ gets_lost ∷ Rest ∷ []) ≡ [] }
+    ensures small_keeps { failing server_asked C24 (Open ∷ gets (asking None None None None (Some 4)) ∷ Rest ∷ []) ≡ [] }
+    ensures large_enough_breaks { failing server_asked C24 (Open ∷ gets (asking None None None None (Some 5)) ∷ Rest ∷ []) ≡ 2 ∷ [] }
+    ensures no_connect_keeps { failing server_asked C24 (Open ∷ Rest ∷ gets Pingreq ∷ Rest ∷ []) ≡ [] }
+    ensures anew_breaks { failing server_asked C24 (Open ∷ gets lasting ∷ sends accepting ∷ Close ∷ Open ∷ gets lasting ∷ Rest ∷ []) ≡ 6 ∷ [] }
+    ensures unasked_keeps { failing server C24 (Open ∷ gets lasting ∷ Rest ∷ []) ≡ [] }
+    ensures client_keeps { failing client_asked C24 (Open ∷ sends lasting ∷ gets lasting ∷ Rest ∷ []) ≡ [] }
+{}
+
+/// What a server does after a Malformed Packet (D01).
+pub fn after_a_malformed_packet()
+    ensures rest_breaks { failing server_asked D01 (Open ∷ gets lasting ∷ sends accepting ∷ gets_bad 192 packets.W01 ∷ Rest ∷ []) ≡ 4 ∷ [] }
+    ensures close_keeps { failing server_asked D01 (Open ∷ gets lasting ∷ sends accepting ∷ gets_bad 192 packets.W01 ∷ Close ∷ []) ≡ [] }
+    ensures goodbye_keeps { failing server_asked D01 (Open ∷ gets lasting ∷ sends accepting ∷ gets_bad 192 packets.W01 ∷ sends (leaving_by 129) ∷ Rest ∷ []) ≡ [] }
+    ensures late_goodbye_breaks { failing server_asked D01 (Open ∷ gets lasting ∷ sends accepting ∷ gets_bad 192 packets.W01 ∷ Rest ∷ sends (leaving_by 129) ∷ Rest ∷ []) ≡ 4 ∷ [] }
+    ensures lost_breaks { failing server_asked D01 (Open ∷ gets lasting ∷ sends accepting ∷ gets_lost ∷ Rest ∷ []) ≡ 4 ∷ [] }
+    ensures connect_breaks { failing server_asked D01 (Open ∷ gets_bad 16 packets.W04 ∷ sends accepting ∷ Rest ∷ []) ≡ 2 ∷ [] }
+    ensures refusal_keeps { failing server_asked D01 (Open ∷ gets_bad 16 packets.W04 ∷ sends refusing ∷ Rest ∷ []) ≡ [] }
+    ensures second_keeps { failing server_asked D01 (Open ∷ gets lasting ∷ sends accepting ∷ gets_bad 192 packets.W01 ∷ gets_bad 192 packets.W01 ∷ Rest ∷ []) ≡ 4 ∷ [] }
+    ensures length_keeps { failing server_asked D01 (Open ∷ gets lasting ∷ sends accepting ∷ gets_bad 192 packets.W03 ∷ Rest ∷ []) ≡ [] }
+    ensures duplicate_keeps { failing server_asked D01 (Open ∷ gets lasting ∷ sends accepting ∷ gets_bad 56 packets.W08 ∷ Rest ∷ []) ≡ [] }
+    ensures identifier_keeps { failing server_asked D01 (Open ∷ gets lasting ∷ sends accepting ∷ gets_bad 50 packets.W09 ∷ Rest ∷ []) ≡ [] }
+    ensures code_keeps { failing server_asked D01 (Open ∷ gets lasting ∷ sends accepting ∷ gets_bad 224 packets.W13 ∷ Rest ∷ []) ≡ [] }
+    ensures topic_keeps { failing server_asked D01 (Open ∷ gets lasting ∷ sends accepting ∷ gets_bad 48 packets.W14 ∷ Rest ∷ []) ≡ [] }
+    ensures filter_keeps { failing server_asked D01 (Open ∷ gets lasting ∷ sends accepting ∷ gets_bad 130 packets.W15 ∷ Rest ∷ []) ≡ [] }
+    ensures after_a_filter_breaks { failing server_asked D01 (Open ∷ gets lasting ∷ sends accepting ∷ gets_bad 130 packets.W15 ∷ gets_bad 130 packets.W10 ∷ Rest ∷ []) ≡ 5 ∷ [] }
+    ensures sent_keeps { failing server_asked D01 (Open ∷ gets lasting ∷ sends accepting ∷ sends_bad 208 packets.W01 ∷ Rest ∷ []) ≡ [] }
+    ensures no_rest_keeps { failing server_asked D01 (Open ∷ gets lasting ∷ sends accepting ∷ Rest ∷ gets_bad 192 packets.W01 ∷ sends Pingresp ∷ []) ≡ [] }
+    ensures next_keeps { failing server_asked D01 (Open ∷ gets lasting ∷ sends accepting ∷ gets_bad 192 packets.W01 ∷ Close ∷ Open ∷ gets lasting ∷ sends accepting ∷ Rest ∷ []) ≡ [] }
+    ensures anew_breaks { failing server_asked D01 (Open ∷ gets_bad 16 packets.W04 ∷ Close ∷ Open ∷ gets lasting ∷ gets_bad 192 packets.W01 ∷ Rest ∷ []) ≡ 6 ∷ [] }
+    ensures left_keeps { failing server_asked D01 (Open ∷ gets lasting ∷ sends accepting ∷ gets (leaving None) ∷ gets_bad 192 packets.W01 ∷ Rest ∷ []) ≡ [] }
+    ensures leaving_breaks { failing server_asked D01 (Open ∷ gets lasting ∷ sends accepting ∷ gets_bad 192 packets.W01 ∷ gets (leaving None) ∷ Rest ∷ []) ≡ 4 ∷ [] }
+    ensures goodbye_before_keeps { failing server_asked D01 (Open ∷ gets lasting ∷ sends (leaving_by 130) ∷ gets_bad 192 packets.W01 ∷ Rest ∷ []) ≡ [] }
+    ensures unasked_keeps { failing server D01 (Open ∷ gets lasting ∷ gets_bad 192 packets.W01 ∷ Rest ∷ []) ≡ [] }
+    ensures client_keeps { failing client_asked D01 (Open ∷ sends lasting ∷ gets accepting ∷ gets_bad 208 packets.W01 ∷ sends_bad 192 packets.W01 ∷ Rest ∷ []) ≡ [] }
+{}
+
+/// What a server does after a second CONNECT (D02).
+pub fn after_a_second_connect()
+    ensures rest_breaks { failing server_asked D02 (Open ∷ gets lasting ∷ sends accepting ∷ gets lasting ∷ Rest ∷ []) ≡ 4 ∷ [] }
+    ensures close_keeps { failing server_asked D02 (Open ∷ gets lasting ∷ sends accepting ∷ gets lasting ∷ Close ∷ []) ≡ [] }
+    ensures goodbye_keeps { failing server_asked D02 (Open ∷ gets lasting ∷ sends accepting ∷ gets lasting ∷ sends (leaving_by 130) ∷ Rest ∷ []) ≡ [] }
+    ensures late_goodbye_breaks { failing server_asked D02 (Open ∷ gets lasting ∷ sends accepting ∷ gets lasting ∷ Rest ∷ sends (leaving_by 130) ∷ Rest ∷ []) ≡ 4 ∷ [] }
+    ensures early_breaks { failing server_asked D02 (Open ∷ gets lasting ∷ gets lasting ∷ sends accepting ∷ Rest ∷ []) ≡ 3 ∷ [] }
+    ensures refusal_keeps { failing server_asked D02 (Open ∷ gets lasting ∷ gets lasting ∷ sends refusing ∷ Rest ∷ []) ≡ [] }
+    ensures bytes_break { failing server_asked D02 (Open ∷ gets lasting ∷ sends accepting ∷ gets_bad 16 packets.W13 ∷ Rest ∷ []) ≡ 4 ∷ [] }
+    ensures first_bytes_break { failing server_asked D02 (Open ∷ gets_bad 16 packets.W13 ∷ gets lasting ∷ Rest ∷ []) ≡ 3 ∷ [] }
+    ensures lost_keeps { failing server_asked D02 (Open ∷ gets lasting ∷ sends accepting ∷ gets_lost ∷ Rest ∷ []) ≡ [] }
+    ensures third_keeps { failing server_asked D02 (Open ∷ gets lasting ∷ gets lasting ∷ gets lasting ∷ Rest ∷ []) ≡ 3 ∷ [] }
+    ensures no_rest_keeps { failing server_asked D02 (Open ∷ gets lasting ∷ sends accepting ∷ Rest ∷ gets lasting ∷ sends Pingresp ∷ []) ≡ [] }
+    ensures next_keeps { failing server_asked D02 (Open ∷ gets lasting ∷ sends accepting ∷ gets lasting ∷ Close ∷ Open ∷ gets lasting ∷ sends accepting ∷ Rest ∷ []) ≡ [] }
+    ensures anew_breaks { failing server_asked D02 (Open ∷ gets lasting ∷ Close ∷ Open ∷ gets lasting ∷ gets lasting ∷ Rest ∷ []) ≡ 6 ∷ [] }
+    ensures left_keeps { failing server_asked D02 (Open ∷ gets lasting ∷ sends accepting ∷ gets (leaving None) ∷ gets lasting ∷ Rest ∷ []) ≡ [] }
+    ensures leaving_breaks { failing server_asked D02 (Open ∷ gets lasting ∷ sends accepting ∷ gets lasting ∷ gets (leaving None) ∷ Rest ∷ []) ≡ 4 ∷ [] }
+    ensures goodbye_before_keeps { failing server_asked D02 (Open ∷ gets lasting ∷ sends (leaving_by 130) ∷ gets lasting ∷ Rest ∷ []) ≡ [] }
+    ensures unasked_keeps { failing server D02 (Open ∷ gets lasting ∷ gets lasting ∷ Rest ∷ []) ≡ [] }
+    ensures client_keeps { failing client_asked D02 (Open ∷ sends lasting ∷ sends lasting ∷ gets lasting ∷ gets lasting ∷ Rest ∷ []) ≡ [] }
 {}
 
 /// What a server accepts in a CONNECT (F05 and F06), and enhanced authentication (A02).

@@ -4,10 +4,10 @@
 ghost use Rattle.std.specs.Prelude.{◌≡◌, ◌∷◌, [], true, false, Some, None};
 ghost use Rattle.mq_packet.specs.declared.rule.PacketRule.TheVariants as packets;
 ghost use Rattle.mq_packet.specs.declared.packet.Qos.TheVariants as quality;
-ghost use Rattle.mq_rules.specs.declared.rule.Rule.TheVariants.{C01, C02, C03, C04, C05, C06, C07, C08, C09, C10, C11, C12, C13, C14, C15, C16, C17, C18, C19, C20, C21, C22, C23, S01, S02, S03, S04, S05, S06, S07, E1A, E1R, E1O, E2A, E2R, E2O, E3A, E3R, E3O, E4A, E4R, E5A, E5R, E6A, E6R, E7R, L1, L2, L3, B01, B02, B03, B04, F01, F02, F03, F04, F05, F06, V03, V04, V06, A01, A02};
+ghost use Rattle.mq_rules.specs.declared.rule.Rule.TheVariants.{C01, C02, C03, C04, C05, C06, C07, C08, C09, C10, C11, C12, C13, C14, C15, C16, C17, C18, C19, C20, C21, C22, C23, S01, S02, S03, S04, S05, S06, S07, E1A, E1R, E1O, E2A, E2R, E2O, E3A, E3R, E3O, E4A, E4R, E5A, E5R, E6A, E6R, E7R, L1, L2, L3, B01, B02, B03, B04, B05, F01, F02, F03, F04, F05, F06, V03, V04, V06, C24, D01, D02, A01, A02};
 ghost use Rattle.mq_rules.specs.declared.note.Note.TheVariants.{Open, Rest, Release};
 ghost use Rattle.mq_rules.specs.declared.packet_note.PacketFields.TheVariants.{Puback, Pubrec, Pubrel, Pubcomp, Suback, Unsubscribe, Unsuback, Pingreq, Pingresp, Auth};
-ghost use Rattle.mq_rules.specs.Worked.{client, client_unrecorded, server, applying, Close, Cut, sends, gets, sends_sized, sends_bad, sends_lost, lasting, again, unnamed, asking, accepting, resuming, refusing, limiting, retaining, assigning, informing, leaving, at_most_once, once, exactly, retained_once, expiring, aliased, asks_a, asks_shared, client_asked, server_asked, with_will, with_method, announcing, naming_method, lacking, leaving_by, retained_at_most_once, retained_again, asks_plainly, asks_widely, asks_identified, asks_to_share};
+ghost use Rattle.mq_rules.specs.Worked.{client, client_unrecorded, server, applying, Close, Cut, sends, gets, sends_sized, sends_bad, gets_bad, sends_lost, gets_lost, lasting, again, unnamed, asking, accepting, resuming, refusing, limiting, retaining, assigning, informing, leaving, at_most_once, once, exactly, retained_once, expiring, aliased, asks_a, asks_both, asks_shared, client_asked, server_asked, with_will, with_method, announcing, naming_method, lacking, leaving_by, retained_at_most_once, retained_again, asks_plainly, asks_widely, asks_identified, asks_to_share};
 
 /// What begins a connection (C01 to C06).
 pub fn places_of_beginnings()
@@ -158,6 +158,17 @@ pub fn places_of_subscriptions()
     ensures unsuback { applying server B04 (Open ∷ gets lasting ∷ sends accepting ∷ gets (Unsubscribe 1 1) ∷ sends (Unsuback 1 1) ∷ sends (Unsuback 1 1) ∷ []) ≡ 5 ∷ [] }
 {}
 
+/// What a SUBACK grants (B05).
+pub fn places_of_granted_qos()
+    ensures granted { applying server_asked B05 (Open ∷ gets lasting ∷ sends accepting ∷ gets (asks_a 1 0) ∷ sends (Suback 1 (0 ∷ [])) ∷ sends (Suback 1 (0 ∷ [])) ∷ []) ≡ 5 ∷ [] }
+    ensures above { applying server_asked B05 (Open ∷ gets lasting ∷ sends accepting ∷ gets (asks_a 1 0) ∷ sends (Suback 1 (1 ∷ [])) ∷ []) ≡ 5 ∷ [] }
+    ensures refused { applying server_asked B05 (Open ∷ gets lasting ∷ sends accepting ∷ gets (asks_a 1 0) ∷ sends (Suback 1 (128 ∷ [])) ∷ []) ≡ [] }
+    ensures in_part { applying server_asked B05 (Open ∷ gets lasting ∷ sends accepting ∷ gets (asks_both 1 0 0) ∷ sends (Suback 1 (135 ∷ 0 ∷ [])) ∷ []) ≡ 5 ∷ [] }
+    ensures without_filter { applying server_asked B05 (Open ∷ gets lasting ∷ sends accepting ∷ gets (asks_a 1 0) ∷ sends (Suback 1 (135 ∷ 0 ∷ [])) ∷ []) ≡ [] }
+    ensures without_code { applying server_asked B05 (Open ∷ gets lasting ∷ sends accepting ∷ gets (asks_a 1 0) ∷ sends (Suback 1 []) ∷ []) ≡ [] }
+    ensures unasked { applying server B05 (Open ∷ gets lasting ∷ sends accepting ∷ gets (asks_a 1 0) ∷ sends (Suback 1 (0 ∷ [])) ∷ []) ≡ [] }
+{}
+
 /// Ends that a statement doesn't bind, releases that aren't recorded, a session that is unknown,
 /// and a connection that is undecided: no places.
 pub fn places_of_nothing()
@@ -175,6 +186,52 @@ pub fn places_before_a_connack()
     ensures answered { applying client_asked A01 (Open ∷ sends with_method ∷ sends Auth ∷ gets naming_method ∷ sends Pingreq ∷ []) ≡ 3 ∷ [] }
     ensures plain { applying client_asked A01 (Open ∷ sends lasting ∷ sends Auth ∷ []) ≡ [] }
     ensures unasked { applying client A01 (Open ∷ sends with_method ∷ sends Auth ∷ []) ≡ [] }
+{}
+
+/// What a server does after a CONNECT (C24).
+pub fn places_after_a_connect()
+    ensures answered { applying server_asked C24 (Open ∷ gets lasting ∷ sends accepting ∷ Rest ∷ []) ≡ 2 ∷ [] }
+    ensures refused { applying server_asked C24 (Open ∷ gets lasting ∷ sends refusing ∷ []) ≡ 2 ∷ [] }
+    ensures left_open { applying server_asked C24 (Open ∷ gets lasting ∷ Rest ∷ Rest ∷ []) ≡ 2 ∷ [] }
+    ensures answered_late { applying server_asked C24 (Open ∷ gets lasting ∷ Rest ∷ sends accepting ∷ []) ≡ 2 ∷ [] }
+    ensures waiting { applying server_asked C24 (Open ∷ gets with_method ∷ sends Auth ∷ Rest ∷ []) ≡ [] }
+    ensures waited { applying server_asked C24 (Open ∷ gets with_method ∷ sends Auth ∷ Rest ∷ gets Auth ∷ Rest ∷ []) ≡ 2 ∷ [] }
+    ensures closed { applying server_asked C24 (Open ∷ gets lasting ∷ Close ∷ []) ≡ [] }
+    ensures second { applying server_asked C24 (Open ∷ gets lasting ∷ sends accepting ∷ gets lasting ∷ sends accepting ∷ []) ≡ 2 ∷ [] }
+    ensures after_bytes { applying server_asked C24 (Open ∷ gets_bad 16 packets.W13 ∷ gets lasting ∷ sends accepting ∷ []) ≡ [] }
+    ensures small { applying server_asked C24 (Open ∷ gets (asking None None None None (Some 4)) ∷ sends accepting ∷ []) ≡ [] }
+    ensures large_enough { applying server_asked C24 (Open ∷ gets (asking None None None None (Some 5)) ∷ sends accepting ∷ []) ≡ 2 ∷ [] }
+    ensures connack_before { applying server_asked C24 (Open ∷ sends accepting ∷ gets lasting ∷ Rest ∷ []) ≡ [] }
+    ensures connacks_around { applying server_asked C24 (Open ∷ sends accepting ∷ gets lasting ∷ sends accepting ∷ []) ≡ 3 ∷ [] }
+    ensures after_goodbye { applying server_asked C24 (Open ∷ gets lasting ∷ gets (leaving None) ∷ sends accepting ∷ []) ≡ 2 ∷ [] }
+    ensures anew { applying server_asked C24 (Open ∷ gets lasting ∷ sends accepting ∷ Close ∷ Open ∷ gets lasting ∷ Rest ∷ []) ≡ 6 ∷ 2 ∷ [] }
+    ensures unasked { applying server C24 (Open ∷ gets lasting ∷ Rest ∷ []) ≡ [] }
+{}
+
+/// What a server does after a Malformed Packet (D01).
+pub fn places_after_a_malformed_packet()
+    ensures rested { applying server_asked D01 (Open ∷ gets lasting ∷ sends accepting ∷ gets_bad 192 packets.W01 ∷ Rest ∷ Rest ∷ []) ≡ 4 ∷ [] }
+    ensures closed { applying server_asked D01 (Open ∷ gets lasting ∷ sends accepting ∷ gets_bad 192 packets.W01 ∷ Close ∷ []) ≡ 4 ∷ [] }
+    ensures goodbye { applying server_asked D01 (Open ∷ gets lasting ∷ sends accepting ∷ gets_bad 192 packets.W01 ∷ sends (leaving_by 129) ∷ []) ≡ 4 ∷ [] }
+    ensures refused { applying server_asked D01 (Open ∷ gets_bad 16 packets.W04 ∷ gets_bad 16 packets.W04 ∷ sends refusing ∷ []) ≡ 2 ∷ [] }
+    ensures lost { applying server_asked D01 (Open ∷ gets lasting ∷ sends accepting ∷ gets_lost ∷ Close ∷ []) ≡ 4 ∷ [] }
+    ensures readable { applying server_asked D01 (Open ∷ gets lasting ∷ sends accepting ∷ gets_bad 192 packets.W03 ∷ Close ∷ []) ≡ [] }
+    ensures unseen { applying server_asked D01 (Open ∷ gets lasting ∷ sends accepting ∷ Rest ∷ gets_bad 192 packets.W01 ∷ sends Pingresp ∷ []) ≡ [] }
+    ensures anew { applying server_asked D01 (Open ∷ gets_bad 16 packets.W04 ∷ Close ∷ Open ∷ gets lasting ∷ gets_bad 192 packets.W01 ∷ Close ∷ []) ≡ 6 ∷ 2 ∷ [] }
+    ensures left { applying server_asked D01 (Open ∷ gets lasting ∷ gets (leaving None) ∷ gets_bad 192 packets.W01 ∷ Close ∷ []) ≡ [] }
+    ensures unasked { applying server D01 (Open ∷ gets lasting ∷ gets_bad 192 packets.W01 ∷ Rest ∷ []) ≡ [] }
+{}
+
+/// What a server does after a second CONNECT (D02).
+pub fn places_after_a_second_connect()
+    ensures rested { applying server_asked D02 (Open ∷ gets lasting ∷ sends accepting ∷ gets lasting ∷ Rest ∷ Rest ∷ []) ≡ 4 ∷ [] }
+    ensures closed { applying server_asked D02 (Open ∷ gets lasting ∷ sends accepting ∷ gets lasting ∷ Close ∷ []) ≡ 4 ∷ [] }
+    ensures goodbye { applying server_asked D02 (Open ∷ gets lasting ∷ sends accepting ∷ gets lasting ∷ sends (leaving_by 130) ∷ []) ≡ 4 ∷ [] }
+    ensures refused { applying server_asked D02 (Open ∷ gets lasting ∷ gets lasting ∷ gets lasting ∷ sends refusing ∷ []) ≡ 3 ∷ [] }
+    ensures unseen { applying server_asked D02 (Open ∷ gets lasting ∷ sends accepting ∷ Rest ∷ gets lasting ∷ sends Pingresp ∷ []) ≡ [] }
+    ensures anew { applying server_asked D02 (Open ∷ gets lasting ∷ gets lasting ∷ Close ∷ Open ∷ gets lasting ∷ gets lasting ∷ Close ∷ []) ≡ 7 ∷ 3 ∷ [] }
+    ensures left { applying server_asked D02 (Open ∷ gets lasting ∷ gets (leaving None) ∷ gets lasting ∷ Close ∷ []) ≡ [] }
+    ensures unasked { applying server D02 (Open ∷ gets lasting ∷ gets lasting ∷ Rest ∷ []) ≡ [] }
 {}
 
 /// What a server accepts in a CONNECT (F05 and F06), and enhanced authentication (A02).

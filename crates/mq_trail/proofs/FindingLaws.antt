@@ -9,8 +9,8 @@ use Rattle.mq_rules.specs.declared.note.Seen.{Seen}
 use Rattle.mq_rules.specs.Words.{is_some_and}
 use Rattle.mq_rules.specs.Notes.{is_open}
 use Rattle.mq_rules.specs.Moments.{Moment, note, moment, moments, position, some, is_after}
-use Rattle.mq_rules.specs.Connections.{number, fate, latest_fate, is_binding}
-use Rattle.mq_rules.specs.Statements.{Statement, on_bytes, on_past, in_session, at_release, at_rest, statement, breaks_bytes, is_so, is_so_under, where_accepted, fails}
+use Rattle.mq_rules.specs.Connections.{number, fate, latest_fate, is_beside, is_binding}
+use Rattle.mq_rules.specs.Statements.{Statement, on_bytes, on_past, in_session, at_release, at_rest, by_later, statement, breaks_bytes, is_so, is_so_under, where_accepted, fails}
 use Rattle.mq_rules.specs.Rules.{binds}
 use Rattle.mq_rules.proofs.Exports.{both_true, moment-beginning, moment-within}
 use Rattle.mq_books.specs.Holding.{settled, IsSettled}
@@ -65,6 +65,11 @@ there role fates (at_release breaks) log k so = go (moment log k) so
 there role fates (at_rest shows) log k so = go (moment log k) so
   where
     go : (o : Option Moment) → is_some_and (λ m. some (λ t. is_after t m && (is_binding role t && shows t m)) (moments log)) o ≡ true → is_some o ≡ true
+    go None h = absurd (cc)
+    go (Some m) h = refl
+there role fates (by_later shows) log k so = go (moment log k) so
+  where
+    go : (o : Option Moment) → is_some_and (λ m. some (λ t. is_after t m && (is_beside t m && shows t m)) (moments log)) o ≡ true → is_some o ≡ true
     go None h = absurd (cc)
     go (Some m) h = refl
 

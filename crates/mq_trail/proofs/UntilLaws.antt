@@ -20,7 +20,7 @@ use Rattle.mq_rules.specs.Words.{is_some_and}
 use Rattle.mq_rules.specs.Moments.{Moment, newest, moment}
 use Rattle.mq_rules.specs.Connections.{fate, gives_fate, number}
 use Rattle.mq_rules.specs.Rules.{binds}
-use Rattle.mq_rules.specs.Statements.{Statement, on_bytes, on_past, in_session, at_release, at_rest, statement, is_so, is_so_under, where_accepted, fails}
+use Rattle.mq_rules.specs.Statements.{Statement, on_bytes, on_past, in_session, at_release, at_rest, by_later, statement, is_so, is_so_under, where_accepted, fails}
 use Rattle.mq_rules.specs.Faults.{decided}
 use Rattle.mq_rules.proofs.Exports.{both_true, decided-fails, decided-within, fails-kept, fate-step, moment-older, moment-stays, not_true}
 use Rattle.mq_evidence.specs.Evidence.{Reason, by_itself, in_past, under_fate, at_rest as by_rest, evidence, found, nothing, reason}
@@ -112,6 +112,7 @@ is_fated (on_past breaks) = false
 is_fated (in_session breaks) = true
 is_fated (at_release breaks) = true
 is_fated (at_rest shows) = false
+is_fated (by_later shows) = false
 
 -- what looks at no fate
 abbrev is_fateless : Reason → Bool
@@ -147,6 +148,10 @@ so-known role fates (in_session breaks) log k m at d = λ so.
     under-known (fates (number m)) (where_accepted breaks) m (sym (ap (λ o. is_some_and (λ m. is_so_under (where_accepted breaks) m (fates (number m))) o) at) ∙ so)
 so-known role fates (at_release breaks) log k m at d = λ so. under-known (fates (number m)) breaks m (sym (ap (λ o. is_some_and (λ m. is_so_under breaks m (fates (number m))) o) at) ∙ so)
 so-known role fates (at_rest shows) log k m at d = absurd (never d)
+  where
+    never : false ≡ true → ⊥
+    never h = absurd (cc)
+so-known role fates (by_later shows) log k m at d = absurd (never d)
   where
     never : false ≡ true → ⊥
     never h = absurd (cc)

@@ -115,16 +115,25 @@ fn is_in_session(rule: Rule) -> bool
             | Rule::B02
             | Rule::B03
             | Rule::B04
+            | Rule::B05
     )
 }
 
-// Whether an answer is missing.
+// Whether an answer is missing, or a connection isn't closed, where a REST shows that.
 fn is_silent(rule: Rule) -> bool
     ensures { result ≡ silent rule }
 {
     matches!(
         rule,
-        Rule::E1R | Rule::E2R | Rule::E3R | Rule::E4R | Rule::E5R | Rule::E6R
+        Rule::E1R
+            | Rule::E2R
+            | Rule::E3R
+            | Rule::E4R
+            | Rule::E5R
+            | Rule::E6R
+            | Rule::C24
+            | Rule::D01
+            | Rule::D02
     )
 }
 

@@ -15,15 +15,18 @@ use crate::early::Early;
 use crate::sessions::Sessions;
 use mq_log::Place3;
 use mq_rules::{
-    Bare, Both, Brisk, CountingConn, CountingManners, Fate, Faults, Memory, Note, Rule, Shapes,
-    Tested, Watch,
+    Bare, Both, Brisk, CountingConn, CountingDuties, CountingManners, Fate, Faults, Memory, Note,
+    Rule, Shapes, Tested, Watch,
 };
 use std::alloc::Global;
 
 /// Watches all statements, as `PlainWatchers` does, and counts how often those on connections
 /// and sessions are put to the test.
 pub struct CountingWatchers {
-    parts: Both<Shapes, Both<CountingConn, Both<CountingManners, Early<Counting<Sessions>>>>>,
+    parts: Both<
+        Shapes,
+        Both<CountingConn, Both<CountingManners, Both<CountingDuties, Early<Counting<Sessions>>>>>,
+    >,
 }
 
 // As a derived one, but a call of its own.
@@ -46,7 +49,10 @@ impl CountingWatchers {
                     CountingConn::new(alloc, tested),
                     Both::new(
                         CountingManners::new(tested),
-                        Early::new(alloc, tested, Counting::new(Sessions::new(alloc, tested))),
+                        Both::new(
+                            CountingDuties::new(tested),
+                            Early::new(alloc, tested, Counting::new(Sessions::new(alloc, tested))),
+                        ),
                     ),
                 ),
             ),
@@ -58,28 +64,32 @@ impl CountingWatchers {
         ensures { (tested : TheTested) (taken : Option TheFate) (past : List TheSeen) → ⟦<CountingWatchers as Watch>⟧.agrees self.now tested taken past → result ≡ cond (is_on_bytes tested rule) None (Some (places tested past rule)) }
     {
         let later = &self.parts.b;
+        let further = &later.b;
         if Sessions::tests(rule) {
-            return Some(later.b.b.places(rule));
+            return Some(further.b.b.places(rule));
         }
-        later.b.a.places(rule).or(later.a.places(rule))
+        let duties = &further.b.a;
+        duties
+            .places(rule)
+            .or(further.a.places(rule).or(later.a.places(rule)))
     }
 
     /// What becomes of the latest connection. None if it is undecided.
     pub fn latest_fate(&self) -> Option<Fate>
         ensures { (tested : TheTested) (taken : Option TheFate) (past : List TheSeen) → ⟦<CountingWatchers as Watch>⟧.agrees self.now tested taken past → result ≡ latest_fate tested.role past }
     {
-        self.parts.b.b.b.latest_fate()
+        self.parts.b.b.b.b.latest_fate()
     }
 }
 
 impl Watch for CountingWatchers {
-    ghost agrees = { λ s. ⟦<Both<Shapes, Both<CountingConn, Both<CountingManners, Early<Counting<Sessions>>>>> as Watch>⟧.agrees s.parts };
+    ghost agrees = { λ s. ⟦<Both<Shapes, Both<CountingConn, Both<CountingManners, Both<CountingDuties, Early<Counting<Sessions>>>>>> as Watch>⟧.agrees s.parts };
 
     ghost takes = { λ tested taken e past. IsOnConnection e past };
 
     ghost adds = { turns };
 
-    ghost weighs = { λ s. ⟦<Both<Shapes, Both<CountingConn, Both<CountingManners, Early<Counting<Sessions>>>>> as Watch>⟧.weighs s.parts };
+    ghost weighs = { λ s. ⟦<Both<Shapes, Both<CountingConn, Both<CountingManners, Both<CountingDuties, Early<Counting<Sessions>>>>>> as Watch>⟧.weighs s.parts };
 
     ghost bound = { λ tested taken past. 4 * burden tested past };
 

@@ -12,14 +12,14 @@ use crate::early::Early;
 use crate::sessions::Sessions;
 use mq_log::Place3;
 use mq_rules::{
-    Bare, Both, Brisk, Conn, Fate, Faults, Manners, Memory, Note, Shapes, Tested, Watch,
+    Bare, Both, Brisk, Conn, Duties, Fate, Faults, Manners, Memory, Note, Shapes, Tested, Watch,
 };
 use std::alloc::Global;
 
 /// Watches all statements, and counts nothing: W, C and the further statements as the events come,
 /// and those on sessions once their connection is decided.
 pub struct PlainWatchers {
-    parts: Both<Shapes, Both<Conn, Both<Manners, Early<Sessions>>>>,
+    parts: Both<Shapes, Both<Conn, Both<Manners, Both<Duties, Early<Sessions>>>>>,
 }
 
 // As a derived one, but a call of its own: what is to be freed is much, and else each function that
@@ -43,7 +43,10 @@ impl PlainWatchers {
                     Conn::new(alloc, tested),
                     Both::new(
                         Manners::new(tested),
-                        Early::new(alloc, tested, Sessions::new(alloc, tested)),
+                        Both::new(
+                            Duties::new(tested),
+                            Early::new(alloc, tested, Sessions::new(alloc, tested)),
+                        ),
                     ),
                 ),
             ),
@@ -54,18 +57,18 @@ impl PlainWatchers {
     pub fn latest_fate(&self) -> Option<Fate>
         ensures { (tested : TheTested) (taken : Option TheFate) (past : List TheSeen) → ⟦<PlainWatchers as Watch>⟧.agrees self.now tested taken past → result ≡ latest_fate tested.role past }
     {
-        self.parts.b.b.b.latest_fate()
+        self.parts.b.b.b.b.latest_fate()
     }
 }
 
 impl Watch for PlainWatchers {
-    ghost agrees = { λ s. ⟦<Both<Shapes, Both<Conn, Both<Manners, Early<Sessions>>>> as Watch>⟧.agrees s.parts };
+    ghost agrees = { λ s. ⟦<Both<Shapes, Both<Conn, Both<Manners, Both<Duties, Early<Sessions>>>>> as Watch>⟧.agrees s.parts };
 
     ghost takes = { λ tested taken e past. IsOnConnection e past };
 
     ghost adds = { turns };
 
-    ghost weighs = { λ s. ⟦<Both<Shapes, Both<Conn, Both<Manners, Early<Sessions>>>> as Watch>⟧.weighs s.parts };
+    ghost weighs = { λ s. ⟦<Both<Shapes, Both<Conn, Both<Manners, Both<Duties, Early<Sessions>>>>> as Watch>⟧.weighs s.parts };
 
     ghost bound = { λ tested taken past. 4 * burden tested past };
 

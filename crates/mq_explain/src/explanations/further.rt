@@ -1,5 +1,22 @@
-//! The texts of `explain` for the further statements (F01 to F06, V03, V04, V06, A01 and A02), which
-//! are judged on request.
+//! The texts of `explain` for the further statements (B05, F01 to F06, V03, V04, V06, C24, D01, D02,
+//! A01 and A02), which are judged on request.
+
+/// The text of `explain B05`.
+pub const B05: &str = "B05 server sec-3.9.3\n\
+    A SUBACK grants no more than was asked for.\n\n\
+    Why: The client asked for the greatest QoS at which it wants to be served, and\n\
+    may not be able to handle more. A server may grant less, and never more.\n\n\
+    Judged: At a SUBACK that answers a SUBSCRIBE, if a Reason Code below 0x80 is\n\
+    above the Maximum QoS in the options of the filter at its place, on a connection\n\
+    that the server accepted. Codes too many, and filters without one, are left to\n\
+    B03. Decided at once, or at the CONNACK if that comes later. It is a further\n\
+    statement: it is judged with --all.\n\n\
+    To see it tested: Subscribe; one SUBSCRIBE with filters of different QoS says\n\
+    most. The SUBACK that answers it tests this, unless it refuses all of them.\n\n\
+    In a server: Each code is the greatest QoS that the server can serve, or the\n\
+    codes are in another order than the filters. Write the smaller one of that QoS\n\
+    and the one that was asked for, in the order of the SUBSCRIBE.\n\n\
+    See: MQTT 5.0, section 3.9.3.\n";
 
 /// The text of `explain F01`.
 pub const F01: &str = "F01 client MQTT-3.2.2-14\n\
@@ -125,6 +142,64 @@ pub const V06: &str = "V06 both sec-3.14.2.1,sec-3.4.2.1;sec-3.14.2.1\n\
     0x98 for what is its own decision; acknowledge with 0x00 what nobody wanted.\n\
     In a server: It answers a DISCONNECT of 0x04 with the same code. Answer nothing.\n\n\
     See: MQTT 5.0, sections 3.4.2.1 and 3.14.2.1.\n";
+
+/// The text of `explain C24`.
+pub const C24: &str = "C24 server MQTT-3.1.4-5\n\
+    A CONNECT is answered by a CONNACK, if the connection stays open.\n\n\
+    Why: The client learns by the CONNACK alone whether it was let in, and within\n\
+    which limits. A server that doesn't let it in refuses by one too, or closes.\n\n\
+    Judged: At the first CONNECT that is received on a connection, if a REST comes\n\
+    later there and no CONNACK before that REST. Such a REST says that the server\n\
+    handled all that came, keeps the connection, and sends nothing more for it. One\n\
+    after a DISCONNECT of either end, or after bytes of either that break a rule,\n\
+    doesn't count; nor one at which the server waits for an AUTH: it sent one, and\n\
+    received none after that. Decided at the first REST that counts. Nothing is owed\n\
+    to a client with a Maximum Packet Size below 5, into which no CONNACK fits, nor\n\
+    for a CONNECT whose bytes break a rule. It is a further statement: it is judged\n\
+    with --all.\n\n\
+    To see it tested: Connect; a CONNACK tests this. That it is missing shows only\n\
+    in a log with a REST there, which a recorder writes after a long silence.\n\n\
+    In a server: The CONNECT is dropped where the client isn't let in, or waits for\n\
+    another service without an end. Send a CONNACK that refuses, or close the\n\
+    connection. If the CONNACK was only late, the REST came too early.\n\n\
+    See: MQTT 5.0, sections 3.1.4, 3.1.2.11.4 and 4.12.\n";
+
+/// The text of `explain D01`.
+pub const D01: &str = "D01 server MQTT-4.13.1-1\n\
+    After a Malformed Packet the server closes the connection.\n\n\
+    Why: What can't be read can't be obeyed, and where the next packet begins may be\n\
+    unknown too. A server that goes on may do what its client never asked for.\n\n\
+    Judged: At the first Malformed Packet that is received on a connection: bytes\n\
+    that break W01, W02, W04 to W07, W10 to W12, W16 to W19 or W21, or that can't be\n\
+    cut into packets. It fails if a REST comes later on the connection, and the\n\
+    server sent neither a DISCONNECT nor a CONNACK of 0x80 or more before that REST\n\
+    (see C23 for those). Such a REST says that the server handled those bytes, and\n\
+    keeps the connection. Decided at the REST. If either end had left before those\n\
+    bytes, it isn't judged. It is a further statement: it is judged with --all.\n\n\
+    To see it tested: Send a server a PINGREQ with a reserved flag set, and wait\n\
+    until it is at rest, or has closed the connection.\n\n\
+    In a server: The packet is dropped, and the next one is read. Send a DISCONNECT\n\
+    with 0x81 (Malformed Packet), and close the connection. What can be read all the\n\
+    same isn't malformed here (W03, W08, W09); nor is an unknown Reason Code (W13),\n\
+    or a topic or a filter that can be refused alone (W14, W15).\n\n\
+    See: MQTT 5.0, section 4.13.1.\n";
+
+/// The text of `explain D02`.
+pub const D02: &str = "D02 server MQTT-3.1.0-2\n\
+    After a second CONNECT the server closes the connection.\n\n\
+    Why: A client may send CONNECT once on a connection. What it asks for by a\n\
+    second one can't be told, so the server has to treat it as a Protocol Error.\n\n\
+    Judged: At the second CONNECT that is received on a connection, accepted or not;\n\
+    bytes that break a rule count by their type. It fails if a REST comes later on\n\
+    the connection, and the server sent neither a DISCONNECT nor a CONNACK of 0x80\n\
+    or more before that REST (see C23 for those). Decided at the REST. If either end\n\
+    had left before the CONNECT, it isn't judged. It is a further statement: it is\n\
+    judged with --all.\n\n\
+    To see it tested: Send a server a second CONNECT after its CONNACK, and wait\n\
+    until it is at rest, or has closed the connection.\n\n\
+    In a server: The second CONNECT is ignored, or answered by another CONNACK. Send\n\
+    a DISCONNECT with 0x82 (Protocol Error), and close the connection.\n\n\
+    See: MQTT 5.0, sections 3.1 and 4.13.1.\n";
 
 /// The text of `explain A01`.
 pub const A01: &str = "A01 client MQTT-3.1.2-30\n\

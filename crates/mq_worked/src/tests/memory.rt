@@ -3,7 +3,7 @@
 use super::plain::{are_same, plain_faults_in};
 use super::statements::{log_of, outcome_of};
 use mq_harness::Pieces;
-use mq_judge::{Form, Judge, Options, RunFault, run};
+use mq_judge::{Choice, Form, Judge, Options, RunFault, run};
 use mq_log::Refusal;
 use mq_rules::Faults;
 use std::alloc::Global;
@@ -100,7 +100,13 @@ fn is_fed(alloc: Global, log: &[u8], is_cut: bool) -> bool {
 // lacked it.
 fn is_run(alloc: Global, log: &[u8], form: Form, text: &str, report: &str) -> bool {
     let mut writer = Cursor::new([0; 512]);
-    let ran = run(alloc, &mut Pieces::of(log, 7), &mut writer, form, false);
+    let ran = run(
+        alloc,
+        &mut Pieces::of(log, 7),
+        &mut writer,
+        form,
+        Choice::Usual,
+    );
     let written = writer.position() as usize;
     let Some(part) = report.as_bytes().get(..written) else {
         return false;

@@ -1,4 +1,4 @@
-use Rattle.mq_rules.proofs.Exports.{decided-under, fated-known, fated-on, fated-open}
+use Rattle.mq_rules.proofs.Exports.{decided-under, fated-known, fated-later, fated-on, fated-open}
 use Rattle.mq_rules_laws.proofs.laws.fated_failing_turns.Goals as goal
 
 pub returns-clause-decides : goal.returns-clause-decides
@@ -12,3 +12,6 @@ returns-clause-opens c = fated-open
 
 pub returns-clause-known : goal.returns-clause-known
 returns-clause-known c = fated-known
+
+pub returns-clause-later : goal.returns-clause-later
+returns-clause-later c = fated-later

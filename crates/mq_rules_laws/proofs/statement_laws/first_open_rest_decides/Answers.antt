@@ -1,0 +1,8 @@
+use Rattle.mq_rules_laws.proofs.FirstRestLaws.{malformed-earlier, repeated-earlier}
+use Rattle.mq_rules_laws.proofs.statement_laws.first_open_rest_decides.Goals as goal
+
+pub returns-clause-malformed : goal.returns-clause-malformed
+returns-clause-malformed c = malformed-earlier
+
+pub returns-clause-repeated : goal.returns-clause-repeated
+returns-clause-repeated c = repeated-earlier
