@@ -36,7 +36,7 @@ LINK = re.compile(r"\]\(([^)\s]+)\)")
 HEADING = re.compile(r"^(#+) (.*)$", re.MULTILINE)
 NOT_IN_ANCHOR = re.compile(r"[^\w -]")
 OTHER_PROGRAM = re.compile(r"(apt-get|git|grep)\b")
-MADE_UP = re.compile(r"S08|C24|\bx\.rt\b")  # the statements, and the file, that CONTRIBUTING.md supposes
+MADE_UP = re.compile(r"S08|C25|\bx\.rt\b")  # the statements, and the file, that CONTRIBUTING.md supposes
 MADE = {"filters-1000"}  # names that a program makes of parts
 UNNAMED = ""  # the only clause of a contract has no name
 

@@ -7,7 +7,7 @@ The text report of each log is made into the other forms here, in Python: each o
 3,000 faults, one of long packets that break a rule, one of texts that do, one of packets that aren't whole at a CLOSE, refused logs, some of all these in version 2, one with
 moments of a century, and the logs that are named. What each tests (`--coverage`) is what occasions.py finds, and what its faults
 conflict with (`--why`, `show --faults`) what because.py finds, but for a log that is too long for that. With `--all` each form is made
-from the same text report with the further faults of on_request.py in it. JSON is also read back by
+from the same text report with the further faults of on_request.py in it, and with `--statements` from that by choosing.py. JSON is also read back by
 Python's json module. What `show --faults` is to print is made from the text report, from what `show` prints, and from Python's
 dates. The bytes of packets that break a rule, or aren't whole at a CLOSE, are those that reading.py finds in the log. Each line of
 `show` is that of showing.py, and each of `show --long` begins with it.
@@ -28,6 +28,7 @@ from pathlib import Path
 sys.dont_write_bytecode = True  # the repository stays as it is
 import because
 import check_rows
+import choosing
 import further_worked
 import occasions
 import on_request
@@ -43,6 +44,7 @@ DAY = timedelta(days=1) // showing.MICROSECOND
 SHORT = 20_000  # bytes of a log in which occasions.py finds what was tested
 FEW = 20  # faults of a longer log for which because.py finds what they conflict with
 SELDOM = 20  # of so many worked logs one is tried in version 2 too
+LISTS = 3  # of statements, which each log is checked by
 
 
 def many_faults(count: int) -> bytes:
@@ -315,6 +317,7 @@ def wanted_of(program: str, name: str, log: bytes, path: str, sentences: dict[st
     with_all = on_request.with_further(text, reading.Recording(log))
     answer = STATUSES[with_all.splitlines()[-1].split()[0]], with_all, errors
     wanted |= {("check", "--all"): answer, **wanted_of_checks(name, log, path, answer, True)}
+    wanted |= wanted_of_choices(name, log, path, with_all, errors)
     for long in ((), ("--long",)):
         shown = run(program, log, "show", *long)
         events = with_bytes(shown[1], log)
@@ -355,6 +358,30 @@ def wanted_of_checks(name: str, log: bytes, path: str, answer: Answer, with_all:
         }
     options = ("--all",) if with_all else ()
     return {("check", *words[:1], *options, *words[1:]): one for words, one in wanted.items()}
+
+
+def wanted_of_choices(name: str, log: bytes, path: str, text: str, errors: str) -> Wanted:
+    """The forms of the report by some lists of statements, made from the text report on all of them."""
+    wanted: Wanted = {}
+    covered, told = with_coverage(name, log, text, True), with_reasons(log, text, True)
+    for list_ in choosing.lists(random.Random(name), all_codes(), LISTS):
+        taken, option = choosing.chosen(list_, all_codes()), f"--statements={list_}"
+        kept = choosing.left(text, taken)
+        status = STATUSES[kept.splitlines()[-1].split()[0]]
+        wanted["check", option] = (status, kept, errors)
+        wanted["check", "--json", option] = (status, as_json(kept), errors)
+        wanted["check", option, "--summary"] = (status, in_short(kept), errors)
+        if covered is not None:
+            rows = choosing.left(covered, taken)
+            wanted["check", option, "--coverage"] = (status, rows, errors)
+            wanted["check", "--coverage", option, "--json"] = (status, as_json(rows), errors)
+            wanted["check", "--coverage", "--summary", option] = (status, in_short(rows), errors)
+        if told is not None:
+            reasons = choosing.left(told, taken)
+            wanted["check", "--why", option, path] = (status, reasons, errors)
+            wanted["check", option, "--why", "--json", path] = (status, as_reasoned_json(reasons), errors)
+            wanted["check", "--why", "--summary", option, path] = (status, in_short(kept), errors)
+    return wanted
 
 
 def wrong_lines(program: str, log: bytes) -> list[str]:

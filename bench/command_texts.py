@@ -31,12 +31,13 @@ Arguments:
   [FILE]  The log; standard input if it is missing or `-`
 
 Options:
-      --json      Report as one line of JSON, also with --summary
-      --summary   Report a line for each statement that has faults
-      --coverage  Say how often each statement was put to the test
-      --why       Say what each fault conflicts with; reads FILE twice if it has faults
-      --all       Judge the further statements too
-  -h, --help      Print help
+      --json               Report as one line of JSON, also with --summary
+      --summary            Report a line for each statement that has faults
+      --coverage           Say how often each statement was put to the test
+      --why                Say what each fault conflicts with; reads FILE twice if it has faults
+      --all                Judge the further statements too
+      --statements <LIST>  Report the faults of these statements, such as default,F,-W13
+  -h, --help               Print help
 
 Statuses: 0 for no fault, 1 for faults, 2 for a refused log, 3 for misuse,
 4 if reading or writing failed or memory ran out.
@@ -69,9 +70,10 @@ Lists the statements
 Usage: mqjudge rules [OPTIONS]
 
 Options:
-      --role <role>  Only the statements that bind this end: client or server
-      --all          List the further statements too
-  -h, --help         Print help
+      --role <role>        Only the statements that bind this end: client or server
+      --all                List the further statements too
+      --statements <LIST>  List these statements, such as default,F,-W13
+  -h, --help               Print help
 
 Statuses: 0 if they were listed, 3 for misuse,
 4 if writing failed or memory ran out.

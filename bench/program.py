@@ -158,8 +158,9 @@ CODES = (
     + "E1A E1R E1O E2A E2R E2O E3A E3R E3O E4A E4R E5A E5R E6A E6R E7R L1 L2 L3 B01 B02 B03 B04".split()
 )
 # Those that are judged only on request, and named all the same.
-FURTHER = ["F01", "F02", "F03", "F04", "F05", "F06", "V03", "V04", "V06", "A01", "A02"]
+FURTHER = ["B05", "F01", "F02", "F03", "F04", "F05", "F06", "V03", "V04", "V06", "C24", "D01", "D02", "A01", "A02"]
 FURTHER_ROWS = """\
+B05 server sec-3.9.3 A SUBACK grants no more than was asked for.
 F01 client MQTT-3.2.2-14 A new PUBLISH has RETAIN 0 where Retain Available is 0.
 F02 client sec-3.2.2.3.11 No filter has a wildcard where the server takes none.
 F03 client sec-3.2.2.3.12 No SUBSCRIBE has a Subscription Identifier where the server takes none.
@@ -169,6 +170,9 @@ F06 server MQTT-3.2.2-13 A Will with Will Retain 1 is refused where Retain Avail
 V03 client MQTT-4.8.2-1,MQTT-4.8.2-2 A shared filter has a name without wildcards, and a filter after it.
 V04 client MQTT-3.8.3-4 No Local is 0 for a shared filter.
 V06 both sec-3.14.2.1,sec-3.4.2.1;sec-3.14.2.1 A Reason Code is one that this end may send.
+C24 server MQTT-3.1.4-5 A CONNECT is answered by a CONNACK, if the connection stays open.
+D01 server MQTT-4.13.1-1 After a Malformed Packet the server closes the connection.
+D02 server MQTT-3.1.0-2 After a second CONNECT the server closes the connection.
 A01 client MQTT-3.1.2-30 A client that uses an Authentication Method sends only AUTH and DISCONNECT before a CONNACK was received.
 A02 both MQTT-4.12.0-7;MQTT-4.12.0-6 Without an Authentication Method in CONNECT there is no enhanced authentication.
 """
@@ -183,10 +187,20 @@ V06 both sec-3.14.2.1,sec-3.4.2.1 A Reason Code is one that this end may send.
 A01 client MQTT-3.1.2-30 A client that uses an Authentication Method sends only AUTH and DISCONNECT before a CONNACK was received.
 A02 both MQTT-4.12.0-7 Without an Authentication Method in CONNECT there is no enhanced authentication.
 """
+
+
+def rows_of(families: str, rows: str) -> str:
+    """The rows of these families."""
+    return "".join(row for row in rows.splitlines(keepends=True) if row[0] in families)
+
+
 NO_X99 = f"""\
 mqjudge: no statement X99
 mqjudge: there are {" ".join(CODES + FURTHER)}, and citations such as MQTT-4.4.0-1: see mqjudge rules
 """
+CHOICES = f"mqjudge: there are default, all, {' '.join(CODES + FURTHER)}, and a family for each letter that codes begin with: see mqjudge rules --all\n"
+NO_CHOICE = f"mqjudge: --statements leaves no statement\n{CHOICES}"
+TWO_CHOICES = "mqjudge: --all and --statements both choose statements: give one of them\n"
 NO_BROKER = "mqjudge: no role broker\nmqjudge: there are client and server\n"
 CAPTURE_HINT = "mqjudge: it is a capture: recorders/from-capture makes logs of it\n"
 GZIP_HINT = "mqjudge: it is compressed by gzip: unpack it first; of a capture recorders/from-capture makes logs\n"
@@ -200,6 +214,11 @@ LONG_NAME = 300 * "x" + ".log"
 def unread(place: str, reason: str) -> str:
     """The lines on what can't be read."""
     return f"mqjudge: read failed\nmqjudge: {place}: {reason}\n"
+
+
+def no_statements(word: str) -> str:
+    """The lines on a word of a list that names none."""
+    return f"mqjudge: no statements {word}\n{CHOICES}"
 
 
 def odd(place: int, character: str) -> str:
@@ -330,6 +349,40 @@ RUNS = [
     Run(["show", "--all", "--around", "1", "unasked.log"], 3, errors=NO_FAULTS),
     Run(["show", "--all", "--faults"], 3, errors=NO_FILE, stdin=GOOD),
     Run(["check", "--all", "--all", "good.log"], 3, errors=TWICE.replace("--coverage", "--all")),
+    # Only the faults of the statements that a list chooses are reported; one on all of them judges the further ones too.
+    Run(["check", "--statements", "S", "faulty.log"], 1, FAIL, stdin=GOOD),
+    Run(["check", "--statements", "S01", "twice.log"], 1, FAIL.replace(" 5 events", " 6 events")),
+    Run(["check", "--statements", "all", "twice.log"], 1, ASKED_TWICE),
+    Run(["check", "--statements", "default", "twice.log"], 1, FAIL.replace(" 5 events", " 6 events")),
+    Run(["check", "--statements", "default,F,-W13", "faulty.log"], 1, FAIL),
+    Run(["check", "--statements=-S01", "faulty.log"], 0, "pass 5 events\n", stdin=NESTED),
+    Run(["check", "--statements=-S,A"], 1, ASKED, stdin=UNASKED),
+    Run(["check", "--statements", "all,-A", "unasked.log"], 0, "pass 5 events\n"),
+    Run(["check", "--statements", "W,-W,S01", "--summary", "faulty.log"], 1, SUMMARY),
+    Run(["check", "--json", "--statements", "A02", "unasked.log"], 1, ASKED_JSON),
+    Run(["check", "--statements", "S01", "--why", "faulty.log"], 1, REASONED, stdin=GOOD),
+    Run(["check", "--why", "--statements", "A", "unasked.log"], 1, ASKED_REASONED),
+    Run(["check", "--why", "--statements", "C", "faulty.log"], 0, "pass 5 events\n"),
+    Run(["check", "--statements", "C", "nested.log"], 2, REFUSED, stdin=GOOD),
+    Run(["check", "--statements", "C", "missing.log"], 4, errors=missing("missing.log")),
+    Run(["check", "--statements", "S,X9", "missing.log"], 3, errors=no_statements("X9")),
+    Run(["check", "--statements", "s01"], 3, errors=no_statements("s01"), stdin=GOOD),
+    Run(["check", "--statements", "W1", "good.log"], 3, errors=no_statements("W1")),
+    Run(["check", "--statements", "default,", "good.log"], 3, errors=no_statements("")),
+    Run(["check", "--statements", "", "good.log"], 3, errors=no_statements("")),
+    Run(["check", "--statements=-all", "good.log"], 3, errors=NO_CHOICE),
+    Run(["check", "--statements", "S01,-S", "--why", "good.log"], 3, errors=NO_CHOICE),
+    Run(["check", "--statements", "é", "--why"], 3, errors=no_statements("é"), stdin=GOOD),
+    Run(["check", "--all", "--statements", "W", "good.log"], 3, errors=TWO_CHOICES),
+    Run(["check", "--statements", "X9", "--all", "--why", "good.log"], 3, errors=TWO_CHOICES),
+    Run(["check", "--coverage", "--why", "--statements", "X9"], 3, errors=TWO_REPORTS, stdin=GOOD),
+    Run(["rules", "--statements", "all,-default"], 0, FURTHER_ROWS),
+    Run(["rules", "--statements", "F,V,A"], 0, rows_of("FVA", FURTHER_ROWS)),
+    Run(["rules", "--statements", "D"], 0, rows_of("D", FURTHER_ROWS)),
+    Run(["rules", "--role", "client", "--statements", "all,-default"], 0, OF_CLIENT),
+    Run(["rules", "--statements=-F,X"], 3, errors=no_statements("X")),
+    Run(["rules", "--role", "broker", "--statements", "S,-S"], 3, errors=NO_CHOICE),
+    Run(["rules", "--all", "--statements", "S"], 3, errors=TWO_CHOICES),
     # Without a file, or with `-`, standard input is.
     Run(["check"], 0, PASS, stdin=GOOD),
     Run(["check"], 1, FAIL, stdin=FAULTY),

@@ -252,12 +252,13 @@ pub form_with_neither : (check : ArgMatches) → is_true (first_value (found_of 
     → forms.Text ≡ form_in (rows_of (found_of check))
 form_with_neither check j s = rw (sym (first_value-rows (found_of check) (codes "json")), j, sym (first_value-rows (found_of check) (codes "summary")), s) refl
 
-pub same_check : {file file' : Option Text} {form form' : Form} {coverage coverage' why why' further further' : Bool} → file ≡ file' → form ≡ form' → coverage ≡ coverage'
-    → why ≡ why' → further ≡ further' → Some (check_request file form coverage why further) ≡ Some (check_request file' form' coverage' why' further')
-same_check {file} {file'} {form} {form'} {coverage} {coverage'} {why} {why'} {further} {further'} f r v w m =
-    ap (λ (x : Option Text). Some (check_request x form coverage why further)) f
-    ∙ ap (λ (x : Form). Some (check_request file' x coverage why further)) r ∙ ap (λ (x : Bool). Some (check_request file' form' x why further)) v
-    ∙ ap (λ (x : Bool). Some (check_request file' form' coverage' x further)) w ∙ ap (λ (x : Bool). Some (check_request file' form' coverage' why' x)) m
+pub same_check : {file file' : Option Text} {form form' : Form} {coverage coverage' why why' further further' : Bool} {list list' : Option Text} → file ≡ file' → form ≡ form' → coverage ≡ coverage'
+    → why ≡ why' → further ≡ further' → list ≡ list' → Some (check_request file form coverage why further list) ≡ Some (check_request file' form' coverage' why' further' list')
+same_check {file} {file'} {form} {form'} {coverage} {coverage'} {why} {why'} {further} {further'} {list} {list'} f r v w m l =
+    ap (λ (x : Option Text). Some (check_request x form coverage why further list)) f
+    ∙ ap (λ (x : Form). Some (check_request file' x coverage why further list)) r ∙ ap (λ (x : Bool). Some (check_request file' form' x why further list)) v
+    ∙ ap (λ (x : Bool). Some (check_request file' form' coverage' x further list)) w ∙ ap (λ (x : Bool). Some (check_request file' form' coverage' why' x list)) m
+    ∙ ap (λ (x : Option Text). Some (check_request file' form' coverage' why' further' x)) l
 
 pub same_show : {file file' : Option Text} {long long' faults faults' : Bool} {around around' : Option Text} {further further' : Bool} → file ≡ file' → long ≡ long'
     → faults ≡ faults' → around ≡ around' → further ≡ further'
@@ -267,17 +268,20 @@ same_show {file} {file'} {long} {long'} {faults} {faults'} {around} {around'} {f
     ∙ ap (λ (x : Bool). Some (show_request file' x faults around further)) l ∙ ap (λ (x : Bool). Some (show_request file' long' x around further)) a
     ∙ ap (λ (x : Option Text). Some (show_request file' long' faults' x further)) n ∙ ap (λ (x : Bool). Some (show_request file' long' faults' around' x)) m
 
-pub same_rules : {role role' : Option Text} {further further' : Bool} → role ≡ role' → further ≡ further' → Some (rules_request role further) ≡ Some (rules_request role' further')
-same_rules {role} {role'} {further} {further'} r m = ap (λ (x : Option Text). Some (rules_request x further)) r ∙ ap (λ (x : Bool). Some (rules_request role' x)) m
+pub same_rules : {role role' : Option Text} {further further' : Bool} {list list' : Option Text} → role ≡ role' → further ≡ further' → list ≡ list'
+    → Some (rules_request role further list) ≡ Some (rules_request role' further' list')
+same_rules {role} {role'} {further} {further'} {list} {list'} r m l =
+    ap (λ (x : Option Text). Some (rules_request x further list)) r ∙ ap (λ (x : Bool). Some (rules_request role' x list)) m ∙ ap (λ (x : Option Text). Some (rules_request role' further' x)) l
 
 pub request_is_check : (words : List Text) (m check : ArgMatches) → subcommand_rows_of m ≡ subcommand_of mqjudge words → subcommand_name_of m ≡ Some (codes "check")
     → option_map (λ p. p.1) (subcommand_rows_of m) ≡ Some (rows_of (found_of check)) → request_of words ≡ Some (check_request (first_value (found_of check) (codes "FILE"))
     (form_in (rows_of (found_of check))) (is_true (first_value (found_of check) (codes "coverage"))) (is_true (first_value (found_of check) (codes "why")))
-    (is_true (first_value (found_of check) (codes "all"))))
+    (is_true (first_value (found_of check) (codes "all"))) (first_value (found_of check) (codes "LIST")))
 request_is_check words m check same named rows =
     ap (option_map request_in) (met_by words m check (codes "check") same named rows)
     ∙ same_check (sym (first_value-rows (found_of check) (codes "FILE"))) refl (ap is_true (sym (first_value-rows (found_of check) (codes "coverage"))))
     (ap is_true (sym (first_value-rows (found_of check) (codes "why")))) (ap is_true (sym (first_value-rows (found_of check) (codes "all"))))
+    (sym (first_value-rows (found_of check) (codes "LIST")))
 
 pub request_is_show : (words : List Text) (m shown : ArgMatches) → subcommand_rows_of m ≡ subcommand_of mqjudge words → subcommand_name_of m ≡ Some (codes "show")
     → option_map (λ p. p.1) (subcommand_rows_of m) ≡ Some (rows_of (found_of shown)) → request_of words ≡ Some (show_request (first_value (found_of shown) (codes "FILE"))
@@ -301,10 +305,11 @@ request_is_packet words m packet same named rows =
 
 pub request_is_rules : (words : List Text) (m listed : ArgMatches) → subcommand_rows_of m ≡ subcommand_of mqjudge words → subcommand_name_of m ≡ Some (codes "rules")
     → option_map (λ p. p.1) (subcommand_rows_of m) ≡ Some (rows_of (found_of listed)) → request_of words ≡ Some (rules_request (first_value (found_of listed) (codes "role"))
-    (is_true (first_value (found_of listed) (codes "all"))))
+    (is_true (first_value (found_of listed) (codes "all"))) (first_value (found_of listed) (codes "LIST")))
 request_is_rules words m listed same named rows =
     ap (option_map request_in) (met_by words m listed (codes "rules") same named rows)
     ∙ same_rules (sym (first_value-rows (found_of listed) (codes "role"))) (ap is_true (sym (first_value-rows (found_of listed) (codes "all"))))
+    (sym (first_value-rows (found_of listed) (codes "LIST")))
 
 pub request_is_explain : (words : List Text) (m explained : ArgMatches) → subcommand_rows_of m ≡ subcommand_of mqjudge words → subcommand_name_of m ≡ Some (codes "explain")
     → option_map (λ p. p.1) (subcommand_rows_of m) ≡ Some (rows_of (found_of explained)) → request_of words ≡ Some (explain_request (first_value (found_of explained) (codes "CODE")))

@@ -25,10 +25,14 @@ use Rattle.mq_command.specs.declared.command_line.EarlyExit.TheVariants.{Help, U
 abbrev pub flag : Text → Rule
 flag name = record (new_rule name) { long = Some name; action = Some SetTrue }
 
--- `check [--json] [--summary] [--coverage] [--why] [--all] [FILE]`
+-- `--statements LIST`
+abbrev pub statements_option : Rule
+statements_option = record (new_rule (codes "LIST")) { long = Some (codes "statements") }
+
+-- `check [--json] [--summary] [--coverage] [--why] [--all] [--statements LIST] [FILE]`
 abbrev pub check_command : App
-check_command = with_rule (with_rule (with_rule (with_rule (with_rule (with_rule (new_app (codes "check")) (new_rule (codes "FILE"))) (flag (codes "json"))) (flag (codes "summary")))
-    (flag (codes "coverage"))) (flag (codes "why"))) (flag (codes "all"))
+check_command = with_rule (with_rule (with_rule (with_rule (with_rule (with_rule (with_rule (new_app (codes "check")) (new_rule (codes "FILE"))) (flag (codes "json"))) (flag (codes "summary")))
+    (flag (codes "coverage"))) (flag (codes "why"))) (flag (codes "all"))) statements_option
 
 -- `--around N`
 abbrev pub around_option : Rule
@@ -47,9 +51,9 @@ several = record { start_inclusive = 1; end_inclusive = usize_max }
 abbrev pub packet_command : App
 packet_command = with_rule (with_rule (new_app (codes "packet")) (record (new_rule (codes "HEX")) { range = Some several; required = true })) (flag (codes "long"))
 
--- `rules [--role ROLE] [--all]`
+-- `rules [--role ROLE] [--all] [--statements LIST]`
 abbrev pub rules_command : App
-rules_command = with_rule (with_rule (new_app (codes "rules")) (record (new_rule (codes "role")) { long = Some (codes "role") })) (flag (codes "all"))
+rules_command = with_rule (with_rule (with_rule (new_app (codes "rules")) (record (new_rule (codes "role")) { long = Some (codes "role") })) (flag (codes "all"))) statements_option
 
 -- an operand of this name that has to be given
 abbrev pub required_operand : Text → Rule
@@ -80,7 +84,7 @@ mqjudge = with_subcommand
     convert_command.top
 
 -- what a command line asks for: a subcommand, its operand, the form of the report, its other flags, the number after `--around`,
--- whether the further statements are meant too, the end that it is for, the file that it makes, and whether one that is there may be emptied
+-- whether the further statements are meant too, the list of those that are meant, the end that it is for, the file that it makes, and whether one that is there may be emptied
 pub record Request : Type 0 where
   pub subcommand : Text
   pub operand : Option Text
@@ -91,6 +95,7 @@ pub record Request : Type 0 where
   pub faults : Bool
   pub around : Option Text
   pub further : Bool
+  pub statements : Option Text
   pub role : Option Text
   pub made : Option Text
   pub force : Bool
@@ -108,14 +113,17 @@ plain_request subcommand operand =
       faults = false;
       around = None;
       further = false;
+      statements = None;
       role = None;
       made = None;
       force = false;
     }
 
--- `check` on this file, with a report in this form, with coverage or without, with what the faults conflict with or without, and with the further statements or without
-abbrev pub check_request : Option Text → Form → (coverage why further : Bool) → Request
-check_request file form coverage why further = record (plain_request (codes "check") file) { form = form; coverage = coverage; why = why; further = further }
+-- `check` on this file, with a report in this form, with coverage or without, with what the faults conflict with or without, with the further statements or without, and by
+-- those of this list
+abbrev pub check_request : Option Text → Form → (coverage why further : Bool) → (statements : Option Text) → Request
+check_request file form coverage why further statements =
+    record (plain_request (codes "check") file) { form = form; coverage = coverage; why = why; further = further; statements = statements }
 
 -- `show` of this file, with these flags and this number, and with the further statements or without
 abbrev pub show_request : Option Text → (long faults : Bool) → (around : Option Text) → (further : Bool) → Request
@@ -129,9 +137,9 @@ digits_request hex long = record (plain_request (codes "packet") (Some hex)) { l
 abbrev pub packet_request : Option (List Text) → (long : Bool) → Request
 packet_request words long = digits_request (spaced (unwrap_or words [])) long
 
--- `rules` for the end that this word names, with the further statements or without
-abbrev pub rules_request : Option Text → (further : Bool) → Request
-rules_request role further = record (plain_request (codes "rules") None) { role = role; further = further }
+-- `rules` for the end that this word names, with the further statements or without, and of this list
+abbrev pub rules_request : Option Text → (further : Bool) → (statements : Option Text) → Request
+rules_request role further statements = record (plain_request (codes "rules") None) { role = role; further = further; statements = statements }
 
 -- `explain` of this code or citation; the operand is required
 abbrev pub explain_request : Option Text → Request
@@ -154,11 +162,11 @@ form_in rows = if is_true (first_of (codes "json") rows) then forms.Json
 -- the request in a subcommand's name and matches
 abbrev pub request_in : Text × List Row → Request
 request_in met = if bytes_eq met.0 (codes "check") then check_request (first_of (codes "FILE") met.1) (form_in met.1) (is_true (first_of (codes "coverage") met.1))
-    (is_true (first_of (codes "why") met.1)) (is_true (first_of (codes "all") met.1))
+    (is_true (first_of (codes "why") met.1)) (is_true (first_of (codes "all") met.1)) (first_of (codes "LIST") met.1)
     else (if bytes_eq met.0 (codes "show") then show_request (first_of (codes "FILE") met.1) (is_true (first_of (codes "long") met.1))
     (is_true (first_of (codes "faults") met.1)) (first_of (codes "N") met.1) (is_true (first_of (codes "all") met.1))
     else (if bytes_eq met.0 (codes "packet") then packet_request (all_of (codes "HEX") met.1) (is_true (first_of (codes "long") met.1))
-    else (if bytes_eq met.0 (codes "rules") then rules_request (first_of (codes "role") met.1) (is_true (first_of (codes "all") met.1))
+    else (if bytes_eq met.0 (codes "rules") then rules_request (first_of (codes "role") met.1) (is_true (first_of (codes "all") met.1)) (first_of (codes "LIST") met.1)
     else (if bytes_eq met.0 (codes "explain") then explain_request (first_of (codes "CODE") met.1)
     else convert_request (first_of (codes "IN") met.1) (first_of (codes "OUT") met.1) (is_true (first_of (codes "force") met.1))))))
 
@@ -172,13 +180,13 @@ word_faults words = fault_of mqjudge words
 
 -- the request that corresponds to some work
 abbrev pub request_by : Work → Request
-request_by (Once (Check file form coverage further)) = check_request (option_map string_bytes file) form coverage false further
+request_by (Once (Check file form coverage further statements)) = check_request (option_map string_bytes file) form coverage false further (option_map string_bytes statements)
 request_by (Once (Show file long)) = show_request (option_map string_bytes file) long false None false
 request_by (Once (Packet hex long)) = digits_request (string_bytes hex) long
-request_by (Once (Rules role further)) = rules_request (option_map string_bytes role) further
+request_by (Once (Rules role further statements)) = rules_request (option_map string_bytes role) further (option_map string_bytes statements)
 request_by (Once (Explain code)) = explain_request (Some (string_bytes code))
 request_by (Again review) = show_request (option_map string_bytes review.file) review.long review.faults (option_map string_bytes review.around) review.further
-request_by (Why inquiry) = check_request (option_map string_bytes inquiry.file) inquiry.form inquiry.coverage true inquiry.further
+request_by (Why inquiry) = check_request (option_map string_bytes inquiry.file) inquiry.form inquiry.coverage true inquiry.further (option_map string_bytes inquiry.statements)
 request_by (Convert conversion) = convert_request (Some (string_bytes conversion.input)) (Some (string_bytes conversion.output)) conversion.force
 
 -- what shows a log and reads it again is asked for by `--faults`, by a number of positions or by `--all`; without them the log is read once
@@ -219,16 +227,16 @@ path_named (Some operand) = if bytes_eq operand (codes "-") then None else Some 
 
 -- the path of the log that a task reads: none if it reads standard input, or nothing
 abbrev pub path_of : Task → Option Text
-path_of (Check file form coverage further) = path_named (option_map string_bytes file)
+path_of (Check file form coverage further statements) = path_named (option_map string_bytes file)
 path_of (Show file long) = path_named (option_map string_bytes file)
 path_of (Packet hex long) = None
-path_of (Rules role further) = None
+path_of (Rules role further statements) = None
 path_of (Explain code) = None
 
 -- a task reads its input: a log, or the digits of a packet if the operand is `-`. Others need no input.
 abbrev pub reads_input : Task → Bool
-reads_input (Check file form coverage further) = true
+reads_input (Check file form coverage further statements) = true
 reads_input (Show file long) = true
 reads_input (Packet hex long) = is_dash (string_bytes hex)
-reads_input (Rules role further) = false
+reads_input (Rules role further statements) = false
 reads_input (Explain code) = false

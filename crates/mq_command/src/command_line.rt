@@ -4,7 +4,7 @@ ghost use Rattle.clap.specs.Words.{HasKind, Kinds, Text, app_of, found_of, new_r
 ghost use Rattle.clap.specs.declared.builder.command.Command.TheViews.{out-Command};
 ghost use Rattle.mq_command.specs.CommandLine.{ReadsAsAsked, StopsFor, around_option, check_command, check_request, convert_command, convert_request, explain_command};
 ghost use Rattle.mq_command.specs.CommandLine.{explain_request, word_faults, flag, form_in, is_true, mqjudge, packet_command, packet_request};
-ghost use Rattle.mq_command.specs.CommandLine.{path_named, path_of, reads_input, request_by, request_of, required_operand, rules_command};
+ghost use Rattle.mq_command.specs.CommandLine.{path_named, path_of, reads_input, request_by, request_of, required_operand, rules_command, statements_option};
 ghost use Rattle.mq_command.specs.CommandLine.{IsUsage, TellsOfMany, rules_request, show_command, show_request};
 ghost use Rattle.mq_command.specs.Operands.{names_many_logs};
 
@@ -107,6 +107,8 @@ pub struct Inquiry {
     pub coverage: bool,
     /// Judge the further statements too.
     pub further: bool,
+    /// The list of the statements whose faults are reported, if there is one.
+    pub statements: Option<String>,
 }
 
 /// The form of the report that a check writes.
@@ -133,6 +135,8 @@ pub enum Task {
         coverage: bool,
         /// Judge the further statements too.
         further: bool,
+        /// The list of the statements whose faults are reported, if there is one.
+        statements: Option<String>,
     },
     /// Show the events of the log in `file`, or on standard input if there is none or it is `-`.
     Show {
@@ -155,6 +159,8 @@ pub enum Task {
         role: Option<String>,
         /// List the further statements too.
         further: bool,
+        /// The list of the statements that are listed, if there is one.
+        statements: Option<String>,
     },
     /// Explain a statement, or all statements with a citation.
     Explain {
@@ -211,10 +217,11 @@ pub enum EarlyExit {
 }
 
 /// Reads the words of a command line, `mqjudge check [--json] [--summary] [--coverage] [--why]
-/// [--all] [FILE]`, `mqjudge show [--long] [--faults] [--around N] [--all] [FILE]`, `mqjudge packet
-/// [--long] HEX..`, `mqjudge rules [--role ROLE] [--all]`, `mqjudge explain CODE` or `mqjudge
-/// convert [--force] IN OUT`, of which the first is the program's name. A request for help or the
-/// version is returned as a `EarlyExit`, and so are words that aren't such a command line.
+/// [--all] [--statements LIST] [FILE]`, `mqjudge show [--long] [--faults] [--around N] [--all]
+/// [FILE]`, `mqjudge packet [--long] HEX..`, `mqjudge rules [--role ROLE] [--all] [--statements
+/// LIST]`, `mqjudge explain CODE` or `mqjudge convert [--force] IN OUT`, of which the first is the
+/// program's name. A request for help or the version is returned as a `EarlyExit`, and so are words
+/// that aren't such a command line.
 pub fn parse<S: AsStr>(alloc: Global, words: &[S]) -> Result<Work, EarlyExit>
     ensures taken { IfOk result (λ _. word_faults (map S.text words.now) ≡ []) }
     ensures work { IfOk result (λ work.
@@ -232,6 +239,7 @@ pub fn parse<S: AsStr>(alloc: Global, words: &[S]) -> Result<Work, EarlyExit>
                 is_true(check.get_str("coverage")),
                 is_true(check.get_str("why")),
                 is_true(check.get_str("all")),
+                check.get_str("LIST"),
             ),
             None => match matches.subcommand_matches("show") {
                 Some(show) => show_task(
@@ -253,6 +261,7 @@ pub fn parse<S: AsStr>(alloc: Global, words: &[S]) -> Result<Work, EarlyExit>
                             alloc,
                             rules.get_str("role"),
                             is_true(rules.get_str("all")),
+                            rules.get_str("LIST"),
                         ),
                         None => match matches.subcommand_matches("explain") {
                             Some(explain) => explain_task(alloc, explain.get_str("CODE")),
@@ -385,7 +394,19 @@ fn check_command<'a>(alloc: Global) -> Result<Command<'a>, AllocError>
             "why",
             "Say what each fault conflicts with; reads FILE twice if it has faults",
         ))?
-        .arg(flag(alloc, "all", "Judge the further statements too"))
+        .arg(flag(alloc, "all", "Judge the further statements too"))?
+        .arg(statements_option(
+            alloc,
+            "Report the faults of these statements, such as default,F,-W13",
+        ))
+}
+
+// The option `--statements LIST` of `check` and `rules`.
+fn statements_option<'a>(alloc: Global, help: &'a str) -> Arg<'a>
+    ensures rule { rule_of result ≡ statements_option }
+    ensures local { result.global ≡ false }
+{
+    Arg::new(alloc, "LIST").help(help).long("statements")
 }
 
 // The definition of `show`.
@@ -476,7 +497,8 @@ fn rules_command<'a>(alloc: Global) -> Result<Command<'a>, AllocError>
         .about("Lists the statements")
         .after_help(RULES_HELP)
         .arg(role)?
-        .arg(flag(alloc, "all", "List the further statements too"))
+        .arg(flag(alloc, "all", "List the further statements too"))?
+        .arg(statements_option(alloc, "List these statements, such as default,F,-W13"))
 }
 
 // The definition of `explain`.
@@ -547,7 +569,8 @@ fn form_in(check: &ArgMatches<'_>) -> Form
 }
 
 // The work of `check` on this operand, with a report in this form, with coverage or without, with
-// what the faults conflict with or without, and with the further statements or without.
+// what the faults conflict with or without, with the further statements or without, and by those of
+// this list.
 fn check_task(
     alloc: Global,
     file: Option<&str>,
@@ -555,19 +578,23 @@ fn check_task(
     coverage: bool,
     why: bool,
     further: bool,
+    statements: Option<&str>,
 ) -> Result<Work, EarlyExit>
     ensures work { IfOk result (λ work.
-        request_by work ≡ check_request (option_map (λ path. path.now) file.entry) form coverage why further) }
+        request_by work ≡ check_request (option_map (λ path. path.now) file.entry) form coverage why further
+        (option_map (λ list. list.now) statements.entry)) }
     ensures readings { IfOk result ReadsAsAsked }
     ensures stop { IfErr result (λ stop. stop ≡ EarlyExit.Memory) }
 {
     let file = copy_word(alloc, file)?;
+    let statements = copy_word(alloc, statements)?;
     if why {
         return Ok(Work::Why(Inquiry {
             file,
             form,
             coverage,
             further,
+            statements,
         }));
     }
     Ok(Work::Once(Task::Check {
@@ -575,6 +602,7 @@ fn check_task(
         form,
         coverage,
         further,
+        statements,
     }))
 }
 
@@ -621,15 +649,26 @@ fn packet_task(alloc: Global, words: Option<&[&str]>, long: bool) -> Result<Work
     }
 }
 
-// The task of `rules` for this end, with the further statements or without.
-fn rules_task(alloc: Global, role: Option<&str>, further: bool) -> Result<Work, EarlyExit>
+// The task of `rules` for this end, with the further statements or without, and of this list.
+fn rules_task(
+    alloc: Global,
+    role: Option<&str>,
+    further: bool,
+    statements: Option<&str>,
+) -> Result<Work, EarlyExit>
     ensures work { IfOk result (λ work.
-        request_by work ≡ rules_request (option_map (λ word. word.now) role.entry) further) }
+        request_by work ≡ rules_request (option_map (λ word. word.now) role.entry) further
+        (option_map (λ list. list.now) statements.entry)) }
     ensures readings { IfOk result ReadsAsAsked }
     ensures stop { IfErr result (λ stop. stop ≡ EarlyExit.Memory) }
 {
     let role = copy_word(alloc, role)?;
-    Ok(Work::Once(Task::Rules { role, further }))
+    let statements = copy_word(alloc, statements)?;
+    Ok(Work::Once(Task::Rules {
+        role,
+        further,
+        statements,
+    }))
 }
 
 // The task of `explain` on this operand; a missing operand counts as an empty one.

@@ -15,19 +15,19 @@ begins_with_its_code W01 = refl
 begins_with_its_code _ = refl
 
 -- the statements that are listed are all, in the order of reports
-pub lines_all : (further : Bool) (role : Option Role) (listed : List Rule) → listed ≡ all_rules → flat_map (listed_line further role) listed ≡ statement_lines further role
+pub lines_all : (chosen : Rule → Bool) (role : Option Role) (listed : List Rule) → listed ≡ all_rules → flat_map (listed_line chosen role) listed ≡ statement_lines chosen role
 unfolding statement_lines
-lines_all further role listed all = ap (λ (rules : List Rule). flat_map (listed_line further role) rules) all
+lines_all chosen role listed all = ap (λ (rules : List Rule). flat_map (listed_line chosen role) rules) all
 
 next_rule : (rules : List Rule) (i : ℕ) → i < length rules → drop i rules ≡ get_or rules i W01 ∷ drop (i + 1) rules
 next_rule rules i h = rw (add-one, drop-cons rules i W01) refl
 
 -- the line of one statement more
-pub line_put : (further : Bool) (role : Option Role) (rules : List Rule) (i : ℕ) (old new whole : List ℕ) → i < length rules
-    → old ++ flat_map (listed_line further role) (drop i rules) ≡ whole → new ≡ old ++ listed_line further role (get_or rules i W01)
-    → new ++ flat_map (listed_line further role) (drop (i + 1) rules) ≡ whole
-line_put further role rules i old new whole h so_far more =
-    let f = listed_line further role in
+pub line_put : (chosen : Rule → Bool) (role : Option Role) (rules : List Rule) (i : ℕ) (old new whole : List ℕ) → i < length rules
+    → old ++ flat_map (listed_line chosen role) (drop i rules) ≡ whole → new ≡ old ++ listed_line chosen role (get_or rules i W01)
+    → new ++ flat_map (listed_line chosen role) (drop (i + 1) rules) ≡ whole
+line_put chosen role rules i old new whole h so_far more =
+    let f = listed_line chosen role in
     let rest = flat_map f (drop (i + 1) rules) in
     ap (λ (text : List ℕ). text ++ rest) more ∙ append_assoc old (f (get_or rules i W01)) rest
     ∙ ap (λ (l : List Rule). old ++ flat_map f l) (sym (next_rule rules i h)) ∙ so_far

@@ -1,11 +1,11 @@
 -- The list of the statements: a line for each.
-use Rattle.std.specs.Prelude.{ℕ, ◌==◌, Bool, true, ◌&&◌, ◌||◌, not, List, [], ◌∷◌, ◌++◌, length, codes, Option, Some, None, option_map, if◌then◌else◌}
+use Rattle.std.specs.Prelude.{ℕ, ◌==◌, Bool, true, ◌&&◌, List, [], ◌∷◌, ◌++◌, length, codes, Option, Some, None, option_map, if◌then◌else◌}
 use Rattle.std.specs.List.{flat_map}
 use Rattle.std.specs.Str.{bytes_eq}
 use Rattle.mq_rules.specs.declared.role.Role.{Role}
 use Rattle.mq_rules.specs.declared.role.Role.TheVariants.{Client, Server}
 use Rattle.mq_rules.specs.declared.rule.Rule.{Rule}
-use Rattle.mq_rules.specs.Rules.{all_rules, binds_end, code_of, is_further}
+use Rattle.mq_rules.specs.Rules.{all_rules, binds_end, code_of}
 use Rattle.mq_rules.specs.Naming.{citation_of, sentence_of}
 
 -- whom a statement binds, as a word
@@ -31,26 +31,26 @@ abbrev pub binds_for : Option Role → Rule → Bool
 binds_for None rule = true
 binds_for (Some role) rule = binds_end rule role
 
--- the statement is listed: for one end if it binds that end; always for both. A further statement is listed only if the further ones are asked for.
-abbrev pub lists_statement : (further : Bool) → Option Role → Rule → Bool
-lists_statement further role rule = (further || not (is_further rule)) && binds_for role rule
+-- the statement is listed if it is chosen: for one end if it binds that end; always for both
+abbrev pub lists_statement : (chosen : Rule → Bool) → Option Role → Rule → Bool
+lists_statement chosen role rule = chosen rule && binds_for role rule
 
 -- the line of a statement, empty if it isn't listed
-abbrev pub listed_line : (further : Bool) → Option Role → Rule → List ℕ
-listed_line further role rule = if lists_statement further role rule then statement_line role rule else []
+abbrev pub listed_line : (chosen : Rule → Bool) → Option Role → Rule → List ℕ
+listed_line chosen role rule = if lists_statement chosen role rule then statement_line role rule else []
 
--- the lines of the statements, in the order of reports: of all, or of those that bind one end; with the further ones or without
-unfoldable pub statement_lines : (further : Bool) → Option Role → List ℕ
-statement_lines further role = flat_map (listed_line further role) all_rules
+-- the lines of the chosen statements, in the order of reports: of all, or of those that bind one end
+unfoldable pub statement_lines : (chosen : Rule → Bool) → Option Role → List ℕ
+statement_lines chosen role = flat_map (listed_line chosen role) all_rules
 
 -- the end that a word names
 abbrev pub role_named : List ℕ → Option Role
 role_named word = if bytes_eq word (codes "client") then Some Client else (if bytes_eq word (codes "server") then Some Server else None)
 
--- the list for the word that names an end: all statements without a word; none if the word isn't an end
-abbrev pub listed_for : (further : Bool) → Option (List ℕ) → Option (List ℕ)
-listed_for further None = Some (statement_lines further None)
-listed_for further (Some word) = option_map (λ role. statement_lines further (Some role)) (role_named word)
+-- the list for the word that names an end: all chosen statements without a word; none if the word isn't an end
+abbrev pub listed_for : (chosen : Rule → Bool) → Option (List ℕ) → Option (List ℕ)
+listed_for chosen None = Some (statement_lines chosen None)
+listed_for chosen (Some word) = option_map (λ role. statement_lines chosen (Some role)) (role_named word)
 
 -- the code of a statement, after a space
 abbrev pub spaced_code : Rule → List ℕ

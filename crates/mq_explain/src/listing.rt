@@ -2,22 +2,24 @@
 ghost use Rattle.std.specs.Prelude.{◌≡◌, ◌++◌, IfOk, OnOk, Some, string_bytes};
 ghost use Rattle.std.specs.List.{flat_map};
 ghost use Rattle.mq_rules.specs.declared.rule.Rule.{Rule};
+ghost use Rattle.mq_choice.specs.Choices.{in_choice};
 ghost use Rattle.mq_explain.specs.Listing.{all_codes, binds_for, both_citations, bound_ends, citation_for, lists_statement, spaced_code};
 ghost use Rattle.mq_explain.specs.Listing.{listed_line, role_named, statement_line, statement_lines};
 
+use mq_choice::Choice;
 use mq_rules::{Role, Rule};
 use std::alloc::{AllocError, Global};
 
-/// The lines of the statements, in the order of reports: of those that bind this end, or of all if
-/// none is named; with the further ones or without.
+/// The lines of the chosen statements, in the order of reports: of those that bind this end, or of
+/// all if none is named.
 pub fn statement_list(
     alloc: Global,
     role: Option<Role>,
-    further: bool,
+    choice: Choice,
 ) -> Result<String, AllocError>
-    ensures { IfOk result (λ text. string_bytes text ≡ statement_lines further role) }
+    ensures { IfOk result (λ text. string_bytes text ≡ statement_lines (in_choice choice) role) }
 {
-    lines_of(alloc, Rule::all(), role, further)
+    lines_of(alloc, Rule::all(), role, choice)
 }
 
 /// Appends the codes of all statements to the text, in the order of reports, each after a space.
@@ -46,18 +48,18 @@ fn add_code(text: &mut String, rule: Rule) -> Result<(), AllocError>
     text.push_str(rule.code())
 }
 
-// The lines of these statements, of which the further ones are listed if they are asked for.
+// The lines of those of these statements that are listed.
 fn lines_of(
     alloc: Global,
     rules: &[Rule],
     role: Option<Role>,
-    further: bool,
+    choice: Choice,
 ) -> Result<String, AllocError>
-    ensures { IfOk result (λ text. string_bytes text ≡ flat_map (listed_line further role) rules.now) }
+    ensures { IfOk result (λ text. string_bytes text ≡ flat_map (listed_line (in_choice choice) role) rules.now) }
 {
     let mut text = String::new(alloc);
     for rule in rules {
-        add_line(&mut text, *rule, role, further)?;
+        add_line(&mut text, *rule, role, choice)?;
     }
     Ok(text)
 }
@@ -67,11 +69,11 @@ fn add_line(
     text: &mut String,
     rule: Rule,
     role: Option<Role>,
-    further: bool,
+    choice: Choice,
 ) -> Result<(), AllocError>
-    ensures { OnOk result (string_bytes text.new ≡ string_bytes text.old ++ listed_line further role rule) }
+    ensures { OnOk result (string_bytes text.new ≡ string_bytes text.old ++ listed_line (in_choice choice) role rule) }
 {
-    if is_listed(rule, role, further) {
+    if is_listed(rule, role, choice) {
         put_rule_line(text, rule, role)
     } else {
         Ok(())
@@ -124,11 +126,11 @@ fn put_both(text: &mut String, client: &str, server: &str) -> Result<(), AllocEr
     text.push_str(server)
 }
 
-// Whether a statement is listed for this end, or for both if none is named.
-fn is_listed(rule: Rule, role: Option<Role>, further: bool) -> bool
-    ensures { result ≡ lists_statement further role rule }
+// Whether a statement is chosen, and listed for this end, or for both if none is named.
+fn is_listed(rule: Rule, role: Option<Role>, choice: Choice) -> bool
+    ensures { result ≡ lists_statement (in_choice choice) role rule }
 {
-    (further || !rule.is_further()) && binds_for(rule, role)
+    choice.has(rule) && binds_for(rule, role)
 }
 
 // Whether a statement binds this end, or any if none is named.

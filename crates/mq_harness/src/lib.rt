@@ -2,7 +2,7 @@
 //! a writer that fails. It is for tests alone.
 #![tactic(auto)]
 
-use mq_judge::{Form, Judge, Options, Outcome, RunFault, run, write_refused};
+use mq_judge::{Choice, Form, Judge, Options, Outcome, RunFault, run, write_refused};
 use std::alloc::{AllocError, Global};
 use std::io;
 use std::io::{ErrorKind, Read, Write};
@@ -247,7 +247,7 @@ pub fn reports<R: Read>(
     report: &str,
 ) -> Result<bool, Fail> {
     let mut written = Vec::new(alloc);
-    let answer = match run(alloc, reader, &mut written, form, false) {
+    let answer = match run(alloc, reader, &mut written, form, Choice::Usual) {
         Ok(outcome) => Some(outcome),
         Err(RunFault::Refused(refusal)) => {
             write_refused(alloc, &refusal, form, &mut written).map_err(

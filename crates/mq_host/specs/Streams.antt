@@ -6,7 +6,7 @@ use Rattle.mq_explain.specs.Listing.{all_codes}
 use Rattle.mq_host.specs.declared.failure.Failure.{Failure}
 use Rattle.mq_host.specs.declared.failure.Failure.TheVariants as failures
 use Rattle.mq_host.specs.declared.misuse.Misuse.{Misuse}
-use Rattle.mq_host.specs.declared.misuse.Misuse.TheVariants.{NotHex, TooLong, NoRole, NoStatement, NoFaults, NoFaultsForAll, NoFile, NoNumber, NoFileForWhy, TwoReports, SameFile, OutExists}
+use Rattle.mq_host.specs.declared.misuse.Misuse.TheVariants.{NotHex, TooLong, NoRole, NoStatement, NoFaults, NoFaultsForAll, NoFile, NoNumber, NoFileForWhy, TwoReports, NoStatements, NoChoice, TwoChoices, SameFile, OutExists}
 
 -- The known bytes grew by a beginning of the text, or by all of it, and by nothing else.
 pub record AppendsPart (old new : Option (List ℕ)) (text : List ℕ) : Type 0 where
@@ -79,6 +79,20 @@ no_file_for_why_line = codes "mqjudge: --why may read the log twice, so it needs
 abbrev pub two_reports_line : List ℕ
 two_reports_line = codes "mqjudge: --why and --coverage are two reports: ask for one at a time" ++ 10 ∷ []
 
+-- the end of a line on a list of statements, and then what a list may have
+abbrev pub choices_line : List ℕ
+choices_line = 10 ∷ codes "mqjudge: there are default, all," ++ (all_codes ++ (codes ", and a family for each letter that codes begin with: see mqjudge rules --all" ++ 10 ∷ []))
+
+-- for a word of a list that names no statement, for a list that leaves none, and for one beside `--all`
+abbrev pub no_statements_line : List ℕ → List ℕ
+no_statements_line word = codes "mqjudge: no statements " ++ (word ++ choices_line)
+
+abbrev pub no_choice_line : List ℕ
+no_choice_line = codes "mqjudge: --statements leaves no statement" ++ choices_line
+
+abbrev pub two_choices_line : List ℕ
+two_choices_line = codes "mqjudge: --all and --statements both choose statements: give one of them" ++ 10 ∷ []
+
 -- for a log that is to be converted into itself
 abbrev pub same_file_line : List ℕ
 same_file_line = codes "mqjudge: OUT has to be another file than IN" ++ 10 ∷ []
@@ -99,5 +113,8 @@ misuse_line NoFile = no_file_line
 misuse_line (NoNumber word) = no_number_line word.now
 misuse_line NoFileForWhy = no_file_for_why_line
 misuse_line TwoReports = two_reports_line
+misuse_line (NoStatements word) = no_statements_line word.now
+misuse_line NoChoice = no_choice_line
+misuse_line TwoChoices = two_choices_line
 misuse_line SameFile = same_file_line
 misuse_line (OutExists path) = exists_line path.now

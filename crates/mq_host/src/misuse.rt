@@ -1,8 +1,8 @@
 //! What the words ask for in vain, and the messages that say so.
-ghost use Rattle.std.specs.Prelude.{◌≡◌, ◌⊎◌, ◌++◌, IfOk, codes, string_bytes};
+ghost use Rattle.std.specs.Prelude.{◌≡◌, ◌⊎◌, ◌++◌, ◌∷◌, IfOk, codes, string_bytes};
 ghost use Rattle.std.specs.Io.KnownBytes.{Appends};
 ghost use Rattle.mq_command.specs.Digits.{oddity_line};
-ghost use Rattle.mq_host.specs.Streams.{IsCutOff, IsTold, failure_line, misuse_line, no_statement_line, stream};
+ghost use Rattle.mq_host.specs.Streams.{IsCutOff, IsTold, choices_line, failure_line, misuse_line, no_statement_line, stream};
 
 use crate::error_stream::ErrorStream;
 use crate::failure::{FAILED, Failure, MISUSED};
@@ -33,6 +33,12 @@ pub enum Misuse<'a> {
     NoFileForWhy,
     /// It is asked for two reports: with what faults conflict with, and with what was tested.
     TwoReports,
+    /// A list of statements has this word, which names none.
+    NoStatements(&'a str),
+    /// A list leaves no statement.
+    NoChoice,
+    /// Statements are chosen by a list, and the further ones are asked for too.
+    TwoChoices,
     /// The log that is to be converted and the file that is to be made are the same.
     SameFile,
     /// There is something at the path of the file that is to be made.
@@ -75,6 +81,22 @@ impl Misuse<'_> {
             ),
             Misuse::TwoReports => write_misuse(
                 "mqjudge: --why and --coverage are two reports: ask for one at a time\n",
+                error,
+            ),
+            Misuse::NoStatements(word) => refuse_list(
+                alloc,
+                "mqjudge: no statements ",
+                word,
+                error,
+            ),
+            Misuse::NoChoice => refuse_list(
+                alloc,
+                "mqjudge: --statements leaves no statement",
+                "",
+                error,
+            ),
+            Misuse::TwoChoices => write_misuse(
+                "mqjudge: --all and --statements both choose statements: give one of them\n",
                 error,
             ),
             Misuse::SameFile => write_misuse(
@@ -149,6 +171,43 @@ fn lines_on(alloc: Global, start: &str, word: &str, others: &str) -> Result<Stri
     lines.push_str("\n")?;
     lines.push_str(others)?;
     Ok(lines)
+}
+
+// Writes what is wrong with a list of statements, in a line of this and a word, and then what a
+// list may have, and returns the status.
+fn refuse_list<E: ErrorStream>(alloc: Global, start: &str, word: &str, error: &mut E) -> u8
+    ensures printed { result ≡ MISUSED
+        → Appends (E.contents error.old) (E.contents error.new) (start.now ++ (word.now ++ choices_line)) }
+    ensures failed { result ≡ FAILED
+        → IsCutOff (stream E.contents E.has_failed error.old error.new) (start.now ++ (word.now ++ choices_line))
+        ⊎ IsTold (stream E.contents E.has_failed error.old error.new) (failure_line Failure.Memory) }
+    ensures statuses { (result ≡ MISUSED) ⊎ (result ≡ FAILED) }
+{
+    match list_lines(alloc, start, word) {
+        Ok(lines) => write_misuse(lines.as_str(), error),
+        Err(_) => Failure::Memory.report(error),
+    }
+}
+
+// A line of this and a word, and one that says what a list of statements may have.
+fn list_lines(alloc: Global, start: &str, word: &str) -> Result<String, AllocError>
+    ensures { IfOk result (λ lines. string_bytes lines ≡ start.now ++ (word.now ++ choices_line)) }
+{
+    let choices = choices_text(alloc)?;
+    lines_on(alloc, start, word, choices.as_str())
+}
+
+// The line that says what a list of statements may have.
+fn choices_text(alloc: Global) -> Result<String, AllocError>
+    ensures { IfOk result (λ text. 10 ∷ string_bytes text ≡ choices_line) }
+{
+    let mut text = String::new(alloc);
+    text.push_str("mqjudge: there are default, all,")?;
+    add_all_codes(&mut text)?;
+    text.push_str(
+        ", and a family for each letter that codes begin with: see mqjudge rules --all\n",
+    )?;
+    Ok(text)
 }
 
 // Writes that a word names no statement, and then the codes of all, and returns the status.

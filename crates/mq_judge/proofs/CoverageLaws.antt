@@ -17,26 +17,26 @@ use Rattle.mq_rules.specs.Statements.{is_on_bytes}
 use Rattle.mq_rules.specs.Occasions.{places}
 use Rattle.mq_rules.specs.Trials.{places_bytes}
 use Rattle.mq_report.specs.declared.report.coverage.Covered.{Covered}
-use Rattle.mq_judge.specs.Coverage.{coverage_of, is_listed, listed_row, places_among, places_in, rows_among}
+use Rattle.mq_judge.specs.Coverage.{chosen_row, coverage_of, is_listed, listed_row, places_among, places_in, rows_among}
 
 next_rule : (rules : List Rule) (i : ℕ) → i < length rules → drop i rules ≡ get_or rules i W01 ∷ drop (i + 1) rules
 next_rule rules i h = rw (add-one, drop-cons rules i W01) refl
 
 -- the row of one statement more
-pub row-put : (tested : Tested) (received : List Placed) (rules : List Rule) (i : ℕ) (old new whole : List Covered) → i < length rules
-    → old ++ flat_map (listed_row tested received) (drop i rules) ≡ whole → new ≡ old ++ listed_row tested received (get_or rules i W01)
-    → new ++ flat_map (listed_row tested received) (drop (i + 1) rules) ≡ whole
-row-put tested received rules i old new whole h so_far more =
-    let f = listed_row tested received in
+pub row-put : (chosen : Rule → Bool) (tested : Tested) (received : List Placed) (rules : List Rule) (i : ℕ) (old new whole : List Covered) → i < length rules
+    → old ++ flat_map (chosen_row chosen tested received) (drop i rules) ≡ whole → new ≡ old ++ chosen_row chosen tested received (get_or rules i W01)
+    → new ++ flat_map (chosen_row chosen tested received) (drop (i + 1) rules) ≡ whole
+row-put chosen tested received rules i old new whole h so_far more =
+    let f = chosen_row chosen tested received in
     let rest = flat_map f (drop (i + 1) rules) in
     ap (λ (rows : List Covered). rows ++ rest) more ∙ append_assoc old (f (get_or rules i W01)) rest
     ∙ ap (λ (l : List Rule). old ++ flat_map f l) (sym (next_rule rules i h)) ∙ so_far
 
 -- all statements have had their turn
-pub rows-all : (tested : Tested) (received : List Placed) (rules : List Rule) (i : ℕ) (rows whole : List Covered) → length rules ≤ i
-    → rows ++ flat_map (listed_row tested received) (drop i rules) ≡ whole → rows ≡ whole
-rows-all tested received rules i rows whole h so_far =
-    sym (ap (λ (left : List Rule). rows ++ flat_map (listed_row tested received) left) (drop_all i rules h) ∙ append-nil rows) ∙ so_far
+pub rows-all : (chosen : Rule → Bool) (tested : Tested) (received : List Placed) (rules : List Rule) (i : ℕ) (rows whole : List Covered) → length rules ≤ i
+    → rows ++ flat_map (chosen_row chosen tested received) (drop i rules) ≡ whole → rows ≡ whole
+rows-all chosen tested received rules i rows whole h so_far =
+    sym (ap (λ (left : List Rule). rows ++ flat_map (chosen_row chosen tested received) left) (drop_all i rules h) ∙ append-nil rows) ∙ so_far
 
 -- a statement has a row if it is listed
 pub listed-row-is : (tested : Tested) (received : List Placed) (rule : Rule) (n : ℕ) (listed : Bool) → n ≡ places_among tested received rule

@@ -13,6 +13,7 @@ use Rattle.mq_rules.specs.Occasions.{places}
 use Rattle.mq_rules.specs.Rules.{all_rules, binds, same_rule}
 use Rattle.mq_rules.specs.Statements.{is_on_bytes}
 use Rattle.mq_rules.specs.Trials.{places_bytes}
+use Rattle.mq_choice.specs.Choices.{tested_for}
 
 -- How many places a statement has among these events: at how many positions it is put to the test.
 abbrev pub places_among : Tested → List Placed → Rule → ℕ
@@ -37,10 +38,14 @@ is_listed tested rule count = binds rule tested && (not (is_foreign tested.role 
 abbrev pub listed_row : Tested → List Placed → Rule → List Covered
 listed_row tested received rule = cond (is_listed tested rule (places_among tested received rule)) (record { rule = rule; places = places_among tested received rule } ∷ []) []
 
--- the rows of these statements
-abbrev pub rows_among : Tested → List Placed → List Rule → List Covered
-rows_among tested received rules = flat_map (listed_row tested received) rules
+-- the same, if it is chosen
+abbrev pub chosen_row : (chosen : Rule → Bool) → Tested → List Placed → Rule → List Covered
+chosen_row chosen tested received rule = cond (chosen rule) (listed_row tested received rule) []
 
--- How often each statement that is listed is put to the test in a log that is judged by the further statements too, or not, in the order of reports.
-unfoldable pub coverage_of : Bool → List ℕ → List Covered
-coverage_of further log = rows_among (tested_by further log) (events log) all_rules
+-- the rows of these statements
+abbrev pub rows_among : (chosen : Rule → Bool) → Tested → List Placed → List Rule → List Covered
+rows_among chosen tested received rules = flat_map (chosen_row chosen tested received) rules
+
+-- How often each chosen statement that is listed is put to the test in a log, in the order of reports.
+unfoldable pub coverage_of : (chosen : Rule → Bool) → List ℕ → List Covered
+coverage_of chosen log = rows_among chosen (tested_for chosen log) (events log) all_rules

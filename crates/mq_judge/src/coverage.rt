@@ -5,36 +5,61 @@ ghost use Rattle.mq_rules.specs.Notes.{seen as seen_of};
 ghost use Rattle.mq_rules.specs.Rules.{all_rules};
 ghost use Rattle.mq_books.specs.Kinds.{is_counting as counts};
 ghost use Rattle.mq_judge.specs.Watching.{IsWatching, IsTallying};
-ghost use Rattle.mq_judge.specs.Coverage.{is_foreign as foreign, is_listed as listed, listed_row, rows_among};
+ghost use Rattle.mq_choice.specs.Choices.{in_choice};
+ghost use Rattle.mq_judge.specs.Coverage.{chosen_row, is_foreign as foreign, is_listed as listed, listed_row, rows_among};
 
 use super::watching::Watching;
+use mq_choice::Choice;
 use mq_report::Covered;
 use mq_rules::{Memory, Role, Rule, Tested};
 use std::alloc::Global;
 
-/// The rows of a report: each statement that is listed, in the order of reports, with its places
-/// among the events so far.
+/// The rows of a report: each chosen statement that is listed, in the order of reports, with its
+/// places among the events so far.
 ///
 /// # Errors
 ///
 /// `Memory` if there is no memory for them.
-pub fn coverage(alloc: Global, watching: &Watching) -> Result<Vec<Covered>, Memory>
-    ensures { (events : List Placed) → counts watching.now.watchers ≡ true → IsWatching watching.now (map seen_of events) → IsTallying watching.now events → IfOk result (λ rows. rows.items ≡ rows_among watching.now.tested events all_rules) }
+pub fn coverage(alloc: Global, watching: &Watching, choice: Choice) -> Result<Vec<Covered>, Memory>
+    ensures { (events : List Placed) → counts watching.now.watchers ≡ true → IsWatching watching.now (map seen_of events) → IsTallying watching.now events → IfOk result (λ rows. rows.items ≡ rows_among (in_choice choice) watching.now.tested events all_rules) }
 {
-    rows_of(alloc, watching, Rule::all())
+    rows_of(alloc, watching, choice, Rule::all())
 }
 
 // The rows of these statements.
 //
 // Errors: `Memory` if there is no memory for them.
-fn rows_of(alloc: Global, watching: &Watching, rules: &[Rule]) -> Result<Vec<Covered>, Memory>
-    ensures { (events : List Placed) → counts watching.now.watchers ≡ true → IsWatching watching.now (map seen_of events) → IsTallying watching.now events → IfOk result (λ rows. rows.items ≡ rows_among watching.now.tested events rules.now) }
+fn rows_of(
+    alloc: Global,
+    watching: &Watching,
+    choice: Choice,
+    rules: &[Rule],
+) -> Result<Vec<Covered>, Memory>
+    ensures { (events : List Placed) → counts watching.now.watchers ≡ true → IsWatching watching.now (map seen_of events) → IsTallying watching.now events → IfOk result (λ rows. rows.items ≡ rows_among (in_choice choice) watching.now.tested events rules.now) }
 {
     let mut rows = Vec::new(alloc);
     for rule in rules {
-        add_row(&mut rows, watching, *rule)?;
+        add_chosen(&mut rows, watching, choice, *rule)?;
     }
     Ok(rows)
+}
+
+// Adds the row of a statement, if it is chosen and listed.
+//
+// Errors: `Memory` if there is no memory for it.
+fn add_chosen(
+    rows: &mut Vec<Covered>,
+    watching: &Watching,
+    choice: Choice,
+    rule: Rule,
+) -> Result<(), Memory>
+    ensures { (events : List Placed) → counts watching.now.watchers ≡ true → IsWatching watching.now (map seen_of events) → IsTallying watching.now events → OnOk result (rows.new.items ≡ rows.old.items ++ chosen_row (in_choice choice) watching.now.tested events rule) }
+{
+    if choice.has(rule) {
+        add_row(rows, watching, rule)
+    } else {
+        Ok(())
+    }
 }
 
 // Adds the row of a statement, if it is listed.

@@ -1,6 +1,7 @@
 //! The judge: it is fed a log, in any pieces, and returns the verdict on it.
 ghost use Rattle.mq_books.specs.Burden.{burden};
 ghost use Rattle.std.specs.Prelude.{◌≡◌, true, false, cond, ◌≤◌, ◌*◌, ℕ, List, [], nat_lt, length, Some, None, Err, IfErr, IfOk, IfSome, OnOk, if◌then◌else◌};
+ghost use Rattle.mq_choice.specs.Choices.{in_choice, wants_further};
 ghost use Rattle.mq_judge.specs.Coverage.{places_in, coverage_of};
 ghost use Rattle.mq_judge.specs.Unjudged.{unjudged_of};
 ghost use Rattle.mq_judge.specs.Judging.{is_counting, Knows, Follows, FollowsBy, JudgesPiece, JudgesPieceBy, TakesEvents, AreFaultsOf, Ends, Finishes};
@@ -13,6 +14,7 @@ ghost use Rattle.mq_trace.specs.Tracing.{IsTracedTo};
 
 use super::coverage::coverage;
 use super::watching::{End, Judging, Watching};
+use mq_choice::Choice;
 use mq_log::Refusal;
 use mq_report::{Covered, DEFAULT_LIMIT, Gap, Verdict};
 use mq_rules::{Faults, Memory, Role, Rule, Tested};
@@ -114,6 +116,13 @@ impl Judge {
             tracer: Tracer::new(alloc, options.limit),
             judging: Judging::new(Watching::new(alloc, tested, counting)),
         }
+    }
+
+    /// The largest packet that is read, in bytes.
+    pub fn limit(&self) -> u32
+        ensures { result ≡ self.now.limit }
+    {
+        self.limit
     }
 
     /// How many places a statement has in the log so far: at how many positions it is put to the
@@ -225,21 +234,25 @@ impl Judge {
         judge.take_verdict()
     }
 
-    /// The same, how often each statement that is listed was put to the test, and what wasn't
+    /// The same, how often each chosen statement that is listed was put to the test, and what wasn't
     /// judged.
     ///
     /// # Errors
     ///
     /// As `finish`.
-    pub(crate) fn finish_covered(self, alloc: Global) -> Result<(CoveredVerdict, Role), Refusal>
+    pub(crate) fn finish_covered(
+        self,
+        alloc: Global,
+        choice: Choice,
+    ) -> Result<(CoveredVerdict, Role), Refusal>
         ensures verdict { (log : List ℕ) → Follows self log → Finishes self.further (λ answer. answer.0.verdict.events) (λ answer. answer.0.verdict.faults) log result }
         ensures role { (log : List ℕ) → Follows self log → IfOk result (λ answer. answer.1 ≡ (tested_by self.further log).role) }
-        ensures rows { (log : List ℕ) → is_counting self ≡ true → Follows self log → IfOk result (λ answer. IfSome answer.0.rows (λ rows. rows.items ≡ coverage_of self.further log)) }
+        ensures rows { (log : List ℕ) → is_counting self ≡ true → self.further ≡ wants_further (in_choice choice) → Follows self log → IfOk result (λ answer. IfSome answer.0.rows (λ rows. rows.items ≡ coverage_of (in_choice choice) log)) }
         ensures gaps { (log : List ℕ) → is_counting self ≡ true → Follows self log → IfOk result (λ answer. IfSome answer.0.gaps (λ gaps. gaps.items ≡ unjudged_of self.further log)) }
         ensures for_ever { IfSome self.tracer.refusal (λ refusal. result ≡ Err refusal) }
     {
         let mut judge = self;
-        let rows = judge.coverage(alloc);
+        let rows = judge.coverage(alloc, choice);
         let gaps = judge.gaps(alloc);
         let (verdict, role) = judge.take_verdict()?;
         let covered = CoveredVerdict {
@@ -250,12 +263,12 @@ impl Judge {
         Ok((covered, role))
     }
 
-    // How often each statement that is listed was put to the test in the log so far, where places
-    // are counted. Nothing if there is no memory for it.
-    fn coverage(&self, alloc: Global) -> Option<Vec<Covered>>
-        ensures { (log : List ℕ) → is_counting self.now ≡ true → Follows self.now log → 8 ≤ length log → IfSome result (λ rows. rows.items ≡ coverage_of self.now.further log) }
+    // How often each chosen statement that is listed was put to the test in the log so far, where
+    // places are counted. Nothing if there is no memory for it.
+    fn coverage(&self, alloc: Global, choice: Choice) -> Option<Vec<Covered>>
+        ensures { (log : List ℕ) → is_counting self.now ≡ true → self.now.further ≡ wants_further (in_choice choice) → Follows self.now log → 8 ≤ length log → IfSome result (λ rows. rows.items ≡ coverage_of (in_choice choice) log) }
     {
-        match coverage(alloc, &self.judging.watching) {
+        match coverage(alloc, &self.judging.watching, choice) {
             Ok(rows) => Some(rows),
             Err(Memory) => None,
         }

@@ -14,7 +14,8 @@ mod unjudged;
 mod watching;
 
 pub use judge::{Judge, Options};
-pub use laws::known_faults_stay;
+pub use laws::{converted_logs_have_the_same_chosen_report, known_faults_stay};
+pub use mq_choice::{Choice, Unchosen};
 pub use mq_log::Refusal;
 pub use mq_report::{
     Begun, Covered, Evidence, Extent, Form, Gap, Numbers, Outcome, RunFault, Verdict,

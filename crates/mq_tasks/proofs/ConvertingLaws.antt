@@ -1,5 +1,5 @@
 -- What a status tells of a log that was converted.
-use Rattle.std.proofs.Common.{◌≡◌, ◌≤◌, ◌∙◌, ◌⊎◌, inl, inr, Bool, true, false, true≢false, ◌||◌, nat_lt, ℕ, length, take, take_all, arith, ap₂, List, [], ◌∷◌, ◌++◌, append-nil, cond, is_some, reverse, Option, Some, None, Result, Ok, Err, IfErr, IfOk, IfSome, OnOk, ap, refl, subst, sym}
+use Rattle.std.proofs.Common.{◌≡◌, ◌≤◌, ◌∙◌, ◌⊎◌, inl, inr, Bool, false, true≢false, ◌||◌, nat_lt, ℕ, length, take, take_all, arith, ap₂, List, [], ◌∷◌, ◌++◌, append-nil, cond, is_some, reverse, Option, Some, None, Result, Ok, Err, IfErr, IfOk, IfSome, OnOk, ap, refl, subst, sym}
 use Rattle.std.proofs.lemmas.List.{drop_all, reverse-append, take-append-le}
 use Rattle.std.proofs.KnownBytes.{Appends-kept, Keeps-refl}
 use Rattle.std.specs.Io.KnownBytes.{Appends, Consumes, IsAtEnd, Keeps, prepend_known}

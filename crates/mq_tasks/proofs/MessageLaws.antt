@@ -1,21 +1,28 @@
 -- What a status tells of a log, and what was written where a line couldn't be flushed.
-use Rattle.std.proofs.Common.{◌≡◌, ℕ, Bool, true, false, List, [], append-nil, Option, Some, None, Result, Ok, Err, IfErr, IfOk, IfSome, OnOk, ◌⊎◌, refl, subst, sym, inl, inr, ◌∙◌}
+use Rattle.std.proofs.Common.{◌≡◌, ◌==◌, ℕ, Bool, true, false, List, [], append-nil, Option, Some, None, Result, Ok, Err, IfErr, IfOk, IfSome, OnOk, ◌⊎◌, refl, subst, sym, inl, inr, length, ◌∙◌}
 use Rattle.std.proofs.KnownBytes.{Appends-kept, Keeps-refl}
 use Rattle.std.specs.Io.KnownBytes.{Appends, Keeps}
-use Rattle.std.specs.Prelude.{String, string_bytes}
+use Rattle.std.specs.Prelude.{String, string_bytes, option_map, unwrap_or, if◌then◌else◌, IsOkAnd, IsSome, MatchResult}
+use Rattle.std.proofs.lemmas.Bool.{eqb-true}
+use Rattle.std.proofs.lemmas.List.{nil_from_length}
 use Rattle.std.specs.declared.alloc.Global.{Global}
 use Rattle.mq_log.specs.Events.{Placed, events}
 use Rattle.mq_trace.specs.Writing.{AppendsBeginning}
 use Rattle.mq_judge.specs.declared.Form.{Form}
 use Rattle.mq_judge.specs.declared.Form.TheVariants.{Text, Json}
 use Rattle.mq_judge.specs.declared.Outcome.{Outcome}
+use Rattle.mq_judge.specs.declared.Outcome.TheVariants.{Pass, Fail}
+use Rattle.mq_rules.specs.declared.role.Role.{Role}
+use Rattle.mq_rules.specs.declared.rule.Rule.{Rule}
+use Rattle.mq_rules.specs.declared.fault.Fault.{Fault}
+use Rattle.mq_rules.specs.declared.faults.FaultKey.{FaultKey}
 use Rattle.mq_judge.specs.declared.Refusal.{Refusal}
 use Rattle.mq_judge.specs.declared.Refusal.TheVariants as refusals
 use Rattle.mq_judge.specs.declared.RunFault.{RunFault}
 use Rattle.mq_judge.specs.declared.RunFault.TheVariants as run_faults
 use Rattle.mq_report.specs.Report.{refused_line, refused_report}
-use Rattle.mq_judge.specs.Runner.{RunsCoveredOver, RunsOver}
-use Rattle.mq_report.specs.Stopping.{default_limit, IsRefusedAt, IsRefusedNext, IsUnread}
+use Rattle.mq_judge.specs.Runner.{IsFaultless, RunsCoveredOver, RunsOver}
+use Rattle.mq_report.specs.Stopping.{IsJudged, default_limit, IsRefusedAt, IsRefusedNext, IsUnread}
 use Rattle.mq_report.specs.Display.{Shows}
 use Rattle.mq_trace.proofs.Exports.{appends-kept, appends-then}
 use Rattle.mq_command.specs.declared.command_line.Task.{Task}
@@ -24,9 +31,14 @@ use Rattle.mq_host.specs.declared.failure.Obstacle.{Obstacle}
 use Rattle.mq_host.specs.declared.failure.Obstacle.TheVariants as obstacles
 use Rattle.mq_tasks.proofs.PacketLaws.{packet_lacks}
 use Rattle.mq_explain.specs.Citing.{explained_for}
-use Rattle.mq_explain.specs.Listing.{listed_for}
-use Rattle.mq_tasks.specs.Messages.{AppendsAfter, BeginsRefusal, IsOfLog, LacksJsonMemory, IsRefusedBy, RefusesCheck, RunsFor, report_for, RefusesShow, StopsCheck, StopsShow, failure_of, FailsMisnamed, IsMisnamed, StopsAttempt, StopsTask, StopsText}
-use Rattle.mq_host.specs.Streams.{AppendsPart, IsCutOff, IsTold, Stream, failure_line, no_role_line, no_statement_line}
+use Rattle.mq_explain.specs.Listing.{listed_for, role_named, statement_lines}
+use Rattle.mq_choice.specs.declared.choice.Choice.{Choice}
+use Rattle.mq_choice.specs.Choices.{chosen_in, in_choice}
+use Rattle.mq_command.specs.declared.command_line.Form.{Form as AskedForm}
+use Rattle.mq_host.specs.declared.misuse.Misuse.{Misuse}
+use Rattle.mq_tasks.specs.Choosing.{Chosen, choice_for, chosen_as}
+use Rattle.mq_tasks.specs.Messages.{ByChoice, Prints, LacksMessage, StopsPrinting, form_of, AppendsAfter, BeginsRefusal, IsOfLog, LacksJsonMemory, IsRefusedBy, RefusesCheck, RunsFor, report_for, RefusesShow, StopsCheck, StopsShow, failure_of, FailsMisnamed, IsMisnamed, StopsAttempt, StopsTask, StopsText}
+use Rattle.mq_host.specs.Streams.{AppendsPart, IsCutOff, IsTold, Stream, failure_line, misuse_line, no_role_line, no_statement_line}
 use Rattle.mq_host.specs.declared.failure.Failure.{Failure}
 use Rattle.mq_host.specs.declared.failure.Failure.TheVariants as failures
 
@@ -66,12 +78,84 @@ whole_is_begun old middle new text (Err e) a k = part-whole old new text (Append
 
 -- ---- what keeps a task from being done is what keeps its text from being written
 
-pub rules_stop : (further : Bool) (word : String Global) (input left old new : Option (List ℕ)) (status : Result ℕ Obstacle)
-    → IfErr status (StopsText (listed_for further (Some (string_bytes word))) (no_role_line (string_bytes word)) old new)
-    → IfErr status (StopsAttempt (Rules (Some word) further) input left old new)
-rules_stop further word input left old new (Ok s) h = tt
-rules_stop further word input left old new (Err (obstacles.Failed failure)) h = h
-rules_stop further word input left old new (Err (obstacles.Misused misuse)) h = ((h.0, h.1), h.2)
+-- this holds for the statements that the words choose
+pub by_choice : (further : Bool) (statements : Option (String Global)) (choice : Chosen) (P : Chosen → Type 0) → choice_for further (option_map string_bytes statements) ≡ Ok choice → P choice
+    → ByChoice further statements P
+by_choice further statements choice P is h = subst (λ (r : Result Chosen (List ℕ)). IsOkAnd r P) (sym is) h
+
+-- what was printed is there
+prints_some : (text old new : Option (List ℕ)) → Prints text old new → IsSome text
+prints_some None old new h = absurd h
+prints_some (Some t) old new h = refl
+
+-- so the list that was printed is that of the statements that the words choose
+pub listed_passed : (further : Bool) (statements : Option (String Global)) (choice : Chosen) (word old new : Option (List ℕ)) (status : Result ℕ Obstacle)
+    → choice_for further (option_map string_bytes statements) ≡ Ok choice → OnOk status (Prints (listed_for choice.has word) old new)
+    → OnOk status (ByChoice further statements (λ c. IsSome (listed_for c.has word)))
+listed_passed further statements choice word old new (Ok s) is h = by_choice further statements choice (λ c. IsSome (listed_for c.has word)) is (prints_some (listed_for choice.has word) old new h)
+listed_passed further statements choice word old new (Err e) is h = tt
+
+pub listed_reported : (further : Bool) (statements : Option (String Global)) (choice : Chosen) (word old new : Option (List ℕ)) (status : Result ℕ Obstacle)
+    → choice_for further (option_map string_bytes statements) ≡ Ok choice → OnOk status (Prints (listed_for choice.has word) old new)
+    → OnOk status (ByChoice further statements (λ c. Prints (listed_for c.has word) old new))
+listed_reported further statements choice word old new (Ok s) is h = by_choice further statements choice (λ c. Prints (listed_for c.has word) old new) is h
+listed_reported further statements choice word old new (Err e) is h = tt
+
+-- what keeps the list for one end from being written, where a word names it
+pub end_stops : (chosen : Rule → Bool) (word : List ℕ) (role : Role) (old new : Option (List ℕ)) (status : Result ℕ Obstacle) → Some role ≡ role_named word
+    → IfErr status (StopsText (Some (statement_lines chosen (Some role))) (no_role_line word) old new) → IfErr status (StopsText (listed_for chosen (Some word)) (no_role_line word) old new)
+end_stops chosen word role old new status named stops =
+    subst (λ (r : Option Role). IfErr status (StopsText (option_map (λ x. statement_lines chosen (Some x)) r) (no_role_line word) old new)) named stops
+
+-- and where there is no word
+pub all_stop : (chosen : Rule → Bool) (role : Option (String Global)) (old new : Option (List ℕ)) (status : Result ℕ Obstacle) → role ≡ None
+    → IfErr status (StopsText (Some (statement_lines chosen None)) (no_role_line []) old new)
+    → IfErr status (StopsText (listed_for chosen (option_map string_bytes role)) (no_role_line (unwrap_or (option_map string_bytes role) [])) old new)
+all_stop chosen role old new status none stops =
+    subst (λ (r : Option (String Global)). IfErr status (StopsText (listed_for chosen (option_map string_bytes r)) (no_role_line (unwrap_or (option_map string_bytes r) [])) old new)) (sym none) stops
+
+-- and where there is one, which may name no end
+pub word_stops : (chosen : Rule → Bool) (role : Option (String Global)) (word : String Global) (text : List ℕ) (old new : Option (List ℕ)) (status : Result ℕ Obstacle) → role ≡ Some word
+    → text ≡ string_bytes word → IfErr status (StopsText (listed_for chosen (Some text)) (no_role_line text) old new)
+    → IfErr status (StopsText (listed_for chosen (option_map string_bytes role)) (no_role_line (unwrap_or (option_map string_bytes role) [])) old new)
+word_stops chosen role word text old new status some same stops =
+    subst (λ (r : Option (String Global)). IfErr status (StopsText (listed_for chosen (option_map string_bytes r)) (no_role_line (unwrap_or (option_map string_bytes r) [])) old new)) (sym some)
+    (subst (λ (t : List ℕ). IfErr status (StopsText (listed_for chosen (Some t)) (no_role_line t) old new)) same stops)
+
+pub rules_stop : (role : Option (String Global)) (further : Bool) (statements : Option (String Global)) (choice : Chosen) (input left old new : Option (List ℕ)) (status : Result ℕ Obstacle)
+    → choice_for further (option_map string_bytes statements) ≡ Ok choice
+    → IfErr status (StopsText (listed_for choice.has (option_map string_bytes role)) (no_role_line (unwrap_or (option_map string_bytes role) [])) old new)
+    → IfErr status (StopsAttempt (Rules role further statements) input left old new)
+rules_stop role further statements choice input left old new (Ok s) is h = tt
+rules_stop role further statements choice input left old new (Err (obstacles.Failed failure)) is h =
+    subst (λ (r : Result Chosen (List ℕ)). MatchResult r (λ c. StopsPrinting failure (listed_for c.has (option_map string_bytes role)) old new) (λ line. LacksMessage failure old new)) (sym is) h
+rules_stop role further statements choice input left old new (Err (obstacles.Misused misuse)) is h = (
+  subst (λ (r : Result Chosen (List ℕ)). MatchResult r (λ c. (listed_for c.has (option_map string_bytes role) ≡ None) × (misuse_line misuse ≡ no_role_line (unwrap_or (option_map string_bytes role) [])))
+      (λ why. misuse_line misuse ≡ why)) (sym is) (h.0, h.1),
+  h.2,
+)
+
+-- the words choose none
+pub rules_misused : (role : Option (String Global)) (further : Bool) (statements : Option (String Global)) (misuse : Misuse) (input left old : Option (List ℕ))
+    → choice_for further (option_map string_bytes statements) ≡ Err (misuse_line misuse) → StopsAttempt (Rules role further statements) input left old old (obstacles.Misused misuse)
+rules_misused role further statements misuse input left old is = (
+  subst (λ (r : Result Chosen (List ℕ)). MatchResult r (λ c. (listed_for c.has (option_map string_bytes role) ≡ None) × (misuse_line misuse ≡ no_role_line (unwrap_or (option_map string_bytes role) [])))
+      (λ why. misuse_line misuse ≡ why)) (sym is) refl,
+  Keeps-refl old,
+)
+
+pub check_misused : (file : Option (String Global)) (form : AskedForm) (coverage further : Bool) (statements : Option (String Global)) (misuse : Misuse) (input left old : Option (List ℕ))
+    → choice_for further (option_map string_bytes statements) ≡ Err (misuse_line misuse) → StopsAttempt (Check file form coverage further statements) input left old old (obstacles.Misused misuse)
+check_misused file form coverage further statements misuse input left old is = (
+  subst (λ (r : Result Chosen (List ℕ)). MatchResult r (λ c. ⊥) (λ why. misuse_line misuse ≡ why)) (sym is) refl,
+  Keeps-refl old,
+)
+
+pub check_fails : (file : Option (String Global)) (form : AskedForm) (coverage further : Bool) (statements : Option (String Global)) (choice : Chosen) (failure : Failure) (input left old new : Option (List ℕ))
+    → choice_for further (option_map string_bytes statements) ≡ Ok choice → IfSome input (λ log. StopsCheck choice (form_of form) coverage failure log left old new)
+    → StopsAttempt (Check file form coverage further statements) input left old new (obstacles.Failed failure)
+check_fails file form coverage further statements choice failure input left old new is h =
+    subst (λ (r : Result Chosen (List ℕ)). MatchResult r (λ c. IfSome input (λ log. StopsCheck c (form_of form) coverage failure log left old new)) (λ line. LacksMessage failure old new)) (sym is) h
 
 pub explanation_stops : (code : String Global) (input left old new : Option (List ℕ)) (status : Result ℕ Obstacle)
     → IfErr status (StopsText (explained_for (string_bytes code)) (no_statement_line (string_bytes code)) old new)
@@ -83,12 +167,21 @@ explanation_stops code input left old new (Err (obstacles.Misused misuse)) h = (
 -- ---- what is asked for in vain
 
 -- memory may run out for it
+no_memory : {A : Type 0} (r : Result A (List ℕ)) (P Q : A → Type 0) (line : List ℕ) (old new : Option (List ℕ)) → ((a : A) → P a → Q a) → Keeps old new
+    → MatchResult r P (λ why. line ≡ why) → MatchResult r Q (λ why. LacksMessage failures.Memory old new)
+no_memory (Ok a) P Q line old new f kept h = f a h
+no_memory (Err why) P Q line old new f kept h = kept
+
 memory_stops : (task : Task) (input left old new : Option (List ℕ)) (line : List ℕ) → IsMisnamed task input line → Keeps old new
     → StopsTask failures.Memory task input left old new
-memory_stops (Check file form coverage further) input left old new line misnamed kept = absurd misnamed
+memory_stops (Check file form coverage further statements) input left old new line misnamed kept =
+    no_memory (choice_for further (option_map string_bytes statements)) (λ c. ⊥) (λ c. IfSome input (λ log. StopsCheck c (form_of form) coverage failures.Memory log left old new)) line old new
+    (λ c none. absurd none) kept misnamed
 memory_stops (Show file long) input left old new line misnamed kept = absurd misnamed
 memory_stops (Packet hex long) input left old new line misnamed kept = packet_lacks long (string_bytes hex) input old new kept
-memory_stops (Rules role further) input left old new line misnamed kept = kept
+memory_stops (Rules role further statements) input left old new line misnamed kept =
+    no_memory (choice_for further (option_map string_bytes statements)) (λ c. (listed_for c.has (option_map string_bytes role) ≡ None) × (line ≡ no_role_line (unwrap_or (option_map string_bytes role) [])))
+    (λ c. StopsPrinting failures.Memory (listed_for c.has (option_map string_bytes role)) old new) line old new (λ c named. kept) kept misnamed
 memory_stops (Explain code) input left old new line misnamed kept = kept
 
 pub misuse_fails : (task : Task) (line : List ℕ) (input left old new : Option (List ℕ)) (error : Stream) → IsMisnamed task input line
@@ -137,54 +230,79 @@ unflushed_begun form refusal old middle new (Err failure) own a k =
 -- ---- a check
 
 -- a run without coverage, and one with it
-over_is_for : (further : Bool) (form : Form) (log : List ℕ) (left old new : Option (List ℕ)) (result : Result Outcome RunFault) → RunsOver further form log left result old new
-    → RunsFor further form false log left result old new
-over_is_for further form log left old new (Ok outcome) h = h
-over_is_for further form log left old new (Err (run_faults.Refused refusal)) h = h
-over_is_for further form log left old new (Err run_faults.Write) h = h
-over_is_for further form log left old new (Err run_faults.Memory) h = (h.0, inl h.1, h.2)
+over_is_for : (choice : Choice) (form : Form) (log : List ℕ) (left old new : Option (List ℕ)) (result : Result Outcome RunFault) → RunsOver choice form log left result old new
+    → RunsFor (chosen_as choice) form false log left result old new
+over_is_for choice form log left old new (Ok outcome) h = h
+over_is_for choice form log left old new (Err (run_faults.Refused refusal)) h = h
+over_is_for choice form log left old new (Err run_faults.Write) h = h
+over_is_for choice form log left old new (Err run_faults.Memory) h = (
+  h.0,
+  elim h.1 [
+    | inl json ↦ inl json
+    | inr listed ↦ inr (inr listed)
+  ],
+  h.2,
+)
 
-covered_is_for : (further : Bool) (form : Form) (log : List ℕ) (left old new : Option (List ℕ)) (result : Result Outcome RunFault) → RunsCoveredOver further form log left result old new
-    → RunsFor further form true log left result old new
-covered_is_for further form log left old new (Ok outcome) h = h
-covered_is_for further form log left old new (Err (run_faults.Refused refusal)) h = h
-covered_is_for further form log left old new (Err run_faults.Write) h = h
-covered_is_for further form log left old new (Err run_faults.Memory) h = (h.0, inr refl, h.1)
+covered_is_for : (choice : Choice) (form : Form) (log : List ℕ) (left old new : Option (List ℕ)) (result : Result Outcome RunFault) → RunsCoveredOver (in_choice choice) form log left result old new
+    → RunsFor (chosen_as choice) form true log left result old new
+covered_is_for choice form log left old new (Ok outcome) h = h
+covered_is_for choice form log left old new (Err (run_faults.Refused refusal)) h = h
+covered_is_for choice form log left old new (Err run_faults.Write) h = h
+covered_is_for choice form log left old new (Err run_faults.Memory) h = (h.0, inr (inl refl), h.1)
 
-pub ran_without : (further : Bool) (form : Form) (coverage : Bool) (remaining left old new : Option (List ℕ)) (result : Result Outcome RunFault) → coverage ≡ false
-    → IfSome remaining (λ log. RunsOver further form log left result old new) → IfSome remaining (λ log. RunsFor further form coverage log left result old new)
-ran_without further form coverage remaining left old new result not_asked ran =
-    rw not_asked (for_log remaining (λ log. RunsOver further form log left result old new) (λ log. RunsFor further form false log left result old new)
-    (λ log h. over_is_for further form log left old new result h) ran)
+pub ran_without : (choice : Choice) (form : Form) (coverage : Bool) (remaining left old new : Option (List ℕ)) (result : Result Outcome RunFault) → coverage ≡ false
+    → IfSome remaining (λ log. RunsOver choice form log left result old new) → IfSome remaining (λ log. RunsFor (chosen_as choice) form coverage log left result old new)
+ran_without choice form coverage remaining left old new result not_asked ran =
+    rw not_asked (for_log remaining (λ log. RunsOver choice form log left result old new) (λ log. RunsFor (chosen_as choice) form false log left result old new)
+    (λ log h. over_is_for choice form log left old new result h) ran)
 
-pub ran_with : (further : Bool) (form : Form) (coverage : Bool) (remaining left old new : Option (List ℕ)) (result : Result Outcome RunFault) → coverage ≡ true
-    → IfSome remaining (λ log. RunsCoveredOver further form log left result old new) → IfSome remaining (λ log. RunsFor further form coverage log left result old new)
-ran_with further form coverage remaining left old new result asked ran =
-    rw asked (for_log remaining (λ log. RunsCoveredOver further form log left result old new) (λ log. RunsFor further form true log left result old new)
-    (λ log h. covered_is_for further form log left old new result h) ran)
+pub ran_with : (choice : Choice) (form : Form) (coverage : Bool) (remaining left old new : Option (List ℕ)) (result : Result Outcome RunFault) → coverage ≡ true
+    → IfSome remaining (λ log. RunsCoveredOver (in_choice choice) form log left result old new) → IfSome remaining (λ log. RunsFor (chosen_as choice) form coverage log left result old new)
+ran_with choice form coverage remaining left old new result asked ran =
+    rw asked (for_log remaining (λ log. RunsCoveredOver (in_choice choice) form log left result old new) (λ log. RunsFor (chosen_as choice) form true log left result old new)
+    (λ log h. covered_is_for choice form log left old new result h) ran)
+
+-- a log passes if it has no faults
+pass_isnt_fail : Pass ≡ Fail → ⊥
+pass_isnt_fail e = cc
+
+none_if_passed : (faults : List (FaultKey × Fault)) → Pass ≡ (if length faults == 0 then Pass else Fail) → faults ≡ []
+none_if_passed faults is = go (length faults == 0) refl is
+  where
+    go : (b : Bool) → (length faults == 0) ≡ b → Pass ≡ (if b then Pass else Fail) → faults ≡ []
+    go true none e = nil_from_length faults (eqb-true (length faults) 0 none)
+    go false some e = absurd (pass_isnt_fail e)
+
+pub passed_for : (choice : Chosen) (form : Form) (coverage : Bool) (remaining left old new : Option (List ℕ)) (status : Result ℕ Failure)
+    → IfSome remaining (λ log. RunsFor choice form coverage log left (Ok Pass) old new) → IfOk status (λ s. s ≡ 0 → IfSome remaining (λ log. IsJudged log × IsFaultless choice.has log))
+passed_for choice form coverage remaining left old new (Ok s) ran = λ is.
+    for_log remaining (λ log. RunsFor choice form coverage log left (Ok Pass) old new) (λ log. IsJudged log × IsFaultless choice.has log)
+    (λ log h. (h.0, none_if_passed (chosen_in choice.has log) h.1)) ran
+passed_for choice form coverage remaining left old new (Err e) ran = tt
 
 -- a status for a refusal says which one it is, and that it was written and nothing else
-pub refusal_is_printed : {E : Type 0} (further : Bool) (form : Form) (coverage : Bool) (remaining left old middle new : Option (List ℕ)) (refusal : Refusal) (status : Result ℕ E)
-    → IfSome remaining (λ log. RunsFor further form coverage log left (Err (run_faults.Refused refusal)) old middle) → middle ≡ old
+pub refusal_is_printed : {E : Type 0} (choice : Chosen) (form : Form) (coverage : Bool) (remaining left old middle new : Option (List ℕ)) (refusal : Refusal) (status : Result ℕ E)
+    → IfSome remaining (λ log. RunsFor choice form coverage log left (Err (run_faults.Refused refusal)) old middle) → middle ≡ old
     → OnOk status (IsOfLog refusal) → OnOk status (Appends middle new (refused_report form refusal))
     → IfOk status (λ s. s ≡ 2 → IfSome remaining (λ log. RefusesCheck form log old new))
-refusal_is_printed further form coverage remaining left old middle new refusal (Ok s) ran unwritten own written = λ is.
-    for_log remaining (λ log. RunsFor further form coverage log left (Err (run_faults.Refused refusal)) old middle) (λ log. RefusesCheck form log old new)
+refusal_is_printed choice form coverage remaining left old middle new refusal (Ok s) ran unwritten own written = λ is.
+    for_log remaining (λ log. RunsFor choice form coverage log left (Err (run_faults.Refused refusal)) old middle) (λ log. RefusesCheck form log old new)
     (λ log h. (refusal, own_refusal log left refusal own h, subst (λ v. Appends v new (refused_report form refusal)) unwritten written)) ran
-refusal_is_printed further form coverage remaining left old middle new refusal (Err e) ran unwritten own written = tt
+refusal_is_printed choice form coverage remaining left old middle new refusal (Err e) ran unwritten own written = tt
 
 -- where it can't be told, that is why
-pub refusal_stops : (further : Bool) (form : Form) (coverage : Bool) (remaining left old middle new : Option (List ℕ)) (refusal : Refusal) (status : Result ℕ Failure)
-    → IfSome remaining (λ log. RunsFor further form coverage log left (Err (run_faults.Refused refusal)) old middle) → middle ≡ old
+pub refusal_stops : (choice : Chosen) (form : Form) (coverage : Bool) (remaining left old middle new : Option (List ℕ)) (refusal : Refusal) (status : Result ℕ Failure)
+    → IfSome remaining (λ log. RunsFor choice form coverage log left (Err (run_faults.Refused refusal)) old middle) → middle ≡ old
     → IfErr status (λ failure. (failure ≡ failure_of refusal) ⊎ ((failure ≡ failures.Memory) × LacksJsonMemory form refusal middle new))
     → IfErr status (λ _. BeginsRefusal form refusal middle new)
-    → IfErr status (λ failure. IfSome remaining (λ log. StopsCheck further form coverage failure log left old new))
-refusal_stops further form coverage remaining left old middle new refusal (Ok s) ran unwritten failed begun = tt
-refusal_stops further form coverage remaining left old middle new refusal (Err failure) ran unwritten failed begun =
-    for_log remaining (λ log. RunsFor further form coverage log left (Err (run_faults.Refused refusal)) old middle) (λ log. StopsCheck further form coverage failure log left old new)
+    → IfErr status (λ failure. IfSome remaining (λ log. StopsCheck choice form coverage failure log left old new))
+refusal_stops choice form coverage remaining left old middle new refusal (Ok s) ran unwritten failed begun = tt
+refusal_stops choice form coverage remaining left old middle new refusal (Err failure) ran unwritten failed begun =
+    for_log remaining (λ log. RunsFor choice form coverage log left (Err (run_faults.Refused refusal)) old middle) (λ log. StopsCheck choice form coverage failure log left old new)
     (λ log h. by_why log h failed) ran
   where
-    on_log : (r : Refusal) (log : List ℕ) → IsRefusedAt default_limit log left r → BeginsRefusal form r old new → StopsCheck further form coverage (failure_of r) log left old new
+    on_log : (r : Refusal) (log : List ℕ) → IsRefusedAt default_limit log left r → BeginsRefusal form r old new → StopsCheck choice form coverage (failure_of r) log left old new
     on_log (refusals.Read at) log h (inl kept) = (at, h, kept)
     on_log (refusals.Read at) log h (inr (own, part)) = absurd own
     on_log (refusals.Memory at) log h (inl kept) = inl (at, h, kept)
@@ -193,34 +311,34 @@ refusal_stops further form coverage remaining left old middle new refusal (Err f
     on_log r log h (inr (own, part)) = inr (r, own_refusal log left r own h, part)
 
     by_why : (log : List ℕ) → IsRefusedAt default_limit log left refusal
-        → (failure ≡ failure_of refusal) ⊎ ((failure ≡ failures.Memory) × LacksJsonMemory form refusal middle new) → StopsCheck further form coverage failure log left old new
-    by_why log h (inl why) = subst (λ f. StopsCheck further form coverage f log left old new) (sym why)
+        → (failure ≡ failure_of refusal) ⊎ ((failure ≡ failures.Memory) × LacksJsonMemory form refusal middle new) → StopsCheck choice form coverage failure log left old new
+    by_why log h (inl why) = subst (λ f. StopsCheck choice form coverage f log left old new) (sym why)
         (on_log refusal log h (subst (λ v. BeginsRefusal form refusal v new) unwritten begun))
-    by_why log h (inr (is, lacks)) = subst (λ f. StopsCheck further form coverage f log left old new) (sym is)
+    by_why log h (inr (is, lacks)) = subst (λ f. StopsCheck choice form coverage f log left old new) (sym is)
         (inr (inl lacks.0, inr (refusal, own_refusal log left refusal lacks.1 h), subst (λ v. Keeps v new) unwritten lacks.2))
 
 -- the report was written, and then not flushed
-pub report_stops : (further : Bool) (form : Form) (coverage : Bool) (remaining left old middle new : Option (List ℕ)) (outcome : Outcome) (status : Result ℕ Failure)
-    → IfSome remaining (λ log. RunsFor further form coverage log left (Ok outcome) old middle) → Keeps middle new → IfErr status (λ failure. failure ≡ failures.Write)
-    → IfErr status (λ failure. IfSome remaining (λ log. StopsCheck further form coverage failure log left old new))
-report_stops further form coverage remaining left old middle new outcome (Ok s) ran kept failed = tt
-report_stops further form coverage remaining left old middle new outcome (Err failure) ran kept failed =
-    for_log remaining (λ log. RunsFor further form coverage log left (Ok outcome) old middle) (λ log. StopsCheck further form coverage failure log left old new)
-    (λ log h. subst (λ f. StopsCheck further form coverage f log left old new) (sym failed)
-    (inl (h.0, part-whole old new (report_for further form coverage log) (Appends-kept old middle new (report_for further form coverage log) h.2 kept)))) ran
+pub report_stops : (choice : Chosen) (form : Form) (coverage : Bool) (remaining left old middle new : Option (List ℕ)) (outcome : Outcome) (status : Result ℕ Failure)
+    → IfSome remaining (λ log. RunsFor choice form coverage log left (Ok outcome) old middle) → Keeps middle new → IfErr status (λ failure. failure ≡ failures.Write)
+    → IfErr status (λ failure. IfSome remaining (λ log. StopsCheck choice form coverage failure log left old new))
+report_stops choice form coverage remaining left old middle new outcome (Ok s) ran kept failed = tt
+report_stops choice form coverage remaining left old middle new outcome (Err failure) ran kept failed =
+    for_log remaining (λ log. RunsFor choice form coverage log left (Ok outcome) old middle) (λ log. StopsCheck choice form coverage failure log left old new)
+    (λ log h. subst (λ f. StopsCheck choice form coverage f log left old new) (sym failed)
+    (inl (h.0, part-whole old new (report_for choice form coverage log) (Appends-kept old middle new (report_for choice form coverage log) h.2 kept)))) ran
 
 -- a beginning of the report was written
-pub run_stops : (further : Bool) (form : Form) (coverage : Bool) (remaining left old new : Option (List ℕ)) → IfSome remaining (λ log. RunsFor further form coverage log left (Err run_faults.Write) old new)
-    → IfSome remaining (λ log. StopsCheck further form coverage failures.Write log left old new)
-run_stops further form coverage remaining left old new ran =
-    for_log remaining (λ log. RunsFor further form coverage log left (Err run_faults.Write) old new) (λ log. StopsCheck further form coverage failures.Write log left old new)
-    (λ log h. inl (h.0, part-begun old new (report_for further form coverage log) h.1)) ran
+pub run_stops : (choice : Chosen) (form : Form) (coverage : Bool) (remaining left old new : Option (List ℕ)) → IfSome remaining (λ log. RunsFor choice form coverage log left (Err run_faults.Write) old new)
+    → IfSome remaining (λ log. StopsCheck choice form coverage failures.Write log left old new)
+run_stops choice form coverage remaining left old new ran =
+    for_log remaining (λ log. RunsFor choice form coverage log left (Err run_faults.Write) old new) (λ log. StopsCheck choice form coverage failures.Write log left old new)
+    (λ log h. inl (h.0, part-begun old new (report_for choice form coverage log) h.1)) ran
 
 -- memory ran out for the report
-pub run_lacks : (further : Bool) (form : Form) (coverage : Bool) (remaining left old new : Option (List ℕ)) → IfSome remaining (λ log. RunsFor further form coverage log left (Err run_faults.Memory) old new)
-    → IfSome remaining (λ log. StopsCheck further form coverage failures.Memory log left old new)
-run_lacks further form coverage remaining left old new ran =
-    for_log remaining (λ log. RunsFor further form coverage log left (Err run_faults.Memory) old new) (λ log. StopsCheck further form coverage failures.Memory log left old new)
+pub run_lacks : (choice : Chosen) (form : Form) (coverage : Bool) (remaining left old new : Option (List ℕ)) → IfSome remaining (λ log. RunsFor choice form coverage log left (Err run_faults.Memory) old new)
+    → IfSome remaining (λ log. StopsCheck choice form coverage failures.Memory log left old new)
+run_lacks choice form coverage remaining left old new ran =
+    for_log remaining (λ log. RunsFor choice form coverage log left (Err run_faults.Memory) old new) (λ log. StopsCheck choice form coverage failures.Memory log left old new)
     (λ log h. inr (h.1, inl h.0, subst (λ v. Keeps old v) (sym h.2) (Keeps-refl old))) ran
 
 -- ---- a log that is shown

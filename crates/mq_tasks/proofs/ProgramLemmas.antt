@@ -1,8 +1,8 @@
 -- What holds of the words that a host gave, and of the log of a task.
-use Rattle.std.proofs.Common.{◌≡◌, ◌∙◌, ◌⊎◌, inl, inr, Bool, true, ℕ, List, [], map, Option, Some, None, Result, Ok, Err, IfSome, IsOkAnd, ap, codes, refl, subst, sym}
+use Rattle.std.proofs.Common.{◌≡◌, ◌∙◌, ◌⊎◌, inl, inr, Bool, true, ℕ, List, [], map, Option, Some, None, Result, Ok, Err, IfSome, IsOkAnd, MatchResult, ap, codes, option_map, refl, subst, sym}
 use Rattle.std.specs.Prelude.{String, string_bytes}
 use Rattle.std.specs.declared.alloc.Global.{Global}
-use Rattle.std.specs.Io.KnownBytes.{Keeps, prepend_known}
+use Rattle.std.specs.Io.KnownBytes.{Appends, Keeps, prepend_known}
 use Rattle.clap.specs.Words.{Text}
 use Rattle.mq_command.specs.declared.command_line.Task.{Task}
 use Rattle.mq_command.specs.declared.command_line.Task.TheVariants.{Check, Show, Packet, Rules, Explain}
@@ -16,9 +16,12 @@ use Rattle.mq_judge.specs.declared.Form.{Form}
 use Rattle.mq_report.specs.Display.{is_timed}
 use Rattle.mq_command.specs.CommandLine.{path_of, reads_input}
 use Rattle.mq_tasks.specs.Converting.{Files, files_of}
-use Rattle.mq_tasks.specs.Inquiring.{log_of}
+use Rattle.mq_judge.specs.Runner.{IsFaultless}
+use Rattle.mq_report.specs.Stopping.{IsJudged}
+use Rattle.mq_tasks.specs.Choosing.{choice_for}
+use Rattle.mq_tasks.specs.Inquiring.{Asked, asked_of}
 use Rattle.mq_host.specs.Given.{Given, bytes_at}
-use Rattle.mq_tasks.specs.Messages.{AppendsReportOf, AppendsReportPart, FailsMisnamed, HasFailed, HasPassed, IsMisnamed, IsMisread, IsMisspelled, IsRefusedOn, IsReportedOn, RefusesCheck, SpellsNoPacket, SpellsPacket, StopsGiven, StopsCheck, StopsShow, StopsTask, form_of, text_for}
+use Rattle.mq_tasks.specs.Messages.{LacksMessage, report_for, AppendsReportOf, AppendsReportPart, FailsMisnamed, HasFailed, HasPassed, IsMisnamed, IsMisread, IsMisspelled, IsRefusedOn, IsReportedOn, RefusesCheck, SpellsNoPacket, SpellsPacket, StopsGiven, StopsCheck, StopsShow, StopsTask, form_of, text_for}
 use Rattle.mq_command.specs.Digits.{OfDigits}
 use Rattle.mq_tasks.specs.Program.{FailsLog, FailsRead, FailsTaskOn, IsHinted, MisusesTask, Refuses, RefusesSource, RefusesWork, input_of}
 use Rattle.mq_tasks.specs.Reviewing.{Plan, RefusesPlan, plan_of}
@@ -37,10 +40,10 @@ known_words text (Some words) read slice P given same h = subst P (ap (map text)
 
 -- a task that names a path reads the log there
 pub path_reads : (task : Task) (path : Text) → path_of task ≡ Some path → reads_input task ≡ true
-path_reads (Check file form coverage further) path named = refl
+path_reads (Check file form coverage further statements) path named = refl
 path_reads (Show file long) path named = refl
 path_reads (Packet hex long) path named = cc
-path_reads (Rules role further) path named = cc
+path_reads (Rules role further statements) path named = cc
 path_reads (Explain code) path named = cc
 
 -- ---- what a reader gives of a log is the log
@@ -49,6 +52,15 @@ pub known_kept : (log read : Option (List ℕ)) (P : List ℕ → Type 0) → Ke
 known_kept None read P k h = tt
 known_kept (Some bytes) None P k h = absurd k
 known_kept (Some bytes) (Some same) P k h = subst P k h
+
+-- what holds for the chosen statements holds so for the log
+choice_kept : {A : Type 0} (r : Result A Text) (P Q : A → Type 0) → ((a : A) → P a → Q a) → IsOkAnd r P → IsOkAnd r Q
+choice_kept (Ok a) P Q f h = f a h
+choice_kept (Err line) P Q f h = absurd h
+
+match_kept : {A : Type 0} (r : Result A Text) (P Q : A → Type 0) (R : Text → Type 0) → ((a : A) → P a → Q a) → MatchResult r P R → MatchResult r Q R
+match_kept (Ok a) P Q R f h = f a h
+match_kept (Err line) P Q R f h = h
 
 -- what holds of the digits that were read holds of those that were given
 digits_kept : (operand : List ℕ) (log read : Option (List ℕ)) (P : List ℕ → Type 0) → Keeps log read → OfDigits operand read P → OfDigits operand log P
@@ -62,12 +74,12 @@ packet_stops_kept failures.Memory hex long log read old new k h = h
 
 -- the line on what is asked for in vain
 misnamed_kept : (task : Task) (log read : Option (List ℕ)) (line : List ℕ) → Keeps log read → IsMisnamed task read line → IsMisnamed task log line
-misnamed_kept (Check file form coverage further) log read line k h = h
+misnamed_kept (Check file form coverage further statements) log read line k h = h
 misnamed_kept (Show file long) log read line k h = h
 misnamed_kept (Packet hex long) log read line k h =
     of_read (string_bytes hex) (IfSome read (λ text. IsMisread text line)) (IfSome log (λ text. IsMisread text line)) (IsMisspelled (string_bytes hex) line)
     (known_kept log read (λ text. IsMisread text line) k) h
-misnamed_kept (Rules role further) log read line k h = h
+misnamed_kept (Rules role further statements) log read line k h = h
 misnamed_kept (Explain code) log read line k h = h
 
 -- whatever reader gives that input
@@ -85,11 +97,13 @@ misnamed_fails_kept task log read old new error k h = record {
 
 stops_kept : (failure : Failure) (task : Task) (log read left old new : Option (List ℕ)) → Keeps log read → StopsTask failure task read left old new
     → StopsTask failure task log left old new
-stops_kept failure (Check file form coverage further) log read left old new k h =
-    known_kept log read (λ bytes. StopsCheck further (form_of form) coverage failure bytes left old new) k h
+stops_kept failure (Check file form coverage further statements) log read left old new k h =
+    match_kept (choice_for further (option_map string_bytes statements)) (λ c. IfSome read (λ bytes. StopsCheck c (form_of form) coverage failure bytes left old new))
+    (λ c. IfSome log (λ bytes. StopsCheck c (form_of form) coverage failure bytes left old new)) (λ line. LacksMessage failure old new)
+    (λ c. known_kept log read (λ bytes. StopsCheck c (form_of form) coverage failure bytes left old new) k) h
 stops_kept failure (Show file long) log read left old new k h = known_kept log read (λ bytes. StopsShow (text_for (is_timed bytes) long) failure bytes left old new) k h
 stops_kept failure (Packet hex long) log read left old new k h = packet_stops_kept failure hex long log read old new k h
-stops_kept failure (Rules role further) log read left old new k h = h
+stops_kept failure (Rules role further statements) log read left old new k h = h
 stops_kept failure (Explain code) log read left old new k h = h
 
 pub fails_kept : (task : Task) (place : Text) (log read old new : Option (List ℕ)) (is_closed : Bool) (error : Stream) → Keeps log read
@@ -112,31 +126,37 @@ abbrev pub IsKept : (Option (List ℕ) → Type 0) → Type 0
 IsKept P = (log read : Option (List ℕ)) → Keeps log read → P read → P log
 
 pub passed_kept : (task : Task) → IsKept (HasPassed task)
-passed_kept (Check file form coverage further) log read k h = known_kept log read _ k h
+passed_kept (Check file form coverage further statements) log read k h =
+    choice_kept (choice_for further (option_map string_bytes statements)) (λ c. IfSome read (λ bytes. IsJudged bytes × IsFaultless c.has bytes)) (λ c. IfSome log (λ bytes. IsJudged bytes × IsFaultless c.has bytes))
+    (λ c. known_kept log read (λ bytes. IsJudged bytes × IsFaultless c.has bytes) k) h
 passed_kept (Show file long) log read k h = known_kept log read _ k h
 passed_kept (Packet hex long) log read k h = digits_kept (string_bytes hex) log read SpellsPacket k h
-passed_kept (Rules role further) log read k h = h
+passed_kept (Rules role further statements) log read k h = h
 passed_kept (Explain code) log read k h = h
 
 pub failed_kept : (task : Task) → IsKept (HasFailed task)
-failed_kept (Check file form coverage further) log read k h = known_kept log read _ k h
+failed_kept (Check file form coverage further statements) log read k h =
+    choice_kept (choice_for further (option_map string_bytes statements)) (λ c. IfSome read (λ bytes. IsJudged bytes × (¬ IsFaultless c.has bytes))) (λ c. IfSome log (λ bytes. IsJudged bytes × (¬ IsFaultless c.has bytes)))
+    (λ c. known_kept log read (λ bytes. IsJudged bytes × (¬ IsFaultless c.has bytes)) k) h
 failed_kept (Show file long) log read k h = h
 failed_kept (Packet hex long) log read k h = digits_kept (string_bytes hex) log read SpellsNoPacket k h
-failed_kept (Rules role further) log read k h = h
+failed_kept (Rules role further statements) log read k h = h
 failed_kept (Explain code) log read k h = h
 
 pub reported_kept : (task : Task) (old new : Option (List ℕ)) → IsKept (λ log. IsReportedOn task log old new)
-reported_kept (Check file form coverage further) old new log read k h = known_kept log read _ k h
+reported_kept (Check file form coverage further statements) old new log read k h =
+    choice_kept (choice_for further (option_map string_bytes statements)) (λ c. IfSome read (λ bytes. Appends old new (report_for c (form_of form) coverage bytes))) (λ c. IfSome log (λ bytes. Appends old new (report_for c (form_of form) coverage bytes)))
+    (λ c. known_kept log read (λ bytes. Appends old new (report_for c (form_of form) coverage bytes)) k) h
 reported_kept (Show file long) old new log read k h = known_kept log read _ k h
 reported_kept (Packet hex long) old new log read k h = digits_kept (string_bytes hex) log read (λ text. AppendsReportOf long text old new) k h
-reported_kept (Rules role further) old new log read k h = h
+reported_kept (Rules role further statements) old new log read k h = h
 reported_kept (Explain code) old new log read k h = h
 
 pub refused_kept : (task : Task) (old new : Option (List ℕ)) → IsKept (λ log. IsRefusedOn task log old new)
-refused_kept (Check file form coverage further) old new log read k h = known_kept log read _ k h
+refused_kept (Check file form coverage further statements) old new log read k h = known_kept log read _ k h
 refused_kept (Show file long) old new log read k h = known_kept log read _ k h
 refused_kept (Packet hex long) old new log read k h = h
-refused_kept (Rules role further) old new log read k h = h
+refused_kept (Rules role further statements) old new log read k h = h
 refused_kept (Explain code) old new log read k h = h
 
 pub misused_kept : (task : Task) (error_old error_new : Option (List ℕ)) → IsKept (λ log. MisusesTask task log error_old error_new)
@@ -214,15 +234,15 @@ converted_hint : (given : Given) (files : Result Files Text) (old new : Option (
 converted_hint given (Ok files) old new error h = record { start = h.1.start; shows = tt; told = h.1.told }
 converted_hint given (Err line) old new error h = absurd h
 
-judged_hint : (given : Given) (asked : Result Text Text) (form : Form) (old new : Option (List ℕ)) (error : Stream)
-    → IsOkAnd asked (λ path. IfSome (given.file path) (λ log. RefusesCheck form log old new) × IsHinted (given.file path) error) → IsHinted None error
-judged_hint given (Ok path) form old new error h = record { start = h.1.start; shows = tt; told = h.1.told }
+judged_hint : (given : Given) (asked : Result Asked Text) (form : Form) (old new : Option (List ℕ)) (error : Stream)
+    → IsOkAnd asked (λ a. IfSome (given.file a.path) (λ log. RefusesCheck form log old new) × IsHinted (given.file a.path) error) → IsHinted None error
+judged_hint given (Ok a) form old new error h = record { start = h.1.start; shows = tt; told = h.1.told }
 judged_hint given (Err line) form old new error h = absurd h
 
 work_hint : (work : Work) (given : Given) (old new : Option (List ℕ)) (error : Stream) → RefusesWork given work old new error → IsHinted None error
 work_hint (Once task) given old new error h = record { start = h.1.start; shows = tt; told = h.1.told }
 work_hint (Again review) given old new error h = planned_hint given (plan_of review) old new error h
-work_hint (Why inquiry) given old new error h = judged_hint given (log_of inquiry) (form_of inquiry.form) old new error h
+work_hint (Why inquiry) given old new error h = judged_hint given (asked_of inquiry) (form_of inquiry.form) old new error h
 work_hint (Convert conversion) given old new error h = converted_hint given (files_of conversion) old new error h
 
 pub refusal_hint : (words : List Text) (given : Given) (old new : Option (List ℕ)) (error : Stream) → Refuses words given old new error → IsHinted None error

@@ -1,5 +1,5 @@
 -- What is told of a log that was judged, read again for what its faults conflict with, and then shown with them.
-use Rattle.std.proofs.Common.{◌≡◌, ◌==◌, ◌∙◌, ◌^◌, ℕ, Bool, true, false, nat_lt, List, [], ◌∷◌, length, Option, Some, None, Result, Ok, Err, IfErr, IfOk, IfSome, ◌⊎◌, refl, sym, ap₂, subst, inl, inr, ltb-true, lt-ltb}
+use Rattle.std.proofs.Common.{◌≡◌, ◌==◌, ◌∙◌, ◌^◌, ℕ, Bool, true, false, nat_lt, List, [], ◌∷◌, length, Option, Some, None, Result, Ok, Err, IfErr, IfOk, IfSome, ◌⊎◌, refl, sym, ap, ap₂, subst, inl, inr, ltb-true, lt-ltb}
 use Rattle.std.specs.FinMap as map
 use Rattle.std.specs.Char.{digit_value}
 use Rattle.std.specs.Io.KnownBytes.{Appends, Keeps}
@@ -15,14 +15,13 @@ use Rattle.mq_rules.specs.declared.fault.Fault.{Fault}
 use Rattle.mq_rules.specs.declared.faults.FaultKey.{FaultKey}
 use Rattle.mq_rules.specs.FaultKeys.{FaultMap}
 use Rattle.mq_evidence.specs.declared.evidence.Evidence.{Evidence}
-use Rattle.mq_trail.specs.Explaining.{AreReasons, IsSame}
 use Rattle.mq_rules.proofs.Exports.{both_true}
 use Rattle.mq_log.specs.Events.{Placed, events}
 use Rattle.mq_log.specs.Framing.{header_by}
 use Rattle.mq_judge.specs.declared.Form.TheVariants.{Text, Json}
 use Rattle.mq_judge.specs.declared.Refusal.{Refusal}
 use Rattle.mq_judge.specs.declared.Refusal.TheVariants as refusals
-use Rattle.mq_report.specs.Report.{refused_line, refused_report}
+use Rattle.mq_report.specs.Report.{refused_line}
 use Rattle.mq_judge.specs.Runner.{IsVerdictOn}
 use Rattle.mq_report.specs.Stopping.{IsJudged, default_limit, IsRefusedAt}
 use Rattle.mq_host.specs.declared.failure.Failure.{Failure}
@@ -30,13 +29,17 @@ use Rattle.mq_host.specs.declared.failure.Failure.TheVariants as failures
 use Rattle.mq_host.specs.declared.trouble.Trouble.{Trouble}
 use Rattle.mq_tasks.specs.declared.lapse.Lapse.{Lapse}
 use Rattle.mq_tasks.specs.declared.lapse.Lapse.TheVariants.{Failed, Changed}
+use Rattle.mq_rules.specs.declared.rule.Rule.{Rule}
+use Rattle.mq_choice.specs.declared.choice.Choice.{Choice}
+use Rattle.mq_choice.specs.Choices.{in_choice, is_listed, unlisted, wants_further}
+use Rattle.mq_tasks.specs.Choosing.{Chosen, chosen_as, without_list}
 use Rattle.mq_tasks.specs.Inquiring.{HasChanged, HasReleases}
 use Rattle.mq_tasks.specs.Program.{FailsBegun, FailsReaders}
 use Rattle.mq_host.specs.Streams.{Stream}
 use Rattle.mq_host.specs.Troubles.{Tells, failure_in}
 use Rattle.mq_tasks.specs.Lapses.{AreVerdictReasons, LacksReasons}
 use Rattle.mq_tasks.specs.Reviewing.{AreFoundReasons, AreShownReasons, IfAll, IsReviewed, Plan, RefusesPlan, StopsJudging, StopsPlan, StopsShowing, count_of, is_count, reviewed, text_with}
-use Rattle.mq_tasks.specs.Messages.{BeginsRefusal, IsOfLog, LacksJsonMemory, RefusesShow, StopsShow, failure_of}
+use Rattle.mq_tasks.specs.Messages.{BeginsRefusal, LacksJsonMemory, RefusesShow, StopsShow, failure_of}
 use Rattle.mq_tasks.proofs.InquiringLemmas.{again_if, differs_if, faulty_if}
 use Rattle.mq_tasks.proofs.MessageLaws.{own_refusal, part-kept}
 
@@ -110,69 +113,69 @@ both_known (Some log) P Q p q = (p, q)
 -- ---- what the faults conflict with
 
 -- nothing is looked for if there are no faults
-pub nothing_found : (tested : Tested) (count : ℕ) (faults : FaultMap) (again : Option (List ℕ)) → (map.len faults == 0) ≡ true
-    → IfSome again (λ log. AreFoundReasons tested count (map.entries faults) log [])
-nothing_found tested count faults None none = tt
-nothing_found tested count faults (Some log) none = inl (nil_from_length (map.entries faults) (sym (map.len-entries faults) ∙ eqb-true (map.len faults) 0 none), refl)
+pub nothing_found : (choice : Chosen) (tested : Tested) (count : ℕ) (faults : FaultMap) (again : Option (List ℕ)) → (map.len faults == 0) ≡ true
+    → IfSome again (λ log. AreFoundReasons choice tested count (map.entries faults) log [])
+nothing_found choice tested count faults None none = tt
+nothing_found choice tested count faults (Some log) none = inl (nil_from_length (map.entries faults) (sym (map.len-entries faults) ∙ eqb-true (map.len faults) 0 none), refl)
 
 -- what was found is what the faults conflict with
-pub those_found : (tested : Tested) (count : ℕ) (faults : List (FaultKey × Fault)) (again : Option (List ℕ)) (reasons : List Evidence)
-    → IfSome again (λ log. AreVerdictReasons tested count faults log reasons)
-    → IfSome again (λ log. AreFoundReasons tested count faults log reasons)
-those_found tested count faults None reasons found = tt
-those_found tested count faults (Some log) reasons found = inr found
+pub those_found : (choice : Chosen) (tested : Tested) (count : ℕ) (faults : List (FaultKey × Fault)) (again : Option (List ℕ)) (reasons : List Evidence)
+    → IfSome again (λ log. AreVerdictReasons choice tested count faults log reasons)
+    → IfSome again (λ log. AreFoundReasons choice tested count faults log reasons)
+those_found choice tested count faults None reasons found = tt
+those_found choice tested count faults (Some log) reasons found = inr found
 
 -- what was found for a verdict is what is shown
-shown_reasons : (further : Bool) (first second : List ℕ) (releases : Bool) (role : Role) (count : ℕ) (faults : FaultMap) (reasons : List Evidence) → IsVerdictOn further first role count faults
-    → AreFoundReasons (record { role = role; releases = releases; further = further }) count (map.entries faults) second reasons → releases ≡ (header_by first).releases → AreShownReasons further first second reasons
+shown_reasons : (further : Bool) (first second : List ℕ) (releases : Bool) (role : Role) (count : ℕ) (faults : FaultMap) (reasons : List Evidence) → IsVerdictOn (unlisted further) first role count faults
+    → AreFoundReasons (without_list further) (record { role = role; releases = releases; further = wants_further (unlisted further) }) count (map.entries faults) second reasons → releases ≡ (header_by first).releases → AreShownReasons further first second reasons
 shown_reasons further first second releases role count faults reasons v (inl none) is = inl (sym v.faults_are ∙ none.0, none.1)
-shown_reasons further first second releases role count faults reasons v (inr found) is = inr (again_if further first second releases role count faults reasons v found.0 found.1 found.2 is)
+shown_reasons further first second releases role count faults reasons v (inr found) is = inr (again_if (without_list further) first second releases role count faults reasons v found.0 found.1 found.2 is)
 
 -- nothing is shown of a log with faults if it isn't known what they conflict with
 pub reasons_lack : (plan : Plan) (releases : Bool) (role : Role) (count : ℕ) (faults : FaultMap) (judged again shown judged_left again_left shown_left old : Option (List ℕ)) (lapse : Lapse)
-    → (map.len faults == 0) ≡ false → IfSome judged (λ log. IsVerdictOn plan.further log role count faults)
-    → IfSome again (λ log. LacksReasons (record { role = role; releases = releases; further = plan.further }) count (map.entries faults) lapse log again_left) → HasReleases releases judged
+    → (map.len faults == 0) ≡ false → IfSome judged (λ log. IsVerdictOn (unlisted plan.further) log role count faults)
+    → IfSome again (λ log. LacksReasons (without_list plan.further) (record { role = role; releases = releases; further = wants_further (unlisted plan.further) }) count (map.entries faults) lapse log again_left) → HasReleases releases judged
     → IfAll judged again shown (λ first second third. StopsPlan plan lapse first second third judged_left again_left shown_left old old)
 reasons_lack plan releases role count faults judged again shown judged_left again_left shown_left old lapse some v lacks is =
-    for_two judged again shown (λ log. IsVerdictOn plan.further log role count faults × (releases ≡ (header_by log).releases))
-    (λ log. LacksReasons (record { role = role; releases = releases; further = plan.further }) count (map.entries faults) lapse log again_left)
+    for_two judged again shown (λ log. IsVerdictOn (unlisted plan.further) log role count faults × (releases ≡ (header_by log).releases))
+    (λ log. LacksReasons (without_list plan.further) (record { role = role; releases = releases; further = wants_further (unlisted plan.further) }) count (map.entries faults) lapse log again_left)
     (λ first second third. StopsPlan plan lapse first second third judged_left again_left shown_left old old)
     (λ first second third w h. go first second third w.0 w.1 lapse h)
-    (both_known judged (λ log. IsVerdictOn plan.further log role count faults) (λ log. releases ≡ (header_by log).releases) v is) lacks
+    (both_known judged (λ log. IsVerdictOn (unlisted plan.further) log role count faults) (λ log. releases ≡ (header_by log).releases) v is) lacks
   where
     tested : Tested
-    tested = record { role = role; releases = releases; further = plan.further }
+    tested = record { role = role; releases = releases; further = wants_further (unlisted plan.further) }
 
-    go : (first second third : List ℕ) → IsVerdictOn plan.further first role count faults → releases ≡ (header_by first).releases → (l : Lapse)
-        → LacksReasons tested count (map.entries faults) l second again_left → StopsPlan plan l first second third judged_left again_left shown_left old old
-    go first second third w named (Failed failure) h = inr (inl (w.judged, faulty_if plan.further first role count faults w some, h, Keeps-refl old))
+    go : (first second third : List ℕ) → IsVerdictOn (unlisted plan.further) first role count faults → releases ≡ (header_by first).releases → (l : Lapse)
+        → LacksReasons (without_list plan.further) tested count (map.entries faults) l second again_left → StopsPlan plan l first second third judged_left again_left shown_left old old
+    go first second third w named (Failed failure) h = inr (inl (w.judged, faulty_if (without_list plan.further) first role count faults w some, h, Keeps-refl old))
     go first second third w named Changed h = record {
       first = w.judged;
-      faulty = faulty_if plan.further first role count faults w some;
-      why = differs_if plan.further first second releases role count faults w named h;
+      faulty = faulty_if (without_list plan.further) first role count faults w some;
+      why = differs_if (without_list plan.further) first second releases role count faults w named h;
       unwritten = Keeps-refl old;
     }
 
 -- ---- a log that was judged, and is shown
 
 -- the text with a verdict's faults is that with the faults of the log that they were found in
-text_is : (plan : Plan) (role : Role) (count : ℕ) (faults : FaultMap) (reasons : List Evidence) (log shown : List ℕ) → IsVerdictOn plan.further log role count faults
+text_is : (plan : Plan) (role : Role) (count : ℕ) (faults : FaultMap) (reasons : List Evidence) (log shown : List ℕ) → IsVerdictOn (unlisted plan.further) log role count faults
     → text_with plan role (map.entries faults) reasons shown ≡ reviewed plan log shown reasons
 text_is plan role count faults reasons log shown v = ap₂ (λ (r : Role) (f : List (FaultKey × Fault)). text_with plan r f reasons shown) v.role_is v.faults_are
 
 -- a verdict on a log, whose header says this of releases
 abbrev IsVerdictFor : (further releases : Bool) → Role → ℕ → FaultMap → List ℕ → Type 0
-IsVerdictFor further releases role count faults log = IsVerdictOn further log role count faults × (releases ≡ (header_by log).releases)
+IsVerdictFor further releases role count faults log = IsVerdictOn (unlisted further) log role count faults × (releases ≡ (header_by log).releases)
 
 pub review_passes : {E : Type 0} (plan : Plan) (releases : Bool) (role : Role) (count : ℕ) (faults : FaultMap) (reasons : List Evidence) (judged again shown old new : Option (List ℕ)) (status : Result ℕ E)
-    → IfSome judged (λ log. IsVerdictOn plan.further log role count faults)
-    → IfSome again (λ log. AreFoundReasons (record { role = role; releases = releases; further = plan.further }) count (map.entries faults) log reasons)
+    → IfSome judged (λ log. IsVerdictOn (unlisted plan.further) log role count faults)
+    → IfSome again (λ log. AreFoundReasons (without_list plan.further) (record { role = role; releases = releases; further = wants_further (unlisted plan.further) }) count (map.entries faults) log reasons)
     → IfOk status (λ s. s ≡ 0 → IfSome shown (λ log. IsJudged log × Appends old new (text_with plan role (map.entries faults) reasons log (events log))))
     → IfOk status (λ s. s ≡ 0 → HasReleases releases judged → IfAll judged again shown (λ first second third. IsReviewed plan first second third old new))
 review_passes plan releases role count faults reasons judged again shown old new (Err e) v found written = tt
 review_passes plan releases role count faults reasons judged again shown old new (Ok s) v found written = λ passed is.
     for_all judged again shown (IsVerdictFor plan.further releases role count faults)
-    (λ log. AreFoundReasons (record { role = role; releases = releases; further = plan.further }) count (map.entries faults) log reasons)
+    (λ log. AreFoundReasons (without_list plan.further) (record { role = role; releases = releases; further = wants_further (unlisted plan.further) }) count (map.entries faults) log reasons)
     (λ log. IsJudged log × Appends old new (text_with plan role (map.entries faults) reasons log (events log)))
     (λ first second third. IsReviewed plan first second third old new)
     (λ first second third w f h. record {
@@ -182,17 +185,17 @@ review_passes plan releases role count faults reasons judged again shown old new
       last = h.0;
       written = subst (λ (text : List Placed → List ℕ). Appends old new (text (events third))) (text_is plan role count faults reasons first third w.0) h.1;
     })
-    (both_known judged (λ log. IsVerdictOn plan.further log role count faults) (λ log. releases ≡ (header_by log).releases) v is) found (written passed)
+    (both_known judged (λ log. IsVerdictOn (unlisted plan.further) log role count faults) (λ log. releases ≡ (header_by log).releases) v is) found (written passed)
 
 pub review_is_refused : {E : Type 0} (plan : Plan) (releases : Bool) (role : Role) (count : ℕ) (faults : FaultMap) (reasons : List Evidence) (judged again shown old new : Option (List ℕ)) (status : Result ℕ E)
-    → IfSome judged (λ log. IsVerdictOn plan.further log role count faults)
-    → IfSome again (λ log. AreFoundReasons (record { role = role; releases = releases; further = plan.further }) count (map.entries faults) log reasons)
+    → IfSome judged (λ log. IsVerdictOn (unlisted plan.further) log role count faults)
+    → IfSome again (λ log. AreFoundReasons (without_list plan.further) (record { role = role; releases = releases; further = wants_further (unlisted plan.further) }) count (map.entries faults) log reasons)
     → IfOk status (λ s. s ≡ 2 → IfSome shown (λ log. RefusesShow (text_with plan role (map.entries faults) reasons log) log old new))
     → IfOk status (λ s. s ≡ 2 → HasReleases releases judged → IfAll judged again shown (λ first second third. RefusesPlan plan first second third old new))
 review_is_refused plan releases role count faults reasons judged again shown old new (Err e) v found refused = tt
 review_is_refused plan releases role count faults reasons judged again shown old new (Ok s) v found refused = λ passed is.
     for_all judged again shown (IsVerdictFor plan.further releases role count faults)
-    (λ log. AreFoundReasons (record { role = role; releases = releases; further = plan.further }) count (map.entries faults) log reasons)
+    (λ log. AreFoundReasons (without_list plan.further) (record { role = role; releases = releases; further = wants_further (unlisted plan.further) }) count (map.entries faults) log reasons)
     (λ log. RefusesShow (text_with plan role (map.entries faults) reasons log) log old new)
     (λ first second third. RefusesPlan plan first second third old new)
     (λ first second third w f h. inr (
@@ -203,25 +206,25 @@ review_is_refused plan releases role count faults reasons judged again shown old
         subst (λ (text : List Placed → List ℕ). RefusesShow text third old new) (text_is plan role count faults reasons first third w.0) h,
       ),
     ))
-    (both_known judged (λ log. IsVerdictOn plan.further log role count faults) (λ log. releases ≡ (header_by log).releases) v is) found (refused passed)
+    (both_known judged (λ log. IsVerdictOn (unlisted plan.further) log role count faults) (λ log. releases ≡ (header_by log).releases) v is) found (refused passed)
 
 pub review_stops : (plan : Plan) (releases : Bool) (role : Role) (count : ℕ) (faults : FaultMap) (reasons : List Evidence)
     (judged again shown judged_left again_left shown_left old new : Option (List ℕ)) (status : Result ℕ Lapse)
-    → IfSome judged (λ log. IsVerdictOn plan.further log role count faults)
-    → IfSome again (λ log. AreFoundReasons (record { role = role; releases = releases; further = plan.further }) count (map.entries faults) log reasons)
+    → IfSome judged (λ log. IsVerdictOn (unlisted plan.further) log role count faults)
+    → IfSome again (λ log. AreFoundReasons (without_list plan.further) (record { role = role; releases = releases; further = wants_further (unlisted plan.further) }) count (map.entries faults) log reasons)
     → IfErr status (λ lapse. IfSome shown (λ log. StopsShowing (text_with plan role (map.entries faults) reasons log) lapse log shown_left old new))
     → IfErr status (λ lapse. HasReleases releases judged → IfAll judged again shown (λ first second third. StopsPlan plan lapse first second third judged_left again_left shown_left old new))
 review_stops plan releases role count faults reasons judged again shown judged_left again_left shown_left old new (Ok s) v found stops = tt
 review_stops plan releases role count faults reasons judged again shown judged_left again_left shown_left old new (Err lapse) v found stops = λ is.
     for_all judged again shown (IsVerdictFor plan.further releases role count faults)
-    (λ log. AreFoundReasons (record { role = role; releases = releases; further = plan.further }) count (map.entries faults) log reasons)
+    (λ log. AreFoundReasons (without_list plan.further) (record { role = role; releases = releases; further = wants_further (unlisted plan.further) }) count (map.entries faults) log reasons)
     (λ log. StopsShowing (text_with plan role (map.entries faults) reasons log) lapse log shown_left old new)
     (λ first second third. StopsPlan plan lapse first second third judged_left again_left shown_left old new)
     (λ first second third w f h. go first second third w f lapse h)
-    (both_known judged (λ log. IsVerdictOn plan.further log role count faults) (λ log. releases ≡ (header_by log).releases) v is) found stops
+    (both_known judged (λ log. IsVerdictOn (unlisted plan.further) log role count faults) (λ log. releases ≡ (header_by log).releases) v is) found stops
   where
     go : (first second third : List ℕ) → IsVerdictFor plan.further releases role count faults first
-        → AreFoundReasons (record { role = role; releases = releases; further = plan.further }) count (map.entries faults) second reasons → (l : Lapse)
+        → AreFoundReasons (without_list plan.further) (record { role = role; releases = releases; further = wants_further (unlisted plan.further) }) count (map.entries faults) second reasons → (l : Lapse)
         → StopsShowing (text_with plan role (map.entries faults) reasons third) l third shown_left old new → StopsPlan plan l first second third judged_left again_left shown_left old new
     go first second third w f (Failed failure) h = inr (inr (
       w.0.judged,
@@ -234,12 +237,6 @@ review_stops plan releases role count faults reasons judged again shown judged_l
     go first second third w f Changed h = absurd h
 
 -- ---- a log that is refused while it is judged
-
-pub judging_is_refused : (plan : Plan) (judged again shown left old new : Option (List ℕ)) (refusal : Refusal) → IfSome judged (λ log. IsRefusedAt default_limit log left refusal)
-    → IsOfLog refusal → Appends old new (refused_report Text refusal) → IfAll judged again shown (λ first second third. RefusesPlan plan first second third old new)
-judging_is_refused plan judged again shown left old new refusal stops own written =
-    for_first judged again shown (λ log. IsRefusedAt default_limit log left refusal) (λ first second third. RefusesPlan plan first second third old new)
-    (λ first second third h. inl (refusal, own_refusal first left refusal own h, written)) stops
 
 pub judging_stops : (plan : Plan) (judged again shown left again_left shown_left old new : Option (List ℕ)) (refusal : Refusal) (failure : Failure)
     → IfSome judged (λ log. IsRefusedAt default_limit log left refusal)
@@ -262,6 +259,28 @@ judging_stops plan judged again shown left again_left shown_left old new refusal
     on_log r log h (inl kept) = (r, own_refusal log left r tt h, part-kept old new (refused_line r) kept)
     on_log r log h (inr (own, part)) = (r, own_refusal log left r own h, part)
 
+-- memory for the verdict isn't wanting without a list
+pub never_lacks : (choice : Choice) (judged again shown : Option (List ℕ)) (R : List ℕ → List ℕ → List ℕ → Type 0) → is_listed choice ≡ false
+    → IfSome judged (λ log. IsJudged log × (is_listed choice ≡ true)) → IfAll judged again shown R
+never_lacks choice judged again shown R listed lacks =
+    for_first judged again shown (λ log. IsJudged log × (is_listed choice ≡ true)) R (λ first second third h. absurd (let bad : true ≡ false = sym h.1 ∙ listed in cc)) lacks
+
+-- ---- the choice without a list
+
+-- a verdict by it is one without a list
+pub judged_without : (choice : Choice) (further : Bool) (judged : Option (List ℕ)) (role : Role) (count : ℕ) (faults : FaultMap) → in_choice choice ≡ unlisted further
+    → IfSome judged (λ log. IsVerdictOn (in_choice choice) log role count faults) → IfSome judged (λ log. IsVerdictOn (unlisted further) log role count faults)
+judged_without choice further judged role count faults has v = subst (λ (chosen : Rule → Bool). IfSome judged (λ log. IsVerdictOn chosen log role count faults)) has v
+
+-- and what is found by it is found without a list
+pub found_without : (P : Chosen → Tested → Type 0) (choice : Choice) (further releases wants : Bool) (role : Role) → in_choice choice ≡ unlisted further → is_listed choice ≡ false
+    → wants ≡ wants_further (in_choice choice) → P (chosen_as choice) (record { role = role; releases = releases; further = wants })
+    → P (without_list further) (record { role = role; releases = releases; further = wants_further (unlisted further) })
+found_without P choice further releases wants role has listed is found =
+    subst (λ (b : Bool). P (without_list further) (record { role = role; releases = releases; further = b })) (is ∙ ap wants_further has)
+    (subst (λ (l : Bool). P (record { has = unlisted further; listed = l }) (record { role = role; releases = releases; further = wants })) listed
+    (subst (λ (chosen : Rule → Bool). P (record { has = chosen; listed = is_listed choice }) (record { role = role; releases = releases; further = wants })) has found))
+
 -- ---- a file that was opened three times
 
 -- the three readings of a file stop as readings of its bytes
@@ -283,7 +302,7 @@ file_stops plan file judged again shown old new is_closed error k l m (inr (inl 
   told = stops.told;
 }))
 file_stops plan file judged again shown old new is_closed error k l m (inr (inr changes)) = inr (inr (record {
-  changed = for_file_thrice file judged again shown (λ first second third. HasChanged plan.further first second old new) k l m changes.changed;
+  changed = for_file_thrice file judged again shown (λ first second third. HasChanged (without_list plan.further) first second old new) k l m changes.changed;
   told = changes.told;
 }))
 
@@ -321,6 +340,6 @@ stops_rejoined plan log judged again shown old new is_closed error k (inl stops)
   told = stops.told;
 })
 stops_rejoined plan log judged again shown old new is_closed error k (inr changes) = inr (record {
-  changed = rejoin_all log judged again shown (λ first second third. HasChanged plan.further first second old new) k changes.changed;
+  changed = rejoin_all log judged again shown (λ first second third. HasChanged (without_list plan.further) first second old new) k changes.changed;
   told = changes.told;
 })

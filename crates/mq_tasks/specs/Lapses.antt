@@ -13,11 +13,12 @@ use Rattle.mq_host.specs.declared.failure.Failure.{Failure}
 use Rattle.mq_host.specs.declared.failure.Failure.TheVariants as failures
 use Rattle.mq_tasks.specs.declared.lapse.Lapse.{Lapse}
 use Rattle.mq_tasks.specs.declared.lapse.Lapse.TheVariants.{Failed, Changed}
+use Rattle.mq_tasks.specs.Choosing.{Chosen}
 use Rattle.mq_tasks.specs.Messages.{IsRefusedBy}
 
 -- the log that was read again has this verdict, and these are what the faults of the verdict conflict with
-abbrev pub AreVerdictReasons : Tested → ℕ → List (FaultKey × Fault) → List ℕ → List Evidence → Type 0
-AreVerdictReasons tested count faults log reasons = IsJudged log × IsSame tested (tested_by tested.further log) count faults (seen_in log) × AreReasons tested (seen_in log) faults reasons
+abbrev pub AreVerdictReasons : Chosen → Tested → ℕ → List (FaultKey × Fault) → List ℕ → List Evidence → Type 0
+AreVerdictReasons choice tested count faults log reasons = IsJudged log × IsSame choice.has tested (tested_by tested.further log) count faults (seen_in log) × AreReasons tested (seen_in log) faults reasons
 
 -- reading the log again failed, or memory ran out. This log is the one whose reader has these bytes left.
 abbrev pub StopsReading : Failure → List ℕ → (left : Option (List ℕ)) → Type 0
@@ -26,9 +27,9 @@ StopsReading failures.Memory log left = ⊤
 StopsReading failures.Write log left = ⊥
 
 -- they weren't found: reading failed, or memory ran out; or the log is refused or has another verdict
-abbrev pub LacksReasons : Tested → ℕ → List (FaultKey × Fault) → Lapse → List ℕ → (left : Option (List ℕ)) → Type 0
-LacksReasons tested count faults (Failed failure) log left = StopsReading failure log left
-LacksReasons tested count faults Changed log left = ((refusal : Refusal) × IsRefusedBy log refusal) ⊎ (IsJudged log × (¬ IsSame tested (tested_by tested.further log) count faults (seen_in log)))
+abbrev pub LacksReasons : Chosen → Tested → ℕ → List (FaultKey × Fault) → Lapse → List ℕ → (left : Option (List ℕ)) → Type 0
+LacksReasons choice tested count faults (Failed failure) log left = StopsReading failure log left
+LacksReasons choice tested count faults Changed log left = ((refusal : Refusal) × IsRefusedBy log refusal) ⊎ (IsJudged log × (¬ IsSame choice.has tested (tested_by tested.further log) count faults (seen_in log)))
 
 -- why a log isn't judged again that is refused so
 abbrev pub lapse_of : Refusal → Lapse

@@ -1,3 +1,4 @@
+pub mod Choosing
 pub mod Converting
 pub mod Messages
 pub mod Reviewing

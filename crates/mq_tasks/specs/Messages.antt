@@ -1,5 +1,5 @@
 -- What the program writes, and where.
-use Rattle.std.specs.Prelude.{Bool, true, false, ◌≡◌, ◌⊎◌, ⊤, List, ℕ, Option, None, [], ◌++◌, string_bytes, unwrap_or, option_map, ◌<◌, length, IfSome, IsSome, IsSomeAnd, IsErr, Result, Ok, Err}
+use Rattle.std.specs.Prelude.{Bool, String, true, false, ◌≡◌, ◌⊎◌, ⊤, List, ℕ, Option, None, [], ◌++◌, string_bytes, unwrap_or, option_map, ◌<◌, length, IfSome, IsSome, IsSomeAnd, IsErr, IsOkAnd, MatchResult, Result, Ok, Err}
 use Rattle.std.specs.FinMap as map
 use Rattle.std.specs.Io.KnownBytes.{Appends, Keeps}
 use Rattle.mq_judge.specs.declared.Form.{Form}
@@ -8,11 +8,11 @@ use Rattle.mq_judge.specs.declared.Refusal.{Refusal}
 use Rattle.mq_judge.specs.declared.Refusal.TheVariants as refusals
 use Rattle.mq_report.specs.LongPacket.{long_packet_report}
 use Rattle.mq_report.specs.OnePacket.{IsOnePacket, packet_report}
-use Rattle.mq_report.specs.Report.{refused_line, refused_report, report}
+use Rattle.mq_report.specs.Report.{refused_line, refused_report}
 use Rattle.mq_judge.specs.declared.Outcome.{Outcome}
 use Rattle.mq_judge.specs.declared.RunFault.{RunFault}
 use Rattle.mq_judge.specs.declared.RunFault.TheVariants as run_faults
-use Rattle.mq_judge.specs.Runner.{IsFaultless, covered_report, outcome_of}
+use Rattle.mq_judge.specs.Runner.{IsFaultless, chosen_report, covered_report, outcome_of}
 use Rattle.mq_trace.specs.Writing.{AppendsBeginning}
 use Rattle.mq_report.specs.Stopping.{IsJudged, default_limit, IsRefusedAt, IsRefusedNext}
 use Rattle.mq_report.specs.Display.{WritesBeginning, annotated, is_timed, short_lines_of, long_lines_of}
@@ -25,6 +25,8 @@ use Rattle.mq_command.specs.declared.command_line.Form.{Form as AskedForm}
 use Rattle.mq_command.specs.declared.command_line.Form.TheVariants as asked
 use Rattle.mq_command.specs.declared.command_line.Task.{Task}
 use Rattle.mq_command.specs.declared.command_line.Task.TheVariants.{Check, Show, Packet, Rules, Explain}
+use Rattle.std.specs.declared.alloc.Global.{Global}
+use Rattle.mq_tasks.specs.Choosing.{Chosen, choice_for}
 use Rattle.mq_tasks.specs.declared.tasks.EventView.{EventView}
 use Rattle.mq_tasks.specs.declared.tasks.EventView.TheVariants.{Lines, Faults}
 use Rattle.mq_command.specs.declared.command_line.EarlyExit.{EarlyExit}
@@ -92,22 +94,22 @@ form_of asked.Text = Text
 form_of asked.Json = Json
 form_of asked.Summary = Summary
 
--- the report on a log, on the further statements too or not, in this form, with how often each statement was put to the test, or without
-abbrev pub report_for : (further : Bool) → Form → (coverage : Bool) → List ℕ → List ℕ
-report_for further form false log = report further form log
-report_for further form true log = covered_report further form log
+-- the report on a log, on the statements of this choice, in this form, with how often each statement was put to the test, or without
+abbrev pub report_for : Chosen → Form → (coverage : Bool) → List ℕ → List ℕ
+report_for choice form false log = chosen_report choice.has form log
+report_for choice form true log = covered_report choice.has form log
 
--- memory may be wanting for the report: for a JSON value, or for the list of the statements that were put to the test
-abbrev pub MayLackMemory : Form → (coverage : Bool) → Type 0
-MayLackMemory form coverage = (form ≡ Json) ⊎ (coverage ≡ true)
+-- memory may be wanting for the report: for a JSON value, for the list of the statements that were put to the test, or for the faults of the statements that are listed
+abbrev pub MayLackMemory : Chosen → Form → (coverage : Bool) → Type 0
+MayLackMemory choice form coverage = (form ≡ Json) ⊎ ((coverage ≡ true) ⊎ (choice.listed ≡ true))
 
--- What a run over this log did that judges the further statements too or not, and whose report is in this form and has coverage or not, by its result and what the reader has left: it wrote the report
+-- What a run over this log did that judges by this choice, and whose report is in this form and has coverage or not, by its result and what the reader has left: it wrote the report
 -- and nothing else; or, if writing failed, a beginning of it; or nothing, if the log is refused or there was no memory for the report.
-abbrev pub RunsFor : (further : Bool) → Form → (coverage : Bool) → List ℕ → Option (List ℕ) → Result Outcome RunFault → Option (List ℕ) → Option (List ℕ) → Type 0
-RunsFor further form coverage log left (Ok outcome) old new = IsJudged log × (outcome ≡ outcome_of further log) × Appends old new (report_for further form coverage log)
-RunsFor further form coverage log left (Err (run_faults.Refused refusal)) old new = IsRefusedAt default_limit log left refusal
-RunsFor further form coverage log left (Err run_faults.Write) old new = IsJudged log × AppendsBeginning old new (report_for further form coverage log)
-RunsFor further form coverage log left (Err run_faults.Memory) old new = IsJudged log × MayLackMemory form coverage × (new ≡ old)
+abbrev pub RunsFor : Chosen → Form → (coverage : Bool) → List ℕ → Option (List ℕ) → Result Outcome RunFault → Option (List ℕ) → Option (List ℕ) → Type 0
+RunsFor choice form coverage log left (Ok outcome) old new = IsJudged log × (outcome ≡ outcome_of choice.has log) × Appends old new (report_for choice form coverage log)
+RunsFor choice form coverage log left (Err (run_faults.Refused refusal)) old new = IsRefusedAt default_limit log left refusal
+RunsFor choice form coverage log left (Err run_faults.Write) old new = IsJudged log × AppendsBeginning old new (report_for choice form coverage log)
+RunsFor choice form coverage log left (Err run_faults.Memory) old new = IsJudged log × MayLackMemory choice form coverage × (new ≡ old)
 
 -- A check of the log was refused: the refusal was written in this form and nothing else.
 abbrev pub RefusesCheck : Form → List ℕ → (old new : Option (List ℕ)) → Type 0
@@ -135,13 +137,13 @@ RefusesShow text_of log old new = (refusal : Refusal) × (by : IsRefusedBy log r
 abbrev pub IsDecided : List ℕ → Type 0
 IsDecided log = IsJudged log ⊎ ((refusal : Refusal) × IsRefusedBy log refusal)
 
--- A check of the log failed. Reading it failed, or memory ran out, for the log, for the report or refusal as JSON, or for the list of
--- what was put to the test: nothing was written. Or writing failed: part of the report was written, or of its refusal.
-abbrev pub StopsCheck : (further : Bool) → Form → (coverage : Bool) → Failure → List ℕ → (left old new : Option (List ℕ)) → Type 0
-StopsCheck further form coverage failures.Read log left old new = (at : ℕ) × IsRefusedAt default_limit log left (refusals.Read at) × Keeps old new
-StopsCheck further form coverage failures.Memory log left old new = ((at : ℕ) × IsRefusedAt default_limit log left (refusals.Memory at) × Keeps old new)
-    ⊎ (MayLackMemory form coverage × IsDecided log × Keeps old new)
-StopsCheck further form coverage failures.Write log left old new = (IsJudged log × AppendsPart old new (report_for further form coverage log))
+-- A check of the log failed. Reading it failed, or memory ran out, for the log, for the report or refusal as JSON, for the list of
+-- what was put to the test, or for the faults of the statements that are listed: nothing was written. Or writing failed: part of the report was written, or of its refusal.
+abbrev pub StopsCheck : Chosen → Form → (coverage : Bool) → Failure → List ℕ → (left old new : Option (List ℕ)) → Type 0
+StopsCheck choice form coverage failures.Read log left old new = (at : ℕ) × IsRefusedAt default_limit log left (refusals.Read at) × Keeps old new
+StopsCheck choice form coverage failures.Memory log left old new = ((at : ℕ) × IsRefusedAt default_limit log left (refusals.Memory at) × Keeps old new)
+    ⊎ (MayLackMemory choice form coverage × IsDecided log × Keeps old new)
+StopsCheck choice form coverage failures.Write log left old new = (IsJudged log × AppendsPart old new (report_for choice form coverage log))
     ⊎ ((refusal : Refusal) × IsRefusedBy log refusal × AppendsPart old new (refused_report form refusal))
 
 -- Showing the log by this text of events failed. Reading it failed, or memory ran out: the text of the preceding events was written. Or
@@ -201,46 +203,67 @@ Prints text old new = IsSomeAnd text (λ printed. Appends old new printed)
 abbrev pub PrintsPart : Option (List ℕ) → Option (List ℕ) → Option (List ℕ) → Type 0
 PrintsPart text old new = IsSomeAnd text (λ printed. AppendsPart old new printed)
 
+-- ---- the choice of the words
+
+-- the words choose statements, and this holds for these
+abbrev pub ByChoice : (further : Bool) → Option (String Global) → (Chosen → Type 0) → Type 0
+ByChoice further statements P = IsOkAnd (choice_for further (option_map string_bytes statements)) P
+
+-- they choose none, or this holds for those that they choose; this line says why
+abbrev pub IsMischosen : (further : Bool) → Option (String Global) → (line : List ℕ) → (Chosen → Type 0) → Type 0
+IsMischosen further statements line P = MatchResult (choice_for further (option_map string_bytes statements)) P (λ why. line ≡ why)
+
+-- there was no memory for a message, and nothing was written
+abbrev pub LacksMessage : Failure → (old new : Option (List ℕ)) → Type 0
+LacksMessage failures.Read old new = ⊥
+LacksMessage failures.Write old new = ⊥
+LacksMessage failures.Memory old new = Keeps old new
+
+-- this holds for the statements that they choose, or they choose none and there was no memory to say so
+abbrev pub StopsByChoice : (further : Bool) → Option (String Global) → Failure → (old new : Option (List ℕ)) → (Chosen → Type 0) → Type 0
+StopsByChoice further statements failure old new P = MatchResult (choice_for further (option_map string_bytes statements)) P (λ line. LacksMessage failure old new)
+
 -- ---- what a status means for a task, whose input gives these bytes and then has these left, each if known
 
 -- 0: the log is judged and has no fault; the log that is shown can be judged; the bytes are one packet; the word names an end, or a statement
 abbrev pub HasPassed : Task → Option (List ℕ) → Type 0
-HasPassed (Check file form coverage further) input = IfSome input (λ log. IsJudged log × IsFaultless further log)
+HasPassed (Check file form coverage further statements) input = ByChoice further statements (λ choice. IfSome input (λ log. IsJudged log × IsFaultless choice.has log))
 HasPassed (Show file long) input = IfSome input IsJudged
 HasPassed (Packet hex long) input = OfDigits (string_bytes hex) input SpellsPacket
-HasPassed (Rules role further) input = IsSome (listed_for further (option_map string_bytes role))
+HasPassed (Rules role further statements) input = ByChoice further statements (λ choice. IsSome (listed_for choice.has (option_map string_bytes role)))
 HasPassed (Explain code) input = IsSome (explained_for (string_bytes code))
 
 -- 1: the log is judged and has faults; the bytes aren't exactly one packet
 abbrev pub HasFailed : Task → Option (List ℕ) → Type 0
-HasFailed (Check file form coverage further) input = IfSome input (λ log. IsJudged log × (¬ IsFaultless further log))
+HasFailed (Check file form coverage further statements) input = ByChoice further statements (λ choice. IfSome input (λ log. IsJudged log × (¬ IsFaultless choice.has log)))
 HasFailed (Show file long) input = ⊥
 HasFailed (Packet hex long) input = OfDigits (string_bytes hex) input SpellsNoPacket
-HasFailed (Rules role further) input = ⊥
+HasFailed (Rules role further statements) input = ⊥
 HasFailed (Explain code) input = ⊥
 
 -- 0 and 1: the report was written, or the lines of the log's events, the line on the packet, the lines of the statements, or the explanation of one, and nothing else
 abbrev pub IsReportedOn : Task → Option (List ℕ) → Option (List ℕ) → Option (List ℕ) → Type 0
-IsReportedOn (Check file form coverage further) input old new = IfSome input (λ log. Appends old new (report_for further (form_of form) coverage log))
+IsReportedOn (Check file form coverage further statements) input old new = ByChoice further statements (λ choice. IfSome input (λ log. Appends old new (report_for choice (form_of form) coverage log)))
 IsReportedOn (Show file long) input old new = IfSome input (λ log. Appends old new (text_for (is_timed log) long (events log)))
 IsReportedOn (Packet hex long) input old new = OfDigits (string_bytes hex) input (λ text. AppendsReportOf long text old new)
-IsReportedOn (Rules role further) input old new = Prints (listed_for further (option_map string_bytes role)) old new
+IsReportedOn (Rules role further statements) input old new = ByChoice further statements (λ choice. Prints (listed_for choice.has (option_map string_bytes role)) old new)
 IsReportedOn (Explain code) input old new = Prints (explained_for (string_bytes code)) old new
 
 -- 2: the log is refused, and the line that says so was written: alone by a check, after the lines of the preceding events if the log is shown
 abbrev pub IsRefusedOn : Task → (input old new : Option (List ℕ)) → Type 0
-IsRefusedOn (Check file form coverage further) input old new = IfSome input (λ log. RefusesCheck (form_of form) log old new)
+IsRefusedOn (Check file form coverage further statements) input old new = IfSome input (λ log. RefusesCheck (form_of form) log old new)
 IsRefusedOn (Show file long) input old new = IfSome input (λ log. RefusesShow (text_for (is_timed log) long) log old new)
 IsRefusedOn (Packet hex long) input old new = ⊥
-IsRefusedOn (Rules role further) input old new = ⊥
+IsRefusedOn (Rules role further statements) input old new = ⊥
 IsRefusedOn (Explain code) input old new = ⊥
 
--- 3: the digits of a packet spell no bytes or are too many, or a word isn't an end, or is neither the code of a statement nor a citation; and this line says so
+-- 3: the digits of a packet spell no bytes or are too many, the words choose no statements, or a word isn't an end, or is neither the code of a statement nor a citation; and this line says so
 abbrev pub IsMisnamed : Task → (input : Option (List ℕ)) → (line : List ℕ) → Type 0
-IsMisnamed (Check file form coverage further) input line = ⊥
+IsMisnamed (Check file form coverage further statements) input line = IsMischosen further statements line (λ choice. ⊥)
 IsMisnamed (Show file long) input line = ⊥
 IsMisnamed (Packet hex long) input line = IsMisgiven (string_bytes hex) input line
-IsMisnamed (Rules role further) input line = (listed_for further (option_map string_bytes role) ≡ None) × (line ≡ no_role_line (unwrap_or (option_map string_bytes role) []))
+IsMisnamed (Rules role further statements) input line =
+    IsMischosen further statements line (λ choice. (listed_for choice.has (option_map string_bytes role) ≡ None) × (line ≡ no_role_line (unwrap_or (option_map string_bytes role) [])))
 IsMisnamed (Explain code) input line = (explained_for (string_bytes code) ≡ None) × (line ≡ no_statement_line (string_bytes code))
 
 -- what keeps the report on these digits from being written: it couldn't be written or flushed, or memory ran out first, or they spell no bytes
@@ -274,10 +297,12 @@ StopsText text line old new (obstacles.Misused misuse) = (text ≡ None) × (mis
 
 -- 4: what failed, and what had been written
 abbrev pub StopsTask : Failure → Task → (input left old new : Option (List ℕ)) → Type 0
-StopsTask failure (Check file form coverage further) input left old new = IfSome input (λ log. StopsCheck further (form_of form) coverage failure log left old new)
+StopsTask failure (Check file form coverage further statements) input left old new =
+    StopsByChoice further statements failure old new (λ choice. IfSome input (λ log. StopsCheck choice (form_of form) coverage failure log left old new))
 StopsTask failure (Show file long) input left old new = IfSome input (λ log. StopsShow (text_for (is_timed log) long) failure log left old new)
 StopsTask failure (Packet hex long) input left old new = StopsGiven long (string_bytes hex) input old new (obstacles.Failed failure)
-StopsTask failure (Rules role further) input left old new = StopsPrinting failure (listed_for further (option_map string_bytes role)) old new
+StopsTask failure (Rules role further statements) input left old new =
+    StopsByChoice further statements failure old new (λ choice. StopsPrinting failure (listed_for choice.has (option_map string_bytes role)) old new)
 StopsTask failure (Explain code) input left old new = StopsPrinting failure (explained_for (string_bytes code)) old new
 
 -- what keeps a task from being done: something failed, or its digits spell no bytes, or its word names nothing, and nothing was written

@@ -20,7 +20,8 @@ use Rattle.mq_tasks.specs.Converting.{DoesToFiles, FailsConverting, Files, IsCon
 use Rattle.mq_host.specs.Effects.{Doing}
 use Rattle.mq_host.specs.Given.{Given, bytes_at}
 use Rattle.mq_judge.specs.declared.Form.{Form}
-use Rattle.mq_tasks.specs.Inquiring.{HasChanged, IsPassed, IsReasoned, StopsInquiry, log_of}
+use Rattle.mq_tasks.specs.Choosing.{Chosen, without_list}
+use Rattle.mq_tasks.specs.Inquiring.{HasChanged, IsPassed, IsReasoned, StopsInquiry, asked_of}
 use Rattle.mq_tasks.specs.Lapses.{changed_line}
 use Rattle.mq_tasks.specs.declared.lapse.Lapse.TheVariants as lapses
 use Rattle.mq_tasks.specs.Reviewing.{IfAll, IfBoth, IsReviewed, Plan, RefusesPlan, StopsPlan, plan_of}
@@ -110,14 +111,14 @@ pub record StopsReaders (plan : Plan) (judged again shown : Option Text) (is_clo
   pub told : Tells is_closed plan.path trouble error
 
 -- The log changed between the first two readings, and it is said so.
-pub record ChangesReaders (further : Bool) (judged again shown : Option Text) (old new : Option (List ℕ)) (error : Stream) : Type 0 where
-  pub changed : IfAll judged again shown (λ first second third. HasChanged further first second old new)
+pub record ChangesReaders (choice : Chosen) (judged again shown : Option Text) (old new : Option (List ℕ)) (error : Stream) : Type 0 where
+  pub changed : IfAll judged again shown (λ first second third. HasChanged choice first second old new)
   pub told : IsTold error changed_line
 
 -- 4: judging the log, reading it again or showing it failed, or it changed
 abbrev pub FailsBegun : Plan → (judged again shown : Option Text) → (is_closed : Bool) → (old new : Option (List ℕ)) → Stream → Type 0
 FailsBegun plan judged again shown is_closed old new error =
-    StopsReaders plan judged again shown is_closed old new error ⊎ ChangesReaders plan.further judged again shown old new error
+    StopsReaders plan judged again shown is_closed old new error ⊎ ChangesReaders (without_list plan.further) judged again shown old new error
 
 -- 4: the same, or the first bytes of the log couldn't be read
 abbrev pub FailsReaders : Plan → (judged again shown : Option Text) → (is_closed : Bool) → (old new : Option (List ℕ)) → Stream → Type 0
@@ -150,44 +151,44 @@ FailsReview given review is_closed old new error = IsOkAnd (plan_of review) (λ 
 
 -- 0: the log has no fault, and the report was written
 abbrev pub PassesInquiry : Given → Inquiry → Option (List ℕ) → Option (List ℕ) → Type 0
-PassesInquiry given inquiry old new = IsOkAnd (log_of inquiry) (λ path. IfSome (given.file path) (λ log. IsPassed inquiry.further (form_of inquiry.form) log old new))
+PassesInquiry given inquiry old new = IsOkAnd (asked_of inquiry) (λ asked. IfSome (given.file asked.path) (λ log. IsPassed asked.choice (form_of inquiry.form) log old new))
 
 -- 1: it has faults, and the report that says what they conflict with was written
 abbrev pub FindsReasons : Given → Inquiry → Option (List ℕ) → Option (List ℕ) → Type 0
-FindsReasons given inquiry old new = IsOkAnd (log_of inquiry) (λ path. IfSome (given.file path) (λ log. IsReasoned inquiry.further (form_of inquiry.form) log log old new))
+FindsReasons given inquiry old new = IsOkAnd (asked_of inquiry) (λ asked. IfSome (given.file asked.path) (λ log. IsReasoned asked.choice (form_of inquiry.form) log log old new))
 
 -- 2: the log is refused, and the line that says so was written
 abbrev pub RefusesInquiry : Given → Inquiry → (old new : Option (List ℕ)) → Stream → Type 0
-RefusesInquiry given inquiry old new error = IsOkAnd (log_of inquiry) (λ path. IfSome (given.file path) (λ log. RefusesCheck (form_of inquiry.form) log old new)
-    × IsHinted (given.file path) error)
+RefusesInquiry given inquiry old new error = IsOkAnd (asked_of inquiry) (λ asked. IfSome (given.file asked.path) (λ log. RefusesCheck (form_of inquiry.form) log old new)
+    × IsHinted (given.file asked.path) error)
 
 -- 3: no file is named, or another report is asked for too, and the line that says so was written
 abbrev pub MisusesInquiry : Inquiry → Option (List ℕ) → Option (List ℕ) → Type 0
-MisusesInquiry inquiry error_old error_new = IsErrAnd (log_of inquiry) (λ line. Appends error_old error_new line)
+MisusesInquiry inquiry error_old error_new = IsErrAnd (asked_of inquiry) (λ line. Appends error_old error_new line)
 
 -- Reading or writing failed, or memory ran out, while one log was judged or while the other one was read, and it is said what failed. What the two readers have left
 -- isn't specified.
-pub record StopsInquiryReaders (path : Text) (further : Bool) (form : Form) (judged again : Option Text) (is_closed : Bool) (old new : Option (List ℕ)) (error : Stream) : Type 0 where
+pub record StopsInquiryReaders (path : Text) (choice : Chosen) (form : Form) (judged again : Option Text) (is_closed : Bool) (old new : Option (List ℕ)) (error : Stream) : Type 0 where
   pub judged_left : Option (List ℕ)
   pub again_left : Option (List ℕ)
   pub trouble : Trouble
-  pub stops : IfBoth judged again (λ first second. StopsInquiry further form (lapses.Failed (failure_in trouble)) first second judged_left again_left old new)
+  pub stops : IfBoth judged again (λ first second. StopsInquiry choice form (lapses.Failed (failure_in trouble)) first second judged_left again_left old new)
   pub told : Tells is_closed path trouble error
 
 -- The log changed between the two readings, and it is said so.
-pub record ChangesInquiry (further : Bool) (judged again : Option Text) (old new : Option (List ℕ)) (error : Stream) : Type 0 where
-  pub changed : IfBoth judged again (λ first second. HasChanged further first second old new)
+pub record ChangesInquiry (choice : Chosen) (judged again : Option Text) (old new : Option (List ℕ)) (error : Stream) : Type 0 where
+  pub changed : IfBoth judged again (λ first second. HasChanged choice first second old new)
   pub told : IsTold error changed_line
 
 -- 4: judging the log or reading it again failed, or it changed
-abbrev pub FailsInquiryBegun : (path : Text) → (further : Bool) → Form → (judged again : Option Text) → (is_closed : Bool) → (old new : Option (List ℕ)) → Stream → Type 0
-FailsInquiryBegun path further form judged again is_closed old new error =
-    StopsInquiryReaders path further form judged again is_closed old new error ⊎ ChangesInquiry further judged again old new error
+abbrev pub FailsInquiryBegun : (path : Text) → (choice : Chosen) → Form → (judged again : Option Text) → (is_closed : Bool) → (old new : Option (List ℕ)) → Stream → Type 0
+FailsInquiryBegun path choice form judged again is_closed old new error =
+    StopsInquiryReaders path choice form judged again is_closed old new error ⊎ ChangesInquiry choice judged again old new error
 
 -- 4: the same, or the first bytes of the log couldn't be read
-abbrev pub FailsInquiryReaders : (path : Text) → (further : Bool) → Form → (judged again : Option Text) → (is_closed : Bool) → (old new : Option (List ℕ)) → Stream → Type 0
-FailsInquiryReaders path further form judged again is_closed old new error =
-    IsUnbegun path is_closed old new error ⊎ FailsInquiryBegun path further form judged again is_closed old new error
+abbrev pub FailsInquiryReaders : (path : Text) → (choice : Chosen) → Form → (judged again : Option Text) → (is_closed : Bool) → (old new : Option (List ℕ)) → Stream → Type 0
+FailsInquiryReaders path choice form judged again is_closed old new error =
+    IsUnbegun path is_closed old new error ⊎ FailsInquiryBegun path choice form judged again is_closed old new error
 
 -- The file couldn't be opened: nothing was written, and it is said why, and which file it is.
 pub record IsUnopenedLog (given : Given) (path : Text) (is_closed : Bool) (old new : Option (List ℕ)) (error : Stream) : Type 0 where
@@ -197,14 +198,14 @@ pub record IsUnopenedLog (given : Given) (path : Text) (is_closed : Bool) (old n
   pub told : Tells is_closed path trouble error
 
 -- 4: the file couldn't be opened, or not be read or judged, or it changed
-abbrev pub FailsInquiryFile : Given → (path : Text) → (further : Bool) → Form → (is_closed : Bool) → (old new : Option (List ℕ)) → Stream → Type 0
-FailsInquiryFile given path further form is_closed old new error = IsUnopenedLog given path is_closed old new error
-    ⊎ FailsInquiryReaders path further form (given.file path) (given.file path) is_closed old new error
+abbrev pub FailsInquiryFile : Given → (path : Text) → (choice : Chosen) → Form → (is_closed : Bool) → (old new : Option (List ℕ)) → Stream → Type 0
+FailsInquiryFile given path choice form is_closed old new error = IsUnopenedLog given path is_closed old new error
+    ⊎ FailsInquiryReaders path choice form (given.file path) (given.file path) is_closed old new error
 
 -- 4: the check failed, or it is misused, and the line that says so couldn't be written
 abbrev pub FailsInquiry : Given → Inquiry → (is_closed : Bool) → (old new : Option (List ℕ)) → Stream → Type 0
-FailsInquiry given inquiry is_closed old new error = IsOkAnd (log_of inquiry) (λ path. FailsInquiryFile given path inquiry.further (form_of inquiry.form) is_closed old new error)
-    ⊎ IsErrAnd (log_of inquiry) (λ line. FailsUnplanned line old new error)
+FailsInquiry given inquiry is_closed old new error = IsOkAnd (asked_of inquiry) (λ asked. FailsInquiryFile given asked.path asked.choice (form_of inquiry.form) is_closed old new error)
+    ⊎ IsErrAnd (asked_of inquiry) (λ line. FailsUnplanned line old new error)
 
 -- ---- a log that is converted. The file that was made is gone when the program ends, so nothing is said of it here.
 

@@ -1,5 +1,5 @@
 -- Showing a log with the faults at its events and what they conflict with, which reads it twice, and once more if it has faults: what the words ask for, and what each status means.
-use Rattle.std.specs.Prelude.{◌≡◌, ◌⊎◌, ◌^◌, ◌&&◌, ⊤, Bool, nat_lt, List, [], ℕ, Option, None, Some, Result, Ok, Err, if◌then◌else◌, length, option_map, string_bytes, IfSome}
+use Rattle.std.specs.Prelude.{◌≡◌, ◌⊎◌, ◌^◌, ◌&&◌, Bool, nat_lt, List, [], ℕ, Option, None, Some, Result, Ok, Err, if◌then◌else◌, length, option_map, string_bytes, IfSome}
 use Rattle.std.specs.Char.{digit_value}
 use Rattle.std.specs.Io.KnownBytes.{Appends, Keeps}
 use Rattle.std.specs.List.{list_all}
@@ -9,16 +9,15 @@ use Rattle.mq_judge.specs.declared.Form.TheVariants as forms
 use Rattle.mq_judge.specs.declared.Refusal.{Refusal}
 use Rattle.mq_judge.specs.declared.Refusal.TheVariants as refusals
 use Rattle.mq_report.specs.Report.{refused_line}
-use Rattle.mq_judge.specs.Runner.{IsFaultless, found_in}
+use Rattle.mq_judge.specs.Runner.{IsFaultless}
+use Rattle.mq_choice.specs.Choices.{chosen_in, tested_for, unlisted}
 use Rattle.mq_report.specs.Stopping.{IsJudged, default_limit, IsRefusedAt}
 use Rattle.mq_report.specs.Display.{annotated, is_timed}
-use Rattle.mq_rules.specs.Notes.{tested_by, seen_in}
 use Rattle.mq_rules.specs.declared.role.Role.{Role}
 use Rattle.mq_rules.specs.declared.role.Tested.{Tested}
 use Rattle.mq_rules.specs.declared.fault.Fault.{Fault}
 use Rattle.mq_rules.specs.declared.faults.FaultKey.{FaultKey}
 use Rattle.mq_evidence.specs.declared.evidence.Evidence.{Evidence}
-use Rattle.mq_trail.specs.Explaining.{AreReasons, IsSame}
 use Rattle.mq_log.specs.Events.{Placed, events}
 use Rattle.mq_command.specs.declared.command_line.Review.{Review}
 use Rattle.mq_tasks.specs.declared.reviewing.Plan.{Plan as SourcePlan}
@@ -28,6 +27,7 @@ use Rattle.mq_command.specs.CommandLine.{path_named}
 use Rattle.mq_tasks.specs.declared.lapse.Lapse.{Lapse}
 use Rattle.mq_tasks.specs.declared.lapse.Lapse.TheVariants.{Failed, Changed}
 use Rattle.mq_tasks.specs.Lapses.{AreVerdictReasons, StopsReading}
+use Rattle.mq_tasks.specs.Choosing.{Chosen, without_list}
 use Rattle.mq_tasks.specs.Inquiring.{AreReasonsAgain, HasChanged}
 use Rattle.mq_tasks.specs.Messages.{IsRefusedBy, RefusesCheck, RefusesShow, StopsShow}
 use Rattle.mq_host.specs.Streams.{AppendsPart, no_faults_for_all_line, no_faults_line, no_file_line, no_number_line}
@@ -83,7 +83,7 @@ plan_of review = if review.faults then plan_around (path_named (option_map strin
 
 -- what is said of the faults of the log that was judged: nothing if it has none, else what they conflict with, by the log that is read again
 abbrev pub AreShownReasons : (further : Bool) → (judged again : List ℕ) → List Evidence → Type 0
-AreShownReasons further judged again reasons = (IsFaultless further judged × (reasons ≡ [])) ⊎ AreReasonsAgain further judged again reasons
+AreShownReasons further judged again reasons = (IsFaultless (unlisted further) judged × (reasons ≡ [])) ⊎ AreReasonsAgain (without_list further) judged again reasons
 
 -- the text of events with these faults on this end, each with what it conflicts with, and with moments if the records of the log that is shown have them
 abbrev pub text_with : Plan → Role → List (FaultKey × Fault) → List Evidence → (shown : List ℕ) → List Placed → List ℕ
@@ -91,7 +91,7 @@ text_with plan role faults reasons shown = annotated (is_timed shown) (record { 
 
 -- the same with the faults of the log that was judged
 abbrev pub reviewed : Plan → (judged shown : List ℕ) → List Evidence → List Placed → List ℕ
-reviewed plan judged shown reasons = text_with plan (tested_by plan.further judged).role (found_in plan.further judged) reasons shown
+reviewed plan judged shown reasons = text_with plan (tested_for (unlisted plan.further) judged).role (chosen_in (unlisted plan.further) judged) reasons shown
 
 -- 0: The log can be judged and shown; and the text of the events, with the faults and what they conflict with, was written and nothing else.
 pub record IsReviewed (plan : Plan) (judged again shown : List ℕ) (old new : Option (List ℕ)) : Type 0 where
@@ -119,14 +119,14 @@ StopsJudging failures.Write log left old new = (refusal : Refusal) × IsRefusedB
 
 -- 4: reading the log again failed, or memory ran out, for a log that was judged and has faults, and nothing was written
 abbrev pub StopsRereading : (further : Bool) → Failure → (judged again : List ℕ) → (left old new : Option (List ℕ)) → Type 0
-StopsRereading further failure judged again left old new = IsJudged judged × (¬ IsFaultless further judged) × StopsReading failure again left × Keeps old new
+StopsRereading further failure judged again left old new = IsJudged judged × (¬ IsFaultless (unlisted further) judged) × StopsReading failure again left × Keeps old new
 
 -- 4: why, while the log was judged, read again or shown, and what had been written; the three readers have these bytes left
 abbrev pub StopsPlan : Plan → Lapse → (judged again shown : List ℕ) → (judged_left again_left shown_left old new : Option (List ℕ)) → Type 0
 StopsPlan plan (Failed failure) judged again shown judged_left again_left shown_left old new = StopsJudging failure judged judged_left old new
     ⊎ (StopsRereading plan.further failure judged again again_left old new
     ⊎ IsShownBy plan.further judged again (λ reasons. StopsShow (reviewed plan judged shown reasons) failure shown shown_left old new))
-StopsPlan plan Changed judged again shown judged_left again_left shown_left old new = HasChanged plan.further judged again old new
+StopsPlan plan Changed judged again shown judged_left again_left shown_left old new = HasChanged (without_list plan.further) judged again old new
 
 -- this holds for the bytes of the log that was judged and of another one, if they are known
 abbrev pub IfBoth : (judged other : Option (List ℕ)) → (List ℕ → List ℕ → Type 0) → Type 0
@@ -139,9 +139,9 @@ IfAll judged again shown P = IfSome judged (λ first. IfBoth again shown (P firs
 -- ---- the parts of that
 
 -- these are what the faults of a verdict conflict with: none if there is no fault; else the log that was read again has this verdict, and these are those of its faults
-abbrev pub AreFoundReasons : Tested → ℕ → List (FaultKey × Fault) → List ℕ → List Evidence → Type 0
-AreFoundReasons tested count faults log reasons = ((faults ≡ []) × (reasons ≡ []))
-    ⊎ AreVerdictReasons tested count faults log reasons
+abbrev pub AreFoundReasons : Chosen → Tested → ℕ → List (FaultKey × Fault) → List ℕ → List Evidence → Type 0
+AreFoundReasons choice tested count faults log reasons = ((faults ≡ []) × (reasons ≡ []))
+    ⊎ AreVerdictReasons choice tested count faults log reasons
 
 -- showing the log by this text of events failed so, and for no other reason
 abbrev pub StopsShowing : (List Placed → List ℕ) → Lapse → List ℕ → (left old new : Option (List ℕ)) → Type 0

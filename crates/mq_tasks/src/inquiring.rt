@@ -1,19 +1,24 @@
 //! A check that says what each fault conflicts with. It reads a log that has faults twice.
-ghost use Rattle.std.specs.Prelude.{◌≡◌, ◌≤◌, ◌⊎◌, ◌==◌, Ok, Err, IfErr, IfOk, IfSome, OnOk, slice_index};
+ghost use Rattle.std.specs.Prelude.{◌≡◌, ◌≤◌, ◌⊎◌, ◌==◌, Ok, Err, IfErr, IfOk, IfSome, OnOk, option_map, slice_index, string_bytes};
 ghost use Rattle.std.specs.FinMap as map;
 ghost use Rattle.std.specs.Io.KnownBytes.{Appends, Keeps, prepend_known};
 ghost use Rattle.mq_report.specs.Report.{report_on};
 ghost use Rattle.mq_tasks.specs.declared.lapse.Lapse.TheVariants as lapses;
 ghost use Rattle.mq_tasks.specs.Messages.{RefusesCheck};
 ghost use Rattle.mq_tasks.specs.Program.{FailsInquiry, FailsInquiryBegun, FailsInquiryFile, FailsInquiryReaders, FindsReasons, IsHinted, MisusesInquiry, PassesInquiry, RefusesInquiry};
-ghost use Rattle.mq_tasks.specs.Inquiring.{HasReleases, IsExplained, IsPassed, IsReasoned, StopsExplaining, StopsInquiry, StopsReportBy, failure_by, log_of};
+ghost use Rattle.mq_tasks.specs.Inquiring.{HasReleases, IsExplained, IsPassed, IsReasoned, StopsExplaining, StopsInquiry, StopsReportBy, asked_of, failure_by, log_at};
+ghost use Rattle.mq_choice.specs.Choices.{in_choice, wants_further};
+ghost use Rattle.mq_command.specs.CommandLine.{path_named};
+ghost use Rattle.mq_tasks.specs.Choosing.{chosen_as};
 ghost use Rattle.mq_tasks.specs.Messages.{form_of};
 ghost use Rattle.mq_tasks.specs.Reviewing.{IfBoth};
 ghost use Rattle.mq_host.specs.Streams.{IsTold, misuse_line, stream};
 ghost use Rattle.mq_host.specs.Troubles.{hint_line};
 
+use crate::choosing::choice_for;
 use crate::lapse::{Lapse, explain_again, tell_of_change};
 use crate::tasks::{form_of, refuse, see_out};
+use mq_choice::Choice;
 use mq_command::{Inquiry, path_named};
 use mq_host::{
     ErrorStream, FAILED, FAULTY, Failure, Host, MISUSED, Misuse, Noting, Output, PASSED, REFUSED,
@@ -30,8 +35,8 @@ use std::io::{Read, Write};
 pub struct Wanted {
     /// The form of the report.
     pub form: Form,
-    /// Whether the further statements are judged too.
-    pub further: bool,
+    /// The statements whose faults are reported.
+    pub choice: Choice,
 }
 
 /// Judges a log, says what each fault conflicts with, and returns the status to exit with.
@@ -60,33 +65,39 @@ pub fn inquire<H: Host, W: Output, E: ErrorStream>(
     ensures quiet { result ≤ 1 → Keeps (E.contents error.old) (E.contents error.new) }
     ensures unprinted { result ≡ MISUSED → Keeps (W.contents output.old) (W.contents output.new) }
 {
-    match log_of(asked) {
-        Ok(path) => inquire_file(alloc, host, path, wanted_of(asked), output, error),
+    match asked_of(asked) {
+        Ok((path, choice)) => {
+            let wanted = Wanted {
+                form: form_of(asked.form),
+                choice,
+            };
+            inquire_file(alloc, host, path, wanted, output, error)
+        }
         Err(misuse) => misuse.report(alloc, error),
     }
 }
 
-// What is wanted of the log.
-fn wanted_of(asked: &Inquiry) -> Wanted
-    ensures form { result.form ≡ form_of asked.now.form }
-    ensures further { result.further ≡ asked.now.further }
-{
-    Wanted {
-        form: form_of(asked.form),
-        further: asked.further,
-    }
-}
-
-// The path of the log, or why it isn't judged.
-fn log_of(asked: &Inquiry) -> Result<&str, Misuse<'_>>
-    ensures ok { IfOk result (λ path. log_of asked.now ≡ Ok path.now) }
-    ensures err { IfErr result (λ why. log_of asked.now ≡ Err (misuse_line why)) }
+// The path of the log and the choice of statements, or why it isn't judged.
+fn asked_of(asked: &Inquiry) -> Result<(&str, Choice), Misuse<'_>>
+    ensures ok { IfOk result (λ answer. asked_of asked.now ≡ Ok (record { path = answer.0.now; choice = chosen_as answer.1 })) }
+    ensures err { IfErr result (λ why. asked_of asked.now ≡ Err (misuse_line why)) }
 {
     if asked.coverage {
         return Err(Misuse::TwoReports);
     }
-    match path_named(&asked.file) {
-        Some(path) => Ok(path),
+    match choice_for(asked.further, &asked.statements) {
+        Ok(choice) => log_at(&asked.file, choice),
+        Err(misuse) => Err(misuse),
+    }
+}
+
+// The path of the log in this file and the choice, or why it isn't judged.
+fn log_at(file: &Option<String>, choice: Choice) -> Result<(&str, Choice), Misuse<'_>>
+    ensures ok { IfOk result (λ answer. log_at (chosen_as choice) (path_named (option_map string_bytes file.now)) ≡ Ok (record { path = answer.0.now; choice = chosen_as answer.1 })) }
+    ensures err { IfErr result (λ why. log_at (chosen_as choice) (path_named (option_map string_bytes file.now)) ≡ Err (misuse_line why)) }
+{
+    match path_named(file) {
+        Some(path) => Ok((path, choice)),
         None => Err(Misuse::NoFileForWhy),
     }
 }
@@ -101,14 +112,14 @@ fn inquire_file<H: Host, W: Output, E: ErrorStream>(
     error: &mut E,
 ) -> u8
     ensures passed { result ≡ PASSED → IfSome ((H.gives host.now).file path.now)
-        (λ log. IsPassed wanted.further wanted.form log (W.contents output.old) (W.contents output.new)) }
+        (λ log. IsPassed (chosen_as wanted.choice) wanted.form log (W.contents output.old) (W.contents output.new)) }
     ensures faulty { result ≡ FAULTY → IfSome ((H.gives host.now).file path.now)
-        (λ log. IsReasoned wanted.further wanted.form log log (W.contents output.old) (W.contents output.new)) }
+        (λ log. IsReasoned (chosen_as wanted.choice) wanted.form log log (W.contents output.old) (W.contents output.new)) }
     ensures refused { result ≡ REFUSED → IfSome ((H.gives host.now).file path.now)
         (λ log. RefusesCheck wanted.form log (W.contents output.old) (W.contents output.new)) }
     ensures hinted { result ≡ REFUSED → IsHinted ((H.gives host.now).file path.now)
         (stream E.contents E.has_failed error.old error.new) }
-    ensures failed { result ≡ FAILED → FailsInquiryFile (H.gives host.now) path.now wanted.further wanted.form (W.is_closed output.new)
+    ensures failed { result ≡ FAILED → FailsInquiryFile (H.gives host.now) path.now (chosen_as wanted.choice) wanted.form (W.is_closed output.new)
         (W.contents output.old) (W.contents output.new) (stream E.contents E.has_failed error.old error.new) }
     ensures statuses { (result ≤ 2) ⊎ (result ≡ FAILED) }
     ensures quiet { result ≤ 1 → Keeps (E.contents error.old) (E.contents error.new) }
@@ -133,13 +144,13 @@ fn inquire_readers<R: Read + Drop, W: Output, E: ErrorStream>(
     error: &mut E,
 ) -> u8
     ensures passed { result ≡ PASSED → IfBoth (R.remaining judged) (R.remaining again)
-        (λ first second. IsPassed wanted.further wanted.form first (W.contents output.old) (W.contents output.new)) }
+        (λ first second. IsPassed (chosen_as wanted.choice) wanted.form first (W.contents output.old) (W.contents output.new)) }
     ensures faulty { result ≡ FAULTY → IfBoth (R.remaining judged) (R.remaining again)
-        (λ first second. IsReasoned wanted.further wanted.form first second (W.contents output.old) (W.contents output.new)) }
+        (λ first second. IsReasoned (chosen_as wanted.choice) wanted.form first second (W.contents output.old) (W.contents output.new)) }
     ensures refused { result ≡ REFUSED → IfBoth (R.remaining judged) (R.remaining again)
         (λ first second. RefusesCheck wanted.form first (W.contents output.old) (W.contents output.new)) }
     ensures hinted { result ≡ REFUSED → IsHinted (R.remaining judged) (stream E.contents E.has_failed error.old error.new) }
-    ensures failed { result ≡ FAILED → FailsInquiryReaders path.now wanted.further wanted.form (R.remaining judged) (R.remaining again) (W.is_closed output.new)
+    ensures failed { result ≡ FAILED → FailsInquiryReaders path.now (chosen_as wanted.choice) wanted.form (R.remaining judged) (R.remaining again) (W.is_closed output.new)
         (W.contents output.old) (W.contents output.new) (stream E.contents E.has_failed error.old error.new) }
     ensures statuses { (result ≤ 2) ⊎ (result ≡ FAILED) }
     ensures quiet { result ≤ 1 → Keeps (E.contents error.old) (E.contents error.new) }
@@ -173,15 +184,15 @@ fn inquire_on<R: Read + Drop, W: Output, E: ErrorStream>(
     error: &mut E,
 ) -> u8
     ensures passed { result ≡ PASSED → IfBoth (prepend_known start.now (R.remaining judged)) (R.remaining again)
-        (λ first second. IsPassed wanted.further wanted.form first (W.contents output.old) (W.contents output.new)) }
+        (λ first second. IsPassed (chosen_as wanted.choice) wanted.form first (W.contents output.old) (W.contents output.new)) }
     ensures faulty { result ≡ FAULTY → HasReleases (slice_index start.now 6 == 1) (prepend_known start.now (R.remaining judged))
         → IfBoth (prepend_known start.now (R.remaining judged)) (R.remaining again)
-        (λ first second. IsReasoned wanted.further wanted.form first second (W.contents output.old) (W.contents output.new)) }
+        (λ first second. IsReasoned (chosen_as wanted.choice) wanted.form first second (W.contents output.old) (W.contents output.new)) }
     ensures refused { result ≡ REFUSED → IfBoth (prepend_known start.now (R.remaining judged)) (R.remaining again)
         (λ first second. RefusesCheck wanted.form first (W.contents output.old) (W.contents output.new)) }
     ensures hinted { result ≡ REFUSED → IsTold (stream E.contents E.has_failed error.old error.new) (hint_line start.now) }
     ensures failed { result ≡ FAILED → HasReleases (slice_index start.now 6 == 1) (prepend_known start.now (R.remaining judged))
-        → FailsInquiryBegun path.now wanted.further wanted.form (prepend_known start.now (R.remaining judged)) (R.remaining again) (W.is_closed output.new)
+        → FailsInquiryBegun path.now (chosen_as wanted.choice) wanted.form (prepend_known start.now (R.remaining judged)) (R.remaining again) (W.is_closed output.new)
         (W.contents output.old) (W.contents output.new) (stream E.contents E.has_failed error.old error.new) }
     ensures statuses { (result ≤ 2) ⊎ (result ≡ FAILED) }
     ensures quiet { result ≤ 1 → Keeps (E.contents error.old) (E.contents error.new) }
@@ -230,19 +241,19 @@ pub fn inquire_twice<R: Read, S: Read, W: Write>(
     output: &mut W,
 ) -> Result<u8, Lapse>
     ensures passed { IfOk result (λ status. status ≡ PASSED → IfBoth (R.remaining judged.old) (S.remaining again.old)
-        (λ first second. IsPassed wanted.further wanted.form first (W.contents output.old) (W.contents output.new))) }
+        (λ first second. IsPassed (chosen_as wanted.choice) wanted.form first (W.contents output.old) (W.contents output.new))) }
     ensures faulty { IfOk result (λ status. status ≡ FAULTY → HasReleases releases (R.remaining judged.old)
         → IfBoth (R.remaining judged.old) (S.remaining again.old)
-        (λ first second. IsReasoned wanted.further wanted.form first second (W.contents output.old) (W.contents output.new))) }
+        (λ first second. IsReasoned (chosen_as wanted.choice) wanted.form first second (W.contents output.old) (W.contents output.new))) }
     ensures refused { IfOk result (λ status. status ≡ REFUSED → IfBoth (R.remaining judged.old) (S.remaining again.old)
         (λ first second. RefusesCheck wanted.form first (W.contents output.old) (W.contents output.new))) }
     ensures stops { IfErr result (λ lapse. HasReleases releases (R.remaining judged.old)
         → IfBoth (R.remaining judged.old) (S.remaining again.old)
-        (λ first second. StopsInquiry wanted.further wanted.form lapse first second (R.remaining judged.new) (S.remaining again.new)
+        (λ first second. StopsInquiry (chosen_as wanted.choice) wanted.form lapse first second (R.remaining judged.new) (S.remaining again.new)
         (W.contents output.old) (W.contents output.new))) }
     ensures statuses { IfOk result (λ status. status ≤ REFUSED) }
 {
-    match judge_reader(alloc, judged, wanted.further) {
+    match judge_reader(alloc, judged, wanted.choice) {
         Ok((verdict, role)) => {
             if verdict.faults.is_empty() {
                 return pass(alloc, &verdict, role, wanted.form, output);
@@ -250,14 +261,16 @@ pub fn inquire_twice<R: Read, S: Read, W: Write>(
             let tested = Tested {
                 role,
                 releases,
-                further: wanted.further,
+                further: wanted.choice.has_further(),
             };
-            explain(alloc, &verdict, tested, wanted.form, again, output)
+            explain(alloc, &verdict, tested, wanted, again, output)
         }
-        Err(refusal) => match refuse(alloc, &refusal, wanted.form, output) {
+        Err(RunFault::Refused(refusal)) => match refuse(alloc, &refusal, wanted.form, output) {
             Ok(status) => Ok(status),
             Err(failure) => Err(Lapse::Failed(failure)),
         },
+        Err(RunFault::Memory) => Err(Lapse::Failed(Failure::Memory)),
+        Err(RunFault::Write) => Err(Lapse::Failed(Failure::Write)),
     }
 }
 
@@ -288,24 +301,25 @@ fn explain<S: Read, W: Write>(
     alloc: Global,
     verdict: &Verdict,
     tested: Tested,
-    form: Form,
+    wanted: Wanted,
     again: &mut S,
     output: &mut W,
 ) -> Result<u8, Lapse>
+    requires { tested.further ≡ wants_further (in_choice wanted.choice) }
     ensures status { IfOk result (λ status. status ≡ FAULTY) }
     ensures faulty { OnOk result (IfSome (S.remaining again.old)
-        (λ log. IsExplained form tested verdict.now.events (map.entries verdict.now.faults) log (W.contents output.old) (W.contents output.new))) }
+        (λ log. IsExplained (chosen_as wanted.choice) wanted.form tested verdict.now.events (map.entries verdict.now.faults) log (W.contents output.old) (W.contents output.new))) }
     ensures stops { IfErr result (λ lapse. IfSome (S.remaining again.old)
-        (λ log. StopsExplaining form tested verdict.now.events (map.entries verdict.now.faults) lapse log (S.remaining again.new)
+        (λ log. StopsExplaining (chosen_as wanted.choice) wanted.form tested verdict.now.events (map.entries verdict.now.faults) lapse log (S.remaining again.new)
         (W.contents output.old) (W.contents output.new))) }
 {
-    let reasons = explain_again(alloc, tested, verdict, again)?;
+    let reasons = explain_again(alloc, tested, wanted.choice, verdict, again)?;
     match write_reasoned_report(
         alloc,
         verdict,
         tested.role,
         reasons.as_slice(),
-        form,
+        wanted.form,
         output,
     ) {
         Ok(()) => end_with(FAULTY, output),

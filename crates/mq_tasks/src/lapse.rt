@@ -1,9 +1,12 @@
 //! What keeps the faults of a log from being explained, and reading the log again to explain them.
 ghost use Rattle.std.specs.Prelude.{◌≡◌, IfErr, IfOk, IfSome};
 ghost use Rattle.std.specs.FinMap as map;
+ghost use Rattle.mq_choice.specs.Choices.{in_choice, wants_further};
+ghost use Rattle.mq_tasks.specs.Choosing.{chosen_as};
 ghost use Rattle.mq_tasks.specs.Lapses.{AreVerdictReasons, LacksReasons, changed_line, lapse_of};
 ghost use Rattle.mq_host.specs.Streams.{IsTold, stream};
 
+use mq_choice::Choice;
 use mq_evidence::Evidence;
 use mq_host::{ErrorStream, FAILED, Failure};
 use mq_judge::{Refusal, Verdict};
@@ -21,8 +24,8 @@ pub enum Lapse {
     Changed,
 }
 
-/// What each fault of a verdict conflicts with, by the log that a reader gives: the log of that
-/// verdict, unless its file changed since.
+/// What each fault of a verdict by the chosen statements conflicts with, by the log that a reader
+/// gives: the log of that verdict, unless its file changed since.
 ///
 /// # Errors
 ///
@@ -32,15 +35,17 @@ pub enum Lapse {
 pub fn explain_again<S: Read>(
     alloc: Global,
     tested: Tested,
+    choice: Choice,
     verdict: &Verdict,
     again: &mut S,
 ) -> Result<Vec<Evidence>, Lapse>
+    requires { tested.further ≡ wants_further (in_choice choice) }
     ensures found { IfOk result (λ reasons. IfSome (S.remaining again.old)
-        (λ log. AreVerdictReasons tested verdict.now.events (map.entries verdict.now.faults) log reasons.items)) }
+        (λ log. AreVerdictReasons (chosen_as choice) tested verdict.now.events (map.entries verdict.now.faults) log reasons.items)) }
     ensures lacking { IfErr result (λ lapse. IfSome (S.remaining again.old)
-        (λ log. LacksReasons tested verdict.now.events (map.entries verdict.now.faults) lapse log (S.remaining again.new))) }
+        (λ log. LacksReasons (chosen_as choice) tested verdict.now.events (map.entries verdict.now.faults) lapse log (S.remaining again.new))) }
 {
-    match explain_reader(alloc, again, tested, verdict) {
+    match explain_reader(alloc, again, tested, choice, verdict) {
         Ok(reasons) => Ok(reasons),
         Err(Unexplained::Refused(refusal)) => Err(lapse_of(refusal)),
         Err(Unexplained::Changed) => Err(Lapse::Changed),

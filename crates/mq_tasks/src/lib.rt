@@ -1,6 +1,7 @@
 //! What is done for the words of a command line, and the status to exit with.
 #![tactic(auto)]
 
+mod choosing;
 mod converting;
 mod inquiring;
 mod lapse;

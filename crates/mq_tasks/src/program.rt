@@ -7,6 +7,7 @@ ghost use Rattle.mq_tasks.specs.Messages.{HasFailed, HasPassed, IsRefusedOn, IsR
 ghost use Rattle.mq_host.specs.Streams.{IsTold, stream};
 ghost use Rattle.mq_host.specs.Troubles.{hint_line};
 
+use crate::choosing::misuse_of;
 use crate::converting::convert_file;
 use crate::inquiring::inquire;
 use crate::reviewing::review;
@@ -128,9 +129,41 @@ fn work_on<H: Host, W: Output, E: ErrorStream, P: Progress>(
     }
 }
 
+// Does the task on the log that it names, or on its other input, unless the words choose no
+// statements, and returns the status to exit with.
+fn read_and_do<H: Host, W: Output, E: ErrorStream, P: Progress>(
+    alloc: Global,
+    host: &H,
+    task: &Task,
+    output: &mut W,
+    error: &mut E,
+    progress: &mut P,
+) -> u8
+    ensures statuses { result ≤ 4 }
+    ensures quiet { result ≤ 1 → Keeps (E.contents error.old) (E.contents error.new) }
+    ensures unprinted { result ≡ 3 → Keeps (W.contents output.old) (W.contents output.new) }
+    ensures passed { result ≡ 0 → HasPassed task.now (input_of (H.gives host.now) task.now) }
+    ensures faulty { result ≡ 1 → HasFailed task.now (input_of (H.gives host.now) task.now) }
+    ensures reported { result ≤ 1 → IsReportedOn task.now (input_of (H.gives host.now) task.now)
+        (W.contents output.old) (W.contents output.new) }
+    ensures refused { result ≡ 2 → IsRefusedOn task.now (input_of (H.gives host.now) task.now)
+        (W.contents output.old) (W.contents output.new) }
+    ensures hinted { result ≡ 2 → IsHinted (input_of (H.gives host.now) task.now)
+        (stream E.contents E.has_failed error.old error.new) }
+    ensures misused { result ≡ 3 → MisusesTask task.now (input_of (H.gives host.now) task.now)
+        (E.contents error.old) (E.contents error.new) }
+    ensures failed { result ≡ 4 → FailsRead (H.gives host.now) task.now (W.is_closed output.new)
+        (W.contents output.old) (W.contents output.new) (stream E.contents E.has_failed error.old error.new) }
+{
+    match misuse_of(task) {
+        Some(misuse) => misuse.report(alloc, error),
+        None => open_and_do(alloc, host, task, output, error, progress),
+    }
+}
+
 // Does the task on the log that it names, or on its other input, and returns the status to exit
 // with.
-fn read_and_do<H: Host, W: Output, E: ErrorStream, P: Progress>(
+fn open_and_do<H: Host, W: Output, E: ErrorStream, P: Progress>(
     alloc: Global,
     host: &H,
     task: &Task,

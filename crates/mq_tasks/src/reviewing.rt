@@ -6,6 +6,8 @@ ghost use Rattle.std.specs.Io.KnownBytes.{Appends, Keeps, prepend_known};
 ghost use Rattle.mq_log.specs.Events.{events};
 ghost use Rattle.mq_report.specs.Stopping.{IsJudged};
 ghost use Rattle.mq_command.specs.CommandLine.{path_named};
+ghost use Rattle.mq_choice.specs.Choices.{in_choice, wants_further};
+ghost use Rattle.mq_tasks.specs.Choosing.{chosen_as};
 ghost use Rattle.mq_tasks.specs.Messages.{RefusesShow};
 ghost use Rattle.mq_tasks.specs.Inquiring.{HasReleases};
 ghost use Rattle.mq_tasks.specs.Program.{FailsBegun, FailsFile, FailsReaders, FailsReview, IsHinted, MisusesReview, PassesReview, RefusesReview};
@@ -17,13 +19,14 @@ ghost use Rattle.mq_host.specs.Troubles.{hint_line};
 use crate::inquiring::has_releases;
 use crate::lapse::{Lapse, explain_again, tell_of_change};
 use crate::tasks::{EventView, refuse, show_log};
+use mq_choice::Choice;
 use mq_command::{Review, path_named};
 use mq_evidence::Evidence;
 use mq_host::{
     ErrorStream, FAILED, Failure, Host, MISUSED, Misuse, Noting, Output, PASSED, REFUSED, Trouble,
     give_hint, read_start,
 };
-use mq_judge::{Extent, Form, Verdict, judge_reader};
+use mq_judge::{Extent, Form, RunFault, Verdict, judge_reader};
 use mq_rules::{Role, Tested};
 use std::alloc::Global;
 use std::io::{Read, Write};
@@ -290,14 +293,15 @@ pub fn show_reasoned<R: Read, S: Read, T: Read, W: Write>(
         (R.remaining judged.new) (S.remaining again.new) (T.remaining shown.new) (W.contents output.old) (W.contents output.new))) }
     ensures statuses { IfOk result (λ status. (status ≡ PASSED) ⊎ (status ≡ REFUSED)) }
 {
-    match judge_reader(alloc, judged, plan.further) {
+    let choice = Choice::by(plan.further);
+    match judge_reader(alloc, judged, choice) {
         Ok((verdict, role)) => {
             let tested = Tested {
                 role,
                 releases,
-                further: plan.further,
+                further: choice.has_further(),
             };
-            match reasons_for(alloc, tested, &verdict, again) {
+            match reasons_for(alloc, tested, choice, &verdict, again) {
                 Ok(reasons) => show_verdict(
                     alloc,
                     plan,
@@ -310,10 +314,12 @@ pub fn show_reasoned<R: Read, S: Read, T: Read, W: Write>(
                 Err(lapse) => Err(lapse),
             }
         }
-        Err(refusal) => match refuse(alloc, &refusal, Form::Text, output) {
+        Err(RunFault::Refused(refusal)) => match refuse(alloc, &refusal, Form::Text, output) {
             Ok(status) => Ok(status),
             Err(failure) => Err(Lapse::Failed(failure)),
         },
+        Err(RunFault::Memory) => Err(Lapse::Failed(Failure::Memory)),
+        Err(RunFault::Write) => Err(Lapse::Failed(Failure::Write)),
     }
 }
 
@@ -323,19 +329,21 @@ pub fn show_reasoned<R: Read, S: Read, T: Read, W: Write>(
 fn reasons_for<S: Read>(
     alloc: Global,
     tested: Tested,
+    choice: Choice,
     verdict: &Verdict,
     again: &mut S,
 ) -> Result<Vec<Evidence>, Lapse>
+    requires { tested.further ≡ wants_further (in_choice choice) }
     ensures found { IfOk result (λ reasons. IfSome (S.remaining again.old)
-        (λ log. AreFoundReasons tested verdict.now.events (map.entries verdict.now.faults) log reasons.items)) }
+        (λ log. AreFoundReasons (chosen_as choice) tested verdict.now.events (map.entries verdict.now.faults) log reasons.items)) }
     ensures lacking { IfErr result (λ lapse. IfSome (S.remaining again.old)
-        (λ log. LacksReasons tested verdict.now.events (map.entries verdict.now.faults) lapse log (S.remaining again.new))) }
+        (λ log. LacksReasons (chosen_as choice) tested verdict.now.events (map.entries verdict.now.faults) lapse log (S.remaining again.new))) }
     ensures faulty { IfErr result (λ lapse. (map.len verdict.now.faults == 0) ≡ false) }
 {
     if verdict.faults.is_empty() {
         return Ok(Vec::new(alloc));
     }
-    let reasons = explain_again(alloc, tested, verdict, again)?;
+    let reasons = explain_again(alloc, tested, choice, verdict, again)?;
     Ok(reasons)
 }
 

@@ -1,5 +1,5 @@
 //! Doing what a command line asks for.
-ghost use Rattle.std.specs.Prelude.{◌≡◌, ◌≤◌, ◌↔◌, ◌⊎◌, ℕ, true, List, [], None, Some, IfErr, IfOk, IfSome, OnOk, Err};
+ghost use Rattle.std.specs.Prelude.{◌≡◌, ◌≤◌, ◌↔◌, ◌⊎◌, ℕ, true, List, [], None, Some, Option, String, IfErr, IfOk, IfSome, IsSome, OnOk, Err, option_map, string_bytes, unwrap_or};
 ghost use Rattle.std.specs.Io.KnownBytes.{Appends, Keeps};
 ghost use Rattle.mq_explain.specs.Citing.{explained_for, if_some};
 ghost use Rattle.mq_explain.specs.Listing.{listed_for, statement_lines};
@@ -7,7 +7,11 @@ ghost use Rattle.mq_command.specs.Digits.{OfDigits};
 ghost use Rattle.mq_tasks.specs.Messages.{AppendsReportOf, BeginsRefusal, HasFailed, HasPassed, IsOfLog, IsPrintedOn, IsRefusedOn, IsReportedOn};
 ghost use Rattle.mq_tasks.specs.Messages.{IsShownOn, LacksJsonMemory, Prints, RefusesCheck, RefusesShow, SpellsNoPacket, SpellsPacket};
 ghost use Rattle.mq_tasks.specs.Messages.{StopsAttempt, StopsCheck, StopsGiven, StopsRead, StopsShow, StopsSpelled, StopsText, failure_of, form_of, report_of_packet, text_in_view};
-ghost use Rattle.mq_tasks.specs.Messages.{RunsFor, report_for};
+ghost use Rattle.mq_command.specs.declared.command_line.Task.TheVariants as tasks;
+ghost use Rattle.mq_tasks.specs.Messages.{ByChoice, RunsFor, report_for};
+ghost use Rattle.std.specs.declared.alloc.Global.{Global};
+ghost use Rattle.mq_choice.specs.Choices.{in_choice};
+ghost use Rattle.mq_tasks.specs.Choosing.{chosen_as};
 ghost use Rattle.mq_judge.specs.declared.RunFault.TheVariants as run_faults;
 ghost use Rattle.mq_tasks.specs.Program.{FailsStop};
 ghost use Rattle.mq_host.specs.Streams.{AppendsPart, no_role_line, no_statement_line, stream};
@@ -19,7 +23,9 @@ ghost use Rattle.mq_report.specs.Display.{Shows, is_timed};
 ghost use Rattle.mq_log.specs.Events.{events};
 ghost use Rattle.mq_trace.specs.Writing.{AppendsBeginning};
 
+use crate::choosing::choice_for;
 use hex::{FromHexError, decode};
+use mq_choice::Choice;
 use mq_command::{EarlyExit, Form as AskedForm, Task, first_oddity, is_dash, packed};
 use mq_explain::{explanation, explanations_cited, role_named, statement_list};
 use mq_host::{
@@ -69,8 +75,8 @@ pub enum EventView<'a> {
 ///
 /// `Failed` if reading or writing failed or memory ran out: what was written until then is part of
 /// what would have been. `Misused` if the digits of a packet spell no bytes, or there are too many
-/// of them, if the word isn't an end, or if it is neither a statement's code nor a citation:
-/// nothing was written.
+/// of them, if the words choose no statements, if the word isn't an end, or if it is neither a
+/// statement's code nor a citation: nothing was written.
 pub fn attempt<'a, R: Read, W: Write, P: Progress>(
     alloc: Global,
     task: &'a Task,
@@ -93,19 +99,11 @@ pub fn attempt<'a, R: Read, W: Write, P: Progress>(
             form,
             coverage,
             further,
+            statements,
             ..
-        } => match check(
-            alloc,
-            form_of(*form),
-            *coverage,
-            *further,
-            input,
-            output,
-            progress,
-        ) {
-            Ok(status) => Ok(status),
-            Err(failure) => Err(Obstacle::Failed(failure)),
-        },
+        } => check_chosen(
+            alloc, *form, *coverage, *further, statements, input, output, progress,
+        ),
         Task::Show { long, .. } => match show_log(
             alloc,
             EventView::Lines { long: *long },
@@ -117,13 +115,10 @@ pub fn attempt<'a, R: Read, W: Write, P: Progress>(
         },
         Task::Packet { hex, long } => packet_given(alloc, hex.as_str(), *long, input, output),
         Task::Rules {
-            role: None,
+            role,
             further,
-        } => print_all(alloc, *further, output),
-        Task::Rules {
-            role: Some(word),
-            further,
-        } => { print_rules(alloc, word.as_str(), *further, output) }
+            statements,
+        } => print_listed(alloc, role, *further, statements, output),
         Task::Explain { code } => explain(alloc, code.as_str(), output),
     }
 }
@@ -139,30 +134,71 @@ pub fn form_of(form: AskedForm) -> Form
     }
 }
 
-// Judges a log, by the further statements too or not, with a report in this form, which says how
-// often each statement was put to the test if `coverage` is asked for.
+// Judges a log, by the statements that the words choose, with a report in the form that they ask
+// for.
+fn check_chosen<'a, R: Read, W: Write, P: Progress>(
+    alloc: Global,
+    form: AskedForm,
+    coverage: bool,
+    further: bool,
+    statements: &'a Option<String>,
+    input: &mut R,
+    output: &mut W,
+    progress: &mut P,
+) -> Result<u8, Obstacle<'a>>
+    ensures passed { IfOk result (λ status. status ≡ PASSED → ByChoice further statements.now (λ choice. IfSome (R.remaining input.old)
+        (λ log. IsJudged log × IsFaultless choice.has log))) }
+    ensures faulty { IfOk result (λ status. status ≡ FAULTY → ByChoice further statements.now (λ choice. IfSome (R.remaining input.old)
+        (λ log. IsJudged log × (¬ IsFaultless choice.has log)))) }
+    ensures reported { IfOk result (λ status. status ≤ FAULTY → ByChoice further statements.now (λ choice. IfSome (R.remaining input.old)
+        (λ log. Appends (W.contents output.old) (W.contents output.new) (report_for choice (form_of form) coverage log)))) }
+    ensures refused { IfOk result (λ status. status ≡ REFUSED → IfSome (R.remaining input.old)
+        (λ log. RefusesCheck (form_of form) log (W.contents output.old) (W.contents output.new))) }
+    ensures stops { (file : Option (String Global)) → IfErr result (StopsAttempt (tasks.Check file form coverage further statements.now) (R.remaining input.old) (R.remaining input.new)
+        (W.contents output.old) (W.contents output.new)) }
+    ensures statuses { IfOk result (λ status. status ≤ REFUSED) }
+{
+    match choice_for(further, statements) {
+        Ok(choice) => match check(
+            alloc,
+            form_of(form),
+            coverage,
+            choice,
+            input,
+            output,
+            progress,
+        ) {
+            Ok(status) => Ok(status),
+            Err(failure) => Err(Obstacle::Failed(failure)),
+        },
+        Err(misuse) => Err(Obstacle::Misused(misuse)),
+    }
+}
+
+// Judges a log, by the statements of this choice, with a report in this form, which says how often
+// each statement was put to the test if `coverage` is asked for.
 fn check<R: Read, W: Write, P: Progress>(
     alloc: Global,
     form: Form,
     coverage: bool,
-    further: bool,
+    choice: Choice,
     input: &mut R,
     output: &mut W,
     progress: &mut P,
 ) -> Result<u8, Failure>
     ensures passed { IfOk result (λ status. status ≡ PASSED → IfSome (R.remaining input.old)
-        (λ log. IsJudged log × IsFaultless further log)) }
+        (λ log. IsJudged log × IsFaultless (in_choice choice) log)) }
     ensures faulty { IfOk result (λ status. status ≡ FAULTY → IfSome (R.remaining input.old)
-        (λ log. IsJudged log × (¬ IsFaultless further log))) }
+        (λ log. IsJudged log × (¬ IsFaultless (in_choice choice) log))) }
     ensures reported { IfOk result (λ status. status ≤ FAULTY → IfSome (R.remaining input.old)
-        (λ log. Appends (W.contents output.old) (W.contents output.new) (report_for further form coverage log))) }
+        (λ log. Appends (W.contents output.old) (W.contents output.new) (report_for (chosen_as choice) form coverage log))) }
     ensures refused { IfOk result (λ status. status ≡ REFUSED → IfSome (R.remaining input.old)
         (λ log. RefusesCheck form log (W.contents output.old) (W.contents output.new))) }
     ensures stops { IfErr result (λ failure. IfSome (R.remaining input.old)
-        (λ log. StopsCheck further form coverage failure log (R.remaining input.new) (W.contents output.old) (W.contents output.new))) }
+        (λ log. StopsCheck (chosen_as choice) form coverage failure log (R.remaining input.new) (W.contents output.old) (W.contents output.new))) }
     ensures statuses { IfOk result (λ status. status ≤ REFUSED) }
 {
-    match run_for(alloc, form, coverage, further, input, output, progress) {
+    match run_for(alloc, form, coverage, choice, input, output, progress) {
         Ok(Outcome::Pass) => see_out(PASSED, output),
         Ok(Outcome::Fail) => see_out(FAULTY, output),
         Err(RunFault::Refused(refusal)) => refuse(alloc, &refusal, form, output),
@@ -172,24 +208,24 @@ fn check<R: Read, W: Write, P: Progress>(
 }
 
 // Judges a log and writes the report on it, with coverage or without.
-#[tactic(auto, using(crate::proofs::MessageLaws::ran_with, crate::proofs::MessageLaws::ran_without))]
+#[tactic(auto, using(crate::proofs::MessageLaws::ran_without))]
 fn run_for<R: Read, W: Write, P: Progress>(
     alloc: Global,
     form: Form,
     coverage: bool,
-    further: bool,
+    choice: Choice,
     input: &mut R,
     output: &mut W,
     progress: &mut P,
 ) -> Result<Outcome, RunFault>
-    ensures runs { IfSome (R.remaining input.old) (λ log. RunsFor further form coverage log (R.remaining input.new) result
+    ensures runs { IfSome (R.remaining input.old) (λ log. RunsFor (chosen_as choice) form coverage log (R.remaining input.new) result
         (W.contents output.old) (W.contents output.new)) }
     ensures unwritten { (refusal : Refusal) → result ≡ Err (run_faults.Refused refusal) → output.new ≡ output.old }
 {
     if coverage {
-        run_covered(alloc, input, output, form, further, progress)
+        run_covered(alloc, input, output, form, choice, progress)
     } else {
-        run_watched(alloc, input, output, form, further, progress)
+        run_watched(alloc, input, output, form, choice, progress)
     }
 }
 
@@ -373,47 +409,76 @@ fn write_report<W: Write>(bytes: &[u8], long: bool, output: &mut W) -> Result<bo
     }
 }
 
-// Lists all statements, with the further ones or without.
-fn print_all<'a, W: Write>(alloc: Global, further: bool, output: &mut W) -> Result<u8, Obstacle<'a>>
-    ensures printed { OnOk result
-        (Appends (W.contents output.old) (W.contents output.new) (statement_lines further None)) }
-    ensures stops { IfErr result (StopsText (Some (statement_lines further None)) [] (W.contents output.old) (W.contents output.new)) }
+// Lists the statements that the words choose: all, or those that bind the end that a word names.
+fn print_listed<'a, W: Write>(
+    alloc: Global,
+    role: &'a Option<String>,
+    further: bool,
+    statements: &'a Option<String>,
+    output: &mut W,
+) -> Result<u8, Obstacle<'a>>
+    ensures passed { OnOk result (ByChoice further statements.now (λ choice. IsSome (listed_for choice.has (option_map string_bytes role.now)))) }
+    ensures reported { OnOk result (ByChoice further statements.now (λ choice. Prints (listed_for choice.has (option_map string_bytes role.now))
+        (W.contents output.old) (W.contents output.new))) }
+    ensures stops { (input left : Option (List ℕ)) → IfErr result (StopsAttempt (tasks.Rules role.now further statements.now) input left
+        (W.contents output.old) (W.contents output.new)) }
     ensures statuses { IfOk result (λ status. status ≡ PASSED) }
 {
-    list(alloc, None, further, output)
+    match choice_for(further, statements) {
+        Ok(choice) => print_chosen(alloc, role, choice, output),
+        Err(misuse) => Err(Obstacle::Misused(misuse)),
+    }
 }
 
-// Lists the statements that bind the end that the word names, with the further ones or without.
+// Lists the chosen statements: all, or those that bind the end that the word names.
+fn print_chosen<'a, W: Write>(
+    alloc: Global,
+    role: &'a Option<String>,
+    choice: Choice,
+    output: &mut W,
+) -> Result<u8, Obstacle<'a>>
+    ensures printed { OnOk result (Prints (listed_for (in_choice choice) (option_map string_bytes role.now)) (W.contents output.old) (W.contents output.new)) }
+    ensures stops { IfErr result (StopsText (listed_for (in_choice choice) (option_map string_bytes role.now))
+        (no_role_line (unwrap_or (option_map string_bytes role.now) [])) (W.contents output.old) (W.contents output.new)) }
+    ensures statuses { IfOk result (λ status. status ≡ PASSED) }
+{
+    match role {
+        None => list(alloc, None, choice, output),
+        Some(word) => print_rules(alloc, word.as_str(), choice, output),
+    }
+}
+
+// Lists the chosen statements that bind the end that the word names.
 fn print_rules<'a, W: Write>(
     alloc: Global,
     word: &'a str,
-    further: bool,
+    choice: Choice,
     output: &mut W,
 ) -> Result<u8, Obstacle<'a>>
-    ensures printed { OnOk result (Prints (listed_for further (Some word.now)) (W.contents output.old) (W.contents output.new)) }
-    ensures stops { IfErr result (StopsText (listed_for further (Some word.now)) (no_role_line word.now)
+    ensures printed { OnOk result (Prints (listed_for (in_choice choice) (Some word.now)) (W.contents output.old) (W.contents output.new)) }
+    ensures stops { IfErr result (StopsText (listed_for (in_choice choice) (Some word.now)) (no_role_line word.now)
         (W.contents output.old) (W.contents output.new)) }
     ensures statuses { IfOk result (λ status. status ≡ PASSED) }
 {
     match role_named(word) {
-        Some(role) => list(alloc, Some(role), further, output),
+        Some(role) => list(alloc, Some(role), choice, output),
         None => Err(Obstacle::Misused(Misuse::NoRole(word))),
     }
 }
 
-// Lists the statements, for one end or for both, with the further ones or without.
+// Lists the chosen statements, for one end or for both.
 fn list<'a, W: Write>(
     alloc: Global,
     role: Option<Role>,
-    further: bool,
+    choice: Choice,
     output: &mut W,
 ) -> Result<u8, Obstacle<'a>>
     ensures printed { OnOk result
-        (Appends (W.contents output.old) (W.contents output.new) (statement_lines further role)) }
-    ensures stops { IfErr result (StopsText (Some (statement_lines further role)) [] (W.contents output.old) (W.contents output.new)) }
+        (Appends (W.contents output.old) (W.contents output.new) (statement_lines (in_choice choice) role)) }
+    ensures stops { (line : List ℕ) → IfErr result (StopsText (Some (statement_lines (in_choice choice) role)) line (W.contents output.old) (W.contents output.new)) }
     ensures statuses { IfOk result (λ status. status ≡ PASSED) }
 {
-    match statement_list(alloc, role, further) {
+    match statement_list(alloc, role, choice) {
         Ok(text) => print(text.as_str(), output),
         Err(_) => Err(Obstacle::Failed(Failure::Memory)),
     }

@@ -3,7 +3,7 @@ use Rattle.std.proofs.Common.{◌≡◌, ℕ, Bool, true, false, cond, List, [],
 use Rattle.std.specs.Prelude.{option_map, Vec, ◌↔◌}
 use Rattle.std.specs.List.{Contains}
 use Rattle.std.proofs.lemmas.List.Elements.{Contains-append_left, Contains-append_right, Contains-push}
-use Rattle.std.specs.FinMap.{entries, same_entries_map}
+use Rattle.std.specs.FinMap.{entries}
 use Rattle.std.specs.declared.alloc.Global.{Global}
 use Rattle.mq_rules.specs.declared.role.Tested.{Tested}
 use Rattle.mq_rules.specs.declared.rule.Rule.{Rule}
@@ -14,9 +14,9 @@ use Rattle.mq_rules.specs.FaultKeys.{FaultMap, fault_at}
 use Rattle.mq_rules.specs.Moments.{moment}
 use Rattle.mq_rules.specs.Notes.{tested_by, seen_in}
 use Rattle.mq_rules.specs.Statements.{fails}
-use Rattle.mq_rules.specs.Faults.{decided, fault_in, listed_faults, reported}
+use Rattle.mq_rules.specs.Faults.{chosen_fault, decided, fault_in, listed_faults, reported}
 use Rattle.mq_rules.proofs.Exports.{entries-listed, listed-there}
-use Rattle.mq_report.specs.Chosen.{is_judged}
+use Rattle.mq_choice.specs.Choices.{AreChosenFaults}
 use Rattle.mq_report.specs.Stopping.{IsJudged}
 use Rattle.mq_evidence.specs.declared.evidence.Evidence.{Evidence}
 use Rattle.mq_trail.specs.declared.explaining.Unexplained.{Unexplained}
@@ -39,21 +39,24 @@ said tested past k r fault is = go (fails tested past k r) (decided tested past 
     go true None h = absurd (cc)
     go false o h = absurd (cc)
 
--- each fault of the verdict is wanted, if the log has the same ones
-pub each-wanted : (wanted faults found : FaultMap) (tested : Tested) (count : ℕ) (past : List Seen) → wanted ≡ faults → faults ≡ found → HasFound count found tested past
-    → AreWanted wanted tested past (entries faults)
-each-wanted wanted faults found tested count past own same finds =
-    subst (AreWanted wanted tested past) (sym listed) (each (listed_faults (is_judged tested) tested past) (λ x in_it. x_in x in_it))
-  where
-    listed : entries faults ≡ listed_faults (is_judged tested) tested past
-    listed = ap entries same ∙ entries-listed (is_judged tested) tested past found finds.each
+-- the fault of a chosen statement is one of the log
+fault_of : (b : Bool) (o : Option Fault) (fault : Fault) → cond b o None ≡ Some fault → o ≡ Some fault
+fault_of true o fault is = is
+fault_of false o fault is = absurd (cc)
 
-    x_in : (x : FaultKey × Fault) → Contains (listed_faults (is_judged tested) tested past) x → IsWanted wanted tested past x
+-- each fault of the verdict is wanted, if the log has the same ones
+pub each-wanted : (chosen : Rule → Bool) (wanted faults : FaultMap) (tested : Tested) (past : List Seen) → wanted ≡ faults → AreChosenFaults chosen tested past faults
+    → AreWanted wanted tested past (entries faults)
+each-wanted chosen wanted faults tested past own are =
+    subst (AreWanted wanted tested past) (sym (entries-listed chosen tested past faults are)) (each (listed_faults chosen tested past) (λ x in_it. x_in x in_it))
+  where
+    x_in : (x : FaultKey × Fault) → Contains (listed_faults chosen tested past) x → IsWanted wanted tested past x
     x_in x in_it =
-        let is : fault_in tested past x.0.position x.0.rule ≡ Some x.1 = (listed-there (is_judged tested) tested past x.0 x.1).0 in_it in
-        let of : (fails tested past x.0.position x.0.rule ≡ true) × (decided tested past x.0.position x.0.rule ≡ Some x.1.decided) = said tested past x.0.position x.0.rule x.1 is in
+        let is : chosen_fault chosen tested past x.0.position x.0.rule ≡ Some x.1 = (listed-there chosen tested past x.0 x.1).0 in_it in
+        let of : (fails tested past x.0.position x.0.rule ≡ true) × (decided tested past x.0.position x.0.rule ≡ Some x.1.decided) =
+        said tested past x.0.position x.0.rule x.1 (fault_of (chosen x.0.rule) (fault_in tested past x.0.position x.0.rule) x.1 is) in
         record {
-          kept = ap (λ m. fault_at m x.0.position x.0.rule) (own ∙ same) ∙ finds.each x.0.position x.0.rule ∙ is;
+          kept = ap (λ m. fault_at m x.0.position x.0.rule) own ∙ are x.0.position x.0.rule ∙ is;
           failing = of.0;
           shown = of.1;
         }
@@ -91,34 +94,26 @@ reasons_end tested past all left reasons so_far none =
 
 -- ---- the log that is read again
 
--- the verdict is another one
-pub another-verdict : (tested named : Tested) (count events : ℕ) (faults found : FaultMap) (past : List Seen) (finds : Bool) → HasFound events found tested past
-    → (finds ≡ true) ↔ ((events ≡ count) × (found ≡ faults)) → finds ≡ false → ¬ IsSame tested named count (entries faults) past
-another-verdict tested named count events faults found past finds has says is same =
-    let listed : entries found ≡ listed_faults (is_judged tested) tested past = entries-listed (is_judged tested) tested past found has.each in
-    let yes : finds ≡ true = says.1 (has.counted ∙ sym same.counted, same_entries_map found faults (listed ∙ sym same.listed)) in
-    absurd (let bad : false ≡ true = sym is ∙ yes in cc)
-
 -- the verdict is the same one
-pub same-verdict : (tested named : Tested) (count events : ℕ) (faults found : FaultMap) (past : List Seen) → HasFound events found tested past → named ≡ tested → events ≡ count → found ≡ faults
-    → IsSame tested named count (entries faults) past
-same-verdict tested named count events faults found past has end counts same = record {
+pub same-verdict : (chosen : Rule → Bool) (tested named : Tested) (count events : ℕ) (faults found : FaultMap) (past : List Seen) → HasFound events found tested past → named ≡ tested → events ≡ count
+    → AreChosenFaults chosen tested past faults → IsSame chosen tested named count (entries faults) past
+same-verdict chosen tested named count events faults found past has end counts are = record {
   end = end;
   counted = sym counts ∙ has.counted;
-  listed = ap entries (sym same) ∙ entries-listed (is_judged tested) tested past found has.each;
+  listed = entries-listed chosen tested past faults are;
 }
 
 -- the log was read to its end
-pub explained : {W : Type 0} (agrees : W → Tested → Option Fate → List Seen → Type 0) (tested named : Tested) (count : ℕ) (faults : List (FaultKey × Fault)) (reading : W)
+pub explained : {W : Type 0} (chosen : Rule → Bool) (agrees : W → Tested → Option Fate → List Seen → Type 0) (tested named : Tested) (count : ℕ) (faults : List (FaultKey × Fault)) (reading : W)
     (remaining left : Option (List ℕ)) (result : Result (Vec Evidence Global) Unexplained)
     → IfSome remaining (λ log. IsJudged log × (named ≡ tested_by tested.further log) × HasFollowed agrees tested reading (seen_in log))
-    → ((taken : Option Fate) (past : List Seen) → agrees reading tested taken past → AnswersFor tested named count faults past result)
-    → IfSome remaining (λ log. ExplainsOver tested count faults log left result)
-explained agrees tested named count faults reading None left result over answers = tt
-explained agrees tested named count faults reading (Some log) left result over answers =
-    go result (subst (λ (n : Tested). AnswersFor tested n count faults (seen_in log) result) over.1 (answers (latest_fate tested.role (seen_in log)) (seen_in log) over.2))
+    → ((taken : Option Fate) (past : List Seen) → agrees reading tested taken past → AnswersFor chosen tested named count faults past result)
+    → IfSome remaining (λ log. ExplainsOver chosen tested count faults log left result)
+explained chosen agrees tested named count faults reading None left result over answers = tt
+explained chosen agrees tested named count faults reading (Some log) left result over answers =
+    go result (subst (λ (n : Tested). AnswersFor chosen tested n count faults (seen_in log) result) over.1 (answers (latest_fate tested.role (seen_in log)) (seen_in log) over.2))
   where
-    go : (r : Result (Vec Evidence Global) Unexplained) → AnswersFor tested (tested_by tested.further log) count faults (seen_in log) r → ExplainsOver tested count faults log left r
+    go : (r : Result (Vec Evidence Global) Unexplained) → AnswersFor chosen tested (tested_by tested.further log) count faults (seen_in log) r → ExplainsOver chosen tested count faults log left r
     go (Ok reasons) h = (over.0, h.0, h.1)
     go (Err (why.Refused refusal)) h = absurd h
     go (Err why.Changed) h = (over.0, h)

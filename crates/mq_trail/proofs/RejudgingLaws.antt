@@ -1,5 +1,5 @@
 -- The faults of a log that is judged again, from one event to the next.
-use Rattle.std.proofs.Common.{◌≡◌, ◌+◌, ℕ, List, [], ◌∷◌, length, refl, sym, ap, ◌∙◌, add-one}
+use Rattle.std.proofs.Common.{◌≡◌, ◌↔◌, ◌+◌, ℕ, Bool, true, false, true≢false, List, [], ◌∷◌, length, refl, sym, subst, ap, ◌∙◌, add-one}
 use Rattle.std.specs.Option.{option_or}
 use Rattle.std.specs.FinMap as map
 use Rattle.mq_rules.specs.declared.role.Tested.{Tested}
@@ -7,7 +7,10 @@ use Rattle.mq_rules.specs.declared.note.Seen.{Seen}
 use Rattle.mq_rules.specs.Steps.{turns}
 use Rattle.mq_rules.specs.FaultKeys.{FaultMap, fault_at, key_cmp}
 use Rattle.mq_rules.specs.Growing.{added, Gains}
-use Rattle.mq_rules.proofs.Exports.{fault_in-start, fault_in-step}
+use Rattle.mq_rules.specs.declared.rule.Rule.{Rule}
+use Rattle.mq_rules.specs.Faults.{listed_faults}
+use Rattle.mq_rules.proofs.Exports.{entries-listed, fault_in-start, fault_in-step}
+use Rattle.mq_choice.specs.Choices.{AreChosenFaults}
 use Rattle.mq_trail.specs.Rejudging.{HasFound}
 
 -- no events have no faults
@@ -27,3 +30,17 @@ found-next count position tested e past old new at g found = record {
       ∙ sym (fault_in-step tested e past k rule);
   counted = at ∙ add-one (length past);
 }
+
+-- ---- the faults of chosen statements among those that were found
+
+-- those of a verdict are the same
+pub these-same : (chosen : Rule → Bool) (tested : Tested) (past : List Seen) (mine others : FaultMap) (same : Bool) → (same ≡ true) ↔ (mine ≡ others) → same ≡ true → AreChosenFaults chosen tested past mine
+    → AreChosenFaults chosen tested past others
+these-same chosen tested past mine others same says is are = subst (AreChosenFaults chosen tested past) (says.0 is) are
+
+-- or others
+pub these-other : (chosen : Rule → Bool) (tested : Tested) (past : List Seen) (mine others : FaultMap) (same : Bool) → (same ≡ true) ↔ (mine ≡ others) → same ≡ false → AreChosenFaults chosen tested past mine
+    → ¬ (map.entries others ≡ listed_faults chosen tested past)
+these-other chosen tested past mine others same says is are listed =
+    let yes : same ≡ true = says.1 (map.same_entries_map mine others (entries-listed chosen tested past mine are ∙ sym listed)) in
+    true≢false (sym yes ∙ is)

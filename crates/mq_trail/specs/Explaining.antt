@@ -1,5 +1,5 @@
 -- What a second reading of a log says of the faults that a first one found.
-use Rattle.std.specs.Prelude.{◌≡◌, ⊤, ℕ, true, List, [], ◌∷◌, length, Option, Some, Result, Ok, Err, Vec}
+use Rattle.std.specs.Prelude.{◌≡◌, ⊤, ℕ, Bool, true, List, [], ◌∷◌, length, Option, Some, Result, Ok, Err, Vec}
 use Rattle.std.specs.declared.alloc.Global.{Global}
 use Rattle.mq_rules.specs.declared.role.Tested.{Tested}
 use Rattle.mq_rules.specs.declared.note.Seen.{Seen}
@@ -9,7 +9,7 @@ use Rattle.mq_rules.specs.Notes.{tested_by, seen_in}
 use Rattle.mq_rules.specs.Statements.{fails}
 use Rattle.mq_rules.specs.Faults.{decided, listed_faults}
 use Rattle.mq_rules.specs.FaultKeys.{FaultMap, fault_at}
-use Rattle.mq_report.specs.Chosen.{is_judged}
+use Rattle.mq_rules.specs.declared.rule.Rule.{Rule}
 use Rattle.mq_report.specs.Stopping.{IsJudged, IsRefusedAt, default_limit}
 use Rattle.mq_evidence.specs.declared.evidence.Evidence.{Evidence}
 use Rattle.mq_evidence.specs.Evidence.{evidence}
@@ -42,23 +42,23 @@ AreWanted wanted tested past (found ∷ faults) = IsWanted wanted tested past fo
 
 -- ---- a verdict, and the log that is read again
 
--- The verdict on the log of these events, the newest first, whose header names an end: that end, how many events there are, and the faults.
-pub record IsSame (tested named : Tested) (count : ℕ) (faults : List (FaultKey × Fault)) (past : List Seen) : Type 0 where
+-- The verdict on the log of these events, the newest first, whose header names an end: that end, how many events there are, and the faults of chosen statements.
+pub record IsSame (chosen : Rule → Bool) (tested named : Tested) (count : ℕ) (faults : List (FaultKey × Fault)) (past : List Seen) : Type 0 where
   pub end : named ≡ tested
   pub counted : count ≡ length past
-  pub listed : faults ≡ listed_faults (is_judged tested) tested past
+  pub listed : faults ≡ listed_faults chosen tested past
 
 -- What is answered for a verdict, once the log was read: what each fault conflicts with, or that the verdict is another one. There may be no memory for it.
-abbrev pub AnswersFor : (tested named : Tested) → ℕ → List (FaultKey × Fault) → List Seen → Result (Vec Evidence Global) Unexplained → Type 0
-AnswersFor tested named count faults past (Ok reasons) = IsSame tested named count faults past × AreReasons tested past faults reasons.items
-AnswersFor tested named count faults past (Err (Refused refusal)) = ⊥
-AnswersFor tested named count faults past (Err Changed) = ¬ IsSame tested named count faults past
-AnswersFor tested named count faults past (Err Memory) = ⊤
+abbrev pub AnswersFor : (chosen : Rule → Bool) → (tested named : Tested) → ℕ → List (FaultKey × Fault) → List Seen → Result (Vec Evidence Global) Unexplained → Type 0
+AnswersFor chosen tested named count faults past (Ok reasons) = IsSame chosen tested named count faults past × AreReasons tested past faults reasons.items
+AnswersFor chosen tested named count faults past (Err (Refused refusal)) = ⊥
+AnswersFor chosen tested named count faults past (Err Changed) = ¬ IsSame chosen tested named count faults past
+AnswersFor chosen tested named count faults past (Err Memory) = ⊤
 
 -- The result of explaining the faults of a verdict by this log, which is judged by the same statements, and what the reader has left. Nothing is said of the log if there
 -- was no memory for the faults.
-abbrev pub ExplainsOver : Tested → ℕ → List (FaultKey × Fault) → List ℕ → Option (List ℕ) → Result (Vec Evidence Global) Unexplained → Type 0
-ExplainsOver tested count faults log left (Ok reasons) = IsJudged log × IsSame tested (tested_by tested.further log) count faults (seen_in log) × AreReasons tested (seen_in log) faults reasons.items
-ExplainsOver tested count faults log left (Err (Refused refusal)) = IsRefusedAt default_limit log left refusal
-ExplainsOver tested count faults log left (Err Changed) = IsJudged log × (¬ IsSame tested (tested_by tested.further log) count faults (seen_in log))
-ExplainsOver tested count faults log left (Err Memory) = ⊤
+abbrev pub ExplainsOver : (chosen : Rule → Bool) → Tested → ℕ → List (FaultKey × Fault) → List ℕ → Option (List ℕ) → Result (Vec Evidence Global) Unexplained → Type 0
+ExplainsOver chosen tested count faults log left (Ok reasons) = IsJudged log × IsSame chosen tested (tested_by tested.further log) count faults (seen_in log) × AreReasons tested (seen_in log) faults reasons.items
+ExplainsOver chosen tested count faults log left (Err (Refused refusal)) = IsRefusedAt default_limit log left refusal
+ExplainsOver chosen tested count faults log left (Err Changed) = IsJudged log × (¬ IsSame chosen tested (tested_by tested.further log) count faults (seen_in log))
+ExplainsOver chosen tested count faults log left (Err Memory) = ⊤

@@ -5,6 +5,7 @@ ghost use Rattle.mq_rules.specs.declared.role.Tested.{Tested as TheTested};
 ghost use Rattle.mq_rules.specs.declared.fate.Fate.{Fate as TheFate};
 ghost use Rattle.mq_rules.specs.declared.fate.Fate.TheVariants.{Void};
 ghost use Rattle.mq_rules.specs.declared.note.Seen.{Seen};
+ghost use Rattle.mq_choice.specs.Choices.{in_choice, wants_further};
 ghost use Rattle.mq_trail.specs.Explaining.{AnswersFor, AreReasons, AreWanted, ExplainsOver};
 
 use crate::comparing::{copy_of, same_end};
@@ -16,6 +17,7 @@ use crate::reviewing::{Reviewing, Wanted};
 use crate::second_reading::follow_reader;
 use crate::until::Until;
 use mq_books::Early;
+use mq_choice::Choice;
 use mq_evidence::{ConnectionExplaining, Evidence, Explaining, Rests};
 use mq_log::Refusal;
 use mq_report::Verdict;
@@ -35,9 +37,10 @@ pub enum Unexplained {
     Memory,
 }
 
-/// Reads a log again of which this was the verdict, for this tested end, and says of each fault, in
-/// their order, what it conflicts with. The log is judged again, and nothing is said unless the
-/// verdict is the same. It reads at most 4,294,967,295 times, and at most 8,192 bytes each time.
+/// Reads a log again of which this was the verdict by the chosen statements, for this tested end,
+/// and says of each fault, in their order, what it conflicts with. The log is judged again, and
+/// nothing is said unless the verdict is the same. It reads at most 4,294,967,295 times, and at most
+/// 8,192 bytes each time.
 ///
 /// # Errors
 ///
@@ -48,11 +51,13 @@ pub fn explain_reader<R: Read>(
     alloc: Global,
     reader: &mut R,
     tested: Tested,
+    choice: Choice,
     verdict: &Verdict,
 ) -> Result<Vec<Evidence>, Unexplained>
-    ensures { IfSome (R.remaining reader.old) (λ log. ExplainsOver tested verdict.now.events (map.entries verdict.now.faults) log (R.remaining reader.new) result) }
+    requires { tested.further ≡ wants_further (in_choice choice) }
+    ensures { IfSome (R.remaining reader.old) (λ log. ExplainsOver (in_choice choice) tested verdict.now.events (map.entries verdict.now.faults) log (R.remaining reader.new) result) }
 {
-    explain_as::<R, Brand>(alloc, reader, tested, verdict)
+    explain_as::<R, Brand>(alloc, reader, tested, choice, verdict)
 }
 
 // Explains the faults of the verdict, which are those that are picked.
@@ -60,13 +65,15 @@ fn explain_as<R: Read, K: Wanted>(
     alloc: Global,
     reader: &mut R,
     tested: Tested,
+    choice: Choice,
     verdict: &Verdict,
 ) -> Result<Vec<Evidence>, Unexplained>
-    requires { K.wanted ≡ verdict.now.faults }
-    ensures { IfSome (R.remaining reader.old) (λ log. ExplainsOver tested verdict.now.events (map.entries verdict.now.faults) log (R.remaining reader.new) result) }
+    requires wanted { K.wanted ≡ verdict.now.faults }
+    requires further { tested.further ≡ wants_further (in_choice choice) }
+    ensures { IfSome (R.remaining reader.old) (λ log. ExplainsOver (in_choice choice) tested verdict.now.events (map.entries verdict.now.faults) log (R.remaining reader.new) result) }
 {
     let watcher = watcher_of::<K>(alloc, tested, &verdict.faults);
-    explain_by(alloc, reader, tested, watcher, verdict)
+    explain_by(alloc, reader, tested, choice, watcher, verdict)
 }
 
 // Explains the faults of the verdict by this watcher, which is before any event, if there was
@@ -76,16 +83,18 @@ fn explain_by<R: Read, W: Answers + Drop>(
     alloc: Global,
     reader: &mut R,
     tested: Tested,
+    choice: Choice,
     watcher: Result<W, Memory>,
     verdict: &Verdict,
 ) -> Result<Vec<Evidence>, Unexplained>
+    requires further { tested.further ≡ wants_further (in_choice choice) }
     requires sought { W.sought ≡ verdict.now.faults }
     requires agrees { IfOk watcher (λ w. W.agrees w tested (Some Void) []) }
-    ensures { IfSome (R.remaining reader.old) (λ log. ExplainsOver tested verdict.now.events (map.entries verdict.now.faults) log (R.remaining reader.new) result) }
+    ensures { IfSome (R.remaining reader.old) (λ log. ExplainsOver (in_choice choice) tested verdict.now.events (map.entries verdict.now.faults) log (R.remaining reader.new) result) }
 {
     match watcher {
         Ok(watcher) => match follow_reader(alloc, reader, tested, watcher) {
-            Ok((reading, named)) => reading.answer(alloc, tested, named, verdict),
+            Ok((reading, named)) => reading.answer(alloc, tested, named, choice, verdict),
             Err(refusal) => Err(Unexplained::Refused(refusal)),
         },
         Err(Memory) => Err(Unexplained::Memory),
@@ -94,7 +103,9 @@ fn explain_by<R: Read, W: Answers + Drop>(
 
 /// A watcher that judges a log again, and finds what the faults of its verdict conflict with.
 pub trait Answers: Follower {
+    ghost use Rattle.std.specs.Prelude.{◌≡◌};
     ghost use Rattle.mq_rules.specs.FaultKeys.{FaultMap};
+    ghost use Rattle.mq_choice.specs.Choices.{in_choice, wants_further};
 
     /// The faults whose reasons it finds.
     ghost sought: { FaultMap };
@@ -110,10 +121,12 @@ pub trait Answers: Follower {
         alloc: Global,
         tested: Tested,
         named: Tested,
+        choice: Choice,
         verdict: &Verdict,
     ) -> Result<Vec<Evidence>, Unexplained>
-        requires { sought ≡ verdict.now.faults }
-        ensures { (taken : Option TheFate) (past : List Seen) → Self.agrees self.now tested taken past → AnswersFor tested named verdict.now.events (map.entries verdict.now.faults) past result };
+        requires sought { sought ≡ verdict.now.faults }
+        requires further { tested.further ≡ wants_further (in_choice choice) }
+        ensures { (taken : Option TheFate) (past : List Seen) → Self.agrees self.now tested taken past → AnswersFor (in_choice choice) tested named verdict.now.events (map.entries verdict.now.faults) past result };
 }
 
 impl<K: Wanted> Answers for Both<Rejudging, Until<Both<Introducing<K>, Early<Reviewing<K>>>, K>> {
@@ -124,9 +137,10 @@ impl<K: Wanted> Answers for Both<Rejudging, Until<Both<Introducing<K>, Early<Rev
         alloc: Global,
         tested: Tested,
         named: Tested,
+        choice: Choice,
         verdict: &Verdict,
     ) -> Result<Vec<Evidence>, Unexplained> {
-        reasons_in(alloc, self, tested, named, verdict)
+        reasons_in(alloc, self, tested, named, choice, verdict)
     }
 }
 
@@ -200,17 +214,21 @@ fn reasons_in<K: Wanted>(
     reading: &Both<Rejudging, Until<Both<Introducing<K>, Early<Reviewing<K>>>, K>>,
     tested: Tested,
     named: Tested,
+    choice: Choice,
     verdict: &Verdict,
 ) -> Result<Vec<Evidence>, Unexplained>
-    requires { K.wanted ≡ verdict.now.faults }
+    requires wanted { K.wanted ≡ verdict.now.faults }
+    requires further { tested.further ≡ wants_further (in_choice choice) }
     ensures { (taken : Option TheFate) (past : List Seen) → ⟦<Both<Rejudging, Until<Both<Introducing<K>, Early<Reviewing<K>>>, K>> as Watch>⟧.agrees reading.now tested taken past
-        → AnswersFor tested named verdict.now.events (map.entries verdict.now.faults) past result }
+        → AnswersFor (in_choice choice) tested named verdict.now.events (map.entries verdict.now.faults) past result }
 {
     if !same_end(named, tested) {
         return Err(Unexplained::Changed);
     }
-    if !reading.a.finds(verdict) {
-        return Err(Unexplained::Changed);
+    match reading.a.finds(alloc, choice, verdict) {
+        Ok(true) => {}
+        Ok(false) => return Err(Unexplained::Changed),
+        Err(Memory) => return Err(Unexplained::Memory),
     }
     match reasons_of(alloc, &reading.b, tested.role, &verdict.faults) {
         Ok(reasons) => Ok(reasons),

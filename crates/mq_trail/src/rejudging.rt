@@ -1,13 +1,18 @@
 //! A watcher that judges all statements, and keeps the faults that it finds.
-ghost use Rattle.std.specs.Prelude.{◌≡◌, ◌∷◌, ◌↔◌, [], ℕ, false, true, refl, List, Option};
+ghost use Rattle.std.specs.Prelude.{◌≡◌, ◌∷◌, [], ℕ, false, true, refl, List, Option, IfOk};
+ghost use Rattle.std.specs.FinMap as map;
 ghost use Rattle.mq_rules.specs.declared.role.Tested.{Tested as TheTested};
 ghost use Rattle.mq_rules.specs.declared.fate.Fate.TheVariants.{Void};
+ghost use Rattle.mq_rules.specs.declared.note.Seen.{Seen};
 ghost use Rattle.mq_rules.specs.Connections.{IsOnConnection};
+ghost use Rattle.mq_rules.specs.Faults.{listed_faults};
+ghost use Rattle.mq_choice.specs.Choices.{AreAllFaults, AreChosenFaults, in_choice, wants_further};
 ghost use Rattle.mq_trail.specs.Rejudging.{HasFound};
 
 use crate::comparing::same_faults;
 use crate::following::Follower;
 use mq_books::Watchers;
+use mq_choice::{Choice, chosen_of};
 use mq_log::Place3;
 use mq_report::Verdict;
 use mq_rules::{Bare, Brisk, Faults, Memory, Note, Tested, Watch};
@@ -46,15 +51,35 @@ impl Rejudging {
         }
     }
 
-    /// Whether it has found this verdict: the same faults, among as many events.
-    pub fn finds(&self, verdict: &Verdict) -> bool
-        ensures { (result ≡ true) ↔ ((self.now.events ≡ verdict.now.events) × (self.now.faults ≡ verdict.now.faults)) }
+    /// Whether it has found this verdict: the same faults of the chosen statements, among as many
+    /// events.
+    ///
+    /// # Errors
+    ///
+    /// `Memory` if there is no memory for the faults of the statements that are listed.
+    pub fn finds(&self, alloc: Global, choice: Choice, verdict: &Verdict) -> Result<bool, Memory>
+        ensures same { IfOk result (λ finds. finds ≡ true → (self.now.events ≡ verdict.now.events) × ((tested : TheTested) (past : List Seen) → tested.further ≡ wants_further (in_choice choice) → AreAllFaults tested past self.now.faults → AreChosenFaults (in_choice choice) tested past verdict.now.faults)) }
+        ensures other { IfOk result (λ finds. finds ≡ false → (tested : TheTested) (past : List Seen) → tested.further ≡ wants_further (in_choice choice) → AreAllFaults tested past self.now.faults → self.now.events ≡ verdict.now.events → ¬ (map.entries verdict.now.faults ≡ listed_faults (in_choice choice) tested past)) }
     {
         if self.events != verdict.events {
-            return false;
+            return Ok(false);
         }
-        same_faults(&self.faults, &verdict.faults)
+        has_these(alloc, &self.faults, choice, &verdict.faults)
     }
+}
+
+// Whether these are the faults of the chosen statements among all of some events.
+//
+// Errors: `Memory` if there is no memory for those of the statements that are listed.
+fn has_these(alloc: Global, all: &Faults, choice: Choice, others: &Faults) -> Result<bool, Memory>
+    ensures same { IfOk result (λ same. same ≡ true → (tested : TheTested) (past : List Seen) → tested.further ≡ wants_further (in_choice choice) → AreAllFaults tested past all.now → AreChosenFaults (in_choice choice) tested past others.now) }
+    ensures other { IfOk result (λ same. same ≡ false → (tested : TheTested) (past : List Seen) → tested.further ≡ wants_further (in_choice choice) → AreAllFaults tested past all.now → ¬ (map.entries others.now ≡ listed_faults (in_choice choice) tested past)) }
+{
+    if !choice.is_listed() {
+        return Ok(same_faults(all, others));
+    }
+    let kept = chosen_of(alloc, all, choice)?;
+    Ok(same_faults(&kept, others))
 }
 
 impl Watch for Rejudging {

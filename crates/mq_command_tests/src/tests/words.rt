@@ -28,6 +28,7 @@ fn is_check_with(
         form,
         coverage,
         further,
+        statements: None,
     } = task_of(alloc, words)?
     else {
         return Ok(false);
@@ -138,9 +139,11 @@ fn is_rules_of(
     is_all: bool,
 ) -> Result<bool, EarlyExit> {
     match task_of(alloc, words)? {
-        Task::Rules { role, further } => {
-            Ok(role.as_ref().map(|role| role.as_str()) == wanted && further == is_all)
-        }
+        Task::Rules {
+            role,
+            further,
+            statements: None,
+        } => { Ok(role.as_ref().map(|role| role.as_str()) == wanted && further == is_all) }
         _ => Ok(false),
     }
 }
@@ -396,6 +399,7 @@ fn is_inquiry_of(
             form,
             coverage,
             further,
+            statements: None,
         },
     ) = parse(alloc, words)?
     else {
@@ -462,4 +466,64 @@ fn reads_the_words_of_a_show(rt: HostRuntime) -> Result<(), Fail> {
 fn refuses_to_show_two_files(rt: HostRuntime) {
     let words = ["mqjudge", "show", "a", "b"];
     assert!(rt; is_misuse(rt.alloc(), &words, "unexpected argument 'b' found"));
+}
+
+// The list of statements that these words ask for, whether they check a log, explain its faults or
+// list statements. The words of other tasks, and words without a list, have none.
+fn list_of(alloc: Global, words: &[&str]) -> Result<Option<String>, EarlyExit> {
+    match parse(alloc, words)? {
+        Work::Once(Task::Check { statements, .. }) => Ok(statements),
+        Work::Once(Task::Rules { statements, .. }) => Ok(statements),
+        Work::Why(Inquiry { statements, .. }) => Ok(statements),
+        _ => Ok(None),
+    }
+}
+
+#[test]
+fn reads_a_list_of_statements(rt: HostRuntime) -> Result<(), Fail> {
+    let rows: [(&[&str], Option<&str>); 8] = [
+        (&["mqjudge", "check"], None),
+        (&["mqjudge", "check", "--statements", "W13"], Some("W13")),
+        (
+            &["mqjudge", "check", "a.log", "--statements=-W13"],
+            Some("-W13"),
+        ),
+        (&["mqjudge", "check", "--statements", ""], Some("")),
+        (
+            &["mqjudge", "check", "--all", "--statements", "S,E"],
+            Some("S,E"),
+        ),
+        (
+            &["mqjudge", "check", "--why", "--statements", "b", "a.log"],
+            Some("b"),
+        ),
+        (
+            &["mqjudge", "rules", "--statements", "all,-F"],
+            Some("all,-F"),
+        ),
+        (&["mqjudge", "rules", "--role", "client"], None),
+    ];
+    for (words, wanted) in rows {
+        let list = list_of(rt.alloc(), words)?;
+        assert!(rt;
+            list.as_ref().map(|list| list.as_str()) == wanted,
+            "{words:?}"
+        );
+    }
+    Ok(())
+}
+
+#[test]
+fn needs_a_list_after_the_option(rt: HostRuntime) {
+    for words in [
+        &["mqjudge", "check", "--statements"][..],
+        &["mqjudge", "check", "--statements", "-W13"][..],
+        &["mqjudge", "check", "--statements", "W", "--statements", "C"][..],
+        &["mqjudge", "show", "--statements", "W", "a.log"][..],
+    ] {
+        assert!(rt;
+            matches!(parse(rt.alloc(), words), Err(EarlyExit::Usage(_))),
+            "{words:?}"
+        );
+    }
 }

@@ -4,7 +4,7 @@ use mq_harness::{
     CLIENT, CONNACK, CONNECT, HEADER, PINGREQ, PINGRESP, PUBACK, PUBLISH_ONCE,
     PUBLISH_UNIDENTIFIED, Part, add_record, log_of,
 };
-use mq_judge::{Extent, RunFault, judge_reader, show_faults, show_long};
+use mq_judge::{Choice, Extent, RunFault, judge_reader, show_faults, show_long};
 use mq_log::Refusal;
 use std::alloc::{AllocError, Global};
 use std::fmt::Write as _;
@@ -72,7 +72,7 @@ static ROWS: [(&[Part], Option<u32>, &str); 6] = [
 
 // Whether the log is shown as this text, with the faults that the judge finds in it.
 fn is_shown(alloc: Global, log: &[u8], around: Option<u32>, text: &[u8]) -> Result<bool, Fail> {
-    let Ok((verdict, role)) = judge_reader(alloc, &mut &log[..], false) else {
+    let Ok((verdict, role)) = judge_reader(alloc, &mut &log[..], Choice::Usual) else {
         return Ok(false);
     };
     let mut written = Vec::new(alloc);
@@ -140,8 +140,8 @@ fn shows_3000_faults(rt: HostRuntime) -> Result<(), Fail> {
 
 #[test]
 fn refuses_a_log_that_is_cut_short(rt: HostRuntime) {
-    let judged = judge_reader(rt.alloc(), &mut &HEADER[..7], false);
-    assert!(rt; matches!(judged, Err(Refusal::Cut(7))));
+    let judged = judge_reader(rt.alloc(), &mut &HEADER[..7], Choice::Usual);
+    assert!(rt; matches!(judged, Err(RunFault::Refused(Refusal::Cut(7)))));
 }
 
 // The events up to there are shown.

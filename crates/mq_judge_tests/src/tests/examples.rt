@@ -23,7 +23,7 @@ fn judging_a_reader(rt: HostRuntime) -> Result<(), Fail> {
         &mut log.as_slice(),
         &mut report,
         Form::Text,
-        false,
+        Choice::Usual,
     )?;
     assert_eq!(rt; outcome, Outcome::Pass);
     assert_eq!(rt; report.as_slice(), b"pass 1 events\n".as_slice());
@@ -33,8 +33,8 @@ fn judging_a_reader(rt: HostRuntime) -> Result<(), Fail> {
 #[test]
 fn refusing_a_log(rt: HostRuntime) -> Result<(), Fail> {
     let nested = b"MQTR\x01\x00\x01\x00\x01\x00\x00\x00\x00\x01";
-    let refused = judge_reader(rt.alloc(), &mut nested.as_slice(), false);
-    assert!(rt; matches!(refused, Err(Refusal::Nested(13))));
+    let refused = judge_reader(rt.alloc(), &mut nested.as_slice(), Choice::Usual);
+    assert!(rt; matches!(refused, Err(RunFault::Refused(Refusal::Nested(13)))));
     Ok(())
 }
 

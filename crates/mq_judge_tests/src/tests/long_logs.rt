@@ -3,7 +3,7 @@ use mq_harness::{
     CLIENT, CONNACK, CONNECT, CONNECT_OF_C, Failing, HEADER, PINGREQ, PUBLISH_UNIDENTIFIED, Part,
     Pieces, SERVER, add_record, log_of,
 };
-use mq_judge::{Form, Outcome, RunFault, run, run_bounded, show};
+use mq_judge::{Choice, Form, Outcome, RunFault, run, run_bounded, show};
 use mq_log::Refusal;
 use std::alloc::Global;
 use std::fmt::Write as _;
@@ -61,7 +61,7 @@ fn judges_70000_events(rt: HostRuntime) -> Result<(), Fail> {
         &mut log.as_slice(),
         &mut written,
         Form::Text,
-        false,
+        Choice::Usual,
     );
     assert_eq!(rt; answer, Ok(Outcome::Pass));
     assert!(rt; written.as_slice() == b"pass 70000 events\n".as_slice());
@@ -73,7 +73,13 @@ fn reads_for_more_than_100000_turns(rt: HostRuntime) -> Result<(), Fail> {
     let log = pings(rt.alloc(), &ACCEPTED, 26_000)?;
     let mut reader = Pieces::interrupted(log.as_slice(), 1, false);
     let mut written = Vec::new(rt.alloc());
-    let answer = run(rt.alloc(), &mut reader, &mut written, Form::Text, false);
+    let answer = run(
+        rt.alloc(),
+        &mut reader,
+        &mut written,
+        Form::Text,
+        Choice::Usual,
+    );
     assert_eq!(rt; answer, Ok(Outcome::Pass));
     assert!(rt; written.as_slice() == b"pass 26003 events\n".as_slice());
     Ok(())
@@ -84,7 +90,14 @@ fn reads_for_more_than_100000_turns(rt: HostRuntime) -> Result<(), Fail> {
 fn run_for(alloc: Global, turns: u32) -> Result<Outcome, RunFault> {
     let mut reader = Pieces::interrupted(HEADER, 1, false);
     let mut written = Vec::new(alloc);
-    run_bounded(alloc, &mut reader, &mut written, Form::Text, false, turns)
+    run_bounded(
+        alloc,
+        &mut reader,
+        &mut written,
+        Form::Text,
+        Choice::Usual,
+        turns,
+    )
 }
 
 #[test]
@@ -119,7 +132,7 @@ fn refuses_after_as_many_reads_as_it_was_given(rt: HostRuntime) {
             &mut reader,
             &mut written,
             Form::Json,
-            false,
+            Choice::Usual,
             turns,
         );
         assert_eq!(rt; answer, Err(RunFault::Refused(Refusal::Read(0))));
@@ -153,7 +166,13 @@ fn reports_1200_faults_in_each_form(rt: HostRuntime) -> Result<(), Fail> {
     let log = many_faults(rt.alloc())?;
     for form in [Form::Text, Form::Json, Form::Summary] {
         let mut written = Vec::new(rt.alloc());
-        let answer = run(rt.alloc(), &mut log.as_slice(), &mut written, form, false);
+        let answer = run(
+            rt.alloc(),
+            &mut log.as_slice(),
+            &mut written,
+            form,
+            Choice::Usual,
+        );
         assert_eq!(rt; answer, Ok(Outcome::Fail));
     }
     Ok(())

@@ -1,6 +1,6 @@
 //! Logs of version 2, whose records have moments, as they are shown.
 use mq_harness::Pieces;
-use mq_judge::{Extent, RunFault, judge_reader, show, show_faults, show_long};
+use mq_judge::{Choice, Extent, RunFault, judge_reader, show, show_faults, show_long};
 use mq_log::Refusal;
 use std::alloc::Global;
 use std::fmt::Write as _;
@@ -99,7 +99,7 @@ fn is_shown_long(alloc: Global, log: &[u8], text: &str) -> bool {
 
 // Whether the log is shown as this text with the faults at its events, in short lines.
 fn is_shown_around(alloc: Global, log: &[u8], around: Option<u32>, text: &str) -> bool {
-    let Ok((verdict, role)) = judge_reader(alloc, &mut &log[..], false) else {
+    let Ok((verdict, role)) = judge_reader(alloc, &mut &log[..], Choice::Usual) else {
         return false;
     };
     let mut written = Vec::new(alloc);

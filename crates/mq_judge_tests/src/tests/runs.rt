@@ -5,7 +5,7 @@ use mq_harness::{
     CLIENT, CONNACK, CONNECT, Failing, HEADER, PUBACK, PUBLISH_ONCE, PUBLISH_UNIDENTIFIED, Pieces,
     log_of,
 };
-use mq_judge::{Form, Outcome, RunFault, run};
+use mq_judge::{Choice, Form, Outcome, RunFault, run};
 use mq_log::Refusal;
 use std::alloc::{AllocError, Global};
 use std::process::Abort;
@@ -20,7 +20,13 @@ fn assert_runs(
     for size in [1, 7, 8192] {
         let mut written = Vec::new(rt.alloc());
         let mut reader = Pieces::interrupted(log, size, false);
-        let ran = run(rt.alloc(), &mut reader, &mut written, Form::Text, false);
+        let ran = run(
+            rt.alloc(),
+            &mut reader,
+            &mut written,
+            Form::Text,
+            Choice::Usual,
+        );
         assert_eq!(rt; ran, answer, "in turns of {size}");
         assert!(rt; written.as_slice() == text.as_bytes(), "in turns of {size}");
     }
@@ -82,7 +88,13 @@ fn refuses_where_the_reader_fails(rt: HostRuntime) -> Result<(), AllocError> {
     for count in 0..log.len() + 1 {
         let mut written = Vec::new(rt.alloc());
         let mut reader = Pieces::interrupted(&log[..count], 5, true);
-        let ran = run(rt.alloc(), &mut reader, &mut written, Form::Text, false);
+        let ran = run(
+            rt.alloc(),
+            &mut reader,
+            &mut written,
+            Form::Text,
+            Choice::Usual,
+        );
         let refusal = Refusal::Read(count as u64);
         assert_eq!(rt; ran, Err(RunFault::Refused(refusal)));
         assert!(rt; written.is_empty());
@@ -107,7 +119,7 @@ const JSON: &[u8] = b"{\"events\":4,\"faults\":[\
 // Whether a run whose writer fails after this part of the report writes that and no more.
 fn is_stopped(alloc: Global, log: &[u8], form: Form, part: &[u8]) -> bool {
     let mut writer = Failing::after(alloc, part.len(), None);
-    run(alloc, &mut &log[..], &mut writer, form, false) == Err(RunFault::Write)
+    run(alloc, &mut &log[..], &mut writer, form, Choice::Usual) == Err(RunFault::Write)
         && writer.taken.as_slice() == part
 }
 

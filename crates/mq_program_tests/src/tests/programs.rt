@@ -49,7 +49,63 @@ const WILLING: &[u8] = b"MQTR\x01\x01\x01\x00\
     \x03\x00\x00\x00\x16\x10\x14\x00\x04MQTT\x05\x16\x00\x3c\x00\x00\x01c\x00\x00\x01t\x00\x00\
     \x02\x00\x00\x00\x07\x20\x05\x00\x00\x02\x24\x01";
 
-static ROWS: [Row; 29] = [
+static ROWS: [Row; 36] = [
+    Row {
+        words: &["mqjudge", "check", "--statements", "F,-F06", "a.log"],
+        file: WILLING,
+        input: GOOD,
+        status: 1,
+        output: "fault 3 F05 MQTT-3.2.2-12 decided 3 record 3 offset -\nfail 1 faults 3 events\n",
+        error: "",
+    },
+    Row {
+        words: &["mqjudge", "check", "--statements", "all,-F", "a.log"],
+        file: WILLING,
+        input: GOOD,
+        status: 0,
+        output: "pass 3 events\n",
+        error: "",
+    },
+    Row {
+        words: &["mqjudge", "check", "--statements", "W09", "a.log"],
+        file: FAULTY,
+        input: GOOD,
+        status: 1,
+        output: FAIL,
+        error: "",
+    },
+    Row {
+        words: &["mqjudge", "check", "--statements=-W09", "a.log"],
+        file: FAULTY,
+        input: GOOD,
+        status: 0,
+        output: PASS,
+        error: "",
+    },
+    Row {
+        words: &["mqjudge", "check", "--why", "--statements=-W09", "a.log"],
+        file: FAULTY,
+        input: GOOD,
+        status: 0,
+        output: PASS,
+        error: "",
+    },
+    Row {
+        words: &["mqjudge", "check", "--all", "--statements", "W", "c.log"],
+        file: FAULTY,
+        input: GOOD,
+        status: 3,
+        output: "",
+        error: "mqjudge: --all and --statements both choose statements: give one of them\n",
+    },
+    Row {
+        words: &["mqjudge", "rules", "--statements", "B,-B01,-B03,-B04,-B05"],
+        file: GOOD,
+        input: GOOD,
+        status: 0,
+        output: "B02 server MQTT-3.8.4-8 A PUBLISH from the server isn't at a QoS above what was granted.\n",
+        error: "",
+    },
     Row {
         words: &["mqjudge", "check", "a.log"],
         file: WILLING,

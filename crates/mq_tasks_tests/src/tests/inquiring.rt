@@ -1,6 +1,6 @@
 //! `check --why`.
 use mq_host::{FAULTY, Failure, PASSED, REFUSED};
-use mq_judge::Form;
+use mq_judge::{Choice, Form};
 use mq_tasks::{Lapse, Wanted, inquire_twice};
 use mq_tasks_harness::{CONNECTED, NESTED, Narrow, Trickle, WHOLE_LOG, add_record};
 use std::alloc::{AllocError, Global};
@@ -62,11 +62,11 @@ const THREE_LINES: &str = "fault 4 E1R MQTT-4.3.2-4 decided 7 record 4 offset -\
     because 8 C01 event -\n\
     fail 3 faults 9 events\n";
 
-// A report in this form, by the statements that are always judged.
+// A report in this form, by the statements that are judged without a choice.
 fn in_form(form: Form) -> Wanted {
     Wanted {
         form,
-        further: false,
+        choice: Choice::Usual,
     }
 }
 

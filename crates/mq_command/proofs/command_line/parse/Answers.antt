@@ -24,7 +24,8 @@ returns-in-Some-clause-work g c =
     let coverage = c.is_true.ensures ∙ ap is_true c.get_str-in-Some.ensures in
     let why = c.is_true-in-Some.ensures ∙ ap is_true c.get_str-in-Some-2.ensures in
     let further = c.is_true-in-Some-2.ensures ∙ ap is_true c.get_str-in-Some-3.ensures in
-    IfOk-weaker c.check_task.result _ _ (λ work h. asked ∙ same_check (sym c.get_str.ensures) (sym c.form_in.ensures) (sym coverage) (sym why) (sym further) ∙ ap Some (sym h)) c.check_task.ensures.work
+    let list = c.get_str-in-Some-4.ensures in
+    IfOk-weaker c.check_task.result _ _ (λ work h. asked ∙ same_check (sym c.get_str.ensures) (sym c.form_in.ensures) (sym coverage) (sym why) (sym further) (sym list) ∙ ap Some (sym h)) c.check_task.ensures.work
 
 pub returns-in-Some-subcommand_matches-clause-work : goal.returns-in-Some-subcommand_matches-clause-work
 returns-in-Some-subcommand_matches-clause-work g c =
@@ -54,7 +55,8 @@ returns-in-Some-subcommand_matches-3-clause-work g c =
     let given = c.get_str-in-Some-subcommand_matches-3-2.ensures in
     let further = c.is_true-in-Some-subcommand_matches-3-2.ensures ∙ ap is_true c.get_str-in-Some-subcommand_matches-3-3.ensures in
     let asked = request_is_rules words c.in-Ok.matches met.rules.now c.in-Ok.ensures.met (met.ensures.found.0 refl) met.ensures.rows in
-    IfOk-weaker c.rules_task.result _ _ (λ work h. asked ∙ same_rules (sym given) (sym further) ∙ ap Some (sym h)) c.rules_task.ensures.work
+    let list = c.get_str-in-Some-subcommand_matches-3-4.ensures in
+    IfOk-weaker c.rules_task.result _ _ (λ work h. asked ∙ same_rules (sym given) (sym further) (sym list) ∙ ap Some (sym h)) c.rules_task.ensures.work
 
 pub returns-in-Some-subcommand_matches-4-clause-work : goal.returns-in-Some-subcommand_matches-4-clause-work
 returns-in-Some-subcommand_matches-4-clause-work g c =

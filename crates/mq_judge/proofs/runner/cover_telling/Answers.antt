@@ -2,6 +2,7 @@ use Rattle.std.specs.Prelude.{IfOk, IfSome}
 use Rattle.std.proofs.Common.{◌≡◌, ℕ, Bool, List, [], ◌∙◌, ap, subst, sym}
 use Rattle.std.proofs.lemmas.Result.{err_from_is_err_and}
 use Rattle.mq_rules.specs.Notes.{tested_by}
+use Rattle.mq_choice.specs.Choices.{in_choice, wants_further}
 use Rattle.mq_judge.specs.declared.judge.Judge.{Judge}
 use Rattle.mq_judge.specs.declared.telling.Telling.{Telling}
 use Rattle.mq_judge.specs.Judging.{is_counting, Finishes, Follows}
@@ -21,7 +22,7 @@ feed_log-requires-clause-follows g c = (
   subst (λ (judge : Judge). Follows judge []) (sym c.new-telling.ensures) c.counting-judge.ensures.follows,
   told-nothing g.K.Before.further g.K.Before.told (g.P.Progress.told c.args.progress.now) c.requires.told,
   ap is_counting c.new-telling.ensures ∙ c.counting-judge.ensures.counts ∙ sym c.requires.counting,
-  ap (λ (judge : Judge). judge.further) c.new-telling.ensures ∙ c.counting-judge.ensures.further ∙ c.options.ensures.further ∙ sym c.requires.further,
+  ap (λ (judge : Judge). judge.further) c.new-telling.ensures ∙ c.counting-judge.ensures.further ∙ c.options.ensures.further ∙ c.has_further.ensures ∙ sym c.requires.further,
 )
 
 pub returns-in_err-feed_log-clause-judges : goal.returns-in_err-feed_log-clause-judges
@@ -52,7 +53,7 @@ returns-clause-judges g c =
     let Named : Judge → Type 0 = λ judge. (log : List ℕ) → Follows judge log → IfOk c.finish_covered.result (λ answer. answer.1 ≡ (tested_by judge.further log).role) in
     let took = c.in_ok-feed_log.ensures.all in
     let further = further-all (judge_of g) g.K.Before.further g.K.Before.told g.K.Before.counting g.P.Progress.told took in
-    judge-finishes c.args.further (λ v. v.verdict.events) (λ v. v.verdict.faults) c.finish_covered.result (judge-fed-all (judge_of g) g.K.Before.further g.K.Before.told g.K.Before.counting g.P.Progress.told took)
+    judge-finishes (wants_further (in_choice c.args.choice)) (λ v. v.verdict.events) (λ v. v.verdict.faults) c.finish_covered.result (judge-fed-all (judge_of g) g.K.Before.further g.K.Before.told g.K.Before.counting g.P.Progress.told took)
     (ap (λ (judge : Judge). judge.limit) c.new-telling.ensures ∙ c.counting-judge.ensures.limit ∙ c.options.ensures.limit) (further ∙ c.requires.further)
     (subst Finished c.into_judge-judge.ensures c.finish_covered.ensures.verdict) (subst Named c.into_judge-judge.ensures c.finish_covered.ensures.role)
 
@@ -65,10 +66,9 @@ returns-clause-rows g c =
     let counts = counting-all (judge_of g) g.K.Before.further g.K.Before.told g.K.Before.counting g.P.Progress.told took in
     let further = further-all (judge_of g) g.K.Before.further g.K.Before.told g.K.Before.counting g.P.Progress.told took in
     let found = c.finish_covered.ensures.rows took.log (ap is_counting c.into_judge-judge.ensures ∙ counts ∙ c.requires.counting)
+    (ap (λ (judge : Judge). judge.further) c.into_judge-judge.ensures ∙ further ∙ c.requires.further)
     (subst (λ (judge : Judge). Follows judge took.log) (sym c.into_judge-judge.ensures) took.followed.0) in
-    whole-taken _ _ took.log (λ log. IfOk c.finish_covered.result (λ answer. IfSome answer.0.rows (λ rows. rows.items ≡ coverage_of c.args.further log))) took.consumed took.ended
-    (subst (λ (b : Bool). IfOk c.finish_covered.result (λ answer. IfSome answer.0.rows (λ rows. rows.items ≡ coverage_of b took.log)))
-    (ap (λ (judge : Judge). judge.further) c.into_judge-judge.ensures ∙ further ∙ c.requires.further) found)
+    whole-taken _ _ took.log (λ log. IfOk c.finish_covered.result (λ answer. IfSome answer.0.rows (λ rows. rows.items ≡ coverage_of (in_choice c.args.choice) log))) took.consumed took.ended found
 
 pub returns-clause-gaps : goal.returns-clause-gaps
 returns-clause-gaps g c =
@@ -77,6 +77,6 @@ returns-clause-gaps g c =
     let further = further-all (judge_of g) g.K.Before.further g.K.Before.told g.K.Before.counting g.P.Progress.told took in
     let found = c.finish_covered.ensures.gaps took.log (ap is_counting c.into_judge-judge.ensures ∙ counts ∙ c.requires.counting)
     (subst (λ (judge : Judge). Follows judge took.log) (sym c.into_judge-judge.ensures) took.followed.0) in
-    whole-taken _ _ took.log (λ log. IfOk c.finish_covered.result (λ answer. IfSome answer.0.gaps (λ gaps. gaps.items ≡ unjudged_of c.args.further log))) took.consumed took.ended
+    whole-taken _ _ took.log (λ log. IfOk c.finish_covered.result (λ answer. IfSome answer.0.gaps (λ gaps. gaps.items ≡ unjudged_of (wants_further (in_choice c.args.choice)) log))) took.consumed took.ended
     (subst (λ (b : Bool). IfOk c.finish_covered.result (λ answer. IfSome answer.0.gaps (λ gaps. gaps.items ≡ unjudged_of b took.log)))
     (ap (λ (judge : Judge). judge.further) c.into_judge-judge.ensures ∙ further ∙ c.requires.further) found)

@@ -2,6 +2,7 @@ use Rattle.std.specs.Prelude.{IfOk}
 use Rattle.std.proofs.Common.{◌≡◌, ℕ, List, [], ◌∙◌, ap, subst, sym}
 use Rattle.std.proofs.lemmas.Result.{err_from_is_err_and}
 use Rattle.mq_rules.specs.Notes.{tested_by}
+use Rattle.mq_choice.specs.Choices.{in_choice, wants_further}
 use Rattle.mq_judge.specs.declared.judge.Judge.{Judge}
 use Rattle.mq_judge.specs.declared.telling.Telling.{Telling}
 use Rattle.mq_judge.specs.Judging.{is_counting, Finishes, Follows}
@@ -18,7 +19,7 @@ feed_log-requires-clause-follows g c = (
   subst (λ (judge : Judge). Follows judge []) (sym c.new-telling.ensures) c.new-judge.ensures.follows,
   told-nothing g.K.Before.further g.K.Before.told (g.P.Progress.told c.args.progress.now) c.requires.told,
   ap is_counting c.new-telling.ensures ∙ c.new-judge.ensures.counts ∙ sym c.requires.counting,
-  ap (λ (judge : Judge). judge.further) c.new-telling.ensures ∙ c.new-judge.ensures.further ∙ c.options.ensures.further ∙ sym c.requires.further,
+  ap (λ (judge : Judge). judge.further) c.new-telling.ensures ∙ c.new-judge.ensures.further ∙ c.options.ensures.further ∙ c.has_further.ensures ∙ sym c.requires.further,
 )
 
 pub returns-in_err-feed_log-clause-judges : goal.returns-in_err-feed_log-clause-judges
@@ -39,7 +40,7 @@ returns-clause-judges g c =
     let Named : Judge → Type 0 = λ judge. (log : List ℕ) → Follows judge log → IfOk c.finish_with_role.result (λ answer. answer.1 ≡ (tested_by judge.further log).role) in
     let took = c.in_ok-feed_log.ensures.all in
     let further = further-all (judge_of g) g.K.Before.further g.K.Before.told g.K.Before.counting g.P.Progress.told took in
-    judge-finishes c.args.further (λ v. v.events) (λ v. v.faults) c.finish_with_role.result (judge-fed-all (judge_of g) g.K.Before.further g.K.Before.told g.K.Before.counting g.P.Progress.told took)
+    judge-finishes (wants_further (in_choice c.args.choice)) (λ v. v.events) (λ v. v.faults) c.finish_with_role.result (judge-fed-all (judge_of g) g.K.Before.further g.K.Before.told g.K.Before.counting g.P.Progress.told took)
     (ap (λ (judge : Judge). judge.limit) c.new-telling.ensures ∙ c.new-judge.ensures.limit ∙ c.options.ensures.limit) (further ∙ c.requires.further)
     (subst Finished c.into_judge-judge.ensures c.finish_with_role.ensures.verdict) (subst Named c.into_judge-judge.ensures c.finish_with_role.ensures.role)
 

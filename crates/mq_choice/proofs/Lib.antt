@@ -1,0 +1,5 @@
+pub mod Exports
+pub mod NumberLaws
+pub mod ReadLaws
+pub mod KeepLaws
+pub mod ChosenLaws
