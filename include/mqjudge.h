@@ -69,7 +69,7 @@ extern "C" {
  * CHANGELOG.md then describes: of a function, of when an answer comes, or of a type's layout. What a number of
  * mqjudge_status names doesn't change.
  */
-#define MQJUDGE_VERSION 3
+#define MQJUDGE_VERSION 4
 
 /* What each call answers. After each of them the judge can still be asked, and freed. Where several apply, it is the
  * first of NULL, NO_JUDGE, REFUSED, VALUE, ORDER.
@@ -79,12 +79,14 @@ enum mqjudge_status {
     MQJUDGE_NULL = 1,     /* a pointer is NULL, other than that of no bytes; nothing was done */
     MQJUDGE_NO_JUDGE = 2, /* the handle holds no judge: none was made, or it was freed; nothing was done */
     MQJUDGE_HELD = 3,     /* mqjudge_new: the handle holds a judge already, which stays */
-    MQJUDGE_VALUE = 4,    /* a limit, an end or a flag has no such value; nothing was done */
+    MQJUDGE_VALUE = 4,    /* a limit, an end or a flag has no such value, or a list names nothing or leaves nothing; nothing
+                             was done */
     MQJUDGE_MEMORY = 5,   /* mqjudge_new: there is no memory, and no judge was made; it may be called again */
     MQJUDGE_REFUSED = 6,  /* the log is refused: mqjudge_refusal says why. Each later call that tells more answers this
                              too, whatever else is wrong with it, and changes nothing */
     MQJUDGE_ORDER = 7,    /* not now: bytes and events are mixed, an event comes before mqjudge_begin, a second
-                             mqjudge_begin, or anything after mqjudge_finish; nothing was done */
+                             mqjudge_begin, a mqjudge_choose that is too late, or anything after mqjudge_finish; nothing
+                             was done */
     MQJUDGE_LENGTH = 8,   /* no call answers this since version 2; in version 1, for more than 1,048,576 bytes */
     MQJUDGE_ABSENT = 9,   /* there is no such fault or statement, or the log isn't refused; nothing was written */
     MQJUDGE_ROOM = 10     /* the buffer is too short for the text and its zero byte; only the length was written */
@@ -121,6 +123,20 @@ uint32_t mqjudge_new(mqjudge *judge, uint32_t limit);
 /* Frees the judge. The handle is then empty, and may be used for another one. OK, NO_JUDGE. */
 uint32_t mqjudge_free(mqjudge *judge);
 
+/* Chooses the statements whose faults are told, by a list, before the judge is told anything: before mqjudge_begin, or
+ * before the first byte of a log. A list is words with a comma between two, from left to right: a statement's code, the
+ * letter of a family, `default` or `all`; a word after a hyphen takes its statements away, and a list that begins with
+ * a hyphen takes them from `default`. docs/COMMANDS.md says more of it. So "default,F,-W13" adds the further statements
+ * of the family F, and takes W13 away. Without this call it is `default`. A later list takes the place of an earlier one.
+ * It is `length` bytes here; the macro of this name takes a text that ends with a zero byte, and no length:
+ *
+ *     mqjudge_choose(&judge, "default,F,-W13");
+ *
+ * Faults of other statements are then neither counted nor told, though the judge keeps them; so mqjudge_faults takes
+ * time in proportion to how many are known, and so does mqjudge_fault_from. mqjudge_places answers for chosen statements.
+ * OK, NO_JUDGE, REFUSED, VALUE (a word names no statement, or none is left), ORDER (too late). */
+uint32_t mqjudge_choose(mqjudge *judge, const uint8_t *list, size_t length);
+
 /* Takes in the next bytes of a log. It doesn't matter how the log is cut. No bytes change nothing, and may be NULL: after
  * them mqjudge_begin may still come. OK, NO_JUDGE, REFUSED, ORDER. */
 uint32_t mqjudge_feed(mqjudge *judge, const uint8_t *bytes, size_t length);
@@ -148,7 +164,7 @@ uint32_t mqjudge_rest(mqjudge *judge);
 /* The end released the QoS 2 message that it received under this Packet Identifier. */
 uint32_t mqjudge_release(mqjudge *judge, uint16_t identifier);
 
-/* How many faults are known. OK, NO_JUDGE. */
+/* How many faults of chosen statements are known. OK, NO_JUDGE. */
 uint32_t mqjudge_faults(mqjudge *judge, size_t *count);
 
 /* The next fault, of those that this call hasn't told yet. They come by `decided`, and those that one event shows in the
@@ -182,8 +198,8 @@ uint32_t mqjudge_weight(mqjudge *judge, size_t *weight);
 
 /* How often a statement was put to the test: at how many events of what was told, at no cost. So a verdict without a
  * fault says what it is worth. A statement that doesn't bind the end that is judged has 0. Statements are counted from 0,
- * in the order of reports. The further ones come last: they have names, and nothing is judged by them here. OK, NO_JUDGE,
- * ABSENT (no such statement, or one that is judged only on request), REFUSED. */
+ * in the order of reports. The further ones come last: they are judged if mqjudge_choose has chosen one. OK, NO_JUDGE,
+ * ABSENT (no such statement, or one that isn't chosen), REFUSED. */
 uint32_t mqjudge_places(mqjudge *judge, uint32_t statement, uint32_t *places);
 
 /* Why the log is refused: the number of the refusal (docs/LOG_FORMAT.md), and the offset in the log of the refused byte.
@@ -224,6 +240,17 @@ static inline uint32_t mqjudge_checked_free(mqjudge *judge) {
         return MQJUDGE_NULL;
     }
     return mqjudge_free(judge);
+}
+
+static inline uint32_t mqjudge_checked_choose(mqjudge *judge, const char *list) {
+    size_t length = 0;
+    if (judge == NULL || list == NULL) {
+        return MQJUDGE_NULL;
+    }
+    while (list[length] != '\0') {
+        length++;
+    }
+    return mqjudge_choose(judge, (const uint8_t *)list, length);
 }
 
 static inline uint32_t mqjudge_checked_feed(mqjudge *judge, const uint8_t *bytes, size_t length) {
@@ -377,6 +404,7 @@ static inline uint32_t mqjudge_checked_sentence(uint32_t statement, char *buffer
 
 #define mqjudge_new(judge, limit) mqjudge_checked_new(judge, limit)
 #define mqjudge_free(judge) mqjudge_checked_free(judge)
+#define mqjudge_choose(judge, list) mqjudge_checked_choose(judge, list)
 #define mqjudge_feed(judge, bytes, length) mqjudge_checked_feed(judge, bytes, length)
 #define mqjudge_begin(judge, end, releases) mqjudge_checked_begin(judge, end, releases)
 #define mqjudge_open(judge) mqjudge_checked_open(judge)

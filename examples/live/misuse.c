@@ -32,6 +32,7 @@ int main(void) {
     EXPECT(NULL, mqjudge_new(NULL, 0));
     EXPECT(NULL, mqjudge_free(NULL));
     EXPECT(NO_JUDGE, mqjudge_free(&judge));
+    EXPECT(NO_JUDGE, mqjudge_choose(&judge, "all"));
     EXPECT(NO_JUDGE, mqjudge_feed(&judge, NULL, 0));
     EXPECT(NO_JUDGE, mqjudge_faults(&judge, &size));
     EXPECT(NO_JUDGE, mqjudge_next_fault(&judge, &fault));
@@ -43,6 +44,14 @@ int main(void) {
     /* pointers that are NULL, and nothing to ask for */
     EXPECT(OK, mqjudge_new(&judge, 5));
     EXPECT(HELD, mqjudge_new(&judge, 5));
+    EXPECT(NULL, mqjudge_choose(&judge, NULL));
+    EXPECT(VALUE, mqjudge_choose(&judge, ""));
+    EXPECT(VALUE, mqjudge_choose(&judge, "default,X"));
+    EXPECT(VALUE, mqjudge_choose(&judge, "W,-W"));
+    EXPECT(VALUE, mqjudge_choose(&judge, "\xff"));
+    EXPECT(OK, mqjudge_choose(&judge, "all"));
+    EXPECT(OK, mqjudge_places(&judge, 74, &number));
+    EXPECT(OK, mqjudge_choose(&judge, "-A"));
     EXPECT(NULL, mqjudge_feed(&judge, NULL, 1));
     EXPECT(OK, mqjudge_feed(&judge, NULL, 0));
     EXPECT(NULL, mqjudge_faults(&judge, NULL));
@@ -66,12 +75,13 @@ int main(void) {
     EXPECT(ROOM, mqjudge_code(0, NULL, 0, &size));
     EXPECT(ROOM, mqjudge_code(0, text, 3, &size));
     EXPECT(OK, mqjudge_code(0, text, 4, &size));
-    EXPECT(ABSENT, mqjudge_code(85, text, 4, &size));
+    EXPECT(ABSENT, mqjudge_code(89, text, 4, &size));
     EXPECT(VALUE, mqjudge_citation(0, 2, text, sizeof text, &size));
 
     /* garbage, and nothing but its refusal from then on */
     EXPECT(REFUSED, mqjudge_feed(&judge, garbage, sizeof garbage));
     EXPECT(REFUSED, mqjudge_feed(&judge, NULL, 0));
+    EXPECT(REFUSED, mqjudge_choose(&judge, "X"));
     EXPECT(REFUSED, mqjudge_open(&judge));
     EXPECT(REFUSED, mqjudge_begin(&judge, 2, 0));
     EXPECT(REFUSED, mqjudge_begin(&judge, MQJUDGE_CLIENT, 2));
@@ -87,9 +97,12 @@ int main(void) {
     EXPECT(ORDER, mqjudge_open(&judge));
     EXPECT(ORDER, mqjudge_received(&judge, many, sizeof many));
     EXPECT(OK, mqjudge_feed(&judge, NULL, 0)); /* no bytes change nothing */
+    EXPECT(OK, mqjudge_choose(&judge, "default,F,-W13"));
     EXPECT(VALUE, mqjudge_begin(&judge, 2, 0));
     EXPECT(OK, mqjudge_begin(&judge, MQJUDGE_SERVER, 0));
     EXPECT(ORDER, mqjudge_begin(&judge, MQJUDGE_SERVER, 0));
+    EXPECT(ORDER, mqjudge_choose(&judge, "default"));
+    EXPECT(VALUE, mqjudge_choose(&judge, "X"));
     EXPECT(ORDER, mqjudge_feed(&judge, garbage, sizeof garbage));
     EXPECT(ORDER, mqjudge_feed(&judge, NULL, 0));
     EXPECT(OK, mqjudge_open(&judge));

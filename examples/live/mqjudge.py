@@ -14,7 +14,7 @@ import subprocess
 from pathlib import Path
 from typing import NamedTuple
 
-VERSION = 3  # of include/mqjudge.h
+VERSION = 4  # of include/mqjudge.h
 CLIENT, SERVER = 0, 1
 END_AT = 5  # the byte of a log's header that says which end is tested
 STATUS = ("ok", "null", "no judge", "held", "value", "memory", "refused", "order", "length", "absent", "room")
@@ -72,15 +72,18 @@ class Trouble(Exception):
 
 
 class Judge:
-    """A judge of the bytes of a log; with `of`, of the events of a client or a server."""
+    """A judge of the bytes of a log; with `of`, of the events of a client or a server; by a list of statements or by
+    those that are judged without one."""
 
-    def __init__(self, limit: int = 0) -> None:
+    def __init__(self, limit: int = 0, statements: str | None = None) -> None:
         self.library, self.handle, self.end, self.fed = loaded(), Handle(), CLIENT, 0
         self.call("new", ctypes.c_uint32(limit))
+        if statements is not None:
+            self.choose(statements)
 
     @classmethod
-    def of(cls, end: int, releases: bool = False, limit: int = 0) -> Judge:
-        judge = cls(limit)
+    def of(cls, end: int, releases: bool = False, limit: int = 0, statements: str | None = None) -> Judge:
+        judge = cls(limit, statements)
         judge.end = end
         judge.call("begin", ctypes.c_uint32(end), ctypes.c_uint32(releases))
         return judge
@@ -97,6 +100,11 @@ class Judge:
         if (status := self.ask(name, *arguments)) not in (0, ABSENT):
             raise Trouble(status)
         return status == 0
+
+    def choose(self, statements: str) -> None:
+        """Chooses statements by a list, before anything is told."""
+        listed = statements.encode()
+        self.call("choose", listed, ctypes.c_size_t(len(listed)))
 
     def feed(self, log: bytes) -> None:
         if self.fed <= END_AT < self.fed + len(log) and log[END_AT - self.fed] == SERVER:

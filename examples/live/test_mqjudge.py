@@ -14,6 +14,11 @@ HEADER = b"MQTR\x01\x00\x01\x00"
 OPEN = b"\x01\x00\x00\x00\x00"
 CONNECT = b"\x10\x0d\x00\x04MQTT\x05\x02\x00\x3c\x00\x00\x00"
 CONNACK = b"\x20\x03\x00\x00\x00"
+CHOICES = {
+    "W": lambda code: code.startswith("W"),
+    "all,-W,-C": lambda code: code[0] not in "WC",
+    "C02,C02,S": lambda code: code == "C02" or code.startswith("S"),
+}
 SUBSCRIBE = b"\x82\x07\x00\x01\x00\x00\x01a\x00"
 
 
@@ -254,6 +259,27 @@ class Events(unittest.TestCase):
             with self.assertRaises(Trouble):
                 judge.call("places", 74, ctypes.byref(ctypes.c_uint32()))
 
+    def test_a_choice_leaves_the_faults_of_its_statements(self) -> None:
+        for path in sorted(EXAMPLES.glob("suite/*.log")):
+            log = path.read_bytes()
+            with Judge(statements="all") as judge:
+                judge.feed(log)
+                faults, told = judge.faults(), judge.new_faults()
+            for statements, chosen in CHOICES.items():
+                with self.subTest(path.name, statements=statements), Judge(statements=statements) as judge:
+                    judge.feed(log)
+                    wanted = [fault for fault in faults if chosen(fault.code)]
+                    self.assertEqual((judge.count(), judge.faults()), (len(wanted), wanted))
+                    self.assertEqual(judge.new_faults(), [fault for fault in told if chosen(fault.code)])
+
+    def test_places_are_those_of_chosen_statements(self) -> None:
+        with Judge.of(CLIENT, statements="C") as judge:
+            judge.open()
+            judge.sent(CONNECT)
+            self.assertEqual(judge.places("C02"), 1)
+            with self.assertRaises(Trouble):
+                judge.places("W18")
+
     def test_two_judges_are_independent(self) -> None:
         with Judge.of(CLIENT) as one, Judge.of(CLIENT) as other:
             one.open()
@@ -298,7 +324,7 @@ class Misuse(unittest.TestCase):
             self.assertEqual(self.answers("begin", judge, 0, 2), "refused")
             self.assertEqual(self.answers("new", judge, 0), "held")
             with self.assertRaises(Trouble):
-                judge.text("code", 85)
+                judge.text("code", 89)
             with self.assertRaises(Trouble):
                 judge.text("citation", 0, 2)
 

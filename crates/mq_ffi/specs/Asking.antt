@@ -1,6 +1,6 @@
 -- Asking for one fault of those that are known.
-use Rattle.std.specs.Prelude.{◌≡◌, ◌≤◌, ◌*◌, ℕ, zero, suc, nat_le, List, [], ◌∷◌, Option, Some, None, is_some, if◌then◌else◌}
-use Rattle.std.specs.List.{find}
+use Rattle.std.specs.Prelude.{◌≡◌, ◌≤◌, ◌*◌, ℕ, zero, suc, nat_le, Bool, true, List, [], ◌∷◌, length, Option, Some, None, is_some, if◌then◌else◌}
+use Rattle.std.specs.List.{filter, find}
 use Rattle.std.specs.Option.{unwrap_or}
 use Rattle.std.specs.FinMap as map
 use Rattle.mq_rules.specs.declared.rule.Rule.{Rule}
@@ -9,14 +9,16 @@ use Rattle.mq_rules.specs.declared.role.Role.TheVariants as roles
 use Rattle.mq_rules.specs.declared.fault.Fault.{Fault}
 use Rattle.mq_rules.specs.declared.faults.FaultKey.{FaultKey}
 use Rattle.mq_rules.specs.FaultKeys.{FaultMap, faults_at}
-use Rattle.mq_rules.specs.Rules.{all_rules, is_further}
+use Rattle.mq_rules.specs.Rules.{all_rules}
+use Rattle.mq_choice.specs.declared.choice.Choice.{Choice}
+use Rattle.mq_choice.specs.Choices.{in_choice, is_listed}
 use Rattle.mq_rules.specs.Weights.{in_word}
 use Rattle.mq_rules.specs.Notes.{seen_in}
 use Rattle.mq_books.specs.Burden.{burden}
 use Rattle.mq_judge.specs.Judging.{Knows, Follows, AreFaultsOf}
 use Rattle.mq_judge.specs.Watching.{watchers_weigh}
-use Rattle.mq_ffi.specs.declared.asking.Choice.{Choice}
-use Rattle.mq_ffi.specs.declared.asking.Choice.TheVariants as choices
+use Rattle.mq_ffi.specs.declared.asking.Which.{Which}
+use Rattle.mq_ffi.specs.declared.asking.Which.TheVariants as which
 use Rattle.mq_ffi.specs.declared.fault.FaultRow.{FaultRow}
 use Rattle.mq_ffi.specs.declared.live.Live.{Live}
 
@@ -30,14 +32,14 @@ nth (x ∷ xs) (suc n) = nth xs n
 abbrev pub statement_at : ℕ → Option Rule
 statement_at = nth all_rules
 
--- a statement, if it is judged without being asked for: a further one isn't
-abbrev pub unless_further : Option Rule → Option Rule
-unless_further None = None
-unless_further (Some rule) = if is_further rule then None else Some rule
+-- a statement, if it is chosen
+abbrev pub if_chosen : Choice → Option Rule → Option Rule
+if_chosen choice None = None
+if_chosen choice (Some rule) = if in_choice choice rule then Some rule else None
 
--- the statement with this number, if it is judged
-abbrev pub judged_at : ℕ → Option Rule
-judged_at number = unless_further (statement_at number)
+-- the statement with this number, if it is chosen
+abbrev pub chosen_at : Choice → ℕ → Option Rule
+chosen_at choice number = if_chosen choice (statement_at number)
 
 -- the end with this number
 abbrev pub role_at : ℕ → Option Role
@@ -48,6 +50,14 @@ role_at _ = None
 -- a fault with its key
 abbrev pub Found : Type 0
 Found = FaultKey × Fault
+
+-- A choice leaves the faults of this statement. Without a list it leaves all, since no statements are judged then that aren't chosen.
+abbrev pub leaves : Choice → Rule → Bool
+leaves choice rule = if is_listed choice then in_choice choice rule else true
+
+-- the faults that a choice leaves
+abbrev pub left_by : Choice → List Found → List Found
+left_by choice faults = filter (λ found. leaves choice found.0.rule) faults
 
 -- This is what C reads of a fault.
 pub record IsRow (row : FaultRow) (found : Found) : Type 0 where
@@ -79,17 +89,17 @@ ShowsFound (Some row) before after code = (code ≡ 0) × (after ≡ row)
 ShowsFound None before after code = (code ≡ 9) × (after ≡ before)
 
 -- the fault that is asked for, among these in the order of reports
-abbrev pub chosen_fault : Choice → List Found → Option Found
-chosen_fault (choices.At index) faults = nth faults index
-chosen_fault (choices.Beside position index) faults = nth (faults_at position faults) index
-chosen_fault (choices.From position) faults = first_fault_from position faults
+abbrev pub fault_asked : Which → List Found → Option Found
+fault_asked (which.At index) faults = nth faults index
+fault_asked (which.Beside position index) faults = nth (faults_at position faults) index
+fault_asked (which.From position) faults = first_fault_from position faults
 
--- A call that asks changes nothing. It chooses among the faults of all that was taken in.
-pub record AsksFault (chosen : List Found → Option Found) (before after : FaultRow) (old new : Live) (code : ℕ) : Type 0 where
+-- A call that asks changes nothing. It asks for one of the faults of all that was taken in, of those that are of chosen statements.
+pub record AsksFault (asked : List Found → Option Found) (before after : FaultRow) (old new : Live) (code : ℕ) : Type 0 where
   pub same : new ≡ old
   pub faults : FaultMap
   pub known : (taken : List ℕ) → Knows old.judge taken → AreFaultsOf old.judge.further taken faults
-  pub shown : ShowsRow (chosen (map.entries faults)) before after code
+  pub shown : ShowsRow (asked (left_by old.choice (map.entries faults))) before after code
 
 -- It counts them.
 pub record CountsFaults (after : ℕ) (old new : Live) (code : ℕ) : Type 0 where
@@ -97,7 +107,7 @@ pub record CountsFaults (after : ℕ) (old new : Live) (code : ℕ) : Type 0 whe
   pub answer : code ≡ 0
   pub faults : FaultMap
   pub known : (taken : List ℕ) → Knows old.judge taken → AreFaultsOf old.judge.further taken faults
-  pub counted : after ≡ map.len faults
+  pub counted : after ≡ length (left_by old.choice (map.entries faults))
 
 -- It weighs exactly what the judge keeps, which is bounded by what is open in the log.
 pub record Weighs (after : ℕ) (old new : Live) (code : ℕ) : Type 0 where

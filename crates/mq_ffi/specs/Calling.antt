@@ -4,12 +4,14 @@ use Rattle.mq_log.specs.declared.header.Header.{Header}
 use Rattle.mq_log.specs.declared.refusal.Refusal.{Refusal}
 use Rattle.mq_log.specs.Refusing.{number_of, name_of, refusal_offset}
 use Rattle.mq_rules.specs.declared.rule.Rule.{Rule}
+use Rattle.mq_choice.specs.declared.choice.Choice.TheVariants as choices
 use Rattle.mq_ffi.specs.declared.answer.Trouble.{Trouble}
 use Rattle.mq_ffi.specs.declared.answer.Trouble.TheVariants as troubles
 use Rattle.mq_ffi.specs.declared.event.Event.{Event}
 use Rattle.mq_ffi.specs.declared.live.Live.{Live}
 use Rattle.mq_ffi.specs.Answers.{answer_code}
-use Rattle.mq_ffi.specs.Living.{Answer, AnswersPlaces, IsTold, StaysRefused, Declines, Feeds, Begins, Tells, Finishes}
+use Rattle.mq_ffi.specs.Asking.{chosen_at}
+use Rattle.mq_ffi.specs.Living.{Answer, AnswersPlaces, Chooses, IsTold, StaysRefused, Declines, Feeds, Begins, Tells, Finishes}
 use Rattle.mq_ffi.specs.Texts.{PutsTextAs}
 
 -- The call reaches the judge that the handle holds, and the handle holds it afterwards. A handle that holds none says so, and stays empty.
@@ -29,6 +31,9 @@ pub record ByCode (asks : Live → Live → Answer → Type 0) (old new : Live) 
   pub answer : Answer
   pub code_is : code ≡ answer_code answer
   pub asked : asks old new answer
+
+abbrev pub ChoosesAs : List ℕ → Live → Live → ℕ → Type 0
+ChoosesAs list = ByCode (Chooses list)
 
 abbrev pub FeedsAs : List ℕ → Live → Live → ℕ → Type 0
 FeedsAs bytes = ByCode (Feeds bytes)
@@ -71,9 +76,9 @@ greatest_limit = 268435460
 abbrev pub limit_by : ℕ → Option ℕ
 limit_by limit = if limit == 0 then Some default_limit else (if nat_lt limit least_limit then None else (if nat_lt greatest_limit limit then None else Some limit))
 
--- A judge with this limit is made, which was told nothing, and has given no fault, if there is memory.
+-- A judge with this limit is made, which was told nothing, has given no fault and judges without a list, if there is memory.
 abbrev pub MakesWith : ℕ → Option Live → ℕ → Type 0
-MakesWith limit (Some live) code = (code ≡ 0) × IsTold live [] × (live.judge.limit ≡ limit) × (live.turn ≡ record { event = 0; given = 0 })
+MakesWith limit (Some live) code = (code ≡ 0) × IsTold live [] × (live.judge.limit ≡ limit) × (live.turn ≡ record { event = 0; given = 0 }) × (live.choice ≡ choices.Usual)
 MakesWith limit None code = code ≡ 5
 
 abbrev pub MakesFor : Option ℕ → Option Live → ℕ → Type 0
@@ -117,14 +122,14 @@ pub record FinishesAs (before after : ℕ) (old new : Live) (code : ℕ) : Type 
   pub counts : WritesCount answer before after code
   pub finishes : Finishes old new answer
 
--- how many places a statement has, if there is such a statement that is judged
+-- how many places a statement has, if there is such a statement that is chosen
 abbrev pub PlacesBy : Option Rule → Live → Result ℕ Trouble → Type 0
 PlacesBy None live answer = answer ≡ Err troubles.Absent
 PlacesBy (Some rule) live answer = AnswersPlaces rule live answer
 
 -- A call that asks for them changes nothing. They are written if they are known.
-pub record AsksPlaces (rule : Option Rule) (before after : ℕ) (old new : Live) (code : ℕ) : Type 0 where
+pub record AsksPlaces (statement before after : ℕ) (old new : Live) (code : ℕ) : Type 0 where
   pub same : new ≡ old
   pub answer : Result ℕ Trouble
   pub counts : WritesCount answer before after code
-  pub places : PlacesBy rule old answer
+  pub places : PlacesBy (chosen_at old.choice statement) old answer

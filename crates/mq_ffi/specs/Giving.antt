@@ -7,7 +7,7 @@ use Rattle.mq_judge.specs.Judging.{Knows, AreFaultsOf}
 use Rattle.mq_ffi.specs.declared.fault.FaultRow.{FaultRow}
 use Rattle.mq_ffi.specs.declared.live.Live.{Live}
 use Rattle.mq_ffi.specs.declared.turn.Turn.{Turn}
-use Rattle.mq_ffi.specs.Asking.{Found, IsRow, nth}
+use Rattle.mq_ffi.specs.Asking.{Found, IsRow, left_by, nth}
 
 -- the faults that this event shows, in the order of reports: none that was known before it, each of which is then known
 abbrev pub shown_by : ℕ → List Found → List Found
@@ -58,12 +58,12 @@ abbrev pub IsGiven : Live → Live → Option (FaultRow × Turn) → Option Faul
 IsGiven old new (Some next) result = (result ≡ Some next.0) × (new ≡ record old { turn = next.1 })
 IsGiven old new None result = (result ≡ None) × (new ≡ old)
 
--- the fault that comes next, of those that are known
+-- the fault that comes next, of those that are known and of chosen statements
 pub record GivesNext (old new : Live) (result : Option FaultRow) : Type 0 where
   pub faults : FaultMap
   pub known : (taken : List ℕ) → Knows old.judge taken → AreFaultsOf old.judge.further taken faults
   pub next : Option (FaultRow × Turn)
-  pub gives : Gives old.turn (map.entries faults) next
+  pub gives : Gives old.turn (left_by old.choice (map.entries faults)) next
   pub is : IsGiven old new next result
 
 -- the same, as C reads it: the row is as it was if there is none

@@ -1,16 +1,16 @@
 //! What the exported functions do: each takes the judge out of the handle, asks it, and puts it
 //! back.
 ghost use Rattle.std.specs.Prelude.{◌≡◌, ℕ, None};
-ghost use Rattle.mq_ffi.specs.Asking.{AsksFault, CountsFaults, ShowsFound, Weighs, chosen_fault, judged_at as judged_of};
-ghost use Rattle.mq_ffi.specs.Calling.{Asked, AskedInto, Makes, MakesWith, limit_by as limit_for, Frees, FeedsAs, BeginsAs, TellsAs, AsksRefusal, AsksName, FinishesAs, BeginsWith, AsksPlaces, PlacesBy};
+ghost use Rattle.mq_ffi.specs.Asking.{AsksFault, CountsFaults, ShowsFound, Weighs, fault_asked, chosen_at as chosen_of};
+ghost use Rattle.mq_ffi.specs.Calling.{Asked, AskedInto, Makes, MakesWith, limit_by as limit_for, Frees, FeedsAs, BeginsAs, TellsAs, AsksRefusal, AsksName, FinishesAs, BeginsWith, AsksPlaces, ChoosesAs, PlacesBy};
 ghost use Rattle.mq_ffi.specs.Giving.{AsksNext};
 ghost use Rattle.mq_ffi.specs.Holding.{held};
 
 use crate::about::put_text;
 use crate::answer::{Trouble, code_of};
-use crate::asking::{Choice, choose};
+use crate::asking::{Which, asked_of, count_left};
 use crate::event::Event;
-use crate::fault::{FaultRow, judged_at};
+use crate::fault::{FaultRow, chosen_at};
 use crate::handle::Handle;
 use crate::live::Live;
 use mq_log::Header;
@@ -77,6 +77,18 @@ pub fn free(alloc: Global, judge: &mut Handle) -> u32
     }
 }
 
+/// Chooses the statements whose faults the judge of a handle gives.
+pub fn choose(alloc: Global, judge: &mut Handle, list: &[u8]) -> u32
+    ensures { Asked (ChoosesAs list.now) (held judge.old) (held judge.new) result }
+{
+    let Some(mut live) = judge.take(alloc) else {
+        return code_of(Err(Trouble::NoJudge));
+    };
+    let answer = live.choose(alloc, list);
+    judge.put(live);
+    code_of(answer)
+}
+
 /// Feeds the judge of a handle.
 pub fn feed(alloc: Global, judge: &mut Handle, bytes: &[u8]) -> u32
     ensures { Asked (FeedsAs bytes.now) (held judge.old) (held judge.new) result }
@@ -113,26 +125,26 @@ pub fn tell(alloc: Global, judge: &mut Handle, event: Event<'_>) -> u32
     code_of(answer)
 }
 
-/// How many faults are known.
+/// How many faults of chosen statements are known.
 pub fn fault_count(alloc: Global, judge: &mut Handle, faults: &mut usize) -> u32
     ensures { AskedInto (faults.new ≡ faults.old) (CountsFaults faults.new) (held judge.old) (held judge.new) result }
 {
     let Some(live) = judge.take(alloc) else {
         return code_of(Err(Trouble::NoJudge));
     };
-    *faults = live.known().len();
+    *faults = count_left(live.known(), live.choice());
     judge.put(live);
     code_of(Ok(()))
 }
 
 /// The fault that is asked for.
-pub fn asked_fault(alloc: Global, judge: &mut Handle, choice: Choice, fault: &mut FaultRow) -> u32
-    ensures { AskedInto (fault.new ≡ fault.old) (AsksFault (chosen_fault choice) fault.old fault.new) (held judge.old) (held judge.new) result }
+pub fn asked_fault(alloc: Global, judge: &mut Handle, which: Which, fault: &mut FaultRow) -> u32
+    ensures { AskedInto (fault.new ≡ fault.old) (AsksFault (fault_asked which) fault.old fault.new) (held judge.old) (held judge.new) result }
 {
     let Some(live) = judge.take(alloc) else {
         return code_of(Err(Trouble::NoJudge));
     };
-    let answer = write_found(choose(live.known(), choice), fault);
+    let answer = write_found(asked_of(live.known(), live.choice(), which), fault);
     judge.put(live);
     answer
 }
@@ -161,9 +173,9 @@ pub fn weight_of(alloc: Global, judge: &mut Handle, weight: &mut usize) -> u32
     code_of(Ok(()))
 }
 
-/// How many places the statement with this number has, if it is judged.
+/// How many places the statement with this number has, if it is chosen.
 pub fn place_count(alloc: Global, judge: &mut Handle, statement: u32, places: &mut u32) -> u32
-    ensures { AskedInto (places.new ≡ places.old) (AsksPlaces (judged_of statement) places.old places.new) (held judge.old) (held judge.new) result }
+    ensures { AskedInto (places.new ≡ places.old) (AsksPlaces statement places.old places.new) (held judge.old) (held judge.new) result }
 {
     let Some(live) = judge.take(alloc) else {
         return code_of(Err(Trouble::NoJudge));
@@ -179,11 +191,11 @@ pub fn place_count(alloc: Global, judge: &mut Handle, statement: u32, places: &m
     }
 }
 
-// How many places the statement with this number has, if it is judged.
+// How many places the statement with this number has, if it is chosen.
 fn places_of(live: &Live, statement: u32) -> Result<u32, Trouble>
-    ensures { PlacesBy (judged_of statement) live.now result }
+    ensures { PlacesBy (chosen_of live.now.choice statement) live.now result }
 {
-    match judged_at(statement) {
+    match chosen_at(live.choice(), statement) {
         Some(rule) => live.places(rule),
         None => Err(Trouble::Absent),
     }

@@ -6,17 +6,17 @@ ghost use Rattle.mq_rules.specs.FaultKeys.{faults_at};
 ghost use Rattle.mq_rules.specs.Rules.{code_of as code_text};
 ghost use Rattle.mq_rules.specs.Naming.{citation_of, sentence_of};
 ghost use Rattle.mq_ffi.specs.declared.event.Event.TheVariants as happened;
-ghost use Rattle.mq_ffi.specs.Asking.{AsksFault, CountsFaults, Weighs, first_fault_from, nth, judged_at as judged_of, statement_at as statement_of, role_at as role_of};
-ghost use Rattle.mq_ffi.specs.Calling.{Asked, AskedInto, Makes, Frees, FeedsAs, BeginsAs, TellsAs, AsksPlaces, AsksRefusal, AsksName, FinishesAs};
+ghost use Rattle.mq_ffi.specs.Asking.{AsksFault, CountsFaults, Weighs, first_fault_from, nth, statement_at as statement_of, role_at as role_of};
+ghost use Rattle.mq_ffi.specs.Calling.{Asked, AskedInto, Makes, Frees, FeedsAs, BeginsAs, TellsAs, AsksPlaces, AsksRefusal, AsksName, ChoosesAs, FinishesAs};
 ghost use Rattle.mq_ffi.specs.Giving.{AsksNext};
 ghost use Rattle.mq_ffi.specs.Holding.{held};
 ghost use Rattle.mq_ffi.specs.Texts.{PutsTextIfSome, PutsCitation};
 
 use crate::about::{put_citation, put_text_if_some};
-use crate::asking::Choice;
+use crate::asking::Which;
 use crate::calls::{
-    asked_fault, begin, fault_count, feed, finish, free, make, next_fault, place_count, refusal,
-    refusal_name, tell, weight_of,
+    asked_fault, begin, choose, fault_count, feed, finish, free, make, next_fault, place_count,
+    refusal, refusal_name, tell, weight_of,
 };
 use crate::event::Event;
 use crate::fault::{FaultRow, statement_at};
@@ -37,6 +37,14 @@ pub extern "C" fn mqjudge_free(alloc: Global, judge: &mut Handle) -> u32
     ensures { Frees (held judge.old) (held judge.new) result }
 {
     free(alloc, judge)
+}
+
+/// Chooses the statements whose faults are given, by a list, before anything is told.
+#[unsafe(no_mangle)]
+pub extern "C" fn mqjudge_choose(alloc: Global, judge: &mut Handle, list: &[u8]) -> u32
+    ensures { Asked (ChoosesAs list.now) (held judge.old) (held judge.new) result }
+{
+    choose(alloc, judge, list)
 }
 
 /// Takes in the next bytes of a log.
@@ -110,7 +118,7 @@ pub extern "C" fn mqjudge_release(alloc: Global, judge: &mut Handle, identifier:
     tell(alloc, judge, Event::Release(identifier))
 }
 
-/// How many faults are known.
+/// How many faults of chosen statements are known.
 #[unsafe(no_mangle)]
 pub extern "C" fn mqjudge_faults(alloc: Global, judge: &mut Handle, faults: &mut usize) -> u32
     ensures { AskedInto (faults.new ≡ faults.old) (CountsFaults faults.new) (held judge.old) (held judge.new) result }
@@ -128,7 +136,7 @@ pub extern "C" fn mqjudge_fault(
 ) -> u32
     ensures { AskedInto (fault.new ≡ fault.old) (AsksFault (λ faults. nth faults index) fault.old fault.new) (held judge.old) (held judge.new) result }
 {
-    asked_fault(alloc, judge, Choice::At(index), fault)
+    asked_fault(alloc, judge, Which::At(index), fault)
 }
 
 /// The fault at an index among those at a position.
@@ -142,7 +150,7 @@ pub extern "C" fn mqjudge_fault_at(
 ) -> u32
     ensures { AskedInto (fault.new ≡ fault.old) (AsksFault (λ faults. nth (faults_at position faults) index) fault.old fault.new) (held judge.old) (held judge.new) result }
 {
-    asked_fault(alloc, judge, Choice::Beside(position, index), fault)
+    asked_fault(alloc, judge, Which::Beside(position, index), fault)
 }
 
 /// The first fault at a position or after it, in the order of reports.
@@ -155,7 +163,7 @@ pub extern "C" fn mqjudge_fault_from(
 ) -> u32
     ensures { AskedInto (fault.new ≡ fault.old) (AsksFault (first_fault_from position) fault.old fault.new) (held judge.old) (held judge.new) result }
 {
-    asked_fault(alloc, judge, Choice::From(position), fault)
+    asked_fault(alloc, judge, Which::From(position), fault)
 }
 
 /// The fault that comes after those that this call has given: by the event that shows them, and
@@ -183,7 +191,7 @@ pub extern "C" fn mqjudge_places(
     statement: u32,
     places: &mut u32,
 ) -> u32
-    ensures { AskedInto (places.new ≡ places.old) (AsksPlaces (judged_of statement) places.old places.new) (held judge.old) (held judge.new) result }
+    ensures { AskedInto (places.new ≡ places.old) (AsksPlaces statement places.old places.new) (held judge.old) (held judge.new) result }
 {
     place_count(alloc, judge, statement, places)
 }

@@ -1,7 +1,8 @@
 //! A fault, as C reads it.
 ghost use Rattle.std.specs.Prelude.{◌≡◌, Some};
-ghost use Rattle.mq_ffi.specs.Asking.{IsRow, judged_at, statement_at, role_at, unless_further};
+ghost use Rattle.mq_ffi.specs.Asking.{IsRow, chosen_at, if_chosen, statement_at, role_at};
 
+use mq_choice::Choice;
 use mq_rules::{Fault, FaultKey, Role, Rule};
 
 /// A fault. C's `mqjudge_fault` has the same fields, in this order.
@@ -53,21 +54,21 @@ pub fn statement_at(number: u32) -> Option<Rule>
     Rule::all().get(number as usize).copied()
 }
 
-/// The statement with this number, if there is one that is judged: a further one isn't.
-pub fn judged_at(number: u32) -> Option<Rule>
-    ensures { result ≡ judged_at number }
+/// The statement with this number, if there is one that is chosen.
+pub fn chosen_at(choice: Choice, number: u32) -> Option<Rule>
+    ensures { result ≡ chosen_at choice number }
 {
     match statement_at(number) {
-        Some(rule) => unless_further(rule),
+        Some(rule) => if_chosen(choice, rule),
         None => None,
     }
 }
 
-// The statement, unless it is a further one.
-fn unless_further(rule: Rule) -> Option<Rule>
-    ensures { result ≡ unless_further (Some rule) }
+// The statement, if it is chosen.
+fn if_chosen(choice: Choice, rule: Rule) -> Option<Rule>
+    ensures { result ≡ if_chosen choice (Some rule) }
 {
-    if rule.is_further() { None } else { Some(rule) }
+    if choice.has(rule) { Some(rule) } else { None }
 }
 
 /// The end with this number: 0 is a client, 1 a server.

@@ -5,9 +5,10 @@ ghost use Rattle.mq_judge.specs.Judging.{Knows, Follows, AreFaultsOf};
 ghost use Rattle.mq_judge.specs.Watching.{watchers_weigh};
 ghost use Rattle.mq_rules.specs.Weights.{in_word};
 ghost use Rattle.mq_rules.specs.Notes.{seen_in};
+ghost use Rattle.mq_choice.specs.declared.choice.Choice.TheVariants as choices;
 ghost use Rattle.mq_ffi.specs.Giving.{GivesNext};
 ghost use Rattle.mq_ffi.specs.declared.live.Source.TheVariants as sources;
-ghost use Rattle.mq_ffi.specs.Living.{IsTold, is_end, Feeds, Begins, Tells, Finishes, AnswersPlaces};
+ghost use Rattle.mq_ffi.specs.Living.{IsTold, is_end, Chooses, Feeds, Begins, Tells, Finishes, AnswersPlaces, ReadsList};
 
 use crate::answer::Trouble;
 use crate::event::Event;
@@ -15,9 +16,11 @@ use crate::fault::FaultRow;
 use crate::taking::{take_event, take_in};
 use crate::turn::{Turn, next_in_turn};
 use crate::writing::header_of;
+use mq_choice::Choice;
 use mq_judge::{Faults, Judge, Options, Refusal, Rule};
 use mq_log::Header;
 use std::alloc::Global;
+use std::str;
 
 /// What a judge is told.
 #[derive(Clone, Copy, Debug, PartialEq, Eq)]
@@ -36,6 +39,8 @@ pub enum Source {
 #[derive(Drop)]
 pub struct Live {
     judge: Judge,
+    /// The statements whose faults are given.
+    choice: Choice,
     source: Source,
     /// Why the log is refused, if it is.
     refusal: Option<Refusal>,
@@ -45,41 +50,75 @@ pub struct Live {
 
 impl Live {
     /// A judge that was told nothing. It reads packets of at most `limit` bytes: 5 to 268,435,460.
-    /// It doesn't judge the further statements.
+    /// It judges without a list.
     pub fn new(alloc: Global, limit: u32) -> Live
         ensures told { IsTold result [] }
         ensures limit { result.judge.limit ≡ limit }
         ensures source { result.source ≡ sources.Nothing }
         ensures turn { result.turn ≡ record { event = 0; given = 0 } }
+        ensures choice { result.choice ≡ choices.Usual }
     {
+        Live::by(alloc, limit, Choice::Usual)
+    }
+
+    // A judge that was told nothing, and judges by this choice.
+    fn by(alloc: Global, limit: u32, choice: Choice) -> Live
+        ensures told { IsTold result [] }
+        ensures limit { result.judge.limit ≡ limit }
+        ensures source { result.source ≡ sources.Nothing }
+        ensures turn { result.turn ≡ record { event = 0; given = 0 } }
+        ensures choice { result.choice ≡ choice }
+    {
+        let further = choice.has_further();
         Live {
-            judge: Judge::counting(
-                alloc,
-                Options {
-                    limit,
-                    further: false,
-                },
-            ),
+            judge: Judge::counting(alloc, Options { limit, further }),
+            choice,
             source: Source::Nothing,
             refusal: None,
             turn: Turn { event: 0, given: 0 },
         }
     }
 
-    /// The faults that are known.
+    /// Chooses the statements whose faults are given, by a list, before anything is told. The judge
+    /// is made anew, so that it judges the further statements too if one of them is chosen.
+    pub fn choose(&mut self, alloc: Global, list: &[u8]) -> Result<(), Trouble>
+        ensures { Chooses list.now self.old self.new result }
+    {
+        if self.refusal.is_some() {
+            return Err(Trouble::Refused);
+        }
+        let Some(choice) = read(list) else {
+            return Err(Trouble::Value);
+        };
+        match self.source {
+            Source::Nothing => {}
+            Source::Log | Source::Events | Source::Ended => return Err(Trouble::Order),
+        }
+        *self = Live::by(alloc, self.judge.limit(), choice);
+        Ok(())
+    }
+
+    /// The statements whose faults are given.
+    pub fn choice(&self) -> Choice
+        ensures { result ≡ self.now.choice }
+    {
+        self.choice
+    }
+
+    /// The faults that are known, of chosen statements and others.
     pub fn known(&self) -> &Faults
         ensures { (taken : List ℕ) → Knows self.now.judge taken → AreFaultsOf self.now.judge.further taken result.now }
     {
         self.judge.known()
     }
 
-    /// The fault that comes after those that this has returned, if there is one: by the event that
-    /// shows them, and those that one event shows in the order of reports. So each comes once,
-    /// whatever is told between the calls.
+    /// The fault of a chosen statement that comes after those that this has returned, if there is
+    /// one: by the event that shows them, and those that one event shows in the order of reports.
+    /// So each comes once, whatever is told between the calls.
     pub fn next_fault(&mut self) -> Option<FaultRow>
         ensures { GivesNext self.old self.new result }
     {
-        match next_in_turn(self.judge.known(), self.turn) {
+        match next_in_turn(self.judge.known(), self.choice, self.turn) {
             Some(next) => {
                 self.turn = next.1;
                 Some(next.0)
@@ -184,6 +223,16 @@ impl Live {
                 Err(Trouble::Refused)
             }
         }
+    }
+}
+
+// The statements that these bytes choose as a list, if they do.
+fn read(list: &[u8]) -> Option<Choice>
+    ensures { ReadsList list.now result }
+{
+    match str::from_utf8(list) {
+        Ok(list) => Choice::read(list).ok(),
+        Err(_) => None,
     }
 }
 

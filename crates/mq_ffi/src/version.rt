@@ -2,12 +2,12 @@
 ghost use Rattle.std.specs.Prelude.{◌≡◌};
 
 /// The version of this interface.
-const VERSION: u32 = 3;
+const VERSION: u32 = 4;
 
 /// The version of this interface.
 #[unsafe(no_mangle)]
 pub extern "C" fn mqjudge_version() -> u32
-    ensures { result ≡ 3 }
+    ensures { result ≡ 4 }
 {
     VERSION
 }

@@ -1,8 +1,8 @@
 use Rattle.std.proofs.Common.{◌≡◌}
 use Rattle.std.specs.FinMap as map
-use Rattle.mq_ffi.specs.Asking.{nth}
+use Rattle.mq_ffi.specs.Asking.{left_by, nth}
 use Rattle.mq_ffi.specs.Giving.{shown_by}
 use Rattle.mq_ffi.proofs.turn.fault_shown_by.Given as goal
 
 abbrev pub invariant-loop-key : goal.invariant-loop-key
-invariant-loop-key l = nth (shown_by l.event l.key-iterator) l.left ≡ nth (shown_by l.event (map.entries l.faults)) l.fn.index
+invariant-loop-key l = nth (shown_by l.event (left_by l.choice l.key-iterator)) l.left ≡ nth (shown_by l.event (left_by l.choice (map.entries l.faults))) l.fn.index

@@ -10,20 +10,22 @@ use Rattle.mq_ffi.proofs.live.Live.finish.Goals as goal
 pub returns-in-Err : goal.returns-in-Err
 returns-in-Err c =
     let old = c.args.self.now in
-    let new : Live = record { judge = c.end.new.self; source = sources.Ended; refusal = Some c.in-Err.refusal; turn = old.turn } in
+    let new : Live = record { judge = c.end.new.self; choice = old.choice; source = sources.Ended; refusal = Some c.in-Err.refusal; turn = old.turn } in
     record {
       given = refl;
+      chosen = refl;
       for_ever = if_none old.refusal _ (sym c.is_some.ensures ∙ c.if-is_some.false);
       taken = λ log told. ends_from old.source log old new (Err troubles.Refused) (sym c.has_ended.ensures ∙ c.if-has_ended.false)
-          (refl, (c.in-Err.refusal, refl, c.in-Err.ensures.verdict log told.follows), c.end.ensures.known log told.follows, c.end.ensures.further ∙ told.usual);
+          (refl, (c.in-Err.refusal, refl, c.in-Err.ensures.verdict log told.follows), c.end.ensures.known log told.follows, c.end.ensures.further ∙ told.by_choice);
     }
 
 pub returns-in-Ok : goal.returns-in-Ok
 returns-in-Ok c =
     let old = c.args.self.now in
-    let new : Live = record { judge = c.end.new.self; source = sources.Ended; refusal = old.refusal; turn = old.turn } in
+    let new : Live = record { judge = c.end.new.self; choice = old.choice; source = sources.Ended; refusal = old.refusal; turn = old.turn } in
     record {
       given = refl;
+      chosen = refl;
       for_ever = if_none old.refusal _ (sym c.is_some.ensures ∙ c.if-is_some.false);
       taken = λ log told. let verdict = c.in-Ok.ensures.verdict log told.follows in
           let follows = subst (λ (j : Judge). Follows j log) (sym c.in-Ok.ensures.same) told.follows in
@@ -35,7 +37,7 @@ returns-in-Ok c =
               unrefused = told.unrefused;
               first = λ e. absurd (ended_is_last e);
               counting = ap is_counting c.in-Ok.ensures.same ∙ told.counting;
-              usual = c.end.ensures.further ∙ told.usual;
+              by_choice = c.end.ensures.further ∙ told.by_choice;
             },
             refl,
           );
