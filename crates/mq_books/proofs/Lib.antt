@@ -7,7 +7,6 @@ pub mod EarlyLaws
 pub mod StepLaws
 pub mod AtOnceLaws
 pub mod PingLaws
-pub mod JudgingLaws
 pub mod BlameLaws
 pub mod OwedLaws
 pub mod UnderLaws
@@ -51,7 +50,6 @@ pub mod FilterLaws
 pub mod AwaitedLaws
 pub mod StandingSizeLaws
 pub mod AskingSizeLaws
-pub mod BurdenLaws
 pub mod KnowingLaws
 pub mod PassingLaws
 pub mod CountingLaws
@@ -65,3 +63,4 @@ pub mod EarlyFailsLaws
 pub mod TriedLaws
 pub mod ResumedLaws
 pub mod ResumingLaws
+pub mod Exports

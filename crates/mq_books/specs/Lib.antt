@@ -1,10 +1,8 @@
-pub mod Kinds
 pub mod Quotas
 pub mod Knowing
 pub mod Holding
 pub mod Pingings
 pub mod Placings
-pub mod Judging
 pub mod Owings
 pub mod Orderings
 pub mod Answering

@@ -22,7 +22,7 @@ use Rattle.mq_rules.specs.Faults.{fault_in}
 use Rattle.mq_rules.specs.Notes.{tested_as, tested_by, seen, seen_in}
 use Rattle.mq_rules.proofs.Exports.{fault_in-start}
 use Rattle.mq_judge.specs.declared.watching.Watching.{Watching}
-use Rattle.mq_books.specs.Kinds.{is_counting as counts}
+use Rattle.mq_watchers.specs.Kinds.{is_counting as counts}
 use Rattle.mq_judge.specs.Watching.{IsFound, IsWatching, IsTallying, IsJudging}
 use Rattle.mq_judge.specs.declared.judge.Judge.{Judge}
 use Rattle.mq_judge.specs.Judging.{FollowsBy, KnowsBy, RefusesIn, JudgesPiece, JudgesPieceBy, TakesEvents, AreFaultsOf}

@@ -22,7 +22,7 @@ use Rattle.mq_rules.specs.Growing.{added, Gains, GainsWithin}
 use Rattle.mq_rules.specs.Under.{IsInTurn, seen as seen_at}
 use Rattle.mq_rules.proofs.Exports.{fault_in-dropped, fault_in-start, fault_in-step, on_connections, orderly, turned_for}
 use Rattle.mq_judge.specs.declared.watching.Watching.{Watching}
-use Rattle.mq_books.specs.Kinds.{is_counting}
+use Rattle.mq_watchers.specs.Kinds.{is_counting}
 use Rattle.mq_judge.specs.Watching.{IsFound, IsWatching, IsTallying, MayCome, TakesIn, LeavesOut}
 
 -- no events have no faults

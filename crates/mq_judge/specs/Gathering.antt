@@ -1,7 +1,7 @@
 -- What is kept of the events so far to say what isn't judged.
 use Rattle.std.specs.Prelude.{◌≡◌, false, List}
 use Rattle.mq_log.specs.Events.{Placed}
-use Rattle.mq_rules.specs.ByteTallies.{CountsBytes}
+use Rattle.mq_connections.specs.ByteTallies.{CountsBytes}
 use Rattle.mq_rules.specs.declared.note.Seen.{Seen}
 use Rattle.mq_rules.specs.declared.role.Tested.{Tested}
 use Rattle.mq_rules.specs.Moments.{moments, some}

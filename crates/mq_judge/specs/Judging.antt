@@ -12,7 +12,7 @@ use Rattle.mq_rules.specs.Faults.{chosen_fault}
 use Rattle.mq_report.specs.Chosen.{is_judged}
 use Rattle.mq_rules.specs.FaultKeys.{FaultMap, fault_at}
 use Rattle.mq_report.specs.Stopping.{StopsIn, IsRefusedEnd}
-use Rattle.mq_books.specs.Kinds.{is_counting as counts}
+use Rattle.mq_watchers.specs.Kinds.{is_counting as counts}
 use Rattle.mq_judge.specs.Watching.{IsFound, IsWatching, IsTallying, IsJudging}
 use Rattle.mq_judge.specs.declared.judge.Judge.{Judge}
 use Rattle.mq_judge.specs.declared.watching.Watching.{Watching}

@@ -6,9 +6,9 @@ use Rattle.mq_packet.specs.Reading.{view}
 use Rattle.mq_log.specs.declared.place.Place3.{Place3}
 use Rattle.mq_log.specs.Events.{Event, Placed}
 use Rattle.mq_rules.specs.declared.bare.Bare.{Bare}
-use Rattle.mq_rules.specs.ByteTallies.{IsTriedAs}
+use Rattle.mq_rules.specs.Parts.{IsTriedAs}
 use Rattle.mq_rules.specs.Notes.{seen as seen_of}
-use Rattle.mq_books.specs.Kinds.{is_counting}
+use Rattle.mq_watchers.specs.Kinds.{is_counting}
 use Rattle.mq_rules.specs.declared.role.Tested.{Tested}
 use Rattle.mq_rules.specs.declared.rule.Rule.{Rule}
 use Rattle.mq_rules.specs.declared.note.Note.{Note}
@@ -17,7 +17,7 @@ use Rattle.mq_rules.specs.Connections.{latest_fate, IsOnConnection}
 use Rattle.mq_rules.specs.FaultKeys.{fault_at}
 use Rattle.mq_rules.specs.Faults.{fault_in}
 use Rattle.mq_rules.specs.Under.{Follows, seen}
-use Rattle.mq_books.specs.contracts.watchers.WatchersWatch.TheImpl as watchers
+use Rattle.mq_watchers.specs.contracts.watchers.WatchersWatch.TheImpl as watchers
 use Rattle.mq_judge.specs.Gathering.{Gathers, Tallies}
 use Rattle.mq_judge.specs.declared.watching.Watching.{Watching}
 

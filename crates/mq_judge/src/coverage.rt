@@ -3,7 +3,7 @@ ghost use Rattle.std.specs.Prelude.{◌≡◌, ◌++◌, ◌==◌, true, ℕ, Li
 ghost use Rattle.mq_log.specs.Events.{Placed};
 ghost use Rattle.mq_rules.specs.Notes.{seen as seen_of};
 ghost use Rattle.mq_rules.specs.Rules.{all_rules};
-ghost use Rattle.mq_books.specs.Kinds.{is_counting as counts};
+ghost use Rattle.mq_watchers.specs.Kinds.{is_counting as counts};
 ghost use Rattle.mq_judge.specs.Watching.{IsWatching, IsTallying};
 ghost use Rattle.mq_choice.specs.Choices.{in_choice};
 ghost use Rattle.mq_judge.specs.Coverage.{chosen_row, is_foreign as foreign, is_listed as listed, listed_row, rows_among};

@@ -7,7 +7,7 @@ ghost use Rattle.mq_judge.specs.Unjudged.{unjudged_of};
 ghost use Rattle.mq_judge.specs.Judging.{is_counting, Knows, Follows, FollowsBy, JudgesPiece, JudgesPieceBy, TakesEvents, AreFaultsOf, Ends, Finishes};
 ghost use Rattle.mq_judge.specs.Watching.{IsWatching, IsTallying, watchers_weigh};
 ghost use Rattle.mq_log.specs.Events.{events};
-ghost use Rattle.mq_books.specs.Kinds.{is_counting as counts};
+ghost use Rattle.mq_watchers.specs.Kinds.{is_counting as counts};
 ghost use Rattle.mq_rules.specs.Weights.{in_word};
 ghost use Rattle.mq_rules.specs.Notes.{tested_by, seen_in};
 ghost use Rattle.mq_trace.specs.Tracing.{IsTracedTo};

@@ -5,7 +5,7 @@ ghost use Rattle.mq_packet.specs.Reading.{view};
 ghost use Rattle.mq_log.specs.Events.{Placed, packet as packet_item};
 ghost use Rattle.mq_log.specs.Flows.{item_event};
 ghost use Rattle.mq_log.specs.Reception.{event_of, packets_of, placed_at};
-ghost use Rattle.mq_rules.specs.ByteTallies.{IsTriedAs};
+ghost use Rattle.mq_rules.specs.Parts.{IsTriedAs};
 ghost use Rattle.mq_rules.specs.Trials.{places_bytes};
 ghost use Rattle.mq_rules.specs.declared.role.Tested.{Tested as TheTested};
 ghost use Rattle.mq_report.specs.declared.report.unjudged.Gap.{Gap as TheGap};
@@ -13,10 +13,11 @@ ghost use Rattle.mq_judge.specs.Unjudged.{dropped_in, unfinished_of, with_droppe
 ghost use Rattle.mq_judge.specs.Gathering.{IsShown, Tallies};
 
 use super::shown::{Shown, add};
+use mq_connections::ByteTally;
 use mq_log::{Direction, Event, Place3, UnfinishedPackets};
 use mq_packet::Packet;
 use mq_report::{Begun, Gap};
-use mq_rules::{Bare, ByteTally, Memory, Rule};
+use mq_rules::{Bare, Memory, Rule};
 use std::alloc::Global;
 
 /// How often the statements on a packet's bytes were put to the test, and which packets were left

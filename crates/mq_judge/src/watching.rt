@@ -1,7 +1,7 @@
 //! Judging each event as it comes.
 ghost use Rattle.std.specs.Prelude.{◌≡◌, ◌∷◌, ◌+◌, [], ℕ, Bool, true, cond, Option, None, Some, List, length, map, ◌≤◌, ◌*◌, IfOk, IfSome, OnOk, OnErr};
 ghost use Rattle.mq_books.specs.Burden.{burden};
-ghost use Rattle.mq_books.specs.Kinds.{is_counting as counts};
+ghost use Rattle.mq_watchers.specs.Kinds.{is_counting as counts};
 ghost use Rattle.mq_rules.specs.declared.note.Seen.{Seen as TheSeen};
 ghost use Rattle.mq_packet.specs.Reading.{view};
 ghost use Rattle.mq_packet.specs.declared.packet.Packet.TheVariants as packets;
@@ -9,7 +9,7 @@ ghost use Rattle.mq_log.specs.Events.{Placed, packet as packet_item};
 ghost use Rattle.mq_log.specs.Flows.{item_event};
 ghost use Rattle.mq_log.specs.Reception.{event_of, packets_of, placed_at};
 ghost use Rattle.mq_packet.specs.Entries.{Entry};
-ghost use Rattle.mq_rules.specs.ByteTallies.{IsTriedAs};
+ghost use Rattle.mq_rules.specs.Parts.{IsTriedAs};
 ghost use Rattle.mq_rules.specs.Notes.{tested_as, note_of, note_of_bare};
 ghost use Rattle.mq_rules.specs.Weights.{in_word};
 ghost use Rattle.mq_rules.specs.declared.role.Tested.{Tested as TheTested};
@@ -25,12 +25,12 @@ ghost use Rattle.mq_rules.specs.Notes.{seen as seen_of};
 
 use super::tally::Tally;
 use super::unjudged::Unjudged;
-use mq_books::Watchers;
 use mq_log::{Direction, Event, Header, Item, Place3, Refusal, UnfinishedPackets, item_event};
 use mq_packet::{Packet, Publish};
 use mq_report::Gap;
 use mq_rules::{Bare, BareFields, Brisk, Fate, Faults, Memory, Note, Rule, Tested, Watch, is_bare};
 use mq_trace::Sink;
+use mq_watchers::Watchers;
 use std::alloc::Global;
 use std::marker::{Brand, PhantomData};
 use std::mem::replace;

@@ -7,14 +7,14 @@ use Rattle.mq_rules.specs.declared.role.Role.{Role}
 use Rattle.mq_rules.specs.declared.fate.Fate.TheVariants.{Void}
 use Rattle.mq_rules.specs.declared.note.Note.{Note}
 use Rattle.mq_rules.specs.declared.note.Seen.{Seen}
-use Rattle.mq_rules.specs.declared.conn.state.ConnectionState.{ConnectionState}
-use Rattle.mq_rules.specs.Words.{is_id, is_some_and}
+use Rattle.mq_rules.specs.declared.connection_state.ConnectionState.{ConnectionState}
+use Rattle.mq_rules.specs.Words.{is_some_and}
 use Rattle.mq_rules.specs.Notes.{is_open, sent_item, is_typed, connect_of, connack_of, client_disconnect, decides, sends_type, receives_type}
 use Rattle.mq_rules.specs.Moments.{Moment, newest, note, some, first_found}
 use Rattle.mq_rules.specs.Connections.{begun, of_connection, connection, accepted, session_expiry, may_be_accepted, is_alive_after}
-use Rattle.mq_rules.specs.Pasts.{sends_typed, is_sent_disconnect, is_sent_refusal, set_alias}
+use Rattle.mq_rules.specs.Pasts.{sends_typed, is_sent_disconnect, is_sent_refusal}
 use Rattle.mq_rules.proofs.BoolLaws.{or-turn}
-use Rattle.mq_rules.specs.Keeping.{kept, is_alias_set, stays_alive, begun_if, followed, connection_after}
+use Rattle.mq_rules.specs.Keeping.{kept, stays_alive, begun_if, followed, connection_after}
 
 -- ---- the latest connection with one event more
 
@@ -177,8 +177,3 @@ kept-next role e past =
       has_sent_refusal = some-last (λ m. is_sent_refusal (note m)) e past i;
     })
     ∙ raw-after role (is_open e.note) (kept role past) e.note
-
--- the Topic Aliases that are set, with one event more
-pub is_alias_set-next : (e : Seen) (past : List Seen) (alias : ℕ) → is_alias_set (e ∷ past) alias ≡ (is_id alias (set_alias e.note) || (not (is_open e.note) && is_alias_set past alias))
-unfolding is_alias_set
-is_alias_set-next e past alias = some-next (λ m. is_id alias (set_alias (note m))) e past

@@ -14,7 +14,7 @@ use Rattle.mq_rules.specs.declared.packet_note.ConnackNote.{ConnackNote}
 use Rattle.mq_rules.specs.declared.packet_note.DisconnectNote.{DisconnectNote}
 use Rattle.mq_rules.specs.declared.packet_note.PacketFields.{PacketFields}
 use Rattle.mq_rules.specs.declared.packet_note.PacketFields.TheVariants.{Connect, Connack, Disconnect}
-use Rattle.mq_rules.specs.declared.conn.state.ConnectionState.{ConnectionState}
+use Rattle.mq_rules.specs.declared.connection_state.ConnectionState.{ConnectionState}
 use Rattle.mq_rules.specs.Words.{is_id, is_some_and}
 use Rattle.mq_rules.specs.Notes.{is_open, is_close, is_typed, fields_type, sent_item, sent_connack, sent_disconnect, connect_in, connack_in, disconnect_in, connect_of, connack_of, client_disconnect, fate_by, decides, refuses, sends_type, receives_type, is_session_packet, needs_session}
 use Rattle.mq_rules.specs.Pasts.{is_sent_disconnect, is_sent_refusal}

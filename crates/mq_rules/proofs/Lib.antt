@@ -5,14 +5,8 @@ pub mod BoolLaws
 pub mod StepLaws
 pub mod DecidedLaws
 pub mod LateLaws
-mod MannersLaws
-mod LaterLaws
-mod DutyLaws
-mod DutiesLaws
 mod WishesLaws
-pub mod FindLaws
 pub mod GrowLaws
-pub mod JudgeLaws
 pub mod GivenLaws
 pub mod FatedLaws
 pub mod FateLaws
@@ -22,7 +16,6 @@ pub mod OpenLaws
 pub mod OnOpenLaws
 pub mod GainLaws
 pub mod BareLaws
-pub mod WatchLaws
 pub mod RowLaws
 pub mod ListingLaws
 pub mod SubjectLaws
@@ -35,16 +28,12 @@ pub mod CounterLaws
 pub mod PropertyLaws
 pub mod NamingLaws
 pub mod IdleLaws
-pub mod HarmlessLaws
-pub mod HarmlessTestsLaws
 pub mod Exports
 pub mod DropLaws
 pub mod PlacesLaws
 pub mod UnderPlacesLaws
 pub mod WaitingLaws
-pub mod TallyLaws
 pub mod TrialLaws
-pub mod ByteTallyLaws
 mod PartsLaws
 pub mod HistoryLaws
 pub mod ByIdentifierLaws

@@ -7,8 +7,8 @@ use Rattle.mq_packet.specs.declared.packet.AcknowledgementKind.{AcknowledgementK
 use Rattle.mq_packet.specs.declared.packet.AcknowledgementKind.TheVariants as kinds
 use Rattle.mq_packet.specs.Entries.{PublishFields, publish, acknowledgement, pingreq, pingresp}
 use Rattle.mq_packet.specs.Tries.{tries, is_named, is_at_most_once}
-use Rattle.mq_rules.specs.declared.byte_tally.Parts.{Parts}
-use Rattle.mq_rules.specs.ByteTallies.{parts_try, other_parts}
+use Rattle.mq_rules.specs.declared.parts.Parts.{Parts}
+use Rattle.mq_rules.specs.Parts.{parts_try, other_parts}
 
 or_false : (b : Bool) → b ≡ (b || false)
 or_false true = refl

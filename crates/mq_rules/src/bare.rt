@@ -6,7 +6,7 @@ ghost use Rattle.mq_packet.specs.Reading.{view, publish_view};
 ghost use Rattle.mq_log.specs.Events.{packet as packet_item};
 ghost use Rattle.mq_log.specs.Flows.{item_event};
 ghost use Rattle.mq_log.specs.declared.kind.Direction.{Direction as TheDirection};
-ghost use Rattle.mq_rules.specs.ByteTallies.{IsTriedAs};
+ghost use Rattle.mq_rules.specs.Parts.{IsTriedAs};
 ghost use Rattle.mq_rules.specs.declared.bare.BareFields.TheVariants as bares;
 ghost use Rattle.mq_rules.specs.declared.packet_note.PacketFields.TheVariants as fields_of;
 ghost use Rattle.mq_rules.specs.Notes.{fields_type, publish_in, bare_fields, bare_note, bare_publish_note, note_of, kept_topic, is_sent_direction, note_of_bare};

@@ -10,7 +10,7 @@ ghost use Rattle.mq_rules.specs.Histories as histories;
 ghost use Rattle.mq_rules.specs.Histories.{history, history_after};
 
 use crate::bare::{Bare, BareFields};
-use crate::conn::ConnectionState;
+use crate::connection_state::ConnectionState;
 use crate::fate::Fate;
 use crate::note::Note;
 use crate::role::Role;

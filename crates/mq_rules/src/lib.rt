@@ -1,5 +1,6 @@
 //! The chosen statements of MQTT 5.0: what they look at in a log's events, where each is false, and
-//! the faults that follow.
+//! the faults that follow. `Watch` says what a watcher of statements does; the watchers are in the
+//! crates above.
 //!
 //! To learn what the statements say, read the definitions in `specs/` alone: `Notes` (one event),
 //! `Moments` (words on what comes before an event), `Connections`, and then a file for each family:
@@ -9,28 +10,24 @@
 
 mod bare;
 mod by_identifier;
-mod byte_tally;
-mod conn;
+mod connection_state;
 mod conversion;
 mod copying;
-mod duties;
 mod fate;
 mod fault;
 mod faults;
 mod history;
-mod manners;
 mod naming;
 mod note;
 mod note_copy;
 mod note_ref;
 mod noted;
-mod one_pass;
 mod packet_note;
-mod plain;
+mod parts;
+mod places;
 mod qos;
 mod role;
 mod rule;
-mod shapes;
 mod short_text;
 mod table;
 mod table_laws;
@@ -40,28 +37,24 @@ mod wishes;
 
 pub use bare::{Bare, BareFields, is_bare};
 pub use by_identifier::{ByIdentifier, CountedByIdentifier};
-pub use byte_tally::ByteTally;
-pub use conn::{Conn, CountingConn, places_after};
-pub use duties::{CountingDuties, Duties};
+pub use connection_state::{ConnectionState, is_ordinary};
 pub use fate::Fate;
 pub use fault::Fault;
 pub use faults::{FaultKey, Faults, Memory};
 pub use history::History;
-pub use manners::{CountingManners, Manners};
 pub use naming::each_statement_is_named;
 pub use note::{ItemNote, Note, Seen};
 pub use note_ref::NoteRef;
 pub use noted::Noted;
-pub use one_pass::plain_connections;
 pub use packet_note::{
     ConnackNote, ConnectNote, DisconnectNote, PacketFields, PacketNote, PublishNote, WillNote,
     WishesNote,
 };
-pub use plain::{plain_c, plain_w};
+pub use parts::{Parts, is_at_most_once};
+pub use places::places_after;
 pub use qos::qos_number;
 pub use role::{Role, Tested};
 pub use rule::Rule;
-pub use shapes::Shapes;
 pub use table_laws::{each_statement_binds_its_ends, each_statement_has_its_row, rows_ascend};
 pub use text::{CodeList, FilterList, NotedFilter, Text};
 pub use watch::{Both, Brisk, Watch, step_apart};

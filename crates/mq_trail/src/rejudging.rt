@@ -11,11 +11,11 @@ ghost use Rattle.mq_trail.specs.Rejudging.{HasFound};
 
 use crate::comparing::same_faults;
 use crate::following::Follower;
-use mq_books::Watchers;
 use mq_choice::{Choice, chosen_of};
 use mq_log::Place3;
 use mq_report::Verdict;
 use mq_rules::{Bare, Brisk, Faults, Memory, Note, Tested, Watch};
+use mq_watchers::Watchers;
 use std::alloc::Global;
 
 /// Judges a log again, and finds its faults itself: it adds none to those that a step is given.

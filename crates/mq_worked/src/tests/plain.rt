@@ -1,10 +1,11 @@
 //! The judge finds the same faults as the plain evaluators, which look back over all events.
-use mq_books::watch_sessions;
+use mq_connections::{plain_c, plain_connections, plain_w};
 use mq_judge::{Judge, Options};
 use mq_log::{Event, Place3, Refusal};
 use mq_plain::{plain_lb, plain_se, plain_sessions};
-use mq_rules::{Faults, Memory, Note, Seen, Tested, plain_c, plain_connections, plain_w};
+use mq_rules::{Faults, Memory, Note, Seen, Tested};
 use mq_trace::{Sink, Tracer};
+use mq_watchers::watch_sessions;
 use std::alloc::Global;
 
 // The events of a log, as the statements see them.

@@ -1,7 +1,7 @@
 use Rattle.std.proofs.Common.{◌≡◌, ◌++◌, true, List, drop, map}
 use Rattle.mq_log.specs.Events.{Placed}
 use Rattle.mq_rules.specs.Notes.{seen}
-use Rattle.mq_books.specs.Kinds.{is_counting}
+use Rattle.mq_watchers.specs.Kinds.{is_counting}
 use Rattle.mq_choice.specs.Choices.{in_choice}
 use Rattle.mq_judge.specs.Watching.{IsTallying, IsWatching}
 use Rattle.mq_judge.specs.Coverage.{rows_among}

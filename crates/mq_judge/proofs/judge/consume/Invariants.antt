@@ -1,4 +1,4 @@
-use Rattle.mq_books.specs.Kinds.{is_counting}
+use Rattle.mq_watchers.specs.Kinds.{is_counting}
 use Rattle.mq_judge.proofs.judge.consume.Given as goal
 
 -- the end that is judged

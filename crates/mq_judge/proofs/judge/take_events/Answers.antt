@@ -1,6 +1,6 @@
 use Rattle.std.proofs.Common.{Bool, subst, sym}
 use Rattle.mq_rules.specs.declared.role.Tested.{Tested}
-use Rattle.mq_books.specs.Kinds.{is_counting}
+use Rattle.mq_watchers.specs.Kinds.{is_counting}
 use Rattle.mq_judge.specs.Judging.{TakesEvents}
 use Rattle.mq_judge.proofs.JudgeLaws.{fed-events}
 use Rattle.mq_judge.proofs.judge.take_events.Goals as goal

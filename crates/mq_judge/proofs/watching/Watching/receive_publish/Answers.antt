@@ -4,7 +4,7 @@ use Rattle.mq_packet.specs.declared.packet.Packet.TheVariants as packets
 use Rattle.mq_log.specs.Events.{packet}
 use Rattle.mq_log.specs.Flows.{item_event}
 use Rattle.mq_rules.specs.declared.bare.Bare.{Bare}
-use Rattle.mq_rules.specs.ByteTallies.{IsTriedAs}
+use Rattle.mq_rules.specs.Parts.{IsTriedAs}
 use Rattle.mq_rules.proofs.Exports.{publish_tried}
 use Rattle.mq_judge.specs.Watching.{TalliesNext}
 use Rattle.mq_judge.proofs.WatchingLaws.{on_ok}

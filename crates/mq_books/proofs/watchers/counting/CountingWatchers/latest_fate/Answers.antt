@@ -1,5 +1,0 @@
-use Rattle.std.proofs.Common.{◌∙◌}
-use Rattle.mq_books.proofs.watchers.counting.CountingWatchers.latest_fate.Goals as goal
-
-pub returns : goal.returns
-returns c = λ tested taken past was. c.latest_fate.ensures ∙ was.1.1.1.1.same_fate

@@ -1,0 +1,388 @@
+-- By what is kept of the latest connection, what the server still owes on it, and what an event shows of that.
+use Rattle.std.proofs.Common.{◌≡◌, ℕ, ◌+◌, Bool, true, false, cond, ◌&&◌, ◌||◌, not, List, [], ◌∷◌, length, Option, Some, None, refl, ap, sym, ◌∙◌}
+use Rattle.mq_log.specs.declared.place.Place3.{Place3}
+use Rattle.mq_packet.specs.declared.packet.PacketType.TheVariants as types
+use Rattle.mq_rules.specs.declared.role.Role.{Role}
+use Rattle.mq_rules.specs.declared.role.Role.TheVariants.{Server}
+use Rattle.mq_rules.specs.declared.role.Tested.{Tested}
+use Rattle.mq_rules.specs.declared.fate.Fate.{Fate}
+use Rattle.mq_rules.specs.declared.fate.Fate.TheVariants.{Void}
+use Rattle.mq_rules.specs.declared.rule.Rule.{Rule}
+use Rattle.mq_rules.specs.declared.rule.Rule.TheVariants.{W01, C24, D01, D02}
+use Rattle.mq_rules.specs.declared.note.Note.{Note}
+use Rattle.mq_rules.specs.declared.note.Note.TheVariants as notes
+use Rattle.mq_rules.specs.declared.note.Seen.{Seen}
+use Rattle.mq_connections.specs.declared.duties.Duties.{Duties}
+use Rattle.mq_connections.specs.declared.duties.DutiesPlaces.{DutiesPlaces}
+use Rattle.mq_connections.specs.declared.duties.Talk.{Talk}
+use Rattle.mq_rules.specs.Words.{is_some_and}
+use Rattle.mq_rules.specs.Notes.{connect_of, is_open, is_rest, receives_type, sends_type}
+use Rattle.mq_rules.specs.Moments.{Moment, newest, note, since, some, latest}
+use Rattle.mq_rules.specs.Connections.{connection}
+use Rattle.mq_rules.specs.Pasts.{came_before}
+use Rattle.mq_rules.specs.FurtherRests.{applies_C24, applies_D01, applies_D02, ends_talk, is_first_of, leaves_unanswered, owes_C24, owes_D01, owes_D02, receives_connect, receives_malformed, repeats_connect, says_goodbye, settles_connect, shows_C24, shows_D01, shows_D02, shows_outcome, stays_open, takes_connack}
+use Rattle.mq_rules.specs.Rules.{binds, found_line, line_of, lines, same_rule}
+use Rattle.mq_rules.specs.Statements.{is_by_later, is_on_later, statement}
+use Rattle.mq_rules.specs.Steps.{turns}
+use Rattle.mq_rules.specs.Under.{Follows}
+use Rattle.mq_rules.specs.Growing.{Gains, GainsWithin}
+use Rattle.mq_rules.specs.Occasions.{adds_place, places}
+use Rattle.mq_rules.specs.FaultKeys.{FaultMap}
+use Rattle.mq_connections.specs.Duties.{blamed_all, blamed_one, blamed_two, finds_malformed, finds_repeated, finds_unanswered, followed, leaves_now, nothing_said, owed_on, place_of, stays_now, talk, talk_after, tries_answer, BlamesWithin, nothing, one, two, CountsDuties, CountsTrial, IsDuties, IsTrial}
+use Rattle.mq_rules.proofs.Exports.{among-some, and_false, both_true, connection-newest as connection-next, gains_either, gains_same, not_true, or-turn, rest-opens-nothing, within_all, within_either_first, within_nothing, within_same}
+use Rattle.mq_connections.proofs.DutyLaws.{IsDuty, duty-gains, duty-unbound, trial-next, trial-start, trial-unbound}
+use Rattle.mq_connections.proofs.LaterLaws.{IsOnce, is_at, latest-passes, once-shown}
+
+-- ---- which events open no connection
+
+receives-closed : (n : Note) → receives_type types.Connect n ≡ true → is_open n ≡ false
+receives-closed notes.Open h = absurd (cc)
+receives-closed (notes.Close cuts) h = refl
+receives-closed notes.Rest h = refl
+receives-closed (notes.Release i) h = refl
+receives-closed (notes.Sent item) h = refl
+receives-closed (notes.Recv item) h = refl
+
+malformed-closed : (n : Note) → receives_malformed n ≡ true → is_open n ≡ false
+malformed-closed notes.Open h = absurd (cc)
+malformed-closed (notes.Close cuts) h = refl
+malformed-closed notes.Rest h = refl
+malformed-closed (notes.Release i) h = refl
+malformed-closed (notes.Sent item) h = refl
+malformed-closed (notes.Recv item) h = refl
+
+outcome-closed : (n : Note) → shows_outcome n ≡ true → is_open n ≡ false
+outcome-closed notes.Open h = absurd (cc)
+outcome-closed (notes.Close cuts) h = refl
+outcome-closed notes.Rest h = refl
+outcome-closed (notes.Release i) h = refl
+outcome-closed (notes.Sent item) h = refl
+outcome-closed (notes.Recv item) h = refl
+
+answer-closed : (t : Talk) (n : Note) → tries_answer t n ≡ true → is_open n ≡ false
+answer-closed t notes.Open h = absurd (cc)
+answer-closed t (notes.Close cuts) h = refl
+answer-closed t notes.Rest h = refl
+answer-closed t (notes.Release i) h = refl
+answer-closed t (notes.Sent item) h = refl
+answer-closed t (notes.Recv item) h = refl
+
+-- ---- the first of its kind on a connection comes once
+
+once-first : (test also owes : Moment → Bool) → ((m : Moment) → owes m ≡ (is_first_of test m && also m)) → ((e : Seen) (past : List Seen) → test (newest e past) ≡ true → is_open e.note ≡ false) → IsOnce owes
+once-first test also owes is closed = record {
+  closed = λ e past h. closed e past (first (newest e past) h).0;
+  alone = λ e past h. none past (first (newest e past) h).1 (owed_on owes past) refl;
+}
+  where
+    first : (m : Moment) → owes m ≡ true → (test m ≡ true) × (not (some test (connection m.past)) ≡ true)
+    first m h =
+        let a = (both_true (is_first_of test m) (also m) (sym (is m) ∙ h)).0 in
+        both_true (test m) (not (some test (connection m.past))) a
+
+    none : (past : List Seen) → not (some test (connection past)) ≡ true → (o : Option Moment) → owed_on owes past ≡ o → o ≡ None
+    none past h None here = refl
+    none past h (Some m) here =
+        let a = latest-passes owes past m here in
+        let there : some test (connection past) ≡ true = among-some test (connection past) m a.0 (first m a.1).0 in
+        absurd (cc)
+
+once-C24 : IsOnce owes_C24
+once-C24 = once-first receives_connect (λ m. is_some_and takes_connack (connect_of Server (note m))) owes_C24 (λ m. refl) (λ e past h. receives-closed e.note h)
+
+once-D01 : IsOnce owes_D01
+once-D01 = once-first (λ j. receives_malformed (note j)) (λ m. not (came_before ends_talk m)) owes_D01 (λ m. refl) (λ e past h. malformed-closed e.note h)
+
+once-D02 : IsOnce owes_D02
+once-D02 = once-first repeats_connect (λ m. not (came_before ends_talk m)) owes_D02 (λ m. refl) (λ e past h. receives-closed e.note (both_true (receives_type types.Connect e.note) (came_before (receives_type types.Connect) (newest e past)) h).0)
+
+-- ---- the three statements
+
+C24-turns : (tested : Tested) (e : Seen) (past : List Seen) (k : ℕ) → turns tested e past k C24 ≡ (binds C24 tested && (leaves_now (talk past) e.note && is_at k (owed_on owes_C24 past)))
+unfolding turns shows_C24 talk
+C24-turns tested e past k =
+    ap (λ b. binds C24 tested && b) (once-shown owes_C24 once-C24 (leaves_unanswered (newest e past)) e past k
+    (λ h. rest-opens-nothing e.note (both_true (is_rest e.note) (not (came_before settles_connect (newest e past)) && not (since (λ j. sends_type types.Auth (note j)) (λ j. receives_type types.Auth (note j)) (connection past))) h).0))
+
+D01-turns : (tested : Tested) (e : Seen) (past : List Seen) (k : ℕ) → turns tested e past k D01 ≡ (binds D01 tested && (stays_now (talk past) e.note && is_at k (owed_on owes_D01 past)))
+unfolding turns shows_D01 talk
+D01-turns tested e past k =
+    ap (λ b. binds D01 tested && b) (once-shown owes_D01 once-D01 (stays_open (newest e past)) e past k
+    (λ h. rest-opens-nothing e.note (both_true (is_rest e.note) (not (came_before says_goodbye (newest e past))) h).0))
+
+D02-turns : (tested : Tested) (e : Seen) (past : List Seen) (k : ℕ) → turns tested e past k D02 ≡ (binds D02 tested && (stays_now (talk past) e.note && is_at k (owed_on owes_D02 past)))
+unfolding turns shows_D02 talk
+D02-turns tested e past k =
+    ap (λ b. binds D02 tested && b) (once-shown owes_D02 once-D02 (stays_open (newest e past)) e past k
+    (λ h. rest-opens-nothing e.note (both_true (is_rest e.note) (not (came_before says_goodbye (newest e past))) h).0))
+
+C24-placed : (tested : Tested) (e : Seen) (past : List Seen) (k : ℕ) → binds C24 tested ≡ true → adds_place tested e past k C24 ≡ (tries_answer (talk past) e.note && is_at k (owed_on owes_C24 past))
+unfolding adds_place applies_C24 talk
+C24-placed tested e past k bound =
+    ap (λ b. binds C24 tested && b) (once-shown owes_C24 once-C24 (tries_answer (talk past) e.note) e past k (answer-closed (talk past) e.note))
+    ∙ ap (λ b. b && (tries_answer (talk past) e.note && is_at k (owed_on owes_C24 past))) bound
+
+D01-placed : (tested : Tested) (e : Seen) (past : List Seen) (k : ℕ) → binds D01 tested ≡ true → adds_place tested e past k D01 ≡ (shows_outcome e.note && is_at k (owed_on owes_D01 past))
+unfolding adds_place applies_D01
+D01-placed tested e past k bound =
+    ap (λ b. binds D01 tested && b) (once-shown owes_D01 once-D01 (shows_outcome e.note) e past k (outcome-closed e.note))
+    ∙ ap (λ b. b && (shows_outcome e.note && is_at k (owed_on owes_D01 past))) bound
+
+D02-placed : (tested : Tested) (e : Seen) (past : List Seen) (k : ℕ) → binds D02 tested ≡ true → adds_place tested e past k D02 ≡ (shows_outcome e.note && is_at k (owed_on owes_D02 past))
+unfolding adds_place applies_D02
+D02-placed tested e past k bound =
+    ap (λ b. binds D02 tested && b) (once-shown owes_D02 once-D02 (shows_outcome e.note) e past k (outcome-closed e.note))
+    ∙ ap (λ b. b && (shows_outcome e.note && is_at k (owed_on owes_D02 past))) bound
+
+duty-C24 : IsDuty C24 owes_C24 leaves_now tries_answer finds_unanswered
+unfolding talk
+duty-C24 = record { once = once-C24; by = λ role. refl; turned = C24-turns; placed = C24-placed; met = λ e past. refl }
+
+duty-D01 : IsDuty D01 owes_D01 stays_now (λ t n. shows_outcome n) finds_malformed
+unfolding talk
+duty-D01 = record { once = once-D01; by = λ role. refl; turned = D01-turns; placed = D01-placed; met = λ e past. refl }
+
+duty-D02 : IsDuty D02 owes_D02 stays_now (λ t n. shows_outcome n) finds_repeated
+unfolding talk
+duty-D02 = record { once = once-D02; by = λ role. refl; turned = D02-turns; placed = D02-placed; met = λ e past. refl }
+
+-- they bind the same ends
+same-C24 : (tested : Tested) → binds C24 tested ≡ binds D02 tested
+unfolding line_of found_line lines
+same-C24 tested = refl
+
+same-D01 : (tested : Tested) → binds D01 tested ≡ binds D02 tested
+unfolding line_of found_line lines
+same-D01 tested = refl
+
+-- ---- what is kept with one event more
+
+-- what is kept of an event and of these before it on its connection
+fresh : Seen → List Seen → List Moment → Talk
+fresh e past ms = record {
+  has_connect = receives_type types.Connect e.note || some receives_connect ms;
+  has_repeat = repeats_connect (newest e past) || some repeats_connect ms;
+  has_malformed = receives_malformed e.note || some (λ j. receives_malformed (note j)) ms;
+  has_ended = ends_talk e.note || some (λ j. ends_talk (note j)) ms;
+  has_goodbye = says_goodbye e.note || some (λ j. says_goodbye (note j)) ms;
+  has_settled = settles_connect e.note || some (λ j. settles_connect (note j)) ms;
+  awaits_auth = sends_type types.Auth e.note || (not (receives_type types.Auth e.note) && since (λ j. sends_type types.Auth (note j)) (λ j. receives_type types.Auth (note j)) ms);
+  unanswered = place_of (cond (owes_C24 (newest e past)) (Some (newest e past)) (latest owes_C24 ms));
+  malformed = place_of (cond (owes_D01 (newest e past)) (Some (newest e past)) (latest owes_D01 ms));
+  repeated = place_of (cond (owes_D02 (newest e past)) (Some (newest e past)) (latest owes_D02 ms));
+}
+
+fresh-talk : (e : Seen) (past : List Seen) → talk (e ∷ past) ≡ fresh e past (cond (is_open e.note) [] (connection past))
+unfolding talk fresh
+fresh-talk e past = λ i. record {
+  has_connect = some receives_connect (connection-next e past i);
+  has_repeat = some repeats_connect (connection-next e past i);
+  has_malformed = some (λ j. receives_malformed (note j)) (connection-next e past i);
+  has_ended = some (λ j. ends_talk (note j)) (connection-next e past i);
+  has_goodbye = some (λ j. says_goodbye (note j)) (connection-next e past i);
+  has_settled = some (λ j. settles_connect (note j)) (connection-next e past i);
+  awaits_auth = since (λ j. sends_type types.Auth (note j)) (λ j. receives_type types.Auth (note j)) (connection-next e past i);
+  unanswered = place_of (latest owes_C24 (connection-next e past i));
+  malformed = place_of (latest owes_D01 (connection-next e past i));
+  repeated = place_of (latest owes_D02 (connection-next e past i));
+}
+
+same-or : (a : Bool) → (a || false) ≡ a
+same-or true = refl
+same-or false = refl
+
+placed-of : (b : Bool) (m : Moment) (o : Option Moment) → place_of (cond b (Some m) o) ≡ cond b (Some m.event.place) (place_of o)
+placed-of true m o = refl
+placed-of false m o = refl
+
+pub talk-next : (e : Seen) (past : List Seen) → talk (e ∷ past) ≡ talk_after (talk past) e.place e.note
+unfolding fresh talk
+talk-next e past = fresh-talk e past ∙ go (is_open e.note) refl
+  where
+    connects : Bool
+    connects = receives_type types.Connect e.note
+
+    broken : Bool
+    broken = receives_malformed e.note
+
+    none-found : (found owes : Bool) → owes ≡ false → found ≡ false → place_of (cond owes (Some (newest e past)) None) ≡ cond found (Some e.place) None
+    none-found found owes a b = ap (λ t. place_of (cond t (Some (newest e past)) None)) a ∙ sym (ap (λ t. cond t (Some e.place) None) b)
+
+    go : (b : Bool) → is_open e.note ≡ b → fresh e past (cond b [] (connection past)) ≡ followed (cond b nothing_said (talk past)) e.place e.note
+    go true opens =
+        let none : connects ≡ false = not_true connects (λ h. let closed : is_open e.note ≡ false = receives-closed e.note h in absurd (cc)) in
+        let sound : broken ≡ false = not_true broken (λ h. let closed : is_open e.note ≡ false = malformed-closed e.note h in absurd (cc)) in
+        let no_repeat : repeats_connect (newest e past) ≡ false = ap (λ b. b && came_before (receives_type types.Connect) (newest e past)) none in
+        let C24_none : owes_C24 (newest e past) ≡ false = ap (λ b. (b && not (some receives_connect (connection past))) && is_some_and takes_connack (connect_of Server e.note)) none in
+        let D01_none : owes_D01 (newest e past) ≡ false = ap (λ b. (b && not (some (λ j. receives_malformed (note j)) (connection past))) && not (came_before ends_talk (newest e past))) sound in
+        let D02_none : owes_D02 (newest e past) ≡ false = ap (λ b. (b && not (some repeats_connect (connection past))) && not (came_before ends_talk (newest e past))) no_repeat in
+        λ i. record {
+          has_connect = same-or connects i;
+          has_repeat = (same-or (repeats_connect (newest e past)) ∙ no_repeat ∙ sym (and_false connects)) i;
+          has_malformed = same-or broken i;
+          has_ended = same-or (ends_talk e.note) i;
+          has_goodbye = same-or (says_goodbye e.note) i;
+          has_settled = same-or (settles_connect e.note) i;
+          awaits_auth = sends_type types.Auth e.note || (not (receives_type types.Auth e.note) && false);
+          unanswered = none-found (finds_unanswered nothing_said e.note) (owes_C24 (newest e past)) C24_none (ap (λ b. (b && true) && is_some_and takes_connack (connect_of Server e.note)) none) i;
+          malformed = none-found (finds_malformed nothing_said e.note) (owes_D01 (newest e past)) D01_none (ap (λ b. (b && true) && true) sound) i;
+          repeated = none-found (finds_repeated nothing_said e.note) (owes_D02 (newest e past)) D02_none (ap (λ b. ((b && false) && true) && true) none) i;
+        }
+    go false closed = λ i. record {
+      has_connect = or-turn connects (some receives_connect (connection past)) i;
+      has_repeat = or-turn (repeats_connect (newest e past)) (some repeats_connect (connection past)) i;
+      has_malformed = or-turn broken (some (λ j. receives_malformed (note j)) (connection past)) i;
+      has_ended = or-turn (ends_talk e.note) (some (λ j. ends_talk (note j)) (connection past)) i;
+      has_goodbye = or-turn (says_goodbye e.note) (some (λ j. says_goodbye (note j)) (connection past)) i;
+      has_settled = or-turn (settles_connect e.note) (some (λ j. settles_connect (note j)) (connection past)) i;
+      awaits_auth = sends_type types.Auth e.note || (not (receives_type types.Auth e.note) && since (λ j. sends_type types.Auth (note j)) (λ j. receives_type types.Auth (note j)) (connection past));
+      unanswered = placed-of (owes_C24 (newest e past)) (newest e past) (owed_on owes_C24 past) i;
+      malformed = placed-of (owes_D01 (newest e past)) (newest e past) (owed_on owes_D01 past) i;
+      repeated = placed-of (owes_D02 (newest e past)) (newest e past) (owed_on owes_D02 past) i;
+    }
+
+pub duties-start : (tested : Tested) → IsDuties (record { is_bound = binds D02 tested; talk = nothing_said }) tested (Some Void) []
+unfolding talk
+duties-start tested = record { same_bound = refl; same_talk = λ bound. refl }
+
+pub duties-next : (old new : Duties) (tested : Tested) (taken after : Option Fate) (e : Seen) (past : List Seen) → IsDuties old tested taken past → new.is_bound ≡ old.is_bound
+    → (old.is_bound ≡ true → new.talk ≡ talk_after old.talk e.place e.note) → IsDuties new tested after (e ∷ past)
+duties-next old new tested taken after e past here same kept = record {
+  same_bound = same ∙ here.same_bound;
+  same_talk = λ bound.
+      let was = sym same ∙ bound in
+      kept was ∙ ap (λ t. talk_after t e.place e.note) (here.same_talk was) ∙ sym (talk-next e past);
+}
+
+-- where they don't bind the end, nothing is kept
+pub unbound-stays : (d : Duties) (tested : Tested) (taken after : Option Fate) (e : Seen) (past : List Seen) → d.is_bound ≡ false → IsDuties d tested taken past → IsDuties d tested after (e ∷ past)
+unbound-stays d tested taken after e past off here = duties-next d d tested taken after e past here refl (λ bound. absurd (cc))
+
+-- ---- which statements these are
+
+abbrev is_C24 : Rule → Bool
+is_C24 r = same_rule r C24
+
+abbrev is_D01 : Rule → Bool
+is_D01 r = same_rule r D01
+
+abbrev is_D02 : Rule → Bool
+is_D02 r = same_rule r D02
+
+-- these alone are ones that a later event shows
+later-three : (role : Role) (r : Rule) → is_by_later (statement role r) ≡ ((same_rule r C24 || same_rule r D01) || same_rule r D02)
+later-three role W01 = refl
+later-three role _ = refl
+
+-- ---- the faults
+
+module _ (tested : Tested) (e : Seen) (past : List Seen) where
+  later : ℕ → Rule → Bool
+  later k r = is_on_later tested r && turns tested e past k r
+
+  all : ℕ → Rule → Bool
+  all k r = ((is_C24 r || is_D01 r) || is_D02 r) && turns tested e past k r
+
+  all-later : (k : ℕ) (r : Rule) → all k r ≡ later k r
+  unfolding all later
+  all-later k r = sym (ap (λ b. b && turns tested e past k r) (later-three tested.role r))
+
+  gains-one : (old : FaultMap) → binds D02 tested ≡ true → Follows tested e past → Gains (λ k r. is_C24 r && turns tested e past k r) tested (e ∷ past) (length past + 1) old (blamed_one (talk past) e.note e.place old)
+  unfolding talk
+  gains-one old bound follows = duty-gains C24 owes_C24 leaves_now tries_answer finds_unanswered duty-C24 tested e past old (same-C24 tested ∙ bound) follows
+
+  gains-two : (old : FaultMap) → binds D02 tested ≡ true → Follows tested e past → Gains (λ k r. (is_C24 r || is_D01 r) && turns tested e past k r) tested (e ∷ past) (length past + 1) old (blamed_two (talk past) e.note e.place old)
+  unfolding talk
+  gains-two old bound follows =
+      gains_either is_C24 is_D01 (turns tested e past) tested (e ∷ past) (length past + 1) old (blamed_one (talk past) e.note e.place old) (blamed_two (talk past) e.note e.place old)
+      (gains-one old bound follows) (duty-gains D01 owes_D01 stays_now (λ t n. shows_outcome n) finds_malformed duty-D01 tested e past (blamed_one (talk past) e.note e.place old) (same-D01 tested ∙ bound) follows)
+
+  gains-all : (old : FaultMap) → binds D02 tested ≡ true → Follows tested e past → Gains (λ k r. is_on_later tested r && turns tested e past k r) tested (e ∷ past) (length past + 1) old (blamed_all (talk past) e.note e.place old)
+  unfolding talk all later
+  gains-all old bound follows =
+      gains_same all later tested (e ∷ past) (length past + 1) old (blamed_all (talk past) e.note e.place old) all-later
+      (gains_either (λ r. is_C24 r || is_D01 r) is_D02 (turns tested e past) tested (e ∷ past) (length past + 1) old (blamed_two (talk past) e.note e.place old) (blamed_all (talk past) e.note e.place old)
+      (gains-two old bound follows) (duty-gains D02 owes_D02 stays_now (λ t n. shows_outcome n) finds_repeated duty-D02 tested e past (blamed_two (talk past) e.note e.place old) bound follows))
+
+  gains-within : (old new : FaultMap) → binds D02 tested ≡ true → Follows tested e past → BlamesWithin (talk past) e.note e.place old new
+      → GainsWithin (λ k r. is_on_later tested r && turns tested e past k r) tested (e ∷ past) (length past + 1) old new
+  unfolding all later
+  gains-within old new bound follows (nothing h) = within_nothing later tested (e ∷ past) (length past + 1) old new h
+  gains-within old new bound follows (one h) =
+      within_same all later tested (e ∷ past) (length past + 1) old new all-later
+      (within_either_first (λ r. is_C24 r || is_D01 r) is_D02 (turns tested e past) tested (e ∷ past) (length past + 1) old new
+      (within_either_first is_C24 is_D01 (turns tested e past) tested (e ∷ past) (length past + 1) old new
+      (within_all (λ k r. is_C24 r && turns tested e past k r) tested (e ∷ past) (length past + 1) old new (rw h (gains-one old bound follows)))))
+  gains-within old new bound follows (two h) =
+      within_same all later tested (e ∷ past) (length past + 1) old new all-later
+      (within_either_first (λ r. is_C24 r || is_D01 r) is_D02 (turns tested e past) tested (e ∷ past) (length past + 1) old new
+      (within_all (λ k r. (is_C24 r || is_D01 r) && turns tested e past k r) tested (e ∷ past) (length past + 1) old new (rw h (gains-two old bound follows))))
+
+  unbound-all : (m : FaultMap) → binds D02 tested ≡ false → Gains (λ k r. is_on_later tested r && turns tested e past k r) tested (e ∷ past) (length past + 1) m m
+  unfolding all later
+  unbound-all m off =
+      gains_same all later tested (e ∷ past) (length past + 1) m m all-later
+      (gains_either (λ r. is_C24 r || is_D01 r) is_D02 (turns tested e past) tested (e ∷ past) (length past + 1) m m m
+      (gains_either is_C24 is_D01 (turns tested e past) tested (e ∷ past) (length past + 1) m m m
+      (duty-unbound C24 owes_C24 leaves_now tries_answer finds_unanswered duty-C24 tested e past m (same-C24 tested ∙ off))
+      (duty-unbound D01 owes_D01 stays_now (λ t n. shows_outcome n) finds_malformed duty-D01 tested e past m (same-D01 tested ∙ off)))
+      (duty-unbound D02 owes_D02 stays_now (λ t n. shows_outcome n) finds_repeated duty-D02 tested e past m off))
+
+pub duties-gain : (d : Duties) (tested : Tested) (taken : Option Fate) (e : Seen) (past : List Seen) (old new : FaultMap) → d.is_bound ≡ true → Follows tested e past → IsDuties d tested taken past
+    → new ≡ blamed_all d.talk e.note e.place old → Gains (λ k r. is_on_later tested r && turns tested e past k r) tested (e ∷ past) (length past + 1) old new
+duties-gain d tested taken e past old new bound follows here is =
+    rw (is ∙ ap (λ t. blamed_all t e.note e.place old) (here.same_talk bound)) (gains-all tested e past old (sym here.same_bound ∙ bound) follows)
+
+pub duties-within : (d : Duties) (tested : Tested) (taken : Option Fate) (e : Seen) (past : List Seen) (old new : FaultMap) → d.is_bound ≡ true → Follows tested e past → IsDuties d tested taken past
+    → BlamesWithin d.talk e.note e.place old new → GainsWithin (λ k r. is_on_later tested r && turns tested e past k r) tested (e ∷ past) (length past + 1) old new
+duties-within d tested taken e past old new bound follows here is =
+    gains-within tested e past old new (sym here.same_bound ∙ bound) follows (rw (sym (here.same_talk bound)) is)
+
+pub unbound-gains : (tested : Tested) (e : Seen) (past : List Seen) (m : FaultMap) → binds D02 tested ≡ false → Gains (λ k r. is_on_later tested r && turns tested e past k r) tested (e ∷ past) (length past + 1) m m
+unbound-gains tested e past m off = unbound-all tested e past m off
+
+-- ---- how often they are put to the test
+
+-- what is counted at an event
+pub record Counted (t : Talk) (old new : DutiesPlaces) (e : Seen) : Type 0 where
+  pub c24 : CountsTrial old.c24 new.c24 (tries_answer t e.note) (finds_unanswered t e.note) (is_open e.note) e.place.position
+  pub d01 : CountsTrial old.d01 new.d01 (shows_outcome e.note) (finds_malformed t e.note) (is_open e.note) e.place.position
+  pub d02 : CountsTrial old.d02 new.d02 (shows_outcome e.note) (finds_repeated t e.note) (is_open e.note) e.place.position
+
+pub counts-next : (d : Duties) (old new : DutiesPlaces) (tested : Tested) (taken : Option Fate) (e : Seen) (past : List Seen) → d.is_bound ≡ true → Follows tested e past → IsDuties d tested taken past → CountsDuties old tested past
+    → Counted d.talk old new e → CountsDuties new tested (e ∷ past)
+counts-next d old new tested taken e past on follows here was more = go (rw (sym (here.same_talk on)) more)
+  where
+    bound : binds D02 tested ≡ true
+    bound = sym here.same_bound ∙ on
+
+    go : Counted (talk past) old new e → CountsDuties new tested (e ∷ past)
+    go now = record {
+      c24 = trial-next C24 owes_C24 leaves_now tries_answer finds_unanswered duty-C24 old.c24 new.c24 tested e past (same-C24 tested ∙ bound) follows was.c24 now.c24;
+      d01 = trial-next D01 owes_D01 stays_now (λ t n. shows_outcome n) finds_malformed duty-D01 old.d01 new.d01 tested e past (same-D01 tested ∙ bound) follows was.d01 now.d01;
+      d02 = trial-next D02 owes_D02 stays_now (λ t n. shows_outcome n) finds_repeated duty-D02 old.d02 new.d02 tested e past bound follows was.d02 now.d02;
+    }
+
+pub counts-unbound : (p : DutiesPlaces) (tested : Tested) (e : Seen) (past : List Seen) → binds D02 tested ≡ false → CountsDuties p tested past → CountsDuties p tested (e ∷ past)
+counts-unbound p tested e past off was = record {
+  c24 = trial-unbound C24 owes_C24 leaves_now tries_answer finds_unanswered duty-C24 p.c24 tested e past (same-C24 tested ∙ off) was.c24;
+  d01 = trial-unbound D01 owes_D01 stays_now (λ t n. shows_outcome n) finds_malformed duty-D01 p.d01 tested e past (same-D01 tested ∙ off) was.d01;
+  d02 = trial-unbound D02 owes_D02 stays_now (λ t n. shows_outcome n) finds_repeated duty-D02 p.d02 tested e past off was.d02;
+}
+
+pub counts-start : (tested : Tested) → CountsDuties (record { c24 = record { places = 0; waits = false }; d01 = record { places = 0; waits = false }; d02 = record { places = 0; waits = false } }) tested []
+counts-start tested = record {
+  c24 = trial-start C24 owes_C24 leaves_now tries_answer finds_unanswered duty-C24 tested;
+  d01 = trial-start D01 owes_D01 stays_now (λ t n. shows_outcome n) finds_malformed duty-D01 tested;
+  d02 = trial-start D02 owes_D02 stays_now (λ t n. shows_outcome n) finds_repeated duty-D02 tested;
+}
+
+-- how many places a statement has, if it is one of these
+pub counted-of : (tested : Tested) (rule own : Rule) (n : ℕ) (past : List Seen) → rule ≡ own → is_by_later (statement tested.role own) ≡ true → n ≡ places tested past own → Some n ≡ cond (is_on_later tested rule) (Some (places tested past rule)) None
+counted-of tested rule own n past same by is =
+    ap Some is
+    ∙ ap (λ (b : Bool). cond b (Some (places tested past own)) None) (sym by)
+    ∙ ap (λ r. cond (is_on_later tested r) (Some (places tested past r)) None) (sym same)
+
+pub counted-elsewhere : (tested : Tested) (rule : Rule) (past : List Seen) → ((same_rule rule C24 || same_rule rule D01) || same_rule rule D02) ≡ false → None ≡ cond (is_on_later tested rule) (Some (places tested past rule)) None
+counted-elsewhere tested rule past other = sym (ap (λ (b : Bool). cond b (Some (places tested past rule)) None) (later-three tested.role rule ∙ other))

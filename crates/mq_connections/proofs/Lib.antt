@@ -1,0 +1,13 @@
+pub mod AtPlaceLaws
+pub mod ByteFaultLaws
+pub mod ByteTallyLaws
+mod DutiesLaws
+mod DutyLaws
+pub mod FindLaws
+pub mod HarmlessLaws
+pub mod HarmlessTestsLaws
+pub mod JudgeLaws
+mod LaterLaws
+mod MannersLaws
+pub mod TallyLaws
+pub mod WatchLaws

@@ -1,0 +1,5 @@
+use Rattle.mq_connections.proofs.JudgeLaws.{no_item}
+use Rattle.mq_connections.proofs.conn.Conn.judge_item.Goals as goal
+
+pub returns-in_default-clause-ok : goal.returns-in_default-clause-ok
+returns-in_default-clause-ok c = rw c.in_default.is (no_item c.args.self.now.role c.args.self.now.state c.args.place c.args.faults.now)

@@ -1,0 +1,35 @@
+use Rattle.std.proofs.Common.{◌∷◌, sym, ap, ◌∙◌}
+use Rattle.mq_rules.specs.Connections.{latest_fate}
+use Rattle.mq_rules.specs.Under.{seen}
+use Rattle.mq_rules.proofs.Exports.{on_err}
+use Rattle.mq_connections.proofs.DutiesLaws.{counts-next, counts-unbound, duties-gain, duties-next, duties-within, unbound-gains, unbound-stays}
+use Rattle.mq_connections.proofs.duties.CountingDutiesWatch.step.Goals as goal
+
+pub returns-then-not-self-clause-agrees : goal.returns-then-not-self-clause-agrees
+returns-then-not-self-clause-agrees c = λ tested taken past follows takes here.
+    let off = c.if-not-self.true in (
+      unbound-stays c.args.self.now.duties tested taken (latest_fate tested.role (seen c.args.at c.args.note.now ∷ past)) (seen c.args.at c.args.note.now) past off here.0,
+      counts-unbound c.args.self.now.places tested (seen c.args.at c.args.note.now) past (sym here.0.same_bound ∙ off) here.1,
+    )
+
+pub returns-then-not-self-clause-grows : goal.returns-then-not-self-clause-grows
+returns-then-not-self-clause-grows c = λ tested taken past follows takes here.
+    unbound-gains tested (seen c.args.at c.args.note.now) past c.args.faults.now (sym here.0.same_bound ∙ c.if-not-self.true)
+
+pub returns-in_err-take-clause-memory : goal.returns-in_err-take-clause-memory
+returns-in_err-take-clause-memory c =
+    on_err c.from_residual.result _ (λ tested taken past follows takes here.
+    duties-within c.args.self.now.duties tested taken (seen c.args.at c.args.note.now) past c.args.faults.now c.take.new.faults c.if-not-self.false follows here.0 c.in_err-take.ensures.memory)
+
+pub returns-clause-agrees : goal.returns-clause-agrees
+returns-clause-agrees c = λ tested taken past follows takes here.
+    let kept = c.in_ok-take.ensures.kept in (
+      duties-next c.args.self.now.duties c.take.new.self tested taken (latest_fate tested.role (seen c.args.at c.args.note.now ∷ past)) (seen c.args.at c.args.note.now) past here.0
+          (ap (λ d. d.is_bound) kept) (λ bound. ap (λ d. d.talk) kept),
+      counts-next c.args.self.now.duties c.args.self.now.places c.count.new.self tested taken (seen c.args.at c.args.note.now) past c.if-not-self.false follows here.0 here.1
+          (record { c24 = c.count.ensures.c24; d01 = c.count.ensures.d01; d02 = c.count.ensures.d02 }),
+    )
+
+pub returns-clause-grows : goal.returns-clause-grows
+returns-clause-grows c = λ tested taken past follows takes here.
+    duties-gain c.args.self.now.duties tested taken (seen c.args.at c.args.note.now) past c.args.faults.now c.take.new.faults c.if-not-self.false follows here.0 c.in_ok-take.ensures.ok

@@ -1,0 +1,35 @@
+use Rattle.std.proofs.Common.{◌∷◌, sym, ap, ◌∙◌}
+use Rattle.mq_rules.specs.Connections.{latest_fate}
+use Rattle.mq_rules.specs.Under.{seen}
+use Rattle.mq_rules.proofs.Exports.{on_err}
+use Rattle.mq_connections.proofs.MannersLaws.{counts-next, counts-unasked, further-gains, further-within, manners-next, unasked-gains, unasked-stays}
+use Rattle.mq_connections.proofs.manners.CountingMannersWatch.step.Goals as goal
+
+pub returns-then-not-self-clause-agrees : goal.returns-then-not-self-clause-agrees
+returns-then-not-self-clause-agrees c = λ tested taken past follows takes here.
+    let off = c.if-not-self.true in (
+      unasked-stays c.args.self.now.manners tested taken (latest_fate tested.role (seen c.args.at c.args.note.now ∷ past)) (seen c.args.at c.args.note.now) past off here.0,
+      counts-unasked c.args.self.now.places tested (seen c.args.at c.args.note.now) past (sym here.0.same_further ∙ off) here.1,
+    )
+
+pub returns-then-not-self-clause-grows : goal.returns-then-not-self-clause-grows
+returns-then-not-self-clause-grows c = λ tested taken past follows takes here.
+    unasked-gains tested (seen c.args.at c.args.note.now) past c.args.faults.now (sym here.0.same_further ∙ c.if-not-self.true)
+
+pub returns-in_err-take-clause-memory : goal.returns-in_err-take-clause-memory
+returns-in_err-take-clause-memory c =
+    on_err c.from_residual.result _ (λ tested taken past follows takes here.
+    further-within c.args.self.now.manners tested taken (seen c.args.at c.args.note.now) past c.args.faults.now c.take.new.faults c.if-not-self.false follows here.0 c.in_err-take.ensures.memory)
+
+pub returns-clause-agrees : goal.returns-clause-agrees
+returns-clause-agrees c = λ tested taken past follows takes here.
+    let kept = c.in_ok-take.ensures.kept in (
+      manners-next c.args.self.now.manners c.take.new.self tested taken (latest_fate tested.role (seen c.args.at c.args.note.now ∷ past)) (seen c.args.at c.args.note.now) past here.0
+          (ap (λ m. m.role) kept) (ap (λ m. m.further) kept) (λ asked. ap (λ m. m.connect) kept) (λ asked. ap (λ m. m.connack) kept) (λ asked. ap (λ m. m.has_heard_connack) kept),
+      counts-next c.args.self.now.manners c.args.self.now.places c.count.new.self tested taken (seen c.args.at c.args.note.now) past c.if-not-self.false follows here.0 here.1
+          (record { f01 = c.count.ensures.f01; f02 = c.count.ensures.f02; f03 = c.count.ensures.f03; f04 = c.count.ensures.f04; f05 = c.count.ensures.f05; f06 = c.count.ensures.f06; v03 = c.count.ensures.v03; v04 = c.count.ensures.v04; v06 = c.count.ensures.v06; a01 = c.count.ensures.a01; a02 = c.count.ensures.a02 }),
+    )
+
+pub returns-clause-grows : goal.returns-clause-grows
+returns-clause-grows c = λ tested taken past follows takes here.
+    further-gains c.args.self.now.manners tested taken (seen c.args.at c.args.note.now) past c.args.faults.now c.take.new.faults c.if-not-self.false follows here.0 c.in_ok-take.ensures.ok

@@ -1,0 +1,7 @@
+pub mod ByteTallies
+pub mod Skipping
+pub mod Weights
+pub mod Finding
+pub mod Trying
+pub mod Manners
+pub mod Duties

@@ -1,5 +1,0 @@
-use Rattle.mq_rules.proofs.DutiesLaws.{duties-start}
-use Rattle.mq_rules.proofs.duties.Duties.new.Goals as goal
-
-pub returns : goal.returns
-returns c = rw c.is_judged.ensures (rw c.new.ensures (duties-start c.args.tested))

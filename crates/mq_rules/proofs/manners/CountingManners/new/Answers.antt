@@ -1,5 +1,0 @@
-use Rattle.mq_rules.proofs.MannersLaws.{counts-start}
-use Rattle.mq_rules.proofs.manners.CountingManners.new.Goals as goal
-
-pub returns : goal.returns
-returns c = (c.new.ensures, rw c.none.ensures (counts-start c.args.tested))
