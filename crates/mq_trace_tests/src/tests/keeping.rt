@@ -6,6 +6,7 @@ use super::logs::Part::{Open, Raw, Recv, Sent};
 use super::logs::{ANSWERED_LINES, CLIENT, CONNACK, LARGEST, PUBLISH, large_log, log_of};
 use super::sessions::SESSIONS;
 use mq_trace::{Refusal, Tracer};
+use std::process::Abort;
 use std::test::Fail;
 
 // A packet may have as many bytes as the limit, and one more is refused at the last byte of its
@@ -57,6 +58,13 @@ fn keeps_to_its_limit(rt: HostRuntime) -> Result<(), Fail> {
 #[test]
 fn stops_where_its_sink_refuses(rt: HostRuntime) -> Result<(), Fail> {
     let log = log_of(rt.alloc(), true, SESSIONS[1].parts, false)?;
+    assert_stops(&rt, log.as_slice());
+    Ok(())
+}
+
+// Asserts that a log of seven events is refused at the byte that completes the first event for
+// which its sink has no room, however it is cut.
+fn assert_stops(rt: &(impl Abort + AllocGlobal), log: &[u8]) {
     for (room, at) in [
         (0, 12),
         (1, 32),
@@ -67,66 +75,122 @@ fn stops_where_its_sink_refuses(rt: HostRuntime) -> Result<(), Fail> {
         (6, 75),
     ] {
         for size in [usize::MAX, 1, 7, 8192] {
-            let refused = Err(Refusal::Memory(at));
-            let mut tracer = Tracer::new(rt.alloc(), LIMIT);
-            let mut emitted = Lines::new(rt.alloc(), true, room);
-            let ended = trace(&rt, &mut tracer, LIMIT, log.as_slice(), size, &mut emitted);
-            assert_eq!(rt; ended, refused, "{room} events, pieces of {size}");
-            for _ in 0..3 {
-                assert_eq!(rt; tracer.feed(b"\x04\x00\x00\x00\x00", &mut emitted), refused);
-                assert_eq!(rt; tracer.feed(b"", &mut emitted), refused);
-                assert_eq!(rt; tracer.finish(), refused);
-            }
-            assert_eq!(rt; emitted.count, room + 1);
+            assert_eq!(rt;
+                stopped_of(rt, log, room, size),
+                (Err(Refusal::Memory(at)), room + 1),
+                "{room} events, pieces of {size}"
+            );
         }
     }
-    Ok(())
+}
+
+// How a log ends whose sink has room for so many events, and how many the sink was given, also by
+// what is fed later. That has to end as the log did.
+fn stopped_of(
+    rt: &(impl Abort + AllocGlobal),
+    log: &[u8],
+    room: u32,
+    size: usize,
+) -> (Result<(), Refusal>, u32) {
+    let mut tracer = Tracer::new(rt.alloc(), LIMIT);
+    let mut emitted = Lines::new(rt.alloc(), true, room);
+    let ended = trace(rt, &mut tracer, LIMIT, log, size, &mut emitted);
+    assert_answers(rt, &mut tracer, &mut emitted, ended);
+    (ended, emitted.count)
+}
+
+// Asserts that a tracer answers this alone: to a record, to no bytes, and to the log's end.
+fn assert_answers(
+    rt: &impl Abort,
+    tracer: &mut Tracer,
+    emitted: &mut Lines,
+    answer: Result<(), Refusal>,
+) {
+    for _ in 0..3 {
+        assert_eq!(rt; tracer.feed(b"\x04\x00\x00\x00\x00", emitted), answer);
+        assert_eq!(rt; tracer.feed(b"", emitted), answer);
+        assert_eq!(rt; tracer.finish(), answer);
+    }
+}
+
+/// What follows the parts of `ANSWERED`, and how many bytes are kept after each piece of it.
+static KEPT: [(&[u8], usize); 8] = [
+    (b"\x02\x00\x00\x00\x09\x32\x07\x00\x01a", 5),
+    (b"\x00\x01\x00", 8),
+    (b"x\x03\x00\x00\x00\x02\x40", 1),
+    (b"\x02\x02\x00\x00\x00\x05\x32\x07\x00\x01a", 7),
+    (b"\x03\x00\x00\x00\x02\x00\x01", 5),
+    (b"\x05\x00\x00\x00\x00\x02\x00\x00\x00\x04\x00\x01", 7),
+    (b"\x00x", 0),
+    (b"\x03\x00\x00\x00\x08\x30\x80\x00\x30\x07\x00\x00\x00", 0),
+];
+
+// Asserts that a tracer takes in a piece, and then keeps so many bytes.
+fn assert_keeps(
+    rt: &impl Abort,
+    tracer: &mut Tracer,
+    emitted: &mut Lines,
+    piece: &[u8],
+    pending: usize,
+) {
+    assert_eq!(rt; tracer.feed(piece, emitted), Ok(()));
+    assert_eq!(rt; tracer.pending(), pending, "after {piece:?}");
+}
+
+// Asserts that a tracer takes in a log's beginning and then the rows of `KEPT`, keeps what they
+// say, and emits eight events.
+fn assert_keeps_alone(rt: &impl Abort, tracer: &mut Tracer, emitted: &mut Lines, begin: &[u8]) {
+    assert_keeps(rt, tracer, emitted, begin, 0);
+    for (piece, pending) in &KEPT {
+        assert_keeps(rt, tracer, emitted, piece, *pending);
+    }
+    assert_eq!(rt; tracer.finish(), Ok(()));
+    assert_eq!(rt; emitted.count, 8);
 }
 
 #[test]
 fn keeps_unfinished_packets_alone(rt: HostRuntime) -> Result<(), Fail> {
+    let begin = log_of(rt.alloc(), true, &[], false)?;
     let mut tracer = Tracer::new(rt.alloc(), LIMIT);
     let mut emitted = Lines::new(rt.alloc(), true, u32::MAX);
-    let begin = log_of(rt.alloc(), true, &[], false)?;
-    let pieces: [(&[u8], usize); 9] = [
-        (begin.as_slice(), 0),
-        (b"\x02\x00\x00\x00\x09\x32\x07\x00\x01a", 5),
-        (b"\x00\x01\x00", 8),
-        (b"x\x03\x00\x00\x00\x02\x40", 1),
-        (b"\x02\x02\x00\x00\x00\x05\x32\x07\x00\x01a", 7),
-        (b"\x03\x00\x00\x00\x02\x00\x01", 5),
-        (b"\x05\x00\x00\x00\x00\x02\x00\x00\x00\x04\x00\x01", 7),
-        (b"\x00x", 0),
-        (b"\x03\x00\x00\x00\x08\x30\x80\x00\x30\x07\x00\x00\x00", 0),
-    ];
-    for (piece, pending) in pieces {
-        assert_eq!(rt; tracer.feed(piece, &mut emitted), Ok(()));
-        assert_eq!(rt; tracer.pending(), pending, "after {piece:?}");
-    }
-    assert_eq!(rt; tracer.finish(), Ok(()));
-    assert_eq!(rt; emitted.count, 8);
+    assert_keeps_alone(&rt, &mut tracer, &mut emitted, begin.as_slice());
     Ok(())
+}
+
+/// What follows the parts of `ANSWERED`, and what the log's end would leave unfinished after each
+/// piece of it: of what was sent, and of what was received.
+static LEFT: [(&[u8], &[u8], &[u8]); 5] = [
+    (b"\x02\x00\x00\x00\x03\x32\x07\x00", b"\x32\x07\x00", b""),
+    (b"\x03\x00\x00\x00\x01\x40", b"\x32\x07\x00", b"\x40"),
+    (b"\x03\x00\x00\x00\x03\x02\x00\x01", b"\x32\x07\x00", b""),
+    (b"\x04\x00\x00\x00\x00", b"", b""),
+    (b"\x01\x00\x00\x00\x00", b"", b""),
+];
+
+// Asserts that a tracer takes in a piece, and that the end would then leave this unfinished.
+fn assert_leaves(
+    rt: &impl Abort,
+    tracer: &mut Tracer,
+    emitted: &mut Lines,
+    piece: &[u8],
+    sent: &[u8],
+    received: &[u8],
+) {
+    assert_eq!(rt; tracer.feed(piece, emitted), Ok(()));
+    let unfinished = tracer.unfinished();
+    assert_eq!(rt; unfinished.sent, sent, "after {piece:?}");
+    assert_eq!(rt; unfinished.received, received, "after {piece:?}");
 }
 
 // What the log's end leaves unfinished is of the connection that is open alone.
 #[test]
 fn says_what_the_end_leaves_unfinished(rt: HostRuntime) -> Result<(), Fail> {
+    let begin = log_of(rt.alloc(), true, &[], false)?;
     let mut tracer = Tracer::new(rt.alloc(), LIMIT);
     let mut emitted = Lines::new(rt.alloc(), true, u32::MAX);
-    let begin = log_of(rt.alloc(), true, &[], false)?;
-    let pieces: [(&[u8], &[u8], &[u8]); 6] = [
-        (begin.as_slice(), b"", b""),
-        (b"\x02\x00\x00\x00\x03\x32\x07\x00", b"\x32\x07\x00", b""),
-        (b"\x03\x00\x00\x00\x01\x40", b"\x32\x07\x00", b"\x40"),
-        (b"\x03\x00\x00\x00\x03\x02\x00\x01", b"\x32\x07\x00", b""),
-        (b"\x04\x00\x00\x00\x00", b"", b""),
-        (b"\x01\x00\x00\x00\x00", b"", b""),
-    ];
-    for (piece, sent, received) in pieces {
-        assert_eq!(rt; tracer.feed(piece, &mut emitted), Ok(()));
-        let unfinished = tracer.unfinished();
-        assert_eq!(rt; unfinished.sent, sent, "after {piece:?}");
-        assert_eq!(rt; unfinished.received, received, "after {piece:?}");
+    assert_leaves(&rt, &mut tracer, &mut emitted, begin.as_slice(), b"", b"");
+    for (piece, sent, received) in &LEFT {
+        assert_leaves(&rt, &mut tracer, &mut emitted, piece, sent, received);
     }
     Ok(())
 }

@@ -8,6 +8,7 @@ use mq_trace::Refusal::{
     Cut, Flags, Header, Kind, Length, Nested, NotOpen, OtherVersion, ReleaseUnrecorded, Role,
     TooLarge, Version,
 };
+use std::process::Abort;
 use std::test::Fail;
 
 /// The parts of a log, the lines on its events, and why it is refused.
@@ -89,11 +90,18 @@ static LATER_REFUSALS: [Refused; 2] = [
 
 #[test]
 fn reports_refused_logs(rt: HostRuntime) -> Result<(), Fail> {
-    for (parts, lines, refusal) in REFUSALS {
-        assert_log(&rt, false, parts, lines, Err(refusal))?;
-    }
-    for (parts, lines, refusal) in LATER_REFUSALS {
-        assert_log(&rt, true, parts, lines, Err(refusal))?;
+    assert_refused(&rt, false, &REFUSALS)?;
+    assert_refused(&rt, true, &LATER_REFUSALS)
+}
+
+// Asserts that each of these logs, after the parts of `ANSWERED` or alone, is refused as it says.
+fn assert_refused(
+    rt: &(impl Abort + AllocGlobal),
+    connack_seen: bool,
+    rows: &[Refused],
+) -> Result<(), Fail> {
+    for (parts, lines, refusal) in rows {
+        assert_log(rt, connack_seen, parts, lines, Err(*refusal))?;
     }
     Ok(())
 }

@@ -236,8 +236,13 @@ pub static SESSIONS: [Row; 17] = [
 
 #[test]
 fn reports_sessions(rt: HostRuntime) -> Result<(), Fail> {
-    for row in &SESSIONS {
-        assert_log(&rt, row.connack_seen, row.parts, row.lines, row.answer)?;
+    assert_rows(&rt, &SESSIONS)
+}
+
+// Asserts that the log of each row gives what the row says.
+fn assert_rows(rt: &(impl Abort + AllocGlobal), rows: &[Row]) -> Result<(), Fail> {
+    for row in rows {
+        assert_log(rt, row.connack_seen, row.parts, row.lines, row.answer)?;
     }
     Ok(())
 }
@@ -245,24 +250,34 @@ fn reports_sessions(rt: HostRuntime) -> Result<(), Fail> {
 // How bytes are cut into records changes only the records' numbers.
 #[test]
 fn reports_the_same_for_any_records(rt: HostRuntime) -> Result<(), Fail> {
-    for row in &SESSIONS {
-        let log = log_of(rt.alloc(), row.connack_seen, row.parts, false)?;
-        let mut tracer = Tracer::new(rt.alloc(), LIMIT);
-        let mut emitted = Lines::new(rt.alloc(), false, u32::MAX);
-        let _ = trace(&rt, &mut tracer, LIMIT, log.as_slice(), 8192, &mut emitted);
+    assert_any_records(&rt, &SESSIONS)
+}
+
+// Asserts that the log of each row that isn't refused gives the same lines where each byte has a
+// record of its own.
+fn assert_any_records(rt: &(impl Abort + AllocGlobal), rows: &[Row]) -> Result<(), Fail> {
+    for row in rows {
+        let emitted = lines_of(rt, row)?;
         if row.answer.is_ok() {
-            let split = log_of(rt.alloc(), row.connack_seen, row.parts, true)?;
-            assert_emits(
-                &rt,
-                LIMIT,
-                split.as_slice(),
-                false,
-                "",
-                emitted.text.as_str(),
-                Ok(()),
-            );
+            assert_split(rt, row, emitted.text.as_str())?;
         }
     }
+    Ok(())
+}
+
+// What a row's log gives, without the records' numbers.
+fn lines_of(rt: &(impl Abort + AllocGlobal), row: &Row) -> Result<Lines, Fail> {
+    let log = log_of(rt.alloc(), row.connack_seen, row.parts, false)?;
+    let mut tracer = Tracer::new(rt.alloc(), LIMIT);
+    let mut emitted = Lines::new(rt.alloc(), false, u32::MAX);
+    let _ = trace(rt, &mut tracer, LIMIT, log.as_slice(), 8192, &mut emitted);
+    Ok(emitted)
+}
+
+// Asserts that a row's log gives these lines where each byte has a record of its own.
+fn assert_split(rt: &(impl Abort + AllocGlobal), row: &Row, lines: &str) -> Result<(), Fail> {
+    let split = log_of(rt.alloc(), row.connack_seen, row.parts, true)?;
+    assert_emits(rt, LIMIT, split.as_slice(), false, "", lines, Ok(()));
     Ok(())
 }
 
@@ -281,6 +296,12 @@ fn emitted_of(
 #[test]
 fn reports_beginnings(rt: HostRuntime) -> Result<(), Fail> {
     let log = log_of(rt.alloc(), true, SESSIONS[1].parts, false)?;
+    assert_beginnings(&rt, log.as_slice());
+    Ok(())
+}
+
+// Asserts what each beginning of the second session's log gives.
+fn assert_beginnings(rt: &(impl Abort + AllocGlobal), log: &[u8]) {
     assert_eq!(rt; log.len(), 76);
     let ends = [8, 13, 33, 43, 57, 66, 71, 76];
     for count in 0..77 {
@@ -296,7 +317,7 @@ fn reports_beginnings(rt: HostRuntime) -> Result<(), Fail> {
             Err(Refusal::Cut(count as u64))
         };
         assert_eq!(rt;
-            emitted_of(&rt, &log[..count]),
+            emitted_of(rt, &log[..count]),
             (
                 whole.saturating_sub(1),
                 (count >= 8).then_some(header),
@@ -305,5 +326,4 @@ fn reports_beginnings(rt: HostRuntime) -> Result<(), Fail> {
             "{count} bytes"
         );
     }
-    Ok(())
 }

@@ -93,6 +93,14 @@ fn writes_the_worked_log(rt: HostRuntime) {
     assert!(rt; written.as_slice() == WORKED);
 }
 
+// Asserts that all calls succeeded, and that this is the log that they wrote.
+fn assert_written(rt: &impl Abort, answers: &[Result<(), WriteFault>], written: &[u8], log: &[u8]) {
+    for answer in answers {
+        assert_eq!(rt; *answer, Ok(()));
+    }
+    assert!(rt; written == log);
+}
+
 #[test]
 fn writes_a_servers_header_and_a_release(rt: HostRuntime) {
     let mut trace = TraceWriter::new(Vec::new(rt.alloc()));
@@ -101,12 +109,14 @@ fn writes_a_servers_header_and_a_release(rt: HostRuntime) {
         server: true,
         releases: false,
     };
-    assert_eq!(rt; trace.header(&header), Ok(()));
-    assert_eq!(rt; trace.release(0x1234), Ok(()));
-    assert_eq!(rt; trace.release(1), Ok(()));
+    let answers = [
+        trace.header(&header),
+        trace.release(0x1234),
+        trace.release(1),
+    ];
     let written = trace.into_inner();
     let log = b"MQTR\x01\x01\x00\x00\x06\x00\x00\x00\x02\x12\x34\x06\x00\x00\x00\x02\x00\x01";
-    assert!(rt; written.as_slice() == log.as_slice());
+    assert_written(&rt, &answers, written.as_slice(), log);
 }
 
 #[test]
@@ -118,17 +128,16 @@ fn writes_moments_in_version_2(rt: HostRuntime) {
         server: false,
         releases: true,
     };
-    assert_eq!(rt; trace.header(&header), Ok(()));
-    assert_eq!(rt; trace.open(), Ok(()));
+    let begun = [trace.header(&header), trace.open()];
     trace.moment(0x0102_0304_0506_0708);
-    assert_eq!(rt; trace.sent(b"\xc0\x00"), Ok(()));
-    assert_eq!(rt; trace.release(7), Ok(()));
+    let [headed, opened] = begun;
+    let answers = [headed, opened, trace.sent(b"\xc0\x00"), trace.release(7)];
     let written = trace.into_inner();
     let log = b"MQTR\x02\x00\x01\x00\
         \x01\x00\x00\x00\x00\x00\x00\x00\x00\x00\x00\x00\x00\
         \x02\x00\x00\x00\x02\x01\x02\x03\x04\x05\x06\x07\x08\xc0\x00\
         \x06\x00\x00\x00\x02\x01\x02\x03\x04\x05\x06\x07\x08\x00\x07";
-    assert!(rt; written.as_slice() == log.as_slice());
+    assert_written(&rt, &answers, written.as_slice(), log);
 }
 
 #[test]
@@ -136,14 +145,25 @@ fn writes_moments_in_version_2(rt: HostRuntime) {
 fn writes_the_shortest_and_the_longest_body(rt: HostRuntime) -> Result<(), AllocError> {
     let body = vec![in rt.alloc(); 0xA5; 1_048_576]?;
     let mut trace = TraceWriter::new(Vec::new(rt.alloc()));
-    assert_eq!(rt; trace.sent(&[]), Ok(()));
-    assert_eq!(rt; trace.recv(&body), Ok(()));
+    let answers = [trace.sent(&[]), trace.recv(&body)];
     let written = trace.into_inner();
+    assert_bodies(&rt, answers, written.as_slice(), &body);
+    Ok(())
+}
+
+// Asserts that two calls succeeded, and that they wrote a record sent without a body, and one
+// received with this body.
+fn assert_bodies(
+    rt: &impl Abort,
+    answers: [Result<(), WriteFault>; 2],
+    written: &[u8],
+    body: &[u8],
+) {
+    assert_eq!(rt; answers, [Ok(()), Ok(())]);
     assert_eq!(rt; written.len(), 1_048_586);
     let heads = b"\x02\x00\x00\x00\x00\x03\x00\x10\x00\x00";
-    assert!(rt; written.as_slice().starts_with(heads));
-    assert!(rt; written.as_slice().ends_with(&body));
-    Ok(())
+    assert!(rt; written.starts_with(heads));
+    assert!(rt; written.ends_with(body));
 }
 
 #[test]
@@ -165,17 +185,29 @@ fn stops_where_there_is_no_room(rt: HostRuntime) {
 fn writes_nothing_after_a_failure(rt: HostRuntime) {
     for error in [None, Some(ErrorKind::Interrupted), Some(ErrorKind::Other)] {
         for room in 0..WORKED.len() {
-            let mut trace = TraceWriter::new(Failing {
-                taken: Vec::new(rt.alloc()),
-                room: Some(room),
-                error,
-            });
-            assert_calls(&rt, &mut trace, room);
-            assert_eq!(rt; trace.release(1), Err(WriteFault::Write), "room for {room}");
-            assert!(rt;
-                trace.into_inner().taken.as_slice() == &WORKED[..room],
-                "room for {room}"
-            );
+            assert_fails(&rt, error, &WORKED[..room]);
         }
     }
+}
+
+// Asserts that a writer that has room for this beginning of the worked log, and then fails in this
+// way, takes the beginning alone.
+fn assert_fails(rt: &(impl Abort + AllocGlobal), error: Option<ErrorKind>, begin: &[u8]) {
+    let room = begin.len();
+    let mut trace = TraceWriter::new(Failing {
+        taken: Vec::new(rt.alloc()),
+        room: Some(room),
+        error,
+    });
+    assert_calls(rt, &mut trace, room);
+    let later = trace.release(1);
+    let written = trace.into_inner();
+    assert_taken(rt, later, written.taken.as_slice(), begin);
+}
+
+// Asserts that the last call failed, and that what the writer took is this.
+fn assert_taken(rt: &impl Abort, later: Result<(), WriteFault>, taken: &[u8], begin: &[u8]) {
+    let room = begin.len();
+    assert_eq!(rt; later, Err(WriteFault::Write), "room for {room}");
+    assert!(rt; taken == begin, "room for {room}");
 }
