@@ -6,42 +6,44 @@ use std::test::Fail;
 // and `c/d` with 2.
 const EXAMPLE: [u8; 12] = [0, 3, b'a', b'/', b'b', 1, 0, 3, b'c', b'/', b'd', 2];
 
+// Bytes that may be filters, with options or without; and how many they are then.
+const FILTERS: [(&[u8], bool, Option<usize>); 24] = [
+    (&[], true, None),
+    (&[], false, None),
+    (&[0, 1, b'a', 0], true, Some(1)),
+    (&[0, 1, b'a'], false, Some(1)),
+    (&EXAMPLE, true, Some(2)),
+    (&[0, 1, b'a', 0, 1, b'b'], false, Some(2)),
+    // the same filter twice
+    (&[0, 1, b'a', 0, 1, b'a'], false, Some(2)),
+    // options that are missing, or too many
+    (&[0, 1, b'a'], true, None),
+    (&[0, 1, b'a', 0, 0, 1, b'b'], true, None),
+    (&[0, 1, b'a', 0], false, None),
+    // misspelled filters
+    (&[0], false, None),
+    (&[0, 2, b'a'], false, None),
+    (&[0, 1, 0xFF], false, None),
+    (&[0, 1, 0], false, None),
+    // invalid filters
+    (&[0, 0], false, None),
+    (&[0, 2, b'a', b'#'], false, None),
+    (&[0, 1, b'a', 0, 2, b'+', b'b'], false, None),
+    (&[0, 1, b'#', 0, 1, b'+'], false, Some(2)),
+    // each bit of the options
+    (&[0, 1, b'a', 0b0010_1110], true, Some(1)),
+    (&[0, 1, b'a', 0b0001_1101], true, Some(1)),
+    (&[0, 1, b'a', 0b0000_0011], true, None),
+    (&[0, 1, b'a', 0b0011_0000], true, None),
+    (&[0, 1, b'a', 0b0100_0000], true, None),
+    (&[0, 1, b'a', 0b1000_0000], true, None),
+];
+
 #[test]
 fn bytes_as_filters(rt: HostRuntime) {
-    let rows: [(&[u8], bool, Option<usize>); 24] = [
-        (&[], true, None),
-        (&[], false, None),
-        (&[0, 1, b'a', 0], true, Some(1)),
-        (&[0, 1, b'a'], false, Some(1)),
-        (&EXAMPLE, true, Some(2)),
-        (&[0, 1, b'a', 0, 1, b'b'], false, Some(2)),
-        // the same filter twice
-        (&[0, 1, b'a', 0, 1, b'a'], false, Some(2)),
-        // options that are missing, or too many
-        (&[0, 1, b'a'], true, None),
-        (&[0, 1, b'a', 0, 0, 1, b'b'], true, None),
-        (&[0, 1, b'a', 0], false, None),
-        // misspelled filters
-        (&[0], false, None),
-        (&[0, 2, b'a'], false, None),
-        (&[0, 1, 0xFF], false, None),
-        (&[0, 1, 0], false, None),
-        // invalid filters
-        (&[0, 0], false, None),
-        (&[0, 2, b'a', b'#'], false, None),
-        (&[0, 1, b'a', 0, 2, b'+', b'b'], false, None),
-        (&[0, 1, b'#', 0, 1, b'+'], false, Some(2)),
-        // each bit of the options
-        (&[0, 1, b'a', 0b0010_1110], true, Some(1)),
-        (&[0, 1, b'a', 0b0001_1101], true, Some(1)),
-        (&[0, 1, b'a', 0b0000_0011], true, None),
-        (&[0, 1, b'a', 0b0011_0000], true, None),
-        (&[0, 1, b'a', 0b0100_0000], true, None),
-        (&[0, 1, b'a', 0b1000_0000], true, None),
-    ];
-    for (bytes, options, wanted) in rows {
-        let filters = Filters::of(bytes, options);
-        assert_eq!(rt; filters.map(|f| f.iter().count()), wanted, "{bytes:?}");
+    for (bytes, options, wanted) in &FILTERS {
+        let filters = Filters::of(bytes, *options);
+        assert_eq!(rt; filters.map(|f| f.iter().count()), *wanted, "{bytes:?}");
     }
 }
 
@@ -62,10 +64,8 @@ fn filters_in_order(rt: HostRuntime) {
         filter: "c/d",
         options: Some(2),
     };
-    assert_eq!(rt; iter.next(), Some(first));
-    assert_eq!(rt; iter.next(), Some(second));
-    assert_eq!(rt; iter.next(), None);
-    assert_eq!(rt; iter.next(), None);
+    let listed = [iter.next(), iter.next(), iter.next(), iter.next()];
+    assert_eq!(rt; listed, [Some(first), Some(second), None, None]);
 }
 
 #[test]
@@ -73,10 +73,8 @@ fn codes_in_order(rt: HostRuntime) {
     let codes = Codes::of(&[2, 0x80, 0]);
     assert_eq!(rt; codes.as_bytes(), &[2u8, 0x80, 0][..]);
     let mut iter = codes.iter();
-    assert_eq!(rt; iter.next(), Some(2));
-    assert_eq!(rt; iter.next(), Some(0x80));
-    assert_eq!(rt; iter.next(), Some(0));
-    assert_eq!(rt; iter.next(), None);
+    let listed = [iter.next(), iter.next(), iter.next(), iter.next()];
+    assert_eq!(rt; listed, [Some(2), Some(0x80), Some(0), None]);
 }
 
 // The first byte of a SUBSCRIBE, of an UNSUBSCRIBE, and of their answers.
@@ -96,68 +94,72 @@ fn stopped(read: Result<Packet<'_>, DecodeFault>) -> Option<(u32, PacketRule)> {
     }
 }
 
+// Bodies of SUBSCRIBEs and UNSUBSCRIBEs, and where they break a rule.
+const REQUESTS: [(&[u8], u8, Option<(u32, PacketRule)>); 11] = [
+    (&[0, 10, 0, 0, 1, b'a', 1], SUBSCRIBE, None),
+    (&[0, 10, 0, 0, 1, b'a'], UNSUBSCRIBE, None),
+    (&[0, 10, 2, 0x0B, 5, 0, 1, b'a', 1], SUBSCRIBE, None),
+    (
+        &[0, 0, 0, 0, 1, b'a'],
+        UNSUBSCRIBE,
+        Some((2, PacketRule::W09)),
+    ),
+    (
+        &[0, 10, 2, 0x0B, 5, 0, 1, b'a'],
+        UNSUBSCRIBE,
+        Some((5, PacketRule::W10)),
+    ),
+    (&[0, 10, 0], SUBSCRIBE, Some((5, PacketRule::W16))),
+    (&[0, 10, 0], UNSUBSCRIBE, Some((5, PacketRule::W16))),
+    (
+        &[0, 10, 0, 0, 1, b'a', 1, 0, 1, b'#', 3],
+        SUBSCRIBE,
+        Some((12, PacketRule::W17)),
+    ),
+    (
+        &[0, 10, 0, 0, 1, b'a', 1, 0, 0, 3],
+        SUBSCRIBE,
+        Some((9, PacketRule::W15)),
+    ),
+    (
+        &[0, 10, 0, 0, 1, b'a'],
+        SUBSCRIBE,
+        Some((8, PacketRule::W06)),
+    ),
+    (
+        &[0, 10, 0, 0, 1, b'a', 1],
+        UNSUBSCRIBE,
+        Some((8, PacketRule::W06)),
+    ),
+];
+
 #[test]
 fn requests(rt: HostRuntime) {
-    let rows: [(&[u8], u8, Option<(u32, PacketRule)>); 11] = [
-        (&[0, 10, 0, 0, 1, b'a', 1], SUBSCRIBE, None),
-        (&[0, 10, 0, 0, 1, b'a'], UNSUBSCRIBE, None),
-        (&[0, 10, 2, 0x0B, 5, 0, 1, b'a', 1], SUBSCRIBE, None),
-        (
-            &[0, 0, 0, 0, 1, b'a'],
-            UNSUBSCRIBE,
-            Some((2, PacketRule::W09)),
-        ),
-        (
-            &[0, 10, 2, 0x0B, 5, 0, 1, b'a'],
-            UNSUBSCRIBE,
-            Some((5, PacketRule::W10)),
-        ),
-        (&[0, 10, 0], SUBSCRIBE, Some((5, PacketRule::W16))),
-        (&[0, 10, 0], UNSUBSCRIBE, Some((5, PacketRule::W16))),
-        (
-            &[0, 10, 0, 0, 1, b'a', 1, 0, 1, b'#', 3],
-            SUBSCRIBE,
-            Some((12, PacketRule::W17)),
-        ),
-        (
-            &[0, 10, 0, 0, 1, b'a', 1, 0, 0, 3],
-            SUBSCRIBE,
-            Some((9, PacketRule::W15)),
-        ),
-        (
-            &[0, 10, 0, 0, 1, b'a'],
-            SUBSCRIBE,
-            Some((8, PacketRule::W06)),
-        ),
-        (
-            &[0, 10, 0, 0, 1, b'a', 1],
-            UNSUBSCRIBE,
-            Some((8, PacketRule::W06)),
-        ),
-    ];
-    for (body, first, wanted) in rows {
+    for (body, first, wanted) in &REQUESTS {
         if body.len() > MAX_BODY {
             return;
         }
-        assert_eq!(rt; stopped(decode(first, body)), wanted, "{body:?}");
+        assert_eq!(rt; stopped(decode(*first, body)), *wanted, "{body:?}");
     }
 }
 
+// Bodies of their answers, and where they break a rule.
+const ANSWERS: [(&[u8], u8, Option<(u32, PacketRule)>); 7] = [
+    (&[0, 10, 0], SUBACK, None),
+    (&[0, 10, 0], UNSUBACK, None),
+    (&[0, 10, 0, 0, 1, 2, 0x80], SUBACK, None),
+    (&[0, 10, 0, 0, 0x11, 0x8F], UNSUBACK, None),
+    (&[0, 10, 0, 0, 0x11], SUBACK, Some((6, PacketRule::W13))),
+    (&[0, 10, 0, 0, 1], UNSUBACK, Some((6, PacketRule::W13))),
+    (&[0, 10], UNSUBACK, Some((4, PacketRule::W06))),
+];
+
 #[test]
 fn answers(rt: HostRuntime) {
-    let rows: [(&[u8], u8, Option<(u32, PacketRule)>); 7] = [
-        (&[0, 10, 0], SUBACK, None),
-        (&[0, 10, 0], UNSUBACK, None),
-        (&[0, 10, 0, 0, 1, 2, 0x80], SUBACK, None),
-        (&[0, 10, 0, 0, 0x11, 0x8F], UNSUBACK, None),
-        (&[0, 10, 0, 0, 0x11], SUBACK, Some((6, PacketRule::W13))),
-        (&[0, 10, 0, 0, 1], UNSUBACK, Some((6, PacketRule::W13))),
-        (&[0, 10], UNSUBACK, Some((4, PacketRule::W06))),
-    ];
-    for (body, first, wanted) in rows {
+    for (body, first, wanted) in &ANSWERS {
         if body.len() > MAX_BODY {
             return;
         }
-        assert_eq!(rt; stopped(decode(first, body)), wanted, "{body:?}");
+        assert_eq!(rt; stopped(decode(*first, body)), *wanted, "{body:?}");
     }
 }

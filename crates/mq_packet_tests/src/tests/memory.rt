@@ -7,6 +7,7 @@ use mq_packet::*;
 use mq_props::{Place, Prop, PropsBuf, PushFault};
 use mq_topic::AliasTable;
 use mq_wire::*;
+use std::alloc::Global;
 
 // What each call of `put` appends.
 const SPELLED: [&[u8]; 7] = [
@@ -79,16 +80,25 @@ fn is_set(table: &mut AliasTable, alias: u16, before: &str, topic: &str) -> bool
     table.get(alias).unwrap_or("") == newest
 }
 
+// The first alias that isn't set whole, of twenty that are set to one topic, and one of them then
+// to another.
+fn first_torn(alloc: Global, first: &str, second: &str) -> Option<u16> {
+    let mut table = AliasTable::new(alloc);
+    for alias in 1..20 {
+        if !is_set(&mut table, alias, "", first) {
+            return Some(alias);
+        }
+    }
+    if table.get(1) == Some(first) && !is_set(&mut table, 1, first, second) {
+        return Some(1);
+    }
+    None
+}
+
 #[test]
 fn sets_aliases_whole(rt: HostRuntime) {
-    for (first, second) in [("a", LONG), (LONG, "a"), (LONG, "b/b")] {
-        let mut table = AliasTable::new(rt.alloc());
-        for alias in 1..20 {
-            assert!(rt; is_set(&mut table, alias, "", first), "{alias}");
-        }
-        if table.get(1) == Some(first) {
-            assert!(rt; is_set(&mut table, 1, first, second));
-        }
+    for (first, second) in &[("a", LONG), (LONG, "a"), (LONG, "b/b")] {
+        assert_eq!(rt; first_torn(rt.alloc(), first, second), None);
     }
 }
 

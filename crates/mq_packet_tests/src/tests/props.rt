@@ -3,6 +3,7 @@ use mq_props::Place::*;
 use mq_props::*;
 use mq_wire::{Cursor, Reason, put_varint};
 use std::alloc::Global;
+use std::process::Abort;
 use std::test::Fail;
 
 const PLACES: [Place; 14] = [
@@ -127,50 +128,65 @@ fn unknown_identifiers(rt: HostRuntime) -> Result<(), Fail> {
     Ok(())
 }
 
+const BAD: Option<PropReason> = Some(PropReason::Value);
+
+// Properties, and why they are invalid, if they are: the bounds of each value.
+const BOUNDS: [(Place, &[u8], Option<PropReason>); 34] = [
+    (Publish, &[0x01, 0], None),
+    (Publish, &[0x01, 255], None),
+    (Publish, &[0x02, 0, 0, 0, 0], None),
+    (Publish, &[0x0B, 0], BAD),
+    (Publish, &[0x0B, 1], None),
+    (Publish, &[0x0B, 0xFF, 0xFF, 0xFF, 0x7F], None),
+    (Connect, &[0x11, 255, 255, 255, 255], None),
+    (Connack, &[0x13, 0, 0], None),
+    (Connect, &[0x17, 0], None),
+    (Connect, &[0x17, 2], BAD),
+    (Connect, &[0x19, 1], None),
+    (Connect, &[0x19, 2], BAD),
+    (Connect, &[0x21, 0, 0], BAD),
+    (Connect, &[0x21, 0, 1], None),
+    (Connect, &[0x21, 255, 255], None),
+    (Connect, &[0x22, 0, 0], None),
+    (Publish, &[0x23, 0, 0], BAD),
+    (Publish, &[0x23, 255, 255], None),
+    (Connack, &[0x24, 0], None),
+    (Connack, &[0x24, 2], BAD),
+    (Connack, &[0x25, 1], None),
+    (Connack, &[0x25, 2], BAD),
+    (Connect, &[0x27, 0, 0, 0, 0], BAD),
+    (Connect, &[0x27, 0, 0, 0, 1], None),
+    (Connack, &[0x28, 0], None),
+    (Connack, &[0x28, 255], BAD),
+    (Connack, &[0x29, 1], None),
+    (Connack, &[0x29, 2], BAD),
+    (Connack, &[0x2A, 0], None),
+    (Connack, &[0x2A, 2], BAD),
+    (Publish, &[0x08, 0, 1, b'+'], Some(PropReason::Wildcard)),
+    (Will, &[0x08, 0, 1, b'#'], None),
+    (Publish, &[0x03, 0, 1, b'#'], None),
+    (Publish, &[0x09, 0, 0], None),
+];
+
+// The fault of a list of this property alone.
+fn fault_alone(
+    alloc: Global,
+    property: &[u8],
+    place: Place,
+) -> Result<Option<(usize, PropReason)>, Fail> {
+    let list = spelled(alloc, &[property])?;
+    Ok(read(&list, place).0)
+}
+
 #[test]
 fn bounds(rt: HostRuntime) -> Result<(), Fail> {
-    let bad = Some(PropReason::Value);
-    let rows: [(Place, &[u8], Option<PropReason>); 34] = [
-        (Publish, &[0x01, 0], None),
-        (Publish, &[0x01, 255], None),
-        (Publish, &[0x02, 0, 0, 0, 0], None),
-        (Publish, &[0x0B, 0], bad),
-        (Publish, &[0x0B, 1], None),
-        (Publish, &[0x0B, 0xFF, 0xFF, 0xFF, 0x7F], None),
-        (Connect, &[0x11, 255, 255, 255, 255], None),
-        (Connack, &[0x13, 0, 0], None),
-        (Connect, &[0x17, 0], None),
-        (Connect, &[0x17, 2], bad),
-        (Connect, &[0x19, 1], None),
-        (Connect, &[0x19, 2], bad),
-        (Connect, &[0x21, 0, 0], bad),
-        (Connect, &[0x21, 0, 1], None),
-        (Connect, &[0x21, 255, 255], None),
-        (Connect, &[0x22, 0, 0], None),
-        (Publish, &[0x23, 0, 0], bad),
-        (Publish, &[0x23, 255, 255], None),
-        (Connack, &[0x24, 0], None),
-        (Connack, &[0x24, 2], bad),
-        (Connack, &[0x25, 1], None),
-        (Connack, &[0x25, 2], bad),
-        (Connect, &[0x27, 0, 0, 0, 0], bad),
-        (Connect, &[0x27, 0, 0, 0, 1], None),
-        (Connack, &[0x28, 0], None),
-        (Connack, &[0x28, 255], bad),
-        (Connack, &[0x29, 1], None),
-        (Connack, &[0x29, 2], bad),
-        (Connack, &[0x2A, 0], None),
-        (Connack, &[0x2A, 2], bad),
-        (Publish, &[0x08, 0, 1, b'+'], Some(PropReason::Wildcard)),
-        (Will, &[0x08, 0, 1, b'#'], None),
-        (Publish, &[0x03, 0, 1, b'#'], None),
-        (Publish, &[0x09, 0, 0], None),
-    ];
-    for (place, property, reason) in rows {
-        let list = spelled(rt.alloc(), &[property])?;
-        let first = property.first().copied().unwrap_or(0);
-        let wanted = reason.map(|reason| (2, reason));
-        assert_eq!(rt; read(&list, place).0, wanted, "{first} in {place:?}");
+    for (place, property, reason) in &BOUNDS {
+        let fault = fault_alone(rt.alloc(), property, *place)?;
+        assert_eq!(rt;
+            fault,
+            reason.map(|reason| (2, reason)),
+            "{property:?} in {place:?}"
+        );
     }
     Ok(())
 }
@@ -299,12 +315,11 @@ fn in_order(rt: HostRuntime) {
 
 #[test]
 fn a_list_of_no_properties(rt: HostRuntime) {
-    for place in PLACES {
-        let props = Props::empty(place);
-        assert_eq!(rt; props.place(), place);
-        assert_eq!(rt; props.as_bytes().len(), 0);
-        assert!(rt; props.iter().next().is_none());
-        assert_eq!(rt; props.get_user_property(), None);
+    for place in &PLACES {
+        let props = Props::empty(*place);
+        assert_eq!(rt; (props.place(), props.as_bytes().len()), (*place, 0));
+        let is_empty = props.iter().next().is_none() && props.get_user_property().is_none();
+        assert!(rt; is_empty, "{place:?}");
     }
 }
 
@@ -361,6 +376,21 @@ fn which_kinds_are_there(rt: HostRuntime) {
     }
 }
 
+// The asserts stand apart from the list: where one fails, nothing is dropped.
+fn are_firsts_of_publish(rt: &impl Abort, props: Props<'_>) {
+    assert_eq!(rt; props.get_payload_format_indicator(), Some(1));
+    let numbers = [
+        props.get_message_expiry_interval(),
+        props.get_subscription_identifier(),
+    ];
+    assert_eq!(rt; numbers, [Some(2), Some(4)]);
+    let texts = [props.get_content_type(), props.get_response_topic()];
+    assert_eq!(rt; texts, [Some("c"), Some("r")]);
+    assert_eq!(rt; props.get_correlation_data(), Some([7].as_slice()));
+    assert_eq!(rt; props.get_topic_alias(), Some(6));
+    assert_eq!(rt; props.get_user_property(), Some(("n", "v")));
+}
+
 #[test]
 fn first_of_each_in_publish(rt: HostRuntime) -> Result<(), Fail> {
     let list = list_of(
@@ -379,43 +409,11 @@ fn first_of_each_in_publish(rt: HostRuntime) -> Result<(), Fail> {
             Prop::UserProperty("m", "w"),
         ],
     )?;
-    let props = list.as_props();
-    assert_eq!(rt; props.get_payload_format_indicator(), Some(1));
-    assert_eq!(rt; props.get_message_expiry_interval(), Some(2));
-    assert_eq!(rt; props.get_content_type(), Some("c"));
-    assert_eq!(rt; props.get_response_topic(), Some("r"));
-    assert_eq!(rt; props.get_correlation_data(), Some([7].as_slice()));
-    assert_eq!(rt; props.get_subscription_identifier(), Some(4));
-    assert_eq!(rt; props.get_topic_alias(), Some(6));
-    assert_eq!(rt; props.get_user_property(), Some(("n", "v")));
+    are_firsts_of_publish(&rt, list.as_props());
     Ok(())
 }
 
-#[test]
-fn first_of_each_in_connack(rt: HostRuntime) -> Result<(), Fail> {
-    let list = list_of(
-        rt.alloc(),
-        Connack,
-        &[
-            Prop::SessionExpiryInterval(1),
-            Prop::AssignedClientIdentifier("a"),
-            Prop::ServerKeepAlive(2),
-            Prop::AuthenticationMethod("m"),
-            Prop::AuthenticationData(&[3]),
-            Prop::ResponseInformation("i"),
-            Prop::ServerReference("s"),
-            Prop::ReasonString("r"),
-            Prop::ReceiveMaximum(4),
-            Prop::TopicAliasMaximum(5),
-            Prop::MaximumQos(1),
-            Prop::RetainAvailable(0),
-            Prop::MaximumPacketSize(6),
-            Prop::WildcardSubscriptionAvailable(1),
-            Prop::SubscriptionIdentifierAvailable(0),
-            Prop::SharedSubscriptionAvailable(1),
-        ],
-    )?;
-    let props = list.as_props();
+fn are_firsts_of_connack(rt: &impl Abort, props: Props<'_>) {
     let texts = [
         props.get_assigned_client_identifier(),
         props.get_authentication_method(),
@@ -447,7 +445,39 @@ fn first_of_each_in_connack(rt: HostRuntime) -> Result<(), Fail> {
         props.get_shared_subscription_available(),
     ];
     assert_eq!(rt; abilities, [Some(1), Some(0), Some(1), Some(0), Some(1)]);
+}
+
+#[test]
+fn first_of_each_in_connack(rt: HostRuntime) -> Result<(), Fail> {
+    let list = list_of(
+        rt.alloc(),
+        Connack,
+        &[
+            Prop::SessionExpiryInterval(1),
+            Prop::AssignedClientIdentifier("a"),
+            Prop::ServerKeepAlive(2),
+            Prop::AuthenticationMethod("m"),
+            Prop::AuthenticationData(&[3]),
+            Prop::ResponseInformation("i"),
+            Prop::ServerReference("s"),
+            Prop::ReasonString("r"),
+            Prop::ReceiveMaximum(4),
+            Prop::TopicAliasMaximum(5),
+            Prop::MaximumQos(1),
+            Prop::RetainAvailable(0),
+            Prop::MaximumPacketSize(6),
+            Prop::WildcardSubscriptionAvailable(1),
+            Prop::SubscriptionIdentifierAvailable(0),
+            Prop::SharedSubscriptionAvailable(1),
+        ],
+    )?;
+    are_firsts_of_connack(&rt, list.as_props());
     Ok(())
+}
+
+fn are_firsts_of_connect(rt: &impl Abort, props: Props<'_>) {
+    assert_eq!(rt; props.get_request_problem_information(), Some(0));
+    assert_eq!(rt; props.get_request_response_information(), Some(1));
 }
 
 #[test]
@@ -457,9 +487,7 @@ fn first_of_each_in_connect(rt: HostRuntime) -> Result<(), Fail> {
         Prop::RequestResponseInformation(1),
     ];
     let list = list_of(rt.alloc(), Connect, &asked)?;
-    let props = list.as_props();
-    assert_eq!(rt; props.get_request_problem_information(), Some(0));
-    assert_eq!(rt; props.get_request_response_information(), Some(1));
+    are_firsts_of_connect(&rt, list.as_props());
     Ok(())
 }
 
