@@ -37,7 +37,7 @@ received size a b fields = notes.Recv (items.Packet (record { size = size; has_r
 
 -- a PUBLISH with this QoS
 abbrev at_qos : PublishNote → Qos → PacketFields
-at_qos p q = Publish (record { identifier = p.identifier; qos = q; duplicate = p.duplicate; retain = p.retain; topic = p.topic; topic_alias = p.topic_alias; has_message_expiry = p.has_message_expiry; has_subscription_identifier = p.has_subscription_identifier })
+at_qos p q = Publish (record { identifier = p.identifier; qos = q; duplicate = p.duplicate; retain = p.retain; topic = p.topic; topic_alias = p.topic_alias; uses_alias = p.uses_alias; has_message_expiry = p.has_message_expiry; has_subscription_identifier = p.has_subscription_identifier })
 
 -- ---- an exchange
 

@@ -27,13 +27,12 @@ use Rattle.mq_connections.specs.Duties.{blamed, owed_on, place_of, talk, waits_f
 use Rattle.mq_rules.proofs.Exports.{and_false, fault_at-with_fault, gains_nothing, moment-older, moment-placed, moment-within, option_or-none, places-most, places-start, places-unbound}
 use Rattle.mq_connections.proofs.LaterLaws.{IsOnce, is_at, latest-next, latest-stands, places-shown, waits_at, waits-next}
 
--- Such a statement: an event shows it to be false, puts it to the test, or makes the server owe something, as what is kept of the latest connection says.
-pub record IsDuty (rule : Rule) (owes : Moment → Bool) (shown tried found : Talk → Note → Bool) : Type 0 where
+-- Such a statement: an event shows it to be false, or puts it to the test, as what is kept of the latest connection says.
+pub record IsDuty (rule : Rule) (owes : Moment → Bool) (shown tried : Talk → Note → Bool) : Type 0 where
   pub once : IsOnce owes
   pub by : (role : Role) → is_by_later (statement role rule) ≡ true
   pub turned : (tested : Tested) (e : Seen) (past : List Seen) (k : ℕ) → turns tested e past k rule ≡ (binds rule tested && (shown (talk past) e.note && is_at k (owed_on owes past)))
   pub placed : (tested : Tested) (e : Seen) (past : List Seen) (k : ℕ) → binds rule tested ≡ true → adds_place tested e past k rule ≡ (tried (talk past) e.note && is_at k (owed_on owes past))
-  pub met : (e : Seen) (past : List Seen) → owes (newest e past) ≡ found (talk past) e.note
 
 -- the statements are told apart by their codes
 is-rule : (r rule : Rule) → same_rule r rule ≡ true → r ≡ rule
@@ -60,7 +59,7 @@ blamed-told rule None shown at faults k r = sym (option_or-none (fault_at faults
 blamed-told rule (Some p) true at faults k r = fault_at-with_fault faults p.position k rule r (record { decided = at.position; record_no = p.record_no; offset = None })
 blamed-told rule (Some p) false at faults k r = sym (option_or-none (fault_at faults k r))
 
-module _ (rule : Rule) (owes : Moment → Bool) (shown tried found : Talk → Note → Bool) (duty : IsDuty rule owes shown tried found) where
+module _ (rule : Rule) (owes : Moment → Bool) (shown tried : Talk → Note → Bool) (duty : IsDuty rule owes shown tried) where
   -- what turns out false with an event: at the place that is kept, if the event shows it
   own-turns : (tested : Tested) (e : Seen) (past : List Seen) (k : ℕ) (r : Rule)
       → (same_rule r rule && turns tested e past k r) ≡ (same_rule r rule && (binds rule tested && (shown (talk past) e.note && is_at k (owed_on owes past))))
@@ -150,9 +149,9 @@ module _ (rule : Rule) (owes : Moment → Bool) (shown tried found : Talk → No
 
   -- ---- how often it is put to the test
 
-  pub trial-next : (old new : Trial) (tested : Tested) (e : Seen) (past : List Seen) → binds rule tested ≡ true → Follows tested e past → IsTrial old tested rule owes past
-      → CountsTrial old new (tried (talk past) e.note) (found (talk past) e.note) (is_open e.note) e.place.position → IsTrial new tested rule owes (e ∷ past)
-  trial-next old new tested e past bound follows was more = record {
+  pub trial-next : (old new : Trial) (tested : Tested) (e : Seen) (past : List Seen) (found : Bool) → owes (newest e past) ≡ found → binds rule tested ≡ true → Follows tested e past → IsTrial old tested rule owes past
+      → CountsTrial old new (tried (talk past) e.note) found (is_open e.note) e.place.position → IsTrial new tested rule owes (e ∷ past)
+  trial-next old new tested e past found met bound follows was more = record {
     same_places =
         let most = places-most tested past rule in
         let same = was.same_places in
@@ -162,8 +161,8 @@ module _ (rule : Rule) (owes : Moment → Bool) (shown tried found : Talk → No
         ∙ sym (places-shown tested rule e past (tried (talk past) e.note) (owed_on owes past) (latest-stands owes past) (λ k. duty.placed tested e past k bound));
     same_waits = λ is.
         more.waits
-        ∙ (λ i. found (talk past) e.note || (was.same_waits bound i && (not (is_open e.note) && not (tried (talk past) e.note))))
-        ∙ ap (λ b. b || (waits_for tested rule owes past && (not (is_open e.note) && not (tried (talk past) e.note)))) (sym (duty.met e past))
+        ∙ (λ i. found || (was.same_waits bound i && (not (is_open e.note) && not (tried (talk past) e.note))))
+        ∙ ap (λ b. b || (waits_for tested rule owes past && (not (is_open e.note) && not (tried (talk past) e.note)))) (sym met)
         ∙ sym (waits-next tested rule e past (tried (talk past) e.note) (owes (newest e past)) (is_open e.note) (owed_on owes past) (latest-stands owes past) (λ k. duty.placed tested e past k bound))
         ∙ sym (ap (waits_at_of) (latest-next owes e past));
   }

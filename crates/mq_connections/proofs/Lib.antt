@@ -10,4 +10,5 @@ pub mod JudgeLaws
 mod LaterLaws
 mod MannersLaws
 pub mod TallyLaws
+mod TermsLaws
 pub mod WatchLaws

@@ -1,4 +1,4 @@
--- What is kept of the latest connection, so that the further statements which a later REST shows (C24, D01, D02) are judged in one pass: what was said on it so far, and the place
+-- What is kept of the latest connection, so that the further statements which a later REST shows (C24, D01 to D03) are judged in one pass: what was said on it so far, and the place
 -- at which the server came to owe something, until a REST shows what came of it. Whether the next event shows that, and whether it puts the statement to the test.
 use Rattle.std.specs.Prelude.{ℕ, ◌≡◌, ◌+◌, ◌<◌, Bool, true, false, ◌&&◌, ◌||◌, not, cond, List, Option, Some, None, is_some, option_map}
 use Rattle.mq_log.specs.declared.place.Place3.{Place3}
@@ -7,7 +7,7 @@ use Rattle.mq_rules.specs.declared.role.Role.TheVariants.{Server}
 use Rattle.mq_rules.specs.declared.role.Tested.{Tested}
 use Rattle.mq_rules.specs.declared.fate.Fate.{Fate}
 use Rattle.mq_rules.specs.declared.rule.Rule.{Rule}
-use Rattle.mq_rules.specs.declared.rule.Rule.TheVariants.{C24, D01, D02}
+use Rattle.mq_rules.specs.declared.rule.Rule.TheVariants.{C24, D01, D02, D03}
 use Rattle.mq_rules.specs.declared.note.Note.{Note}
 use Rattle.mq_rules.specs.declared.note.Seen.{Seen}
 use Rattle.mq_connections.specs.declared.duties.Duties.{Duties}
@@ -18,7 +18,10 @@ use Rattle.mq_rules.specs.Words.{is_some_and}
 use Rattle.mq_rules.specs.Notes.{connect_of, is_open, is_rest, receives_type, sends_type, sent_connack}
 use Rattle.mq_rules.specs.Moments.{Moment, note, position, since, some, latest}
 use Rattle.mq_rules.specs.Connections.{connection}
-use Rattle.mq_rules.specs.FurtherRests.{ends_talk, owes_C24, owes_D01, owes_D02, receives_connect, receives_malformed, repeats_connect, says_goodbye, settles_connect, shows_outcome, takes_connack}
+use Rattle.mq_rules.specs.FurtherRests.{ends_talk, owes_C24, owes_D01, owes_D02, owes_D03, receives_connect, receives_malformed, repeats_connect, says_goodbye, settles_connect, shows_outcome, takes_connack}
+use Rattle.mq_rules.specs.ProtocolErrors.{is_protocol_error}
+use Rattle.mq_connections.specs.Terms.{terms_weigh, IsTerms}
+use Rattle.mq_rules.specs.Burden.{aliases_heard}
 use Rattle.mq_rules.specs.Rules.{binds}
 use Rattle.mq_rules.specs.FaultKeys.{FaultMap, with_fault}
 use Rattle.mq_rules.specs.Occasions.{applies, places}
@@ -33,12 +36,14 @@ owed_on owes past = latest owes (connection past)
 abbrev pub place_of : Option Moment → Option Place3
 place_of o = option_map (λ m. m.event.place) o
 
--- what was said on the latest connection, and where the server came to owe an answer to the CONNECT, and to close the connection after a Malformed Packet or a second CONNECT
+-- what was said on the latest connection, and where the server came to owe an answer to the CONNECT, and to close the connection after a Malformed Packet, a second CONNECT or another
+-- Protocol Error
 unfoldable pub talk : List Seen → Talk
 talk past = record {
   has_connect = some receives_connect (connection past);
   has_repeat = some repeats_connect (connection past);
   has_malformed = some (λ j. receives_malformed (note j)) (connection past);
+  has_error = some is_protocol_error (connection past);
   has_ended = some (λ j. ends_talk (note j)) (connection past);
   has_goodbye = some (λ j. says_goodbye (note j)) (connection past);
   has_settled = some (λ j. settles_connect (note j)) (connection past);
@@ -46,6 +51,7 @@ talk past = record {
   unanswered = place_of (owed_on owes_C24 past);
   malformed = place_of (owed_on owes_D01 past);
   repeated = place_of (owed_on owes_D02 past);
+  mistaken = place_of (owed_on owes_D03 past);
 }
 
 -- what is kept of a connection on which nothing has come yet
@@ -54,6 +60,7 @@ nothing_said = record {
   has_connect = false;
   has_repeat = false;
   has_malformed = false;
+  has_error = false;
   has_ended = false;
   has_goodbye = false;
   has_settled = false;
@@ -61,6 +68,7 @@ nothing_said = record {
   unanswered = None;
   malformed = None;
   repeated = None;
+  mistaken = None;
 }
 
 -- with this event the server comes to owe a CONNACK
@@ -74,12 +82,17 @@ finds_malformed t n = (receives_malformed n && not t.has_malformed) && not t.has
 abbrev pub finds_repeated : Talk → Note → Bool
 finds_repeated t n = ((receives_type types.Connect n && t.has_connect) && not t.has_repeat) && not t.has_ended
 
--- what is kept with one event more of the connection
-abbrev pub followed : Talk → Place3 → Note → Talk
-followed t at n = record {
+-- the same after a Protocol Error: the flag says whether the event is one
+abbrev pub finds_mistake : Talk → Bool → Bool
+finds_mistake t error = (error && not t.has_error) && not t.has_ended
+
+-- what is kept with one event more of the connection, which is a Protocol Error or not
+abbrev pub followed : Talk → Place3 → Note → Bool → Talk
+followed t at n error = record {
   has_connect = t.has_connect || receives_type types.Connect n;
   has_repeat = t.has_repeat || (receives_type types.Connect n && t.has_connect);
   has_malformed = t.has_malformed || receives_malformed n;
+  has_error = t.has_error || error;
   has_ended = t.has_ended || ends_talk n;
   has_goodbye = t.has_goodbye || says_goodbye n;
   has_settled = t.has_settled || settles_connect n;
@@ -87,16 +100,19 @@ followed t at n = record {
   unanswered = cond (finds_unanswered t n) (Some at) t.unanswered;
   malformed = cond (finds_malformed t n) (Some at) t.malformed;
   repeated = cond (finds_repeated t n) (Some at) t.repeated;
+  mistaken = cond (finds_mistake t error) (Some at) t.mistaken;
 }
 
 -- and with one event more: at an OPEN a new connection begins
-abbrev pub talk_after : Talk → Place3 → Note → Talk
-talk_after t at n = followed (cond (is_open n) nothing_said t) at n
+abbrev pub talk_after : Talk → Place3 → Note → Bool → Talk
+talk_after t at n error = followed (cond (is_open n) nothing_said t) at n error
 
 -- What the watcher keeps is that of these events, the newest first, if the statements bind the tested end.
 pub record IsDuties (d : Duties) (tested : Tested) (taken : Option Fate) (past : List Seen) : Type 0 where
   pub same_bound : d.is_bound ≡ binds D02 tested
   pub same_talk : d.is_bound ≡ true → d.talk ≡ talk past
+  pub same_terms : d.is_bound ≡ true → IsTerms d.terms past
+  pub as_many : terms_weigh d.terms ≡ aliases_heard tested past
 
 -- ---- what the next event shows
 
@@ -118,21 +134,26 @@ blamed rule None shown at faults = faults
 blamed rule (Some p) shown at faults =
     cond shown (with_fault (record { position = p.position; rule = rule }) (record { decided = at.position; record_no = p.record_no; offset = None }) faults) faults
 
--- the faults with those of one, two and all three statements
+-- the faults with those of one, two, three and all four statements
 abbrev pub blamed_one : Talk → Note → Place3 → FaultMap → FaultMap
 blamed_one t n at faults = blamed C24 t.unanswered (leaves_now t n) at faults
 
 abbrev pub blamed_two : Talk → Note → Place3 → FaultMap → FaultMap
 blamed_two t n at faults = blamed D01 t.malformed (stays_now t n) at (blamed_one t n at faults)
 
-abbrev pub blamed_all : Talk → Note → Place3 → FaultMap → FaultMap
-blamed_all t n at faults = blamed D02 t.repeated (stays_now t n) at (blamed_two t n at faults)
+abbrev pub blamed_three : Talk → Note → Place3 → FaultMap → FaultMap
+blamed_three t n at faults = blamed D02 t.repeated (stays_now t n) at (blamed_two t n at faults)
 
--- If there is no memory for a fault, those of the statements before are there.
+abbrev pub blamed_all : Talk → Note → Place3 → FaultMap → FaultMap
+blamed_all t n at faults = blamed D03 t.mistaken (stays_now t n) at (blamed_three t n at faults)
+
+-- If there is no memory for a fault, those of the statements before are there; if there is none for what is kept, all are.
 pub data BlamesWithin (t : Talk) (n : Note) (at : Place3) (old new : FaultMap) : Type 0 where
   nothing : new ≡ old → BlamesWithin t n at old new
   one : new ≡ blamed_one t n at old → BlamesWithin t n at old new
   two : new ≡ blamed_two t n at old → BlamesWithin t n at old new
+  three : new ≡ blamed_three t n at old → BlamesWithin t n at old new
+  all : new ≡ blamed_all t n at old → BlamesWithin t n at old new
 
 -- ---- where they are put to the test
 
@@ -157,3 +178,4 @@ pub record CountsDuties (p : DutiesPlaces) (tested : Tested) (past : List Seen) 
   pub c24 : IsTrial p.c24 tested C24 owes_C24 past
   pub d01 : IsTrial p.d01 tested D01 owes_D01 past
   pub d02 : IsTrial p.d02 tested D02 owes_D02 past
+  pub d03 : IsTrial p.d03 tested D03 owes_D03 past

@@ -4,4 +4,5 @@ pub mod Weights
 pub mod Finding
 pub mod Trying
 pub mod Manners
+pub mod Terms
 pub mod Duties

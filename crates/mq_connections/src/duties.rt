@@ -1,4 +1,4 @@
-//! The further statements that a later REST shows, in one pass: C24, D01 and D02.
+//! The further statements that a later REST shows, in one pass: C24, and D01 to D03.
 //!
 //! With some event a server comes to owe an answer, or that it closes the connection. Until a REST
 //! shows what came of that, the event's place is kept.
@@ -8,7 +8,7 @@ ghost use Rattle.mq_rules.specs.declared.role.Role.TheVariants as roles;
 ghost use Rattle.mq_rules.specs.declared.fate.Fate.{Fate as TheFate};
 ghost use Rattle.mq_rules.specs.declared.fate.Fate.TheVariants.{Void};
 ghost use Rattle.mq_rules.specs.declared.note.Seen.{Seen as TheSeen};
-ghost use Rattle.mq_rules.specs.declared.rule.Rule.TheVariants.{C24, D01, D02};
+ghost use Rattle.mq_rules.specs.declared.rule.Rule.TheVariants.{C24, D01, D02, D03};
 ghost use Rattle.mq_rules.specs.Words.{is_some_and};
 ghost use Rattle.mq_rules.specs.Notes.{connect_of, is_broken, is_open};
 ghost use Rattle.mq_packet.specs.declared.packet.PacketType.TheVariants as types;
@@ -20,6 +20,11 @@ ghost use Rattle.mq_connections.specs.Duties.{blamed, blamed_all, nothing_said, 
 ghost use Rattle.mq_rules.specs.Occasions.{places};
 ghost use Rattle.mq_rules.specs.Statements.{is_on_later};
 ghost use Rattle.mq_rules.specs.Steps.{turns};
+ghost use Rattle.mq_rules.specs.Burden.{aliases_heard};
+ghost use Rattle.mq_rules.specs.Connections.{IsOnConnection};
+ghost use Rattle.mq_connections.specs.Terms.{finds_error, terms_weigh, TermsNext};
+
+mod terms;
 
 use mq_log::Place3;
 use mq_packet::{PacketRule, PacketType};
@@ -27,6 +32,8 @@ use mq_rules::{
     Bare, Brisk, ConnectNote, Fault, FaultKey, Faults, ItemNote, Memory, Note, Role, Rule, Tested,
     Watch, places_after, step_apart,
 };
+use std::alloc::Global;
+use terms::Terms;
 
 /// The least Reason Code of a CONNACK that refuses (MQTT 5.0, section 3.2.2.2).
 const LEAST_REFUSAL: u8 = 0x80;
@@ -43,6 +50,8 @@ struct Talk {
     has_repeat: bool,
     /// Whether a Malformed Packet was received there.
     has_malformed: bool,
+    /// Whether a packet was received there that is a Protocol Error.
+    has_error: bool,
     /// Whether either end said that it closes the connection.
     has_ended: bool,
     /// Whether the server did.
@@ -58,6 +67,8 @@ struct Talk {
     malformed: Option<Place3>,
     /// Where the second CONNECT was received, if the server then had to close the connection.
     repeated: Option<Place3>,
+    /// Where the first Protocol Error was received, if the server then had to close the connection.
+    mistaken: Option<Place3>,
 }
 
 impl Talk {
@@ -69,6 +80,7 @@ impl Talk {
             has_connect: false,
             has_repeat: false,
             has_malformed: false,
+            has_error: false,
             has_ended: false,
             has_goodbye: false,
             has_settled: false,
@@ -76,6 +88,7 @@ impl Talk {
             unanswered: None,
             malformed: None,
             repeated: None,
+            mistaken: None,
         }
     }
 
@@ -103,15 +116,23 @@ impl Talk {
             && !self.has_ended
     }
 
-    // Takes in an event of the connection.
-    fn follow(&mut self, at: Place3, note: &Note)
-        ensures { self.new ≡ keeping.followed self.old at note.now }
+    // The same after a Protocol Error. The flag says whether the event is one.
+    fn finds_mistake(&self, is_error: bool) -> bool
+        ensures { result ≡ keeping.finds_mistake self.now is_error }
+    {
+        is_error && !self.has_error && !self.has_ended
+    }
+
+    // Takes in an event of the connection. The flag says whether it is a Protocol Error.
+    fn follow(&mut self, at: Place3, note: &Note, is_error: bool)
+        ensures { self.new ≡ keeping.followed self.old at note.now is_error }
     {
         let connects = note.receives_type(PacketType::Connect);
         *self = Talk {
             has_connect: self.has_connect | connects,
             has_repeat: self.has_repeat | (connects & self.has_connect),
             has_malformed: self.has_malformed | receives_malformed(note),
+            has_error: self.has_error | is_error,
             has_ended: self.has_ended | ends_talk(note),
             has_goodbye: self.has_goodbye | says_goodbye(note),
             has_settled: self.has_settled | settles_connect(note),
@@ -119,17 +140,18 @@ impl Talk {
             unanswered: place_after(self.unanswered, self.finds_unanswered(note), at),
             malformed: place_after(self.malformed, self.finds_malformed(note), at),
             repeated: place_after(self.repeated, self.finds_repeated(note), at),
+            mistaken: place_after(self.mistaken, self.finds_mistake(is_error), at),
         };
     }
 
     // Takes in an event: at an OPEN a new connection begins.
-    fn consume(&mut self, at: Place3, note: &Note)
-        ensures { self.new ≡ talk_after self.old at note.now }
+    fn consume(&mut self, at: Place3, note: &Note, is_error: bool)
+        ensures { self.new ≡ talk_after self.old at note.now is_error }
     {
         if note.is_open() {
             *self = Talk::new();
         }
-        self.follow(at, note);
+        self.follow(at, note, is_error);
     }
 
     // Whether the event is a REST, and the CONNECT would still have to be answered.
@@ -168,6 +190,7 @@ impl Talk {
         )?;
         blame(Rule::D01, self.malformed, stays, place, faults)?;
         blame(Rule::D02, self.repeated, stays, place, faults)?;
+        blame(Rule::D03, self.mistaken, stays, place, faults)?;
         Ok(())
     }
 }
@@ -328,35 +351,48 @@ fn shows_outcome(note: &Note) -> bool
     says_goodbye(note) || note.is_close() || note.is_rest()
 }
 
-/// Watches C24, D01 and D02, if the further statements are asked for and a server is tested. It
-/// takes in each event of a log.
+/// Watches C24, and D01 to D03, if the further statements are asked for and a server is tested. It
+/// takes in each event of a log in which nothing is sent or received between two connections.
 #[derive(Drop)]
 pub struct Duties {
     /// Whether they bind the tested end. If not, nothing is kept.
     is_bound: bool,
     talk: Talk,
+    terms: Terms,
 }
 
 impl Duties {
     /// The watcher before the first event, for this tested end.
-    pub fn new(tested: Tested) -> Self
+    pub fn new(alloc: Global, tested: Tested) -> Self
         ensures { ⟦<Duties as Watch>⟧.agrees result tested (Some Void) [] }
     {
         Duties {
             is_bound: Rule::D02.is_judged(tested),
             talk: Talk::new(),
+            terms: Terms::new(alloc),
         }
+    }
+
+    // Whether the event is a Protocol Error.
+    fn finds_error(&self, note: &Note) -> bool
+        ensures { result ≡ finds_error self.now.talk.has_connect self.now.terms note.now }
+    {
+        self.terms.finds_error(self.talk.has_connect, note)
     }
 
     // Judges an event, and then takes it in.
     #[inline(never)]
     fn take(&mut self, place: Place3, note: &Note, faults: &mut Faults) -> Result<(), Memory>
-        ensures kept { OnOk result (self.new ≡ record { is_bound = self.old.is_bound; talk = talk_after self.old.talk place note.now }) }
+        ensures bound { OnOk result (self.new.is_bound ≡ self.old.is_bound) }
+        ensures talk { OnOk result (self.new.talk ≡ talk_after self.old.talk place note.now (finds_error self.old.talk.has_connect self.old.terms note.now)) }
+        ensures terms { OnOk result (TermsNext self.old.terms self.new.terms note.now) }
         ensures ok { OnOk result (faults.new ≡ blamed_all self.old.talk note.now place faults.old) }
         ensures memory { OnErr result (BlamesWithin self.old.talk note.now place faults.old faults.new) }
     {
         self.talk.judge(place, note, faults)?;
-        self.talk.consume(place, note);
+        let is_error = self.finds_error(note);
+        self.talk.consume(place, note, is_error);
+        self.terms.consume(note)?;
         Ok(())
     }
 }
@@ -364,13 +400,13 @@ impl Duties {
 impl Watch for Duties {
     ghost agrees = { IsDuties };
 
-    ghost takes = { λ tested taken e past. Unit {0} };
+    ghost takes = { λ tested taken e past. IsOnConnection e past };
 
     ghost adds = { λ tested e past k r. is_on_later tested r && turns tested e past k r };
 
-    ghost weighs = { λ s. 0 };
+    ghost weighs = { λ s. terms_weigh s.terms };
 
-    ghost bound = { λ tested taken past. 0 };
+    ghost bound = { λ tested taken past. aliases_heard tested past };
 
     #[inline(always)]
     fn step(&mut self, at: Place3, note: &Note, faults: &mut Faults) -> Result<(), Memory> {
@@ -382,7 +418,7 @@ impl Watch for Duties {
     }
 
     fn weight(&self) -> usize {
-        0
+        self.terms.aliases_kept()
     }
 }
 
@@ -435,25 +471,29 @@ struct DutiesPlaces {
     c24: Trial,
     d01: Trial,
     d02: Trial,
+    d03: Trial,
 }
 
 impl DutiesPlaces {
     // The counts of nothing.
     fn none() -> DutiesPlaces
-        ensures { result ≡ record { c24 = record { places = 0; waits = false }; d01 = record { places = 0; waits = false }; d02 = record { places = 0; waits = false } } }
+        ensures { result ≡ record { c24 = record { places = 0; waits = false }; d01 = record { places = 0; waits = false }; d02 = record { places = 0; waits = false }; d03 = record { places = 0; waits = false } } }
     {
         DutiesPlaces {
             c24: Trial::none(),
             d01: Trial::none(),
             d02: Trial::none(),
+            d03: Trial::none(),
         }
     }
 
-    // Counts the statements that an event puts to the test, by what is kept before it.
-    fn count(&mut self, talk: &Talk, note: &Note, position: u32)
+    // Counts the statements that an event puts to the test, by what is kept before it. The flag
+    // says whether it is a Protocol Error.
+    fn count(&mut self, talk: &Talk, note: &Note, is_error: bool, position: u32)
         ensures c24 { CountsTrial self.old.c24 self.new.c24 (keeping.tries_answer talk.now note.now) (keeping.finds_unanswered talk.now note.now) (is_open note.now) position }
         ensures d01 { CountsTrial self.old.d01 self.new.d01 (rests.shows_outcome note.now) (keeping.finds_malformed talk.now note.now) (is_open note.now) position }
         ensures d02 { CountsTrial self.old.d02 self.new.d02 (rests.shows_outcome note.now) (keeping.finds_repeated talk.now note.now) (is_open note.now) position }
+        ensures d03 { CountsTrial self.old.d03 self.new.d03 (rests.shows_outcome note.now) (keeping.finds_mistake talk.now is_error) (is_open note.now) position }
     {
         let opens = note.is_open();
         let tried = shows_outcome(note);
@@ -467,6 +507,8 @@ impl DutiesPlaces {
             .count(tried, talk.finds_malformed(note), opens, position);
         self.d02
             .count(tried, talk.finds_repeated(note), opens, position);
+        self.d03
+            .count(tried, talk.finds_mistake(is_error), opens, position);
     }
 }
 
@@ -479,11 +521,11 @@ pub struct CountingDuties {
 
 impl CountingDuties {
     /// The watcher before the first event, for this tested end.
-    pub fn new(tested: Tested) -> Self
+    pub fn new(alloc: Global, tested: Tested) -> Self
         ensures { ⟦<CountingDuties as Watch>⟧.agrees result tested (Some Void) [] }
     {
         CountingDuties {
-            duties: Duties::new(tested),
+            duties: Duties::new(alloc, tested),
             places: DutiesPlaces::none(),
         }
     }
@@ -496,6 +538,7 @@ impl CountingDuties {
             Rule::C24 => Some(self.places.c24.places),
             Rule::D01 => Some(self.places.d01.places),
             Rule::D02 => Some(self.places.d02.places),
+            Rule::D03 => Some(self.places.d03.places),
             _ => None,
         }
     }
@@ -504,25 +547,27 @@ impl CountingDuties {
 impl Watch for CountingDuties {
     ghost agrees = { λ s tested taken past. IsDuties s.duties tested taken past × CountsDuties s.places tested past };
 
-    ghost takes = { λ tested taken e past. Unit {0} };
+    ghost takes = { λ tested taken e past. IsOnConnection e past };
 
     ghost adds = { λ tested e past k r. is_on_later tested r && turns tested e past k r };
 
-    ghost weighs = { λ s. 0 };
+    ghost weighs = { λ s. terms_weigh s.duties.terms };
 
-    ghost bound = { λ tested taken past. 0 };
+    ghost bound = { λ tested taken past. aliases_heard tested past };
 
     fn step(&mut self, at: Place3, note: &Note, faults: &mut Faults) -> Result<(), Memory> {
         if !self.duties.is_bound {
             return Ok(());
         }
-        self.places.count(&self.duties.talk, note, at.position);
+        let is_error = self.duties.finds_error(note);
+        self.places
+            .count(&self.duties.talk, note, is_error, at.position);
         self.duties.take(at, note, faults)?;
         Ok(())
     }
 
     fn weight(&self) -> usize {
-        0
+        self.duties.weight()
     }
 }
 

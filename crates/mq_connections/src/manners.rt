@@ -259,8 +259,8 @@ fn shares_with_no_local(note: &Note) -> bool
     }
 }
 
-// Whether the server keeps no retained messages.
-fn lacks_retain(connack: Option<ConnackNote>) -> bool
+/// Whether the server keeps no retained messages.
+pub(crate) fn lacks_retain(connack: Option<ConnackNote>) -> bool
     ensures { result ≡ pasts.lacks_retain connack }
 {
     match connack {
@@ -279,8 +279,8 @@ fn lacks_wildcards(connack: Option<ConnackNote>) -> bool
     }
 }
 
-// Whether the server takes no Subscription Identifiers.
-fn lacks_identifiers(connack: Option<ConnackNote>) -> bool
+/// Whether the server takes no Subscription Identifiers.
+pub(crate) fn lacks_identifiers(connack: Option<ConnackNote>) -> bool
     ensures { result ≡ pasts.lacks_identifiers connack }
 {
     match connack {
@@ -455,8 +455,8 @@ fn has_method(connect: Option<ConnectNote>) -> bool
     }
 }
 
-// Whether there is a CONNECT, and it has no Authentication Method.
-fn has_no_method(connect: Option<ConnectNote>) -> bool
+/// Whether there is a CONNECT, and it has no Authentication Method.
+pub(crate) fn has_no_method(connect: Option<ConnectNote>) -> bool
     ensures { result ≡ lacks_method connect }
 {
     match connect {

@@ -108,6 +108,7 @@ pub fn explanation(rule: Rule) -> &'static str
         Rule::C24 => further::C24,
         Rule::D01 => further::D01,
         Rule::D02 => further::D02,
+        Rule::D03 => further::D03,
         Rule::A01 => further::A01,
         Rule::A02 => further::A02,
     }

@@ -4,7 +4,11 @@ use Rattle.mq_rules.specs.declared.note.Seen.{Seen}
 use Rattle.mq_rules.specs.Words.{is_some_and, is_id}
 use Rattle.mq_rules.specs.Moments.{Moment, note, count}
 use Rattle.mq_rules.specs.Connections.{is_connected, connection}
+use Rattle.mq_rules.specs.declared.role.Tested.{Tested}
+use Rattle.mq_rules.specs.declared.rule.Rule.TheVariants.{D03}
 use Rattle.mq_rules.specs.Pasts.{came_before, set_alias}
+use Rattle.mq_rules.specs.ProtocolErrors.{alias_received}
+use Rattle.mq_rules.specs.Rules.{binds}
 
 -- A PUBLISH is sent that sets a Topic Alias, and none before it on its connection set that one (MQTT 5.0, section 3.3.2.3.4).
 abbrev pub sets_another : Moment → Bool
@@ -13,3 +17,14 @@ sets_another m = is_some_and (λ alias. not (came_before (λ n. is_id alias (set
 -- how many Topic Aliases the tested end has set on the connection that is open; none if none is open
 unfoldable pub aliases_sent : List Seen → ℕ
 aliases_sent log = cond (is_connected log) (count sets_another (connection log)) 0
+
+-- The same of a PUBLISH that is received, and of the Topic Aliases that the other end has set.
+abbrev pub sets_another_here : Moment → Bool
+sets_another_here m = is_some_and (λ alias. not (came_before (λ n. is_id alias (alias_received n)) m)) (alias_received (note m))
+
+unfoldable pub aliases_received : List Seen → ℕ
+aliases_received log = cond (is_connected log) (count sets_another_here (connection log)) 0
+
+-- those that are kept: only D03 looks at them
+abbrev pub aliases_heard : Tested → List Seen → ℕ
+aliases_heard tested log = cond (binds D03 tested) (aliases_received log) 0

@@ -1,4 +1,4 @@
--- Further statements on a connection, of which a later REST on it shows whether they are false (C24, D01, D02). They are judged on every connection, but only if the further
+-- Further statements on a connection, of which a later REST on it shows whether they are false (C24, D01 to D03). They are judged on every connection, but only if the further
 -- statements are asked for. A REST shows that the connection is still open, though the server had nothing more to send.
 use Rattle.std.specs.Prelude.{nat_lt, Bool, true, false, ◌&&◌, ◌||◌, not, is_some}
 use Rattle.mq_packet.specs.declared.packet.PacketType.TheVariants as types
@@ -14,6 +14,7 @@ use Rattle.mq_rules.specs.Notes.{client_disconnect, connect_of, is_broken, is_cl
 use Rattle.mq_rules.specs.Moments.{Moment, note, since, some}
 use Rattle.mq_rules.specs.Connections.{connection}
 use Rattle.mq_rules.specs.Pasts.{came_before, is_sent_disconnect, is_sent_refusal}
+use Rattle.mq_rules.specs.ProtocolErrors.{is_protocol_error}
 
 -- ---- words
 
@@ -128,3 +129,14 @@ applies_D02 t m = owes_D02 m && shows_outcome (note t)
 
 unfoldable pub shows_D02 : Moment → Moment → Bool
 shows_D02 t m = owes_D02 m && stays_open t
+
+-- the same: it is the first Protocol Error
+abbrev pub owes_D03 : Moment → Bool
+owes_D03 m = is_first_of is_protocol_error m && not (came_before ends_talk m)
+
+-- D03: whenever a packet is received that is a Protocol Error, the first on its connection, no REST comes after it there before the server says that it closes the connection.
+unfoldable pub applies_D03 : Moment → Moment → Bool
+applies_D03 t m = owes_D03 m && shows_outcome (note t)
+
+unfoldable pub shows_D03 : Moment → Moment → Bool
+shows_D03 t m = owes_D03 m && stays_open t

@@ -7,6 +7,7 @@ pub mod Moments
 pub mod Connections
 pub mod Pasts
 pub mod FurtherPasts
+pub mod ProtocolErrors
 pub mod FurtherRests
 pub mod Identifiers
 pub mod Passing

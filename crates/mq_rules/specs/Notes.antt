@@ -47,7 +47,7 @@ use Rattle.mq_rules.specs.declared.bare.BareFields.TheVariants as bares
 use Rattle.mq_rules.specs.declared.note_ref.NoteRef.{NoteRef}
 use Rattle.mq_rules.specs.declared.note_ref.NoteRef.TheVariants as refs
 use Rattle.mq_rules.specs.Words.{only, is_some_and, is_id}
-use Rattle.mq_rules.specs.Wishes.{nothing_wished, wishes_of}
+use Rattle.mq_rules.specs.Wishes.{wishes_of}
 
 -- ---- the end that a log's header names
 
@@ -118,6 +118,10 @@ abbrev pub expires_if_received : Direction → List Property → Bool
 expires_if_received directions.Sent properties = false
 expires_if_received directions.Recv properties = is_some (first_four_bytes 2 properties)
 
+-- A Topic Alias stands for the Topic Name of a PUBLISH: that is empty (MQTT 5.0, section 3.3.2.3.4).
+abbrev pub uses_alias : List ℕ → List Property → Bool
+uses_alias topic properties = is_some (first_two_bytes 35 properties) && (length topic == 0)
+
 -- of a PUBLISH (MQTT 5.0, section 3.3)
 abbrev pub publish_note : Direction → PublishFields → PublishNote
 publish_note direction p = record {
@@ -127,6 +131,7 @@ publish_note direction p = record {
   retain = p.retain;
   topic = only_list (is_sent_direction direction) p.topic;
   topic_alias = first_two_bytes 35 p.properties.items;
+  uses_alias = uses_alias p.topic p.properties.items;
   has_message_expiry = expires_if_received direction p.properties.items;
   has_subscription_identifier = is_some (first_varint 11 p.properties.items);
 }
@@ -146,15 +151,14 @@ acknowledgement_fields acknowledgements.Pubcomp identifier code = Pubcomp identi
 abbrev pub filter_note : AskedFilter → NotedFilter
 filter_note f = record { filter = f.filter; options = unwrap_or f.options 0 }
 
--- of what a SUBSCRIBE that was sent asks for (MQTT 5.0, sections 3.8.2.1.2 and 3.8.3)
-abbrev pub wishes_note : Direction → List Property → List AskedFilter → WishesNote
-wishes_note directions.Sent properties filters = wishes_of (is_some (first_varint 11 properties)) filters
-wishes_note directions.Recv properties filters = nothing_wished
+-- of what a SUBSCRIBE asks for (MQTT 5.0, sections 3.8.2.1.2 and 3.8.3)
+abbrev pub wishes_note : List Property → List AskedFilter → WishesNote
+wishes_note properties filters = wishes_of (is_some (first_varint 11 properties)) filters
 
 -- of SUBSCRIBE and UNSUBSCRIBE (MQTT 5.0, sections 3.8 and 3.10)
 abbrev pub request_fields : Direction → RequestKind → ℕ → List Property → List AskedFilter → PacketFields
 request_fields direction requests.Subscribe identifier properties filters =
-    Subscribe identifier (only_list (not (is_sent_direction direction)) (map filter_note filters)) (wishes_note direction properties filters)
+    Subscribe identifier (only_list (not (is_sent_direction direction)) (map filter_note filters)) (wishes_note properties filters)
 request_fields direction requests.Unsubscribe identifier properties filters = Unsubscribe identifier (length filters)
 
 -- of SUBACK and UNSUBACK (MQTT 5.0, sections 3.9 and 3.11)
@@ -230,6 +234,7 @@ bare_publish_note direction identifier qos duplicate topic = record {
   retain = false;
   topic = only_list (is_sent_direction direction) topic;
   topic_alias = None;
+  uses_alias = false;
   has_message_expiry = false;
   has_subscription_identifier = false;
 }

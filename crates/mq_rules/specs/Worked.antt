@@ -1,5 +1,5 @@
 -- Words for short logs, whose faults are computed from the definitions.
-use Rattle.std.specs.Prelude.{ℕ, ◌+◌, Bool, true, false, cond, List, [], ◌∷◌, length, Option, Some, None}
+use Rattle.std.specs.Prelude.{ℕ, ◌+◌, ◌==◌, Bool, true, false, cond, List, [], ◌∷◌, length, Option, Some, None}
 use Rattle.mq_packet.specs.declared.packet.Qos.{Qos}
 use Rattle.mq_packet.specs.declared.packet.Qos.TheVariants as quality
 use Rattle.mq_packet.specs.declared.rule.PacketRule.{PacketRule}
@@ -190,39 +190,39 @@ leaving_by code = Disconnect (record { code = code; session_expiry = None })
 
 -- a PUBLISH of QoS 0, 1 and 2 on the topic `a`; with DUP or not
 abbrev pub at_most_once : PacketFields
-at_most_once = Publish (record { identifier = None; qos = quality.AtMostOnce; duplicate = false; retain = false; topic = 97 ∷ []; topic_alias = None; has_message_expiry = false; has_subscription_identifier = false })
+at_most_once = Publish (record { identifier = None; qos = quality.AtMostOnce; duplicate = false; retain = false; topic = 97 ∷ []; topic_alias = None; uses_alias = false; has_message_expiry = false; has_subscription_identifier = false })
 
 -- the same with RETAIN 1
 abbrev pub retained_at_most_once : PacketFields
-retained_at_most_once = Publish (record { identifier = None; qos = quality.AtMostOnce; duplicate = false; retain = true; topic = 97 ∷ []; topic_alias = None; has_message_expiry = false; has_subscription_identifier = false })
+retained_at_most_once = Publish (record { identifier = None; qos = quality.AtMostOnce; duplicate = false; retain = true; topic = 97 ∷ []; topic_alias = None; uses_alias = false; has_message_expiry = false; has_subscription_identifier = false })
 
 abbrev pub once : Bool → ℕ → PacketFields
-once dup i = Publish (record { identifier = Some i; qos = quality.AtLeastOnce; duplicate = dup; retain = false; topic = 97 ∷ []; topic_alias = None; has_message_expiry = false; has_subscription_identifier = false })
+once dup i = Publish (record { identifier = Some i; qos = quality.AtLeastOnce; duplicate = dup; retain = false; topic = 97 ∷ []; topic_alias = None; uses_alias = false; has_message_expiry = false; has_subscription_identifier = false })
 
 abbrev pub exactly : Bool → ℕ → PacketFields
-exactly dup i = Publish (record { identifier = Some i; qos = quality.ExactlyOnce; duplicate = dup; retain = false; topic = 97 ∷ []; topic_alias = None; has_message_expiry = false; has_subscription_identifier = false })
+exactly dup i = Publish (record { identifier = Some i; qos = quality.ExactlyOnce; duplicate = dup; retain = false; topic = 97 ∷ []; topic_alias = None; uses_alias = false; has_message_expiry = false; has_subscription_identifier = false })
 
 -- one of QoS 1 and one of QoS 2, with RETAIN 1
 abbrev pub retained_once : ℕ → PacketFields
-retained_once i = Publish (record { identifier = Some i; qos = quality.AtLeastOnce; duplicate = false; retain = true; topic = 97 ∷ []; topic_alias = None; has_message_expiry = false; has_subscription_identifier = false })
+retained_once i = Publish (record { identifier = Some i; qos = quality.AtLeastOnce; duplicate = false; retain = true; topic = 97 ∷ []; topic_alias = None; uses_alias = false; has_message_expiry = false; has_subscription_identifier = false })
 
 abbrev pub retained_exactly : ℕ → PacketFields
-retained_exactly i = Publish (record { identifier = Some i; qos = quality.ExactlyOnce; duplicate = false; retain = true; topic = 97 ∷ []; topic_alias = None; has_message_expiry = false; has_subscription_identifier = false })
+retained_exactly i = Publish (record { identifier = Some i; qos = quality.ExactlyOnce; duplicate = false; retain = true; topic = 97 ∷ []; topic_alias = None; uses_alias = false; has_message_expiry = false; has_subscription_identifier = false })
 
 -- that of QoS 1 with RETAIN 1, sent again
 abbrev pub retained_again : ℕ → PacketFields
-retained_again i = Publish (record { identifier = Some i; qos = quality.AtLeastOnce; duplicate = true; retain = true; topic = 97 ∷ []; topic_alias = None; has_message_expiry = false; has_subscription_identifier = false })
+retained_again i = Publish (record { identifier = Some i; qos = quality.AtLeastOnce; duplicate = true; retain = true; topic = 97 ∷ []; topic_alias = None; uses_alias = false; has_message_expiry = false; has_subscription_identifier = false })
 
 -- one of QoS 2 that may expire
 abbrev pub expiring : ℕ → PacketFields
-expiring i = Publish (record { identifier = Some i; qos = quality.ExactlyOnce; duplicate = false; retain = false; topic = 97 ∷ []; topic_alias = None; has_message_expiry = true; has_subscription_identifier = false })
+expiring i = Publish (record { identifier = Some i; qos = quality.ExactlyOnce; duplicate = false; retain = false; topic = 97 ∷ []; topic_alias = None; uses_alias = false; has_message_expiry = true; has_subscription_identifier = false })
 
 -- one of QoS 0 with a Topic Alias, on this topic; one with a Subscription Identifier
 abbrev pub aliased : List ℕ → ℕ → PacketFields
-aliased topic alias = Publish (record { identifier = None; qos = quality.AtMostOnce; duplicate = false; retain = false; topic = topic; topic_alias = Some alias; has_message_expiry = false; has_subscription_identifier = false })
+aliased topic alias = Publish (record { identifier = None; qos = quality.AtMostOnce; duplicate = false; retain = false; topic = topic; topic_alias = Some alias; uses_alias = length topic == 0; has_message_expiry = false; has_subscription_identifier = false })
 
 abbrev pub subscribed : PacketFields
-subscribed = Publish (record { identifier = None; qos = quality.AtMostOnce; duplicate = false; retain = false; topic = 97 ∷ []; topic_alias = None; has_message_expiry = false; has_subscription_identifier = true })
+subscribed = Publish (record { identifier = None; qos = quality.AtMostOnce; duplicate = false; retain = false; topic = 97 ∷ []; topic_alias = None; uses_alias = false; has_message_expiry = false; has_subscription_identifier = true })
 
 -- a SUBSCRIBE to `a`, and one to `b`, of a greatest QoS
 abbrev pub asks_a : ℕ → ℕ → PacketFields

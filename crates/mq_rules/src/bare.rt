@@ -79,6 +79,7 @@ impl Note {
                 retain: false,
                 topic,
                 topic_alias: None,
+                uses_alias: false,
                 has_message_expiry: false,
                 has_subscription_identifier: false,
             }),

@@ -14,7 +14,7 @@ ghost use Rattle.mq_log.specs.Events.{packet, packet as packet_item};
 ghost use Rattle.mq_log.specs.Flows.{item_event};
 ghost use Rattle.mq_log.specs.Reception.{item_of, event_of};
 ghost use Rattle.mq_rules.specs.declared.packet_note.PacketFields.TheVariants as fields;
-ghost use Rattle.mq_rules.specs.Notes.{only_list, is_sent_direction, begins_acknowledged, cuts_acknowledged, will_note, connect_note, connack_note, publish_note, disconnect_note, wishes_note, packet_fields, explaining_list, expires_if_received, packet_note, item_note, note_of, request_fields, answer_fields, keeps_text, item_keeps_text, note_keeps_text};
+ghost use Rattle.mq_rules.specs.Notes.{only_list, is_sent_direction, begins_acknowledged, cuts_acknowledged, will_note, connect_note, connack_note, publish_note, disconnect_note, wishes_note, packet_fields, explaining_list, uses_alias, expires_if_received, packet_note, item_note, note_of, request_fields, answer_fields, keeps_text, item_keeps_text, note_keeps_text};
 
 use crate::faults::Memory;
 use crate::note::{ItemNote, Note};
@@ -80,6 +80,14 @@ fn topic_alias(list: Option<&Props<'_>>) -> Option<u16>
         Some(list) => list.get_topic_alias(),
         None => None,
     }
+}
+
+// Whether there is a list whose Topic Alias stands for a Topic Name: this one is empty.
+#[inline(always)]
+fn uses_alias(topic: &str, list: Option<&Props<'_>>) -> bool
+    ensures { result ≡ uses_alias topic.now (unwrap_or (option_map (λ list. list.now.items) list.entry) []) }
+{
+    topic_alias(list).is_some() && topic.is_empty()
 }
 
 // Whether there is a list, and it has a Message Expiry Interval (MQTT 5.0, section 3.3.2.3.3).
@@ -245,23 +253,19 @@ impl PublishNote {
             retain: publish.retain,
             topic,
             topic_alias: topic_alias(properties),
+            uses_alias: uses_alias(publish.topic, properties),
             has_message_expiry: expires_if_received(direction, properties),
             has_subscription_identifier: has_subscription_identifier(properties),
         }
     }
 }
 
-// What a SUBSCRIBE asks for, if it was sent.
-fn wishes_in(direction: Direction, request: &Request<'_>) -> WishesNote
-    ensures { result ≡ wishes_note direction request.now.properties.items request.now.filters }
+// What a SUBSCRIBE asks for.
+fn wishes_in(request: &Request<'_>) -> WishesNote
+    ensures { result ≡ wishes_note request.now.properties.items request.now.filters }
 {
-    match direction {
-        Direction::Sent => {
-            let identified = request.properties.has_subscription_identifier();
-            WishesNote::of(identified, &request.filters)
-        }
-        Direction::Recv => WishesNote::nothing(),
-    }
+    let identified = request.properties.has_subscription_identifier();
+    WishesNote::of(identified, &request.filters)
 }
 
 // What the statements look at in this SUBSCRIBE, which went this way.
@@ -280,7 +284,7 @@ fn subscribe_fields(
     Ok(PacketFields::Subscribe {
         identifier: request.identifier,
         filters,
-        wishes: wishes_in(direction, request),
+        wishes: wishes_in(request),
     })
 }
 

@@ -137,6 +137,7 @@ impl Rule {
             Rule::C24 => "A CONNECT is answered by a CONNACK, if the connection stays open.",
             Rule::D01 => "After a Malformed Packet the server closes the connection.",
             Rule::D02 => "After a second CONNECT the server closes the connection.",
+            Rule::D03 => "After a Protocol Error the server closes the connection.",
             Rule::A01 =>
                 "A client that uses an Authentication Method sends only AUTH and DISCONNECT before a CONNACK was received.",
             Rule::A02 =>

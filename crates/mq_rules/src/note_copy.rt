@@ -20,6 +20,7 @@ fn copy_publish(alloc: Global, publish: &PublishNote) -> Result<PublishNote, Mem
         retain: publish.retain,
         topic,
         topic_alias: publish.topic_alias,
+        uses_alias: publish.uses_alias,
         has_message_expiry: publish.has_message_expiry,
         has_subscription_identifier: publish.has_subscription_identifier,
     })

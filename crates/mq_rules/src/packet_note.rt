@@ -100,6 +100,8 @@ pub struct PublishNote {
     pub topic: Text,
     /// The Topic Alias, 1 to 65,535.
     pub topic_alias: Option<u16>,
+    /// Whether the Topic Alias stands for a Topic Name: that of the PUBLISH is empty.
+    pub uses_alias: bool,
     /// Whether it has a Message Expiry Interval.
     pub has_message_expiry: bool,
     /// Whether it has a Subscription Identifier.
@@ -174,8 +176,7 @@ pub enum PacketFields {
         /// The Topic Filters of a SUBSCRIBE that the tested end received. It is empty for one that
         /// the tested end sent, since no statement looks at them.
         filters: FilterList,
-        /// What a SUBSCRIBE that the tested end sent asks for. It is nothing for one that the
-        /// tested end received, since no statement looks at it.
+        /// What it asks for.
         wishes: WishesNote,
     },
     /// SUBACK.

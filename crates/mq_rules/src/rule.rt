@@ -202,6 +202,8 @@ pub enum Rule {
     D01,
     /// After a second CONNECT the server closes the connection (MQTT 5.0, section 3.1).
     D02,
+    /// After a Protocol Error the server closes the connection (MQTT 5.0, section 4.13.1).
+    D03,
     /// A client that uses an Authentication Method sends only AUTH and DISCONNECT before a CONNACK
     /// was received (MQTT 5.0, section 3.1.2.11.9).
     A01,

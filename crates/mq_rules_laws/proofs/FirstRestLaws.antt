@@ -13,7 +13,7 @@ use Rattle.mq_rules.specs.Connections.{begun, number, connection, is_beside, lat
 use Rattle.mq_rules.specs.Exchanges.{Exchange, answers, first_unanswered, shows_R}
 use Rattle.mq_rules.specs.Statements.{at_rest, is_so}
 use Rattle.mq_rules.specs.FirstRests.{binds_after, first_rest, IsFirstRest}
-use Rattle.mq_rules.specs.FurtherRests.{owes_D01, owes_D02, says_goodbye, shows_D01, shows_D02, stays_open}
+use Rattle.mq_rules.specs.FurtherRests.{owes_D01, owes_D02, owes_D03, says_goodbye, shows_D01, shows_D02, shows_D03, stays_open}
 use Rattle.mq_rules.specs.Pasts.{came_before}
 use Rattle.mq_rules.proofs.Exports.{among-moment, among-some, among-within, and_true, begun-least, begun-same, both_true, earliest_since-is, earliest_since-there, moment-among, moments-descend, same_test, since-stands, some-among, stands-since, there, those-among, those-descend}
 use Rattle.mq_rules_laws.proofs.PositionLaws.{among-those, is-earliest_since}
@@ -117,6 +117,13 @@ unfolding shows_D02
 repeated-earlier log k t u k_in t_in u_in after before beside later rests h =
     let a = both_true (owes_D02 k) (stays_open t) h in
     and_true (owes_D02 k) (stays_open u) a.0 (open-earlier log k t u k_in t_in u_in after before beside later rests a.1)
+
+pub mistaken-earlier : (log : List Seen) (k t u : Moment) → Among k (moments log) → Among t (moments log) → Among u (moments log) → is_after u k ≡ true → is_after t u ≡ true
+    → is_beside u k ≡ true → is_beside t k ≡ true → is_rest (note u) ≡ true → shows_D03 t k ≡ true → shows_D03 u k ≡ true
+unfolding shows_D03
+mistaken-earlier log k t u k_in t_in u_in after before beside later rests h =
+    let a = both_true (owes_D03 k) (stays_open t) h in
+    and_true (owes_D03 k) (stays_open u) a.0 (open-earlier log k t u k_in t_in u_in after before beside later rests a.1)
 
 -- ---- what t shows, u before it shows too
 

@@ -13,7 +13,7 @@ ghost use Rattle.mq_rules.specs.Exchanges.{Exchange, shows_R};
 ghost use Rattle.mq_rules.specs.Statements.{at_rest, is_so};
 ghost use Rattle.mq_rules.specs.Counter.{in_flight, in_flight_before, quota, keeps_quota};
 ghost use Rattle.mq_rules.specs.FirstRests.{binds_after, first_rest, IsFirstRest};
-ghost use Rattle.mq_rules.specs.FurtherRests.{shows_D01, shows_D02};
+ghost use Rattle.mq_rules.specs.FurtherRests.{shows_D01, shows_D02, shows_D03};
 ghost use Rattle.mq_rules.specs.Notes.{is_rest};
 
 /// The send quota by a counter (MQTT 5.0, section 4.9). Over the stretches that end with the newest
@@ -46,14 +46,17 @@ pub fn first_rest_decides()
         → is_so role fates (at_rest (shows_R x)) log n ≡ is_some_and (λ k. is_some_and (λ t. shows_R x t k) (first_rest role k log)) (moment log n) }
 {}
 
-/// D01, by the first REST after the Malformed Packet, and D02, by the first one after the second
-/// CONNECT, on its connection (MQTT 5.0, sections 4.13.1 and 3.1). If a later REST there shows that
-/// the server hasn't closed the connection, each earlier one after the error shows that too: so the
-/// first one decides it. It isn't so with C24: at the first REST after a CONNECT the server may wait
-/// for an AUTH, and at a later one no longer.
+/// D01, by the first REST after the Malformed Packet, D02, by the first one after the second
+/// CONNECT, and D03, by the first one after the Protocol Error, on its connection (MQTT 5.0,
+/// sections 4.13.1 and 3.1). If a later REST there shows that the server hasn't closed the
+/// connection, each earlier one after the error shows that too: so the first one decides it. It
+/// isn't so with C24: at the first REST after a CONNECT the server may wait for an AUTH, and at a
+/// later one no longer.
 pub fn first_open_rest_decides()
     ensures malformed { (log : List Seen) (k t u : Moment) → Among k (moments log) → Among t (moments log) → Among u (moments log) → is_after u k ≡ true → is_after t u ≡ true
         → is_beside u k ≡ true → is_beside t k ≡ true → is_rest (note u) ≡ true → shows_D01 t k ≡ true → shows_D01 u k ≡ true }
     ensures repeated { (log : List Seen) (k t u : Moment) → Among k (moments log) → Among t (moments log) → Among u (moments log) → is_after u k ≡ true → is_after t u ≡ true
         → is_beside u k ≡ true → is_beside t k ≡ true → is_rest (note u) ≡ true → shows_D02 t k ≡ true → shows_D02 u k ≡ true }
+    ensures mistaken { (log : List Seen) (k t u : Moment) → Among k (moments log) → Among t (moments log) → Among u (moments log) → is_after u k ≡ true → is_after t u ≡ true
+        → is_beside u k ≡ true → is_beside t k ≡ true → is_rest (note u) ≡ true → shows_D03 t k ≡ true → shows_D03 u k ≡ true }
 {}

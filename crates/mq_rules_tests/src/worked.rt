@@ -4,7 +4,7 @@
 ghost use Rattle.std.specs.Prelude.{◌≡◌, ◌∷◌, [], true, false, Some, None};
 ghost use Rattle.mq_packet.specs.declared.packet.Qos.TheVariants as quality;
 ghost use Rattle.mq_packet.specs.declared.rule.PacketRule.TheVariants as packets;
-ghost use Rattle.mq_rules.specs.declared.rule.Rule.TheVariants.{W01, W02, W03, W04, W05, W06, W07, W08, W09, W10, W11, W12, W13, W14, W15, W16, W17, W18, W19, W20, W21, C01, C02, C03, C04, C05, C06, C07, C08, C09, C10, C11, C12, C13, C14, C15, C16, C17, C18, C19, C20, C21, C22, C23, S01, S02, S03, S04, S05, S06, S07, E1A, E1R, E1O, E2A, E2R, E2O, E3A, E3R, E3O, E4A, E4R, E5A, E5R, E6A, E6R, E7R, L1, L2, L3, B01, B02, B03, B04, B05, F01, F02, F03, F04, F05, F06, V03, V04, V06, C24, D01, D02, A01, A02};
+ghost use Rattle.mq_rules.specs.declared.rule.Rule.TheVariants.{W01, W02, W03, W04, W05, W06, W07, W08, W09, W10, W11, W12, W13, W14, W15, W16, W17, W18, W19, W20, W21, C01, C02, C03, C04, C05, C06, C07, C08, C09, C10, C11, C12, C13, C14, C15, C16, C17, C18, C19, C20, C21, C22, C23, S01, S02, S03, S04, S05, S06, S07, E1A, E1R, E1O, E2A, E2R, E2O, E3A, E3R, E3O, E4A, E4R, E5A, E5R, E6A, E6R, E7R, L1, L2, L3, B01, B02, B03, B04, B05, F01, F02, F03, F04, F05, F06, V03, V04, V06, C24, D01, D02, D03, A01, A02};
 ghost use Rattle.mq_rules.specs.declared.note.Note.TheVariants.{Open, Rest, Release};
 ghost use Rattle.mq_rules.specs.declared.packet_note.PacketFields.TheVariants.{Puback, Pubrec, Pubrel, Pubcomp, Suback, Unsubscribe, Unsuback, Pingreq, Pingresp, Auth};
 ghost use Rattle.mq_rules.specs.Worked.{client, client_unrecorded, server, failing, Close, Cut, sends, gets, sends_sized, sends_explained, sends_bad, gets_bad, sends_lost, gets_lost, lasting, again, fleeting, unnamed, asking, connack_with, accepting, resuming, refusing, limiting, retaining, assigning, informing, leaving, at_most_once, once, exactly, retained_once, retained_exactly, expiring, aliased, subscribed, asks_a, asks_b, asks_both, asking_again, client_asked, server_asked, with_will, with_method, announcing, naming_method, lacking, leaving_by, retained_at_most_once, retained_again, asks_plainly, asks_widely, asks_identified, asks_to_share, asks_misnamed, asks_no_local};
@@ -490,6 +490,56 @@ pub fn after_a_second_connect()
     ensures goodbye_before_keeps { failing server_asked D02 (Open ∷ gets lasting ∷ sends (leaving_by 130) ∷ gets lasting ∷ Rest ∷ []) ≡ [] }
     ensures unasked_keeps { failing server D02 (Open ∷ gets lasting ∷ gets lasting ∷ Rest ∷ []) ≡ [] }
     ensures client_keeps { failing client_asked D02 (Open ∷ sends lasting ∷ sends lasting ∷ gets lasting ∷ gets lasting ∷ Rest ∷ []) ≡ [] }
+{}
+
+/// What a server does after a Protocol Error (D03).
+pub fn after_a_protocol_error()
+    ensures of_servers_breaks { failing server_asked D03 (Open ∷ gets lasting ∷ sends accepting ∷ gets Pingresp ∷ Rest ∷ []) ≡ 4 ∷ [] }
+    ensures connack_breaks { failing server_asked D03 (Open ∷ gets lasting ∷ sends accepting ∷ gets accepting ∷ Rest ∷ []) ≡ 4 ∷ [] }
+    ensures suback_breaks { failing server_asked D03 (Open ∷ gets lasting ∷ sends accepting ∷ gets (Suback 1 (0 ∷ [])) ∷ Rest ∷ []) ≡ 4 ∷ [] }
+    ensures unsuback_breaks { failing server_asked D03 (Open ∷ gets lasting ∷ sends accepting ∷ gets (Unsuback 1 1) ∷ Rest ∷ []) ≡ 4 ∷ [] }
+    ensures of_clients_keeps { failing server_asked D03 (Open ∷ gets lasting ∷ sends accepting ∷ gets Pingreq ∷ sends Pingresp ∷ Rest ∷ []) ≡ [] }
+    ensures too_early_breaks { failing server_asked D03 (Open ∷ gets Pingreq ∷ gets lasting ∷ sends accepting ∷ Rest ∷ []) ≡ 2 ∷ [] }
+    ensures after_bytes_keeps { failing server_asked D03 (Open ∷ gets_bad 16 packets.W13 ∷ gets Pingreq ∷ Rest ∷ []) ≡ [] }
+    ensures second_connect_keeps { failing server_asked D03 (Open ∷ gets lasting ∷ sends accepting ∷ gets lasting ∷ Rest ∷ []) ≡ [] }
+    ensures auth_breaks { failing server_asked D03 (Open ∷ gets lasting ∷ sends accepting ∷ gets Auth ∷ Rest ∷ []) ≡ 4 ∷ [] }
+    ensures auth_keeps { failing server_asked D03 (Open ∷ gets with_method ∷ sends accepting ∷ gets Auth ∷ Rest ∷ []) ≡ [] }
+    ensures prolonging_breaks { failing server_asked D03 (Open ∷ gets fleeting ∷ sends accepting ∷ gets (leaving (Some 60)) ∷ Rest ∷ []) ≡ 4 ∷ [] }
+    ensures ending_keeps { failing server_asked D03 (Open ∷ gets fleeting ∷ sends accepting ∷ gets (leaving (Some 0)) ∷ Rest ∷ []) ≡ [] }
+    ensures lasting_keeps { failing server_asked D03 (Open ∷ gets lasting ∷ sends accepting ∷ gets (leaving (Some 60)) ∷ Rest ∷ []) ≡ [] }
+    ensures large_breaks { failing server_asked D03 (Open ∷ gets lasting ∷ sends (limiting false None None None (Some 9)) ∷ gets Pingreq ∷ Rest ∷ []) ≡ 4 ∷ [] }
+    ensures as_large_keeps { failing server_asked D03 (Open ∷ gets lasting ∷ sends (limiting false None None None (Some 10)) ∷ gets Pingreq ∷ Rest ∷ []) ≡ [] }
+    ensures high_alias_breaks { failing server_asked D03 (Open ∷ gets lasting ∷ sends (limiting false None (Some 5) None None) ∷ gets (aliased (97 ∷ []) 6) ∷ Rest ∷ []) ≡ 4 ∷ [] }
+    ensures highest_alias_keeps { failing server_asked D03 (Open ∷ gets lasting ∷ sends (limiting false None (Some 5) None None) ∷ gets (aliased (97 ∷ []) 5) ∷ gets (aliased [] 5) ∷ Rest ∷ []) ≡ [] }
+    ensures any_alias_breaks { failing server_asked D03 (Open ∷ gets lasting ∷ sends accepting ∷ gets (aliased (97 ∷ []) 1) ∷ Rest ∷ []) ≡ 4 ∷ [] }
+    ensures unset_alias_breaks { failing server_asked D03 (Open ∷ gets lasting ∷ sends (limiting false None (Some 5) None None) ∷ gets (aliased (97 ∷ []) 2) ∷ gets (aliased [] 1) ∷ Rest ∷ []) ≡ 5 ∷ [] }
+    ensures early_alias_keeps { failing server_asked D03 (Open ∷ gets lasting ∷ gets (aliased (97 ∷ []) 1) ∷ sends (limiting false None (Some 5) None None) ∷ gets (aliased [] 1) ∷ Rest ∷ []) ≡ [] }
+    ensures alias_after_bytes_keeps { failing server_asked D03 (Open ∷ gets lasting ∷ sends (limiting false None (Some 5) None None) ∷ gets_bad 48 packets.W03 ∷ gets (aliased [] 1) ∷ Rest ∷ []) ≡ [] }
+    ensures alias_of_another_breaks { failing server_asked D03 (Open ∷ gets lasting ∷ sends (limiting false None (Some 5) None None) ∷ gets (aliased (97 ∷ []) 1) ∷ Close ∷ Open ∷ gets lasting ∷ sends (limiting false None (Some 5) None None) ∷ gets (aliased [] 1) ∷ Rest ∷ []) ≡ 9 ∷ [] }
+    ensures identified_breaks { failing server_asked D03 (Open ∷ gets lasting ∷ sends accepting ∷ gets subscribed ∷ Rest ∷ []) ≡ 4 ∷ [] }
+    ensures high_qos_breaks { failing server_asked D03 (Open ∷ gets lasting ∷ sends (limiting false None None (Some 1) None) ∷ gets (exactly false 1) ∷ Rest ∷ []) ≡ 4 ∷ [] }
+    ensures as_high_qos_keeps { failing server_asked D03 (Open ∷ gets lasting ∷ sends (limiting false None None (Some 1) None) ∷ gets (once false 1) ∷ sends (Puback 1 0) ∷ Rest ∷ []) ≡ [] }
+    ensures retained_breaks { failing server_asked D03 (Open ∷ gets lasting ∷ sends (lacking (Some 0) None None None) ∷ gets retained_at_most_once ∷ Rest ∷ []) ≡ 4 ∷ [] }
+    ensures retained_keeps { failing server_asked D03 (Open ∷ gets lasting ∷ sends (lacking (Some 1) None None None) ∷ gets retained_at_most_once ∷ Rest ∷ []) ≡ [] }
+    ensures not_retained_keeps { failing server_asked D03 (Open ∷ gets lasting ∷ sends (lacking (Some 0) None None None) ∷ gets at_most_once ∷ Rest ∷ []) ≡ [] }
+    ensures before_connack_keeps { failing server_asked D03 (Open ∷ gets lasting ∷ gets retained_at_most_once ∷ sends (lacking (Some 0) None None None) ∷ Rest ∷ []) ≡ [] }
+    ensures no_local_breaks { failing server_asked D03 (Open ∷ gets lasting ∷ sends accepting ∷ gets asks_no_local ∷ Rest ∷ []) ≡ 4 ∷ [] }
+    ensures share_keeps { failing server_asked D03 (Open ∷ gets lasting ∷ sends (lacking None None None (Some 0)) ∷ gets asks_to_share ∷ Rest ∷ []) ≡ [] }
+    ensures wildcard_keeps { failing server_asked D03 (Open ∷ gets lasting ∷ sends (lacking None (Some 0) None None) ∷ gets asks_widely ∷ Rest ∷ []) ≡ [] }
+    ensures identifier_breaks { failing server_asked D03 (Open ∷ gets lasting ∷ sends (lacking None None (Some 0) None) ∷ gets asks_identified ∷ Rest ∷ []) ≡ 4 ∷ [] }
+    ensures identifier_keeps { failing server_asked D03 (Open ∷ gets lasting ∷ sends accepting ∷ gets asks_identified ∷ Rest ∷ []) ≡ [] }
+    ensures close_keeps { failing server_asked D03 (Open ∷ gets lasting ∷ sends accepting ∷ gets Pingresp ∷ Close ∷ []) ≡ [] }
+    ensures goodbye_keeps { failing server_asked D03 (Open ∷ gets lasting ∷ sends accepting ∷ gets Pingresp ∷ sends (leaving_by 130) ∷ Rest ∷ []) ≡ [] }
+    ensures late_goodbye_breaks { failing server_asked D03 (Open ∷ gets lasting ∷ sends accepting ∷ gets Pingresp ∷ Rest ∷ sends (leaving_by 130) ∷ Rest ∷ []) ≡ 4 ∷ [] }
+    ensures refusal_keeps { failing server_asked D03 (Open ∷ gets Pingreq ∷ gets lasting ∷ sends refusing ∷ Rest ∷ []) ≡ [] }
+    ensures second_keeps { failing server_asked D03 (Open ∷ gets lasting ∷ sends accepting ∷ gets Pingresp ∷ gets subscribed ∷ Rest ∷ []) ≡ 4 ∷ [] }
+    ensures no_rest_keeps { failing server_asked D03 (Open ∷ gets lasting ∷ sends accepting ∷ Rest ∷ gets Pingresp ∷ sends Pingresp ∷ []) ≡ [] }
+    ensures next_keeps { failing server_asked D03 (Open ∷ gets lasting ∷ sends accepting ∷ gets Pingresp ∷ Close ∷ Open ∷ gets lasting ∷ sends accepting ∷ Rest ∷ []) ≡ [] }
+    ensures anew_breaks { failing server_asked D03 (Open ∷ gets Pingresp ∷ Close ∷ Open ∷ gets lasting ∷ gets Pingresp ∷ Rest ∷ []) ≡ 6 ∷ [] }
+    ensures left_keeps { failing server_asked D03 (Open ∷ gets lasting ∷ sends accepting ∷ gets (leaving None) ∷ gets Pingresp ∷ Rest ∷ []) ≡ [] }
+    ensures bytes_keep { failing server_asked D03 (Open ∷ gets lasting ∷ sends accepting ∷ gets_bad 208 packets.W01 ∷ Rest ∷ []) ≡ [] }
+    ensures unasked_keeps { failing server D03 (Open ∷ gets lasting ∷ gets Pingresp ∷ Rest ∷ []) ≡ [] }
+    ensures client_keeps { failing client_asked D03 (Open ∷ sends lasting ∷ gets accepting ∷ sends Pingresp ∷ gets Pingreq ∷ Rest ∷ []) ≡ [] }
 {}
 
 /// What a server accepts in a CONNECT (F05 and F06), and enhanced authentication (A02).

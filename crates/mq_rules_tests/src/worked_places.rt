@@ -4,10 +4,10 @@
 ghost use Rattle.std.specs.Prelude.{◌≡◌, ◌∷◌, [], true, false, Some, None};
 ghost use Rattle.mq_packet.specs.declared.rule.PacketRule.TheVariants as packets;
 ghost use Rattle.mq_packet.specs.declared.packet.Qos.TheVariants as quality;
-ghost use Rattle.mq_rules.specs.declared.rule.Rule.TheVariants.{C01, C02, C03, C04, C05, C06, C07, C08, C09, C10, C11, C12, C13, C14, C15, C16, C17, C18, C19, C20, C21, C22, C23, S01, S02, S03, S04, S05, S06, S07, E1A, E1R, E1O, E2A, E2R, E2O, E3A, E3R, E3O, E4A, E4R, E5A, E5R, E6A, E6R, E7R, L1, L2, L3, B01, B02, B03, B04, B05, F01, F02, F03, F04, F05, F06, V03, V04, V06, C24, D01, D02, A01, A02};
+ghost use Rattle.mq_rules.specs.declared.rule.Rule.TheVariants.{C01, C02, C03, C04, C05, C06, C07, C08, C09, C10, C11, C12, C13, C14, C15, C16, C17, C18, C19, C20, C21, C22, C23, S01, S02, S03, S04, S05, S06, S07, E1A, E1R, E1O, E2A, E2R, E2O, E3A, E3R, E3O, E4A, E4R, E5A, E5R, E6A, E6R, E7R, L1, L2, L3, B01, B02, B03, B04, B05, F01, F02, F03, F04, F05, F06, V03, V04, V06, C24, D01, D02, D03, A01, A02};
 ghost use Rattle.mq_rules.specs.declared.note.Note.TheVariants.{Open, Rest, Release};
 ghost use Rattle.mq_rules.specs.declared.packet_note.PacketFields.TheVariants.{Puback, Pubrec, Pubrel, Pubcomp, Suback, Unsubscribe, Unsuback, Pingreq, Pingresp, Auth};
-ghost use Rattle.mq_rules.specs.Worked.{client, client_unrecorded, server, applying, Close, Cut, sends, gets, sends_sized, sends_bad, gets_bad, sends_lost, gets_lost, lasting, again, unnamed, asking, accepting, resuming, refusing, limiting, retaining, assigning, informing, leaving, at_most_once, once, exactly, retained_once, expiring, aliased, asks_a, asks_both, asks_shared, client_asked, server_asked, with_will, with_method, announcing, naming_method, lacking, leaving_by, retained_at_most_once, retained_again, asks_plainly, asks_widely, asks_identified, asks_to_share};
+ghost use Rattle.mq_rules.specs.Worked.{client, client_unrecorded, server, applying, Close, Cut, sends, gets, sends_sized, sends_bad, gets_bad, sends_lost, gets_lost, lasting, again, unnamed, asking, accepting, resuming, refusing, limiting, retaining, assigning, informing, leaving, at_most_once, once, exactly, retained_once, expiring, aliased, asks_a, asks_both, asks_shared, client_asked, server_asked, with_will, with_method, announcing, naming_method, lacking, leaving_by, retained_at_most_once, retained_again, asks_plainly, asks_widely, asks_identified, asks_to_share, subscribed, fleeting};
 
 /// What begins a connection (C01 to C06).
 pub fn places_of_beginnings()
@@ -232,6 +232,21 @@ pub fn places_after_a_second_connect()
     ensures anew { applying server_asked D02 (Open ∷ gets lasting ∷ gets lasting ∷ Close ∷ Open ∷ gets lasting ∷ gets lasting ∷ Close ∷ []) ≡ 7 ∷ 3 ∷ [] }
     ensures left { applying server_asked D02 (Open ∷ gets lasting ∷ gets (leaving None) ∷ gets lasting ∷ Close ∷ []) ≡ [] }
     ensures unasked { applying server D02 (Open ∷ gets lasting ∷ gets lasting ∷ Rest ∷ []) ≡ [] }
+{}
+
+/// What a server does after a Protocol Error (D03).
+pub fn places_after_a_protocol_error()
+    ensures rested { applying server_asked D03 (Open ∷ gets lasting ∷ sends accepting ∷ gets Pingresp ∷ Rest ∷ Rest ∷ []) ≡ 4 ∷ [] }
+    ensures closed { applying server_asked D03 (Open ∷ gets lasting ∷ sends accepting ∷ gets Pingresp ∷ Close ∷ []) ≡ 4 ∷ [] }
+    ensures goodbye { applying server_asked D03 (Open ∷ gets lasting ∷ sends accepting ∷ gets Pingresp ∷ sends (leaving_by 130) ∷ []) ≡ 4 ∷ [] }
+    ensures refused { applying server_asked D03 (Open ∷ gets Pingreq ∷ gets lasting ∷ sends refusing ∷ []) ≡ 2 ∷ [] }
+    ensures first_alone { applying server_asked D03 (Open ∷ gets lasting ∷ sends accepting ∷ gets Pingresp ∷ gets subscribed ∷ Close ∷ []) ≡ 4 ∷ [] }
+    ensures fitting { applying server_asked D03 (Open ∷ gets lasting ∷ sends accepting ∷ gets Pingreq ∷ sends Pingresp ∷ Close ∷ []) ≡ [] }
+    ensures unseen { applying server_asked D03 (Open ∷ gets lasting ∷ sends accepting ∷ Rest ∷ gets Pingresp ∷ sends Pingresp ∷ []) ≡ [] }
+    ensures anew { applying server_asked D03 (Open ∷ gets Pingreq ∷ Close ∷ Open ∷ gets lasting ∷ gets Pingresp ∷ Close ∷ []) ≡ 6 ∷ 2 ∷ [] }
+    ensures left { applying server_asked D03 (Open ∷ gets lasting ∷ gets (leaving None) ∷ gets Pingresp ∷ Close ∷ []) ≡ [] }
+    ensures prolonging { applying server_asked D03 (Open ∷ gets fleeting ∷ sends accepting ∷ gets (leaving (Some 60)) ∷ Close ∷ []) ≡ 4 ∷ [] }
+    ensures unasked { applying server D03 (Open ∷ gets lasting ∷ gets Pingresp ∷ Rest ∷ []) ≡ [] }
 {}
 
 /// What a server accepts in a CONNECT (F05 and F06), and enhanced authentication (A02).

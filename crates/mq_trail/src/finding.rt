@@ -134,6 +134,7 @@ fn is_silent(rule: Rule) -> bool
             | Rule::C24
             | Rule::D01
             | Rule::D02
+            | Rule::D03
     )
 }
 

@@ -1,5 +1,5 @@
-//! The texts of `explain` for the further statements (B05, F01 to F06, V03, V04, V06, C24, D01, D02,
-//! A01 and A02), which are judged on request.
+//! The texts of `explain` for the further statements (B05, F01 to F06, V03, V04, V06, C24, D01 to
+//! D03, A01 and A02), which are judged on request.
 
 /// The text of `explain B05`.
 pub const B05: &str = "B05 server sec-3.9.3\n\
@@ -200,6 +200,35 @@ pub const D02: &str = "D02 server MQTT-3.1.0-2\n\
     In a server: The second CONNECT is ignored, or answered by another CONNACK. Send\n\
     a DISCONNECT with 0x82 (Protocol Error), and close the connection.\n\n\
     See: MQTT 5.0, sections 3.1 and 4.13.1.\n";
+
+/// The text of `explain D03`.
+pub const D03: &str = "D03 server MQTT-4.13.1-1\n\
+    After a Protocol Error the server closes the connection.\n\n\
+    Why: A packet that can be read but isn't allowed says that the client and the\n\
+    server differ about what was agreed. A server that goes on lets them drift\n\
+    apart.\n\n\
+    Judged: At the first packet received on a connection that is one of these:\n\
+    CONNACK, SUBACK, UNSUBACK or PINGRESP; anything but a CONNECT before the\n\
+    CONNECT; AUTH where the CONNECT had no Authentication Method; a DISCONNECT with\n\
+    a Session Expiry Interval other than 0 where the CONNECT's was 0 or absent. And,\n\
+    after a CONNACK that accepts: a packet above the server's Maximum Packet Size; a\n\
+    PUBLISH with a Topic Alias above its Topic Alias Maximum or never set, with a\n\
+    Subscription Identifier, above its Maximum QoS, or with RETAIN 1 where Retain\n\
+    Available is 0; a SUBSCRIBE with No Local for a shared subscription, or with an\n\
+    identifier where Subscription Identifier Available is 0. It fails if a REST\n\
+    comes later on the connection, and the server sent neither a DISCONNECT nor a\n\
+    CONNACK of 0x80 or more before that REST (see C23 for those). Decided at the\n\
+    REST. If either end had left before the packet, it isn't judged. An alias may\n\
+    have been set by a PUBLISH whose bytes break a rule, and a CONNECT that breaks\n\
+    one counts. It is a further statement: it is judged with --all.\n\n\
+    To see it tested: Send a server a PINGRESP, and wait until it is at rest, or has\n\
+    closed the connection.\n\n\
+    In a server: The packet is dropped, or taken all the same. Send a DISCONNECT\n\
+    with the code of the error, or 0x82 (Protocol Error), and close the connection.\n\
+    A wildcard or a shared filter that the server doesn't take isn't an error here:\n\
+    a SUBACK may refuse it.\n\n\
+    See: MQTT 5.0, sections 3.1, 3.2.2.3, 3.3.2.3.4, 3.3.4, 3.8.3.1, 3.14.2.2.2,\n\
+    4.12 and 4.13.1.\n";
 
 /// The text of `explain A01`.
 pub const A01: &str = "A01 client MQTT-3.1.2-30\n\

@@ -46,7 +46,7 @@ impl CountingWatchers {
                     Both::new(
                         CountingManners::new(tested),
                         Both::new(
-                            CountingDuties::new(tested),
+                            CountingDuties::new(alloc, tested),
                             Early::new(alloc, tested, Counting::new(Sessions::new(alloc, tested))),
                         ),
                     ),

@@ -42,7 +42,7 @@ impl PlainWatchers {
                     Both::new(
                         Manners::new(tested),
                         Both::new(
-                            Duties::new(tested),
+                            Duties::new(alloc, tested),
                             Early::new(alloc, tested, Sessions::new(alloc, tested)),
                         ),
                     ),

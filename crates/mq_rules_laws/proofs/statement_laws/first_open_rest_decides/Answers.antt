@@ -1,4 +1,4 @@
-use Rattle.mq_rules_laws.proofs.FirstRestLaws.{malformed-earlier, repeated-earlier}
+use Rattle.mq_rules_laws.proofs.FirstRestLaws.{malformed-earlier, mistaken-earlier, repeated-earlier}
 use Rattle.mq_rules_laws.proofs.statement_laws.first_open_rest_decides.Goals as goal
 
 pub returns-clause-malformed : goal.returns-clause-malformed
@@ -6,3 +6,6 @@ returns-clause-malformed c = malformed-earlier
 
 pub returns-clause-repeated : goal.returns-clause-repeated
 returns-clause-repeated c = repeated-earlier
+
+pub returns-clause-mistaken : goal.returns-clause-mistaken
+returns-clause-mistaken c = mistaken-earlier

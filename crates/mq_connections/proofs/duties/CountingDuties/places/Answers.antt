@@ -1,5 +1,5 @@
 use Rattle.std.proofs.Common.{refl, sym, ap, ◌∙◌}
-use Rattle.mq_rules.specs.declared.rule.Rule.TheVariants.{C24, D01, D02}
+use Rattle.mq_rules.specs.declared.rule.Rule.TheVariants.{C24, D01, D02, D03}
 use Rattle.mq_connections.proofs.DutiesLaws.{counted-of, counted-elsewhere}
 use Rattle.mq_connections.proofs.duties.CountingDuties.places.Goals as goal
 
@@ -11,3 +11,6 @@ returns-in-D01 c = λ tested taken past was. counted-of tested c.args.rule D01 c
 
 pub returns-in-D02 : goal.returns-in-D02
 returns-in-D02 c = λ tested taken past was. counted-of tested c.args.rule D02 c.args.self.now.places.d02.places past c.in-D02.is refl was.1.d02.same_places
+
+pub returns-in-D03 : goal.returns-in-D03
+returns-in-D03 c = λ tested taken past was. counted-of tested c.args.rule D03 c.args.self.now.places.d03.places past c.in-D03.is refl was.1.d03.same_places

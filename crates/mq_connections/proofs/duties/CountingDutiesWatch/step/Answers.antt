@@ -1,6 +1,9 @@
-use Rattle.std.proofs.Common.{◌∷◌, sym, ap, ◌∙◌}
+use Rattle.std.proofs.Common.{◌∷◌, sym, subst, ◌∙◌}
+use Rattle.mq_rules.specs.Notes.{is_open}
 use Rattle.mq_rules.specs.Connections.{latest_fate}
 use Rattle.mq_rules.specs.Under.{seen}
+use Rattle.mq_rules.specs.FurtherRests.{shows_outcome}
+use Rattle.mq_connections.specs.Duties.{finds_mistake, CountsTrial}
 use Rattle.mq_rules.proofs.Exports.{on_err}
 use Rattle.mq_connections.proofs.DutiesLaws.{counts-next, counts-unbound, duties-gain, duties-next, duties-within, unbound-gains, unbound-stays}
 use Rattle.mq_connections.proofs.duties.CountingDutiesWatch.step.Goals as goal
@@ -22,13 +25,12 @@ returns-in_err-take-clause-memory c =
     duties-within c.args.self.now.duties tested taken (seen c.args.at c.args.note.now) past c.args.faults.now c.take.new.faults c.if-not-self.false follows here.0 c.in_err-take.ensures.memory)
 
 pub returns-clause-agrees : goal.returns-clause-agrees
-returns-clause-agrees c = λ tested taken past follows takes here.
-    let kept = c.in_ok-take.ensures.kept in (
-      duties-next c.args.self.now.duties c.take.new.self tested taken (latest_fate tested.role (seen c.args.at c.args.note.now ∷ past)) (seen c.args.at c.args.note.now) past here.0
-          (ap (λ d. d.is_bound) kept) (λ bound. ap (λ d. d.talk) kept),
-      counts-next c.args.self.now.duties c.args.self.now.places c.count.new.self tested taken (seen c.args.at c.args.note.now) past c.if-not-self.false follows here.0 here.1
-          (record { c24 = c.count.ensures.c24; d01 = c.count.ensures.d01; d02 = c.count.ensures.d02 }),
-    )
+returns-clause-agrees c = λ tested taken past follows takes here. (
+  duties-next c.args.self.now.duties c.take.new.self tested taken (latest_fate tested.role (seen c.args.at c.args.note.now ∷ past)) (seen c.args.at c.args.note.now) past c.if-not-self.false takes here.0
+      c.in_ok-take.ensures.bound c.in_ok-take.ensures.talk c.in_ok-take.ensures.terms,
+  counts-next c.args.self.now.duties c.args.self.now.places c.count.new.self tested taken (seen c.args.at c.args.note.now) past c.if-not-self.false follows takes here.0 here.1
+      (record { c24 = c.count.ensures.c24; d01 = c.count.ensures.d01; d02 = c.count.ensures.d02; d03 = subst (λ b. CountsTrial c.args.self.now.places.d03 c.count.new.self.d03 (shows_outcome c.args.note.now) (finds_mistake c.args.self.now.duties.talk b) (is_open c.args.note.now) c.args.at.position) c.finds_error-is_error.ensures c.count.ensures.d03 }),
+)
 
 pub returns-clause-grows : goal.returns-clause-grows
 returns-clause-grows c = λ tested taken past follows takes here.

@@ -20,9 +20,8 @@ returns-in_err-take-clause-memory c =
 
 pub returns-clause-agrees : goal.returns-clause-agrees
 returns-clause-agrees c = λ tested taken past follows takes here.
-    let kept = c.in_ok-take.ensures.kept in
-    duties-next c.args.self.now c.take.new.self tested taken (latest_fate tested.role (seen c.args.at c.args.note.now ∷ past)) (seen c.args.at c.args.note.now) past here
-    (ap (λ d. d.is_bound) kept) (λ bound. ap (λ d. d.talk) kept)
+    duties-next c.args.self.now c.take.new.self tested taken (latest_fate tested.role (seen c.args.at c.args.note.now ∷ past)) (seen c.args.at c.args.note.now) past c.if-not-self.false takes here
+    c.in_ok-take.ensures.bound c.in_ok-take.ensures.talk c.in_ok-take.ensures.terms
 
 pub returns-clause-grows : goal.returns-clause-grows
 returns-clause-grows c = λ tested taken past follows takes here.
