@@ -54,7 +54,7 @@ for line in SHAPES.strip().split("\n"):
     CITATIONS[code] = {role: text for role, text in (("client", client), ("server", server)) if text != "-"}
     SENTENCES[code] = sentence
 # That the program judges too, if `--all` asks for them.
-JUDGED = ("B05", "F01", "F02", "F03", "F04", "F05", "F06", "V03", "V04", "V06", "C24", "D01", "D02", "A01", "A02")
+JUDGED = ("B05", "F01", "F02", "F03", "F04", "F05", "F06", "V03", "V04", "V06", "C24", "D01", "D02", "D03", "A01", "A02")
 TIMED = {"K01", "K02"}  # that look at moments
 OF_SESSIONS = {code for code in CITATIONS if code[0] in "BPR"}  # that are judged only where the session is known
 

@@ -104,6 +104,7 @@ class Line:
     is_early: bool = True  # before the CONNACK
     is_accepted: bool = True
     may_explain: bool = True  # in Reason Strings and User Properties
+    takes: int = 2  # the Maximum QoS that a tested server announced
     will: tuple[int, bool] | None = None  # the QoS and Will Retain of the client's Will, if it has one
     method: bytes = b""  # the property of the CONNECT that names one
     used: int = 0  # of the send quota
@@ -340,7 +341,9 @@ class Honest:
     def _announced(self) -> bytes:
         """What the tested server says that it hasn't got. It has accepted the Will."""
         qos, retain = self.line.will or (0, False)
-        found = bytes([0x24, self.draw.randrange(qos, 2)]) if qos < 2 and self.chance(0.3) else b""
+        if qos < 2 and self.chance(0.3):
+            self.line.takes = self.draw.randrange(qos, 2)
+        found = bytes([0x24, self.line.takes]) if self.line.takes < 2 else b""
         return found + (b"\x25\0" if not retain and self.chance(0.3) else b"")
 
     def _close(self, may_change: bool) -> None:
@@ -477,9 +480,9 @@ class Honest:
         line.topics[alias] = topic
         return "" if is_known else topic, b"\x23" + number(alias)
 
-    def _publish_packet(self, message: Message, topic: str, alias: bytes = b"", dup: bool = False) -> bytes:
+    def _publish_packet(self, message: Message, topic: str, alias: bytes = b"", dup: bool = False, is_own: bool = True) -> bytes:
         properties = alias + (b"\1\1" if self.chance(0.1) else b"") + (b"\2\0\0\0\x3c" if self.chance(0.1) else b"")
-        if self.role == SERVER and self.chance(0.1):
+        if self.role == SERVER and is_own and self.chance(0.1):  # a client that sends one is in error
             properties += b"\x0b\1"
         length = 1 if self.line.limits.size else 300 if "size" in self.bounds and self.chance(0.6) else self.draw.choice(PAYLOADS)
         identifier = number(message.identifier) if message.qos else b""
@@ -518,7 +521,9 @@ class Honest:
         kind, identifier = self.line.to_come.pop(self.draw.randrange(len(self.line.to_come)))
         match kind:
             case Type.PUBLISH:
-                self._peer_message(next(one for one in self.state.of_peer if one.identifier == identifier), dup=True)
+                message = next(one for one in self.state.of_peer if one.identifier == identifier)
+                if message.qos <= self.line.takes:
+                    self._peer_message(message, dup=True)
             case Type.PUBREL:
                 self._acknowledge(self._peer, kind, identifier)
                 self._expect(self.role, Type.PUBCOMP, identifier)
@@ -547,14 +552,14 @@ class Honest:
         taken = {one.identifier for one in self.state.of_peer} | (self.line.asked if self.role == SERVER else set())
         taken |= self.state.released_before
         identifier = self.draw.choice([one for one in IDENTIFIERS if one not in taken] or [0])
-        qos = self.draw.choice((0, 1, 1, 2, 2)) if identifier else 0
+        qos = min(self.draw.choice((0, 1, 1, 2, 2)), self.line.takes) if identifier else 0
         message = Message(identifier, qos, self.draw.choice(TOPICS))
         if qos > 0:
             self.state.of_peer.append(message)
         self._peer_message(message)
 
     def _peer_message(self, message: Message, dup: bool = False) -> None:
-        self._peer(self._publish_packet(message, message.topic, dup=dup))
+        self._peer(self._publish_packet(message, message.topic, dup=dup, is_own=False))
         self.line.is_filled |= message.qos > 0
         if message.qos > 0:
             self._expect(self.role, ANSWERS[message.qos], message.identifier)

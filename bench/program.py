@@ -158,7 +158,7 @@ CODES = (
     + "E1A E1R E1O E2A E2R E2O E3A E3R E3O E4A E4R E5A E5R E6A E6R E7R L1 L2 L3 B01 B02 B03 B04".split()
 )
 # Those that are judged only on request, and named all the same.
-FURTHER = ["B05", "F01", "F02", "F03", "F04", "F05", "F06", "V03", "V04", "V06", "C24", "D01", "D02", "A01", "A02"]
+FURTHER = ["B05", "F01", "F02", "F03", "F04", "F05", "F06", "V03", "V04", "V06", "C24", "D01", "D02", "D03", "A01", "A02"]
 FURTHER_ROWS = """\
 B05 server sec-3.9.3 A SUBACK grants no more than was asked for.
 F01 client MQTT-3.2.2-14 A new PUBLISH has RETAIN 0 where Retain Available is 0.
@@ -173,6 +173,7 @@ V06 both sec-3.14.2.1,sec-3.4.2.1;sec-3.14.2.1 A Reason Code is one that this en
 C24 server MQTT-3.1.4-5 A CONNECT is answered by a CONNACK, if the connection stays open.
 D01 server MQTT-4.13.1-1 After a Malformed Packet the server closes the connection.
 D02 server MQTT-3.1.0-2 After a second CONNECT the server closes the connection.
+D03 server MQTT-4.13.1-1 After a Protocol Error the server closes the connection.
 A01 client MQTT-3.1.2-30 A client that uses an Authentication Method sends only AUTH and DISCONNECT before a CONNACK was received.
 A02 both MQTT-4.12.0-7;MQTT-4.12.0-6 Without an Authentication Method in CONNECT there is no enhanced authentication.
 """
@@ -719,7 +720,8 @@ def listed(program: Path) -> Iterator[tuple[str, tuple, tuple]]:
         code, ends, citation, sentence = row.split(" ", 3)
         for word in (code, code.lower(), *citation.split(";")):
             status, text, errors = run(program, ["explain", word], b"")
-            # A long sentence goes over two lines.
+            # A citation explains each statement that has it, and a long sentence goes over two lines.
+            text = text[max(f"\n{text}".find(f"\n{code} "), 0) :]
             first, *lines = text[: text.find("\n\n")].split("\n")
             yield f"explain {word}", (status, f"{first}\n{' '.join(lines)}", errors), (0, f"{code} {ends} {citation}\n{sentence}", "")
 

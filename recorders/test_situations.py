@@ -185,6 +185,33 @@ class Readings(unittest.TestCase):
             self.assertNotIn("D01", read(log, {4 + len(before): "W01"}, is_of_all=True).tested)
         self.assertNotIn("D01", read(again, {4: "W01", 5: "W01"}).tested)
 
+    def test_after_a_protocol_error(self) -> None:
+        """The first packet that isn't allowed, by the CONNECT and the CONNACK before it."""
+        pong, ping = (RECV, PONG), (RECV, PING)
+        left = packet(Type.DISCONNECT, b"\0\5\x11\0\0\0\x3c")
+        accepted = lambda *announced: [(OPEN, b""), (RECV, connect("a", True)), (SENT, connack(False, 0, announced))]
+        plain, few = accepted(), accepted((Prop.TOPIC_ALIAS_MAXIMUM, 5))
+        sets, uses, high = (bytes.fromhex(text) for text in ("300700016103230001", "3006000003230001", "300700016103230006"))
+        shared = subscribe(1, [("$share/g/a", 4)])
+        at_most_1, small = accepted((Prop.MAXIMUM_QOS, 1)), accepted((Prop.MAXIMUM_PACKET_SIZE, 10))
+        kept = publish("t", b"", 0, 0, retain=True)
+        logs: list[tuple[list, list[int]]] = [
+            ([*plain, pong, pong], [4]), ([*plain, ping], []), ([plain[0], ping, *plain[1:]], [2]),
+            ([*plain, (RECV, packet(Type.AUTH))], [4]), ([*plain, (RECV, left)], [4]), ([*opened(), (RECV, left)], []),
+            ([*plain, (RECV, sets)], [4]), ([*few, (RECV, sets), (RECV, uses)], []), ([*few, (RECV, uses)], [4]),
+            ([*few, (RECV, high)], [4]), ([*accepted((Prop.RETAIN_AVAILABLE, 0)), (RECV, kept)], [4]), ([*plain, (RECV, kept)], []),
+            ([*at_most_1, (RECV, publish("t", b"", 2, 1))], [4]), ([*at_most_1, (RECV, publish("t", b"", 1, 1))], []),
+            ([*small, (RECV, publish("t", b"123456", 0, 0))], [4]), ([*small, (RECV, publish("t", b"1234", 0, 0))], []),
+            ([*plain, (RECV, shared)], [4]), ([*plain, (RECV, subscribe(1, [("a", 4)]))], []),
+        ]
+        for events, wanted in logs:
+            for shown in ((REST, b""), (CLOSE, b""), (SENT, packet(Type.DISCONNECT))):
+                found = [place.position for place in read(log_of(*events, shown), {}, is_of_all=True).places if place.code == "D03"]
+                self.assertEqual(found, wanted, events)
+        broken = read(log_of(*few, (RECV, b"\x30\5\0\1\xff\0x"), (RECV, uses), (REST, b"")), {4: "W04"}, is_of_all=True)
+        self.assertNotIn("D03", broken.tested)
+        self.assertNotIn("D03", read(log_of(*plain, pong, (REST, b""))).tested)
+
     def test_after_a_connect(self) -> None:
         """It is answered, or left at a REST at which the server doesn't wait for an AUTH."""
         plain, asks = connect("a", True), connect("a", True, [(Prop.AUTHENTICATION_METHOD, b"m")])

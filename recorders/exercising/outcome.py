@@ -35,6 +35,7 @@ WHY_NOT = {  # what a broker didn't do, where a statement isn't tested
     "C24": "it answered no CONNECT, and was at rest after none",
     "D01": "it had no Malformed Packet on a connection",
     "D02": "it had no second CONNECT on a connection",
+    "D03": "it had no Protocol Error on a connection",
     "F01": "it published nothing where Retain Available is 0",
     "F05": "it announced no Maximum QoS to who has a Will, and refused none for it",
     "F06": "it announced no Retain Available 0 to who has a Will, and refused none for it",

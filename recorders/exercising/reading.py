@@ -6,6 +6,7 @@ from collections.abc import Iterable, Mapping
 from dataclasses import dataclass, field
 
 from exercising.evidence import CLOSE, OPEN, RECV, REST, SENT, Event, Place, of_bytes, tags_of
+from exercising.errors import is_error, sets_alias
 from exercising.packets import RESERVED, Packet, Prop, Type
 
 CAUSES = {Type.PUBREL: "E4", Type.SUBSCRIBE: "E5", Type.UNSUBSCRIBE: "E6"}  # the other three depend on more
@@ -78,6 +79,9 @@ class Connection:
     has_heard_connack: bool = False  # it received one, whatever its bytes are, or bytes that can't be read
     connects: int = 0  # that it received, whatever their bytes are
     has_malformed: bool = False  # it received what can't be read
+    has_error: bool = False  # it received a Protocol Error
+    client_aliases: set[int] = field(default_factory=set)  # that a client set
+    has_broken_publish: bool = False  # it received a PUBLISH whose bytes break a rule, which may have set any
     has_ended: bool = False  # either end said that it closes the connection
     owes_close: list[Place] = field(default_factory=list)  # errors, of which nothing shows yet what a server did about them
     owes_connack: Place | None = None  # the first CONNECT, of which nothing shows yet whether a server answers it
@@ -183,8 +187,8 @@ class Reading:
             here.awaits_auth = event.kind == SENT
 
     def _after_error(self, event: Event) -> None:
-        """D01 and D02: after what can't be read, and after a second CONNECT, a server says that it closes the connection,
-        closes it, or is at rest."""
+        """D01 to D03: after what can't be read, after a second CONNECT, and after another Protocol Error, a server says that
+        it closes the connection, closes it, or is at rest."""
         here, packet = self.here, event.packet
         is_goodbye = event.kind == SENT and packet is not None and not event.is_bad and (
             packet.kind == Type.DISCONNECT or (packet.kind == Type.CONNACK and (packet.code or 0) >= RESERVED))
@@ -195,11 +199,25 @@ class Reading:
         if event.kind == RECV and (event.is_lost or (event.is_bad and self.bad[self.at] in MALFORMED)):
             self._owe_close("D01", is_first=not here.has_malformed)
             here.has_malformed = True
+        if event.kind == RECV and packet is not None:
+            self._after_packet(packet, event.is_bad)
         if event.kind == RECV and packet is not None and packet.kind == Type.CONNECT:
             here.connects += 1
             self._owe_close("D02", is_first=here.connects == 2)
         here.has_ended = here.has_ended or is_goodbye or (
             event.kind == RECV and packet is not None and not event.is_bad and packet.kind == Type.DISCONNECT)
+
+    def _after_packet(self, packet: Packet, is_bad: bool) -> None:
+        """D03, and the Topic Aliases that a client sets."""
+        here = self.here
+        if is_bad:
+            here.has_broken_publish = here.has_broken_publish or packet.kind == Type.PUBLISH
+            return
+        if is_error(packet, here):
+            self._owe_close("D03", is_first=not here.has_error)
+            here.has_error = True
+        if (alias := sets_alias(packet)) is not None:
+            here.client_aliases.add(alias)
 
     def _owe_close(self, code: str, is_first: bool) -> None:
         """The first error of its kind, if neither end had said that it closes the connection."""

@@ -61,6 +61,7 @@ WORDS = (  # of statements: what the event is, with its numbers; and what is sai
     ("C24", "the REST, with no CONNACK before it", ""),
     ("D01", "the REST, and the connection was still open", ""),
     ("D02", "the REST, and the connection was still open", ""),
+    ("D03", "the REST, and the connection was still open", ""),
     ("A01", "the CONNECT, with an Authentication Method, and no CONNACK before", ""),
     ("A02", "the CONNECT, without an Authentication Method", ""),
 )
