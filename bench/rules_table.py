@@ -1,7 +1,8 @@
 #!/usr/bin/env python3
 """Checks that the tables of statements in docs/STATEMENTS.md are those that the program has, that the number of statements in
 README.md and docs/STATEMENTS.md is the number of those that are always judged, that docs/STANDARD.md names the statements where it
-should, and that the second opinion has the same further statements, in the same words.
+should, that the second opinion has the same further statements, in the same words, and that no line of what `explain` prints has more
+than 80 bytes.
 
 The rows are those of `TABLE` in crates/mq_rules/src/table.rt, and what each statement says is its doc comment in
 crates/mq_rules/src/rule.rt, which is also its sentence in `Rule::sentence` of crates/mq_rules/src/naming.rt. In the
@@ -35,6 +36,9 @@ HEAD = ["| Code | A statement of the tested end | Citation for a client | For a 
 ROW = re.compile(r'\(\s*(\w+),\s*"(\w+)",\s*(\w+),\s*"([^"]*)",\s*"([^"]*)",\s*(Always|WithReleases|OnRequest),?\s*\)')
 SENTENCE = re.compile(r'Rule::(\w+) =>\s*"([^"]*)",')
 VALUE = re.compile(r"((?:^ +///.*\n)+)^ +(\w+),$", re.MULTILINE)
+EXPLANATIONS = TOP / "crates" / "mq_explain" / "src" / "explanations"
+EXPLANATION = re.compile(r'pub const (\w+): &str = "(.*?)";', re.DOTALL)
+WIDEST = 80  # bytes of a line that `explain` prints
 SECTION = re.compile(r" \(MQTT 5\.0, sections? [^()]*\)\.$")
 
 
@@ -110,6 +114,17 @@ def miscounted(page: Path, count: int) -> list[str]:
     return [f"{name} says that there are {number} statements: there are {count}" for number in said if int(number) != count]
 
 
+def too_wide() -> list[str]:
+    """What is too wide of what `explain` prints, where a line of the source that ends in a backslash goes on in the next one."""
+    return [
+        f"what explains {code} has a line of more than {WIDEST} bytes: {line}"
+        for source in sorted(EXPLANATIONS.iterdir())
+        for code, text in EXPLANATION.findall(source.read_text())
+        for line in re.sub(r"\\\n *", "", text).replace('\\"', '"').split("\\n")
+        if len(line.encode()) > WIDEST
+    ]
+
+
 def in_document(name: str, wanted: str, write: bool) -> list[str]:
     """In what the document's table of this name isn't the wanted one, unless that is written."""
     document, begin, end = DOCUMENT.read_text(), f"<!-- {name} -->\n", f"<!-- /{name} -->\n"
@@ -132,6 +147,7 @@ def main() -> None:
     wrong += [line for name, table in found.items() for line in in_document(name, table, write)]
     wrong += unlike_further(found[FURTHER])
     wrong += on_the_standard(write)
+    wrong += too_wide()
     for line in wrong:
         print(line)
     sys.exit(1 if wrong else 0)
