@@ -667,6 +667,17 @@ def long_log() -> bytes:
     return FAULTY + 110 * record
 
 
+def all_sent(terminal: int) -> bytes:
+    """All that was sent to a terminal whose other end is closed. It may come in pieces."""
+    found = b""
+    try:
+        while piece := os.read(terminal, 4096):
+            found += piece
+    except OSError:  # all is read
+        pass
+    return found
+
+
 def on_terminal(program: Path) -> tuple[tuple, tuple]:
     """What is found and what is wanted of a long log while standard error is a terminal."""
     ours, terminal = os.openpty()
@@ -675,7 +686,7 @@ def on_terminal(program: Path) -> tuple[tuple, tuple]:
     finally:
         os.close(terminal)
     output, _ = finish(process)
-    said = os.read(ours, 4096).decode()
+    said = all_sent(ours).decode()
     os.close(ours)
     lines = "".join(f"\rmqjudge: {count} MB judged, 1 faults so far" for count in (50, 100))
     return (process.returncode, output.decode(), said), (1, LONG_FAIL, f"{lines}\r\n")
