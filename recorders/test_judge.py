@@ -27,6 +27,18 @@ CONNECT = bytes.fromhex("100e00044d5154540502003c0000 0161")  # of a client a
 HELLO = bytes.fromhex("160301 00c8 01 0000c4 0303") + bytes(199)  # as TLS begins
 
 
+def all_of(terminal: int) -> str:
+    """All that was written to a terminal whose other end is closed. It may come in pieces."""
+    shown = b""
+    try:
+        while piece := os.read(terminal, 4096):
+            shown += piece
+    except OSError:  # all is read
+        pass
+    os.close(terminal)
+    return shown.decode()
+
+
 class Statuses(Case):
     def test_the_worst_of_the_logs(self) -> None:
         wanted = {"a": (PASS, 0), "b": (FAIL, 1), "c": (REFUSED, 2), "d": (BROKEN, 4)}
@@ -277,9 +289,7 @@ class Printed(Case):
         with open(there, "w") as terminal:
             subprocess.run(self.command(), stdout=terminal, stderr=subprocess.DEVNULL, timeout=PATIENCE,
                            env=environment | {"TERM": "xterm"} | variables)
-        shown = os.read(here, 100_000).decode()
-        os.close(here)
-        return shown.replace("\r\n", "\n")
+        return all_of(here).replace("\r\n", "\n")
 
     def test_colours_on_a_terminal(self) -> None:
         self.put(a=FAIL)
@@ -336,8 +346,7 @@ class Printed(Case):
         here, there = pty.openpty()
         with open(there, "w") as terminal:
             answer = subprocess.run(self.command(), stdout=subprocess.PIPE, stderr=terminal, timeout=PATIENCE)
-        shown = os.read(here, 10_000).decode()
-        os.close(here)
+        shown = all_of(here)
         self.assertEqual(answer.returncode, 1)
         wanted = ("", "1 of 3 logs", "", "2 of 3 logs", "")
         self.assertEqual(shown.split("\r")[1:], [f"{line}\x1b[K" for line in wanted])
