@@ -151,8 +151,8 @@ impl Discerning for Subs {
     }
 }
 
-/// Whether an event, by its note, may have to do with what a client subscribed to, where deliveries are judged or
-/// not.
+/// Whether an event, by its note, may have to do with what a client subscribed to, where
+/// deliveries are judged or not.
 #[inline(always)]
 pub fn note_may_concern_subscriptions(bound: bool, note: &Note) -> bool
     ensures { result ≡ selecting.may_concern_subscriptions bound note.now }

@@ -51,14 +51,14 @@ pub fn is_flagged(flags: &[bool; 128], rule: Rule) -> bool
     flags[rule as usize]
 }
 
-/// Whether the flag of a statement is set.
+/// Whether the flag of any statement is set.
 pub fn has_any(flags: &[bool; 128]) -> bool
     ensures { result ≡ list_any (flagged flags.now) all_rules }
 {
     Rule::all().iter().any(|rule| is_flagged(flags, *rule))
 }
 
-/// Whether the flag of a further statement is set.
+/// Whether the flag of any further statement is set.
 pub fn has_any_further(flags: &[bool; 128]) -> bool
     ensures { result ≡ list_any (λ rule. is_further rule && flagged flags.now rule) all_rules }
 {

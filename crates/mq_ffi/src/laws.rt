@@ -8,9 +8,9 @@ ghost use Rattle.mq_choice.specs.declared.choice.Choice.{Choice};
 ghost use Rattle.mq_ffi.specs.Asking.{left_by};
 ghost use Rattle.mq_ffi.specs.Giving.{shown_by};
 
-/// An event shows the same faults that a choice leaves, whatever bytes follow; and no fault is shown by an event that
-/// isn't in the log yet. So the faults that come after those of the last event are new, and nothing
-/// is missed by whoever asks for them in this order.
+/// An event shows the same faults that a choice leaves, whatever bytes follow; and no fault is
+/// shown by an event that isn't in the log yet. So the faults that come after those of the last
+/// event are new, and nothing is missed by whoever asks for them in this order.
 pub fn what_an_event_shows_stays()
     ensures stays { (choice : Choice) (further : Bool) (log more : List ℕ) (known later : FaultMap) → AreFaultsOf further log known → AreFaultsOf further (log ++ more) later → (event : ℕ) → event ≤ length (events log) → shown_by event (left_by choice (map.entries later)) ≡ shown_by event (left_by choice (map.entries known)) }
     ensures none_yet { (choice : Choice) (further : Bool) (log : List ℕ) (known : FaultMap) → AreFaultsOf further log known → (event : ℕ) → length (events log) < event → shown_by event (left_by choice (map.entries known)) ≡ [] }

@@ -98,6 +98,13 @@ impl WishesNote {
     fn with_filter(self, filter: Filter<'_>) -> WishesNote
         ensures { result ≡ wishes_with self (filter_view filter.entry) }
     {
+        // most filters ask for no shared subscription
+        if !is_share(filter.filter) {
+            return WishesNote {
+                has_wildcard: self.has_wildcard || !check_name(filter.filter),
+                ..self
+            };
+        }
         WishesNote {
             has_wildcard: self.has_wildcard || asks_by_wildcard(filter.filter),
             has_subscription_identifier: self.has_subscription_identifier,
