@@ -109,6 +109,7 @@ pub fn explanation(rule: Rule) -> &'static str
         Rule::D01 => further::D01,
         Rule::D02 => further::D02,
         Rule::D03 => further::D03,
+        Rule::D05 => further::D05,
         Rule::A01 => further::A01,
         Rule::A02 => further::A02,
     }

@@ -31,6 +31,6 @@ pub use Rattle.mq_rules.proofs.WaitingLaws.{places-at-rest, places-awake, places
 pub use Rattle.mq_rules.proofs.HistoryLaws.{begins-is, gives-is, history-left, history-next, session-gives, session-opens}
 pub use Rattle.mq_rules.proofs.LateLaws.{in_order-late, late-turns, release-turns, rest-late}
 pub use Rattle.mq_rules.proofs.TrialLaws.{bytes-most}
-pub use Rattle.mq_rules.proofs.IdentifierCountLaws.{ids-same, ids-some, some-id, under-within}
+pub use Rattle.mq_rules.proofs.IdentifierCountLaws.{ids-but, ids-none, ids-same, ids-some, some-id, under-within}
 pub use Rattle.mq_rules.proofs.KeptOrderLaws.{found_from-first, found_from-none, values-counted}
 pub use Rattle.mq_rules.proofs.IdleLaws.{no-connack, no-disconnect, not-connack, not-connect, unchanged}

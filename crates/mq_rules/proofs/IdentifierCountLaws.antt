@@ -72,6 +72,10 @@ pub ids-most : (p : ℕ → Bool) → ids_where p ≤ 65536
 unfolding ids_where
 ids-most p = count-most p 65536
 
+pub ids-none : (p : ℕ → Bool) → ((i : ℕ) → p i ≡ false) → ids_where p ≡ 0
+unfolding ids_where
+ids-none p none = count-none p 65536 none
+
 -- one of them apart from the others
 pub ids-but : (p : ℕ → Bool) (j : ℕ) → j < 65536 → ids_where p ≡ cond (p j) 1 0 + ids_where (λ i. not (nat_eq j i) && p i)
 unfolding ids_where

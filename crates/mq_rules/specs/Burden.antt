@@ -1,13 +1,14 @@
 -- How much a log gives its watchers to keep.
-use Rattle.std.specs.Prelude.{ℕ, Bool, not, cond, List}
+use Rattle.std.specs.Prelude.{ℕ, ◌+◌, Bool, not, cond, List}
 use Rattle.mq_rules.specs.declared.note.Seen.{Seen}
 use Rattle.mq_rules.specs.Words.{is_some_and, is_id}
 use Rattle.mq_rules.specs.Moments.{Moment, note, count}
-use Rattle.mq_rules.specs.Connections.{is_connected, connection}
+use Rattle.mq_rules.specs.Connections.{is_connected, connection, on_open}
 use Rattle.mq_rules.specs.declared.role.Tested.{Tested}
-use Rattle.mq_rules.specs.declared.rule.Rule.TheVariants.{D03}
+use Rattle.mq_rules.specs.declared.rule.Rule.TheVariants.{D03, D05}
 use Rattle.mq_rules.specs.Pasts.{came_before, set_alias}
 use Rattle.mq_rules.specs.ProtocolErrors.{alias_received}
+use Rattle.mq_rules.specs.ReceiveMaximum.{unfinished}
 use Rattle.mq_rules.specs.Rules.{binds}
 
 -- A PUBLISH is sent that sets a Topic Alias, and none before it on its connection set that one (MQTT 5.0, section 3.3.2.3.4).
@@ -28,3 +29,11 @@ aliases_received log = cond (is_connected log) (count sets_another_here (connect
 -- those that are kept: only D03 looks at them
 abbrev pub aliases_heard : Tested → List Seen → ℕ
 aliases_heard tested log = cond (binds D03 tested) (aliases_received log) 0
+
+-- How many Packet Identifiers have a PUBLISH of QoS 2 that was received on the connection that is open, and isn't finished (MQTT 5.0, section 3.3.4). They are kept if D05 is judged.
+abbrev pub identifiers_heard : Tested → List Seen → ℕ
+identifiers_heard tested log = cond (binds D05 tested) (unfinished (on_open log)) 0
+
+-- what the client gives the further statements to keep
+abbrev pub further_burden : Tested → List Seen → ℕ
+further_burden tested log = aliases_heard tested log + identifiers_heard tested log

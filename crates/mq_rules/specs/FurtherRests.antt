@@ -1,4 +1,4 @@
--- Further statements on a connection, of which a later REST on it shows whether they are false (C24, D01 to D03). They are judged on every connection, but only if the further
+-- Further statements on a connection, of which a later REST on it shows whether they are false (C24, D01 to D03, D05). They are judged on every connection, but only if the further
 -- statements are asked for. A REST shows that the connection is still open, though the server had nothing more to send.
 use Rattle.std.specs.Prelude.{nat_lt, Bool, true, false, ◌&&◌, ◌||◌, not, is_some}
 use Rattle.mq_packet.specs.declared.packet.PacketType.TheVariants as types
@@ -15,6 +15,7 @@ use Rattle.mq_rules.specs.Moments.{Moment, note, since, some}
 use Rattle.mq_rules.specs.Connections.{connection}
 use Rattle.mq_rules.specs.Pasts.{came_before, is_sent_disconnect, is_sent_refusal}
 use Rattle.mq_rules.specs.ProtocolErrors.{is_protocol_error}
+use Rattle.mq_rules.specs.ReceiveMaximum.{exceeds_maximum, refuses_message}
 
 -- ---- words
 
@@ -140,3 +141,19 @@ applies_D03 t m = owes_D03 m && shows_outcome (note t)
 
 unfoldable pub shows_D03 : Moment → Moment → Bool
 shows_D03 t m = owes_D03 m && stays_open t
+
+-- the same: it is the first PUBLISH that exceeds the Receive Maximum
+abbrev pub owes_D05 : Moment → Bool
+owes_D05 m = is_first_of exceeds_maximum m && not (came_before ends_talk m)
+
+-- no message of QoS 2 was refused on the moment's connection before it
+abbrev pub is_unrefused : Moment → Bool
+is_unrefused t = not (came_before refuses_message t)
+
+-- D05: whenever a PUBLISH is received that exceeds the Receive Maximum, the first on its connection, no REST comes after it there before the server says that it closes the connection,
+-- or refuses a message of QoS 2. A refusal that comes before the PUBLISH in the log may have been sent for it.
+unfoldable pub applies_D05 : Moment → Moment → Bool
+applies_D05 t m = owes_D05 m && (shows_outcome (note t) && is_unrefused t)
+
+unfoldable pub shows_D05 : Moment → Moment → Bool
+shows_D05 t m = owes_D05 m && (stays_open t && is_unrefused t)

@@ -8,6 +8,7 @@ pub mod Connections
 pub mod Pasts
 pub mod FurtherPasts
 pub mod ProtocolErrors
+pub mod ReceiveMaximum
 pub mod FurtherRests
 pub mod Identifiers
 pub mod Passing

@@ -138,6 +138,7 @@ impl Rule {
             Rule::D01 => "After a Malformed Packet the server closes the connection.",
             Rule::D02 => "After a second CONNECT the server closes the connection.",
             Rule::D03 => "After a Protocol Error the server closes the connection.",
+            Rule::D05 => "After more QoS 2 PUBLISHes than its Receive Maximum the server closes.",
             Rule::A01 =>
                 "A client that uses an Authentication Method sends only AUTH and DISCONNECT before a CONNACK was received.",
             Rule::A02 =>

@@ -204,6 +204,9 @@ pub enum Rule {
     D02,
     /// After a Protocol Error the server closes the connection (MQTT 5.0, section 4.13.1).
     D03,
+    /// After more QoS 2 PUBLISHes than its Receive Maximum the server closes (MQTT 5.0, section
+    /// 3.3.4).
+    D05,
     /// A client that uses an Authentication Method sends only AUTH and DISCONNECT before a CONNACK
     /// was received (MQTT 5.0, section 3.1.2.11.9).
     A01,

@@ -37,7 +37,7 @@ pub enum Judged {
 pub type Row = (Rule, &'static str, Ends, &'static str, &'static str, Judged);
 
 /// Each statement's row, in the order of reports.
-pub const TABLE: [Row; 90] = [
+pub const TABLE: [Row; 91] = [
     (W01, "W01", Both, "MQTT-2.1.3-1", "MQTT-2.1.3-1", Always),
     (W02, "W02", Both, "sec-2.1.2", "sec-2.1.2", Always),
     (W03, "W03", Both, "MQTT-1.5.5-1", "MQTT-1.5.5-1", Always),
@@ -168,6 +168,7 @@ pub const TABLE: [Row; 90] = [
     (D01, "D01", OnlyServer, "", "MQTT-4.13.1-1", OnRequest),
     (D02, "D02", OnlyServer, "", "MQTT-3.1.0-2", OnRequest),
     (D03, "D03", OnlyServer, "", "MQTT-4.13.1-1", OnRequest),
+    (D05, "D05", OnlyServer, "", "sec-3.3.4", OnRequest),
     (A01, "A01", OnlyClient, "MQTT-3.1.2-30", "", OnRequest),
     (
         A02,
@@ -180,7 +181,7 @@ pub const TABLE: [Row; 90] = [
 ];
 
 /// The statements, in the order of reports.
-const RULES: [Rule; 90] = [
+const RULES: [Rule; 91] = [
     Rule::W01,
     Rule::W02,
     Rule::W03,
@@ -269,6 +270,7 @@ const RULES: [Rule; 90] = [
     Rule::D01,
     Rule::D02,
     Rule::D03,
+    Rule::D05,
     Rule::A01,
     Rule::A02,
 ];

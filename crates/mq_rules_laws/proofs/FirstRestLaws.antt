@@ -13,8 +13,9 @@ use Rattle.mq_rules.specs.Connections.{begun, number, connection, is_beside, lat
 use Rattle.mq_rules.specs.Exchanges.{Exchange, answers, first_unanswered, shows_R}
 use Rattle.mq_rules.specs.Statements.{at_rest, is_so}
 use Rattle.mq_rules.specs.FirstRests.{binds_after, first_rest, IsFirstRest}
-use Rattle.mq_rules.specs.FurtherRests.{owes_D01, owes_D02, owes_D03, says_goodbye, shows_D01, shows_D02, shows_D03, stays_open}
+use Rattle.mq_rules.specs.FurtherRests.{is_unrefused, owes_D01, owes_D02, owes_D03, owes_D05, says_goodbye, shows_D01, shows_D02, shows_D03, shows_D05, stays_open}
 use Rattle.mq_rules.specs.Pasts.{came_before}
+use Rattle.mq_rules.specs.ReceiveMaximum.{refuses_message}
 use Rattle.mq_rules.proofs.Exports.{among-moment, among-some, among-within, and_true, begun-least, begun-same, both_true, earliest_since-is, earliest_since-there, moment-among, moments-descend, same_test, since-stands, some-among, stands-since, there, those-among, those-descend}
 use Rattle.mq_rules_laws.proofs.PositionLaws.{among-those, is-earliest_since}
 
@@ -76,12 +77,10 @@ connection-has m log h same = among-those (λ m. number m == begun log) (moments
 
 -- ---- a connection that is still open
 
--- a REST shows that the server hasn't closed it, if a later one does
-open-earlier : (log : List Seen) (k t u : Moment) → Among k (moments log) → Among t (moments log) → Among u (moments log) → is_after u k ≡ true → is_after t u ≡ true
-    → is_beside u k ≡ true → is_beside t k ≡ true → is_rest (note u) ≡ true → stays_open t ≡ true → stays_open u ≡ true
-open-earlier log k t u k_in t_in u_in after before beside later rests h =
-    let a = both_true (is_rest (note t)) (not (came_before says_goodbye t)) h in
-    and_true (is_rest (note u)) (not (came_before says_goodbye u)) rests (quiet (came_before says_goodbye u) refl a.1)
+-- what wasn't said on the connection before t, wasn't before u
+unsaid-earlier : (says : Note → Bool) (log : List Seen) (k t u : Moment) → Among k (moments log) → Among t (moments log) → Among u (moments log) → is_after u k ≡ true → is_after t u ≡ true
+    → is_beside u k ≡ true → is_beside t k ≡ true → not (came_before says t) ≡ true → not (came_before says u) ≡ true
+unsaid-earlier says log k t u k_in t_in u_in after before beside later h = quiet (came_before says u) refl h
   where
     u_past : Among u (moments t.past)
     u_past = among-past u t log u_in t_in (ltb-true (position u) (position t) before)
@@ -95,14 +94,21 @@ open-earlier log k t u k_in t_in u_in after before beside later rests h =
     t_on : begun t.past ≡ number k
     t_on = begun-before k t (past-among k u t.past u_past k_past) (eqb-true (number t) (number k) later)
 
-    quiet : (said : Bool) → came_before says_goodbye u ≡ said → not (came_before says_goodbye t) ≡ true → not said ≡ true
+    quiet : (said : Bool) → came_before says u ≡ said → not (came_before says t) ≡ true → not said ≡ true
     quiet false is open_there = refl
     quiet true is open_there =
-        let n = some-among (λ j. says_goodbye (note j)) (connection u.past) is in
+        let n = some-among (λ j. says (note j)) (connection u.past) is in
         let on = on-connection n.0 u.past n.1 in
         let there_too : Among n.0 (connection t.past) = connection-has n.0 t.past (past-among n.0 u t.past u_past on.0) (on.1 ∙ u_on ∙ sym t_on) in
-        let said : came_before says_goodbye t ≡ true = among-some (λ j. says_goodbye (note j)) (connection t.past) n.0 there_too n.2 in
+        let said : came_before says t ≡ true = among-some (λ j. says (note j)) (connection t.past) n.0 there_too n.2 in
         absurd (cc)
+
+-- a REST shows that the server hasn't closed it, if a later one does
+open-earlier : (log : List Seen) (k t u : Moment) → Among k (moments log) → Among t (moments log) → Among u (moments log) → is_after u k ≡ true → is_after t u ≡ true
+    → is_beside u k ≡ true → is_beside t k ≡ true → is_rest (note u) ≡ true → stays_open t ≡ true → stays_open u ≡ true
+open-earlier log k t u k_in t_in u_in after before beside later rests h =
+    let a = both_true (is_rest (note t)) (not (came_before says_goodbye t)) h in
+    and_true (is_rest (note u)) (not (came_before says_goodbye u)) rests (unsaid-earlier says_goodbye log k t u k_in t_in u_in after before beside later a.1)
 
 pub malformed-earlier : (log : List Seen) (k t u : Moment) → Among k (moments log) → Among t (moments log) → Among u (moments log) → is_after u k ≡ true → is_after t u ≡ true
     → is_beside u k ≡ true → is_beside t k ≡ true → is_rest (note u) ≡ true → shows_D01 t k ≡ true → shows_D01 u k ≡ true
@@ -124,6 +130,15 @@ unfolding shows_D03
 mistaken-earlier log k t u k_in t_in u_in after before beside later rests h =
     let a = both_true (owes_D03 k) (stays_open t) h in
     and_true (owes_D03 k) (stays_open u) a.0 (open-earlier log k t u k_in t_in u_in after before beside later rests a.1)
+
+pub excessive-earlier : (log : List Seen) (k t u : Moment) → Among k (moments log) → Among t (moments log) → Among u (moments log) → is_after u k ≡ true → is_after t u ≡ true
+    → is_beside u k ≡ true → is_beside t k ≡ true → is_rest (note u) ≡ true → shows_D05 t k ≡ true → shows_D05 u k ≡ true
+unfolding shows_D05
+excessive-earlier log k t u k_in t_in u_in after before beside later rests h =
+    let a = both_true (owes_D05 k) (stays_open t && is_unrefused t) h in
+    let b = both_true (stays_open t) (is_unrefused t) a.1 in
+    and_true (owes_D05 k) (stays_open u && is_unrefused u) a.0
+    (and_true (stays_open u) (is_unrefused u) (open-earlier log k t u k_in t_in u_in after before beside later rests b.0) (unsaid-earlier refuses_message log k t u k_in t_in u_in after before beside later b.1))
 
 -- ---- what t shows, u before it shows too
 

@@ -13,7 +13,7 @@ ghost use Rattle.mq_rules.specs.Exchanges.{Exchange, shows_R};
 ghost use Rattle.mq_rules.specs.Statements.{at_rest, is_so};
 ghost use Rattle.mq_rules.specs.Counter.{in_flight, in_flight_before, quota, keeps_quota};
 ghost use Rattle.mq_rules.specs.FirstRests.{binds_after, first_rest, IsFirstRest};
-ghost use Rattle.mq_rules.specs.FurtherRests.{shows_D01, shows_D02, shows_D03};
+ghost use Rattle.mq_rules.specs.FurtherRests.{shows_D01, shows_D02, shows_D03, shows_D05};
 ghost use Rattle.mq_rules.specs.Notes.{is_rest};
 
 /// The send quota by a counter (MQTT 5.0, section 4.9). Over the stretches that end with the newest
@@ -47,11 +47,11 @@ pub fn first_rest_decides()
 {}
 
 /// D01, by the first REST after the Malformed Packet, D02, by the first one after the second
-/// CONNECT, and D03, by the first one after the Protocol Error, on its connection (MQTT 5.0,
-/// sections 4.13.1 and 3.1). If a later REST there shows that the server hasn't closed the
-/// connection, each earlier one after the error shows that too: so the first one decides it. It
-/// isn't so with C24: at the first REST after a CONNECT the server may wait for an AUTH, and at a
-/// later one no longer.
+/// CONNECT, D03, by the first one after the Protocol Error, and D05, by the first one after the
+/// PUBLISH above the Receive Maximum, on its connection (MQTT 5.0, sections 4.13.1, 3.1 and 3.3.4).
+/// If a later REST there shows that the server hasn't closed the connection, each earlier one after
+/// the error shows that too: so the first one decides it. It isn't so with C24: at the first REST
+/// after a CONNECT the server may wait for an AUTH, and at a later one no longer.
 pub fn first_open_rest_decides()
     ensures malformed { (log : List Seen) (k t u : Moment) → Among k (moments log) → Among t (moments log) → Among u (moments log) → is_after u k ≡ true → is_after t u ≡ true
         → is_beside u k ≡ true → is_beside t k ≡ true → is_rest (note u) ≡ true → shows_D01 t k ≡ true → shows_D01 u k ≡ true }
@@ -59,4 +59,6 @@ pub fn first_open_rest_decides()
         → is_beside u k ≡ true → is_beside t k ≡ true → is_rest (note u) ≡ true → shows_D02 t k ≡ true → shows_D02 u k ≡ true }
     ensures mistaken { (log : List Seen) (k t u : Moment) → Among k (moments log) → Among t (moments log) → Among u (moments log) → is_after u k ≡ true → is_after t u ≡ true
         → is_beside u k ≡ true → is_beside t k ≡ true → is_rest (note u) ≡ true → shows_D03 t k ≡ true → shows_D03 u k ≡ true }
+    ensures excessive { (log : List Seen) (k t u : Moment) → Among k (moments log) → Among t (moments log) → Among u (moments log) → is_after u k ≡ true → is_after t u ≡ true
+        → is_beside u k ≡ true → is_beside t k ≡ true → is_rest (note u) ≡ true → shows_D05 t k ≡ true → shows_D05 u k ≡ true }
 {}

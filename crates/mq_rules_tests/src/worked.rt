@@ -4,7 +4,7 @@
 ghost use Rattle.std.specs.Prelude.{◌≡◌, ◌∷◌, [], true, false, Some, None};
 ghost use Rattle.mq_packet.specs.declared.packet.Qos.TheVariants as quality;
 ghost use Rattle.mq_packet.specs.declared.rule.PacketRule.TheVariants as packets;
-ghost use Rattle.mq_rules.specs.declared.rule.Rule.TheVariants.{W01, W02, W03, W04, W05, W06, W07, W08, W09, W10, W11, W12, W13, W14, W15, W16, W17, W18, W19, W20, W21, C01, C02, C03, C04, C05, C06, C07, C08, C09, C10, C11, C12, C13, C14, C15, C16, C17, C18, C19, C20, C21, C22, C23, S01, S02, S03, S04, S05, S06, S07, E1A, E1R, E1O, E2A, E2R, E2O, E3A, E3R, E3O, E4A, E4R, E5A, E5R, E6A, E6R, E7R, L1, L2, L3, B01, B02, B03, B04, B05, F01, F02, F03, F04, F05, F06, V03, V04, V06, C24, D01, D02, D03, A01, A02};
+ghost use Rattle.mq_rules.specs.declared.rule.Rule.TheVariants.{W01, W02, W03, W04, W05, W06, W07, W08, W09, W10, W11, W12, W13, W14, W15, W16, W17, W18, W19, W20, W21, C01, C02, C03, C04, C05, C06, C07, C08, C09, C10, C11, C12, C13, C14, C15, C16, C17, C18, C19, C20, C21, C22, C23, S01, S02, S03, S04, S05, S06, S07, E1A, E1R, E1O, E2A, E2R, E2O, E3A, E3R, E3O, E4A, E4R, E5A, E5R, E6A, E6R, E7R, L1, L2, L3, B01, B02, B03, B04, B05, F01, F02, F03, F04, F05, F06, V03, V04, V06, C24, D01, D02, D03, D05, A01, A02};
 ghost use Rattle.mq_rules.specs.declared.note.Note.TheVariants.{Open, Rest, Release};
 ghost use Rattle.mq_rules.specs.declared.packet_note.PacketFields.TheVariants.{Puback, Pubrec, Pubrel, Pubcomp, Suback, Unsubscribe, Unsuback, Pingreq, Pingresp, Auth};
 ghost use Rattle.mq_rules.specs.Worked.{client, client_unrecorded, server, failing, Close, Cut, sends, gets, sends_sized, sends_explained, sends_bad, gets_bad, sends_lost, gets_lost, lasting, again, fleeting, unnamed, asking, connack_with, accepting, resuming, refusing, limiting, retaining, assigning, informing, leaving, at_most_once, once, exactly, retained_once, retained_exactly, expiring, aliased, subscribed, asks_a, asks_b, asks_both, asking_again, client_asked, server_asked, with_will, with_method, announcing, naming_method, lacking, leaving_by, retained_at_most_once, retained_again, asks_plainly, asks_widely, asks_identified, asks_to_share, asks_misnamed, asks_no_local};
@@ -540,6 +540,49 @@ pub fn after_a_protocol_error()
     ensures bytes_keep { failing server_asked D03 (Open ∷ gets lasting ∷ sends accepting ∷ gets_bad 208 packets.W01 ∷ Rest ∷ []) ≡ [] }
     ensures unasked_keeps { failing server D03 (Open ∷ gets lasting ∷ gets Pingresp ∷ Rest ∷ []) ≡ [] }
     ensures client_keeps { failing client_asked D03 (Open ∷ sends lasting ∷ gets accepting ∷ sends Pingresp ∷ gets Pingreq ∷ Rest ∷ []) ≡ [] }
+{}
+
+/// What a server does after more QoS 2 PUBLISHes than its Receive Maximum (D05).
+pub fn after_too_many_publishes()
+    ensures above_breaks { failing server_asked D05 (Open ∷ gets lasting ∷ sends (limiting false (Some 1) None None None) ∷ gets (exactly false 1) ∷ gets (exactly false 2) ∷ sends (Pubrec 1 0) ∷ sends (Pubrec 2 0) ∷ Rest ∷ []) ≡ 5 ∷ [] }
+    ensures as_many_keeps { failing server_asked D05 (Open ∷ gets lasting ∷ sends (limiting false (Some 1) None None None) ∷ gets (exactly false 1) ∷ Rest ∷ []) ≡ [] }
+    ensures received_breaks { failing server_asked D05 (Open ∷ gets lasting ∷ sends (limiting false (Some 1) None None None) ∷ gets (exactly false 1) ∷ sends (Pubrec 1 0) ∷ gets (exactly false 2) ∷ Rest ∷ []) ≡ 6 ∷ [] }
+    ensures released_keeps { failing server_asked D05 (Open ∷ gets lasting ∷ sends (limiting false (Some 1) None None None) ∷ gets (exactly false 1) ∷ sends (Pubrec 1 0) ∷ gets (Pubrel 1 0) ∷ gets (exactly false 2) ∷ Rest ∷ []) ≡ [] }
+    ensures completed_keeps { failing server_asked D05 (Open ∷ gets lasting ∷ sends (limiting false (Some 1) None None None) ∷ gets (exactly false 1) ∷ sends (Pubcomp 1 0) ∷ gets (exactly false 2) ∷ Rest ∷ []) ≡ [] }
+    ensures refused_before_keeps { failing server_asked D05 (Open ∷ gets lasting ∷ sends (limiting false (Some 1) None None None) ∷ gets (exactly false 1) ∷ sends (Pubrec 1 128) ∷ gets (exactly false 2) ∷ Rest ∷ []) ≡ [] }
+    ensures refused_after_keeps { failing server_asked D05 (Open ∷ gets lasting ∷ sends (limiting false (Some 1) None None None) ∷ gets (exactly false 1) ∷ gets (exactly false 2) ∷ sends (Pubrec 1 0) ∷ sends (Pubrec 2 151) ∷ Rest ∷ []) ≡ [] }
+    ensures refused_later_breaks { failing server_asked D05 (Open ∷ gets lasting ∷ sends (limiting false (Some 1) None None None) ∷ gets (exactly false 1) ∷ gets (exactly false 2) ∷ Rest ∷ sends (Pubrec 2 151) ∷ Rest ∷ []) ≡ 5 ∷ [] }
+    ensures refused_elsewhere_breaks { failing server_asked D05 (Open ∷ gets lasting ∷ sends (limiting false (Some 1) None None None) ∷ gets (exactly false 1) ∷ sends (Pubrec 1 128) ∷ Close ∷ Open ∷ gets lasting ∷ sends (limiting false (Some 1) None None None) ∷ gets (exactly false 2) ∷ gets (exactly false 3) ∷ Rest ∷ []) ≡ 11 ∷ [] }
+    ensures refused_before_keeps_too { failing server_asked D05 (Open ∷ gets lasting ∷ sends (limiting false (Some 1) None None None) ∷ gets (exactly false 9) ∷ sends (Pubrec 9 128) ∷ gets (exactly false 1) ∷ gets (exactly false 2) ∷ Rest ∷ []) ≡ [] }
+    ensures once_keeps { failing server_asked D05 (Open ∷ gets lasting ∷ sends (limiting false (Some 1) None None None) ∷ gets (once false 1) ∷ gets (once false 2) ∷ Rest ∷ []) ≡ [] }
+    ensures once_beside_keeps { failing server_asked D05 (Open ∷ gets lasting ∷ sends (limiting false (Some 1) None None None) ∷ gets (once false 1) ∷ gets (exactly false 2) ∷ gets (once false 3) ∷ Rest ∷ []) ≡ [] }
+    ensures at_most_once_keeps { failing server_asked D05 (Open ∷ gets lasting ∷ sends (limiting false (Some 1) None None None) ∷ gets (exactly false 1) ∷ gets at_most_once ∷ Rest ∷ []) ≡ [] }
+    ensures resend_keeps { failing server_asked D05 (Open ∷ gets lasting ∷ sends (limiting false (Some 1) None None None) ∷ gets (exactly false 1) ∷ gets (exactly true 1) ∷ Rest ∷ []) ≡ [] }
+    ensures resend_breaks { failing server_asked D05 (Open ∷ gets lasting ∷ sends (limiting false (Some 1) None None None) ∷ gets (exactly false 1) ∷ gets (exactly true 2) ∷ Rest ∷ []) ≡ 5 ∷ [] }
+    ensures again_breaks { failing server_asked D05 (Open ∷ gets lasting ∷ sends (limiting false (Some 1) None None None) ∷ gets (exactly false 1) ∷ sends (Pubrec 1 0) ∷ gets (Pubrel 1 0) ∷ gets (exactly false 1) ∷ gets (exactly false 2) ∷ Rest ∷ []) ≡ 8 ∷ [] }
+    ensures other_release_breaks { failing server_asked D05 (Open ∷ gets lasting ∷ sends (limiting false (Some 1) None None None) ∷ gets (exactly false 1) ∷ gets (Pubrel 3 0) ∷ gets (exactly false 2) ∷ Rest ∷ []) ≡ 6 ∷ [] }
+    ensures sent_release_breaks { failing server_asked D05 (Open ∷ gets lasting ∷ sends (limiting false (Some 1) None None None) ∷ gets (exactly false 1) ∷ sends (Pubrel 1 0) ∷ gets (exactly false 2) ∷ Rest ∷ []) ≡ 6 ∷ [] }
+    ensures clients_answer_breaks { failing server_asked D05 (Open ∷ gets lasting ∷ sends (limiting false (Some 1) None None None) ∷ gets (exactly false 1) ∷ gets (Pubcomp 1 0) ∷ gets (exactly false 2) ∷ Rest ∷ []) ≡ 6 ∷ [] }
+    ensures puback_breaks { failing server_asked D05 (Open ∷ gets lasting ∷ sends (limiting false (Some 1) None None None) ∷ gets (exactly false 1) ∷ sends (Puback 1 0) ∷ gets (exactly false 2) ∷ Rest ∷ []) ≡ 6 ∷ [] }
+    ensures before_connack_breaks { failing server_asked D05 (Open ∷ gets lasting ∷ gets (exactly false 1) ∷ sends (limiting false (Some 1) None None None) ∷ gets (exactly false 2) ∷ Rest ∷ []) ≡ 5 ∷ [] }
+    ensures both_before_connack_keeps { failing server_asked D05 (Open ∷ gets lasting ∷ gets (exactly false 1) ∷ gets (exactly false 2) ∷ sends (limiting false (Some 1) None None None) ∷ Rest ∷ []) ≡ [] }
+    ensures resend_after_connack_breaks { failing server_asked D05 (Open ∷ gets lasting ∷ gets (exactly false 1) ∷ gets (exactly false 2) ∷ sends (limiting false (Some 1) None None None) ∷ gets (exactly true 1) ∷ Rest ∷ []) ≡ 6 ∷ [] }
+    ensures greater_maximum_keeps { failing server_asked D05 (Open ∷ gets lasting ∷ sends (limiting false (Some 2) None None None) ∷ gets (exactly false 1) ∷ gets (exactly false 2) ∷ Rest ∷ []) ≡ [] }
+    ensures greater_maximum_breaks { failing server_asked D05 (Open ∷ gets lasting ∷ sends (limiting false (Some 2) None None None) ∷ gets (exactly false 1) ∷ gets (exactly false 2) ∷ gets (exactly false 3) ∷ Rest ∷ []) ≡ 6 ∷ [] }
+    ensures default_keeps { failing server_asked D05 (Open ∷ gets lasting ∷ sends accepting ∷ gets (exactly false 1) ∷ gets (exactly false 2) ∷ Rest ∷ []) ≡ [] }
+    ensures first_connack_counts { failing server_asked D05 (Open ∷ gets lasting ∷ sends (limiting false (Some 1) None None None) ∷ sends (limiting false (Some 9) None None None) ∷ gets (exactly false 1) ∷ gets (exactly false 2) ∷ Rest ∷ []) ≡ 6 ∷ [] }
+    ensures clients_maximum_keeps { failing server_asked D05 (Open ∷ gets (asking None None (Some 1) None None) ∷ sends accepting ∷ gets (exactly false 1) ∷ gets (exactly false 2) ∷ Rest ∷ []) ≡ [] }
+    ensures next_keeps { failing server_asked D05 (Open ∷ gets lasting ∷ sends (limiting false (Some 1) None None None) ∷ gets (exactly false 1) ∷ Close ∷ Open ∷ gets again ∷ sends (limiting true (Some 1) None None None) ∷ gets (exactly false 2) ∷ Rest ∷ []) ≡ [] }
+    ensures anew_breaks { failing server_asked D05 (Open ∷ gets lasting ∷ sends (limiting false (Some 1) None None None) ∷ gets (exactly false 1) ∷ gets (exactly false 2) ∷ Close ∷ Open ∷ gets again ∷ sends (limiting true (Some 1) None None None) ∷ gets (exactly true 1) ∷ gets (exactly true 2) ∷ Rest ∷ []) ≡ 11 ∷ [] }
+    ensures second_keeps { failing server_asked D05 (Open ∷ gets lasting ∷ sends (limiting false (Some 1) None None None) ∷ gets (exactly false 1) ∷ gets (exactly false 2) ∷ gets (exactly false 3) ∷ Rest ∷ []) ≡ 5 ∷ [] }
+    ensures close_keeps { failing server_asked D05 (Open ∷ gets lasting ∷ sends (limiting false (Some 1) None None None) ∷ gets (exactly false 1) ∷ gets (exactly false 2) ∷ Close ∷ []) ≡ [] }
+    ensures goodbye_keeps { failing server_asked D05 (Open ∷ gets lasting ∷ sends (limiting false (Some 1) None None None) ∷ gets (exactly false 1) ∷ gets (exactly false 2) ∷ sends (leaving_by 147) ∷ Rest ∷ []) ≡ [] }
+    ensures late_goodbye_breaks { failing server_asked D05 (Open ∷ gets lasting ∷ sends (limiting false (Some 1) None None None) ∷ gets (exactly false 1) ∷ gets (exactly false 2) ∷ Rest ∷ sends (leaving_by 147) ∷ Rest ∷ []) ≡ 5 ∷ [] }
+    ensures no_rest_keeps { failing server_asked D05 (Open ∷ gets lasting ∷ sends (limiting false (Some 1) None None None) ∷ Rest ∷ gets (exactly false 1) ∷ gets (exactly false 2) ∷ sends (Pubrec 1 0) ∷ []) ≡ [] }
+    ensures left_keeps { failing server_asked D05 (Open ∷ gets lasting ∷ sends (limiting false (Some 1) None None None) ∷ gets (exactly false 1) ∷ gets (leaving None) ∷ gets (exactly false 2) ∷ Rest ∷ []) ≡ [] }
+    ensures bytes_keep { failing server_asked D05 (Open ∷ gets lasting ∷ sends (limiting false (Some 1) None None None) ∷ gets (exactly false 1) ∷ gets_bad 52 packets.W14 ∷ Rest ∷ []) ≡ [] }
+    ensures unasked_keeps { failing server D05 (Open ∷ gets lasting ∷ sends (limiting false (Some 1) None None None) ∷ gets (exactly false 1) ∷ gets (exactly false 2) ∷ Rest ∷ []) ≡ [] }
+    ensures client_keeps { failing client_asked D05 (Open ∷ sends lasting ∷ gets (limiting false (Some 1) None None None) ∷ sends (exactly false 1) ∷ sends (exactly false 2) ∷ Rest ∷ []) ≡ [] }
 {}
 
 /// What a server accepts in a CONNECT (F05 and F06), and enhanced authentication (A02).

@@ -4,7 +4,7 @@
 ghost use Rattle.std.specs.Prelude.{◌≡◌, ◌∷◌, [], true, false, Some, None};
 ghost use Rattle.mq_packet.specs.declared.rule.PacketRule.TheVariants as packets;
 ghost use Rattle.mq_packet.specs.declared.packet.Qos.TheVariants as quality;
-ghost use Rattle.mq_rules.specs.declared.rule.Rule.TheVariants.{C01, C02, C03, C04, C05, C06, C07, C08, C09, C10, C11, C12, C13, C14, C15, C16, C17, C18, C19, C20, C21, C22, C23, S01, S02, S03, S04, S05, S06, S07, E1A, E1R, E1O, E2A, E2R, E2O, E3A, E3R, E3O, E4A, E4R, E5A, E5R, E6A, E6R, E7R, L1, L2, L3, B01, B02, B03, B04, B05, F01, F02, F03, F04, F05, F06, V03, V04, V06, C24, D01, D02, D03, A01, A02};
+ghost use Rattle.mq_rules.specs.declared.rule.Rule.TheVariants.{C01, C02, C03, C04, C05, C06, C07, C08, C09, C10, C11, C12, C13, C14, C15, C16, C17, C18, C19, C20, C21, C22, C23, S01, S02, S03, S04, S05, S06, S07, E1A, E1R, E1O, E2A, E2R, E2O, E3A, E3R, E3O, E4A, E4R, E5A, E5R, E6A, E6R, E7R, L1, L2, L3, B01, B02, B03, B04, B05, F01, F02, F03, F04, F05, F06, V03, V04, V06, C24, D01, D02, D03, D05, A01, A02};
 ghost use Rattle.mq_rules.specs.declared.note.Note.TheVariants.{Open, Rest, Release};
 ghost use Rattle.mq_rules.specs.declared.packet_note.PacketFields.TheVariants.{Puback, Pubrec, Pubrel, Pubcomp, Suback, Unsubscribe, Unsuback, Pingreq, Pingresp, Auth};
 ghost use Rattle.mq_rules.specs.Worked.{client, client_unrecorded, server, applying, Close, Cut, sends, gets, sends_sized, sends_bad, gets_bad, sends_lost, gets_lost, lasting, again, unnamed, asking, accepting, resuming, refusing, limiting, retaining, assigning, informing, leaving, at_most_once, once, exactly, retained_once, expiring, aliased, asks_a, asks_both, asks_shared, client_asked, server_asked, with_will, with_method, announcing, naming_method, lacking, leaving_by, retained_at_most_once, retained_again, asks_plainly, asks_widely, asks_identified, asks_to_share, subscribed, fleeting};
@@ -247,6 +247,24 @@ pub fn places_after_a_protocol_error()
     ensures left { applying server_asked D03 (Open ∷ gets lasting ∷ gets (leaving None) ∷ gets Pingresp ∷ Close ∷ []) ≡ [] }
     ensures prolonging { applying server_asked D03 (Open ∷ gets fleeting ∷ sends accepting ∷ gets (leaving (Some 60)) ∷ Close ∷ []) ≡ 4 ∷ [] }
     ensures unasked { applying server D03 (Open ∷ gets lasting ∷ gets Pingresp ∷ Rest ∷ []) ≡ [] }
+{}
+
+/// What a server does after more QoS 2 PUBLISHes than its Receive Maximum (D05).
+pub fn places_after_too_many_publishes()
+    ensures rested { applying server_asked D05 (Open ∷ gets lasting ∷ sends (limiting false (Some 1) None None None) ∷ gets (exactly false 1) ∷ gets (exactly false 2) ∷ Rest ∷ Rest ∷ []) ≡ 5 ∷ [] }
+    ensures closed { applying server_asked D05 (Open ∷ gets lasting ∷ sends (limiting false (Some 1) None None None) ∷ gets (exactly false 1) ∷ gets (exactly false 2) ∷ Close ∷ []) ≡ 5 ∷ [] }
+    ensures goodbye { applying server_asked D05 (Open ∷ gets lasting ∷ sends (limiting false (Some 1) None None None) ∷ gets (exactly false 1) ∷ gets (exactly false 2) ∷ sends (leaving_by 147) ∷ []) ≡ 5 ∷ [] }
+    ensures refused { applying server_asked D05 (Open ∷ gets lasting ∷ sends (limiting false (Some 1) None None None) ∷ gets (exactly false 1) ∷ gets (exactly false 2) ∷ sends (Pubrec 2 151) ∷ Rest ∷ []) ≡ [] }
+    ensures refused_and_closed { applying server_asked D05 (Open ∷ gets lasting ∷ sends (limiting false (Some 1) None None None) ∷ gets (exactly false 1) ∷ sends (Pubrec 1 128) ∷ gets (exactly false 2) ∷ gets (exactly false 3) ∷ Close ∷ []) ≡ [] }
+    ensures refused_after_rest { applying server_asked D05 (Open ∷ gets lasting ∷ sends (limiting false (Some 1) None None None) ∷ gets (exactly false 1) ∷ gets (exactly false 2) ∷ Rest ∷ sends (Pubrec 2 151) ∷ Close ∷ []) ≡ 5 ∷ [] }
+    ensures first_alone { applying server_asked D05 (Open ∷ gets lasting ∷ sends (limiting false (Some 1) None None None) ∷ gets (exactly false 1) ∷ gets (exactly false 2) ∷ gets (exactly false 3) ∷ Close ∷ []) ≡ 5 ∷ [] }
+    ensures fitting { applying server_asked D05 (Open ∷ gets lasting ∷ sends (limiting false (Some 1) None None None) ∷ gets (exactly false 1) ∷ sends (Pubrec 1 0) ∷ gets (Pubrel 1 0) ∷ gets (exactly false 2) ∷ Close ∷ []) ≡ [] }
+    ensures once { applying server_asked D05 (Open ∷ gets lasting ∷ sends (limiting false (Some 1) None None None) ∷ gets (once false 1) ∷ gets (once false 2) ∷ Close ∷ []) ≡ [] }
+    ensures before_connack { applying server_asked D05 (Open ∷ gets lasting ∷ gets (exactly false 1) ∷ gets (exactly false 2) ∷ sends (limiting false (Some 1) None None None) ∷ Close ∷ []) ≡ [] }
+    ensures unseen { applying server_asked D05 (Open ∷ gets lasting ∷ sends (limiting false (Some 1) None None None) ∷ Rest ∷ gets (exactly false 1) ∷ gets (exactly false 2) ∷ sends (Pubrec 1 0) ∷ []) ≡ [] }
+    ensures anew { applying server_asked D05 (Open ∷ gets lasting ∷ sends (limiting false (Some 1) None None None) ∷ gets (exactly false 1) ∷ gets (exactly false 2) ∷ Close ∷ Open ∷ gets again ∷ sends (limiting true (Some 1) None None None) ∷ gets (exactly true 1) ∷ gets (exactly true 2) ∷ Close ∷ []) ≡ 11 ∷ 5 ∷ [] }
+    ensures left { applying server_asked D05 (Open ∷ gets lasting ∷ sends (limiting false (Some 1) None None None) ∷ gets (exactly false 1) ∷ gets (leaving None) ∷ gets (exactly false 2) ∷ Close ∷ []) ≡ [] }
+    ensures unasked { applying server D05 (Open ∷ gets lasting ∷ sends (limiting false (Some 1) None None None) ∷ gets (exactly false 1) ∷ gets (exactly false 2) ∷ Close ∷ []) ≡ [] }
 {}
 
 /// What a server accepts in a CONNECT (F05 and F06), and enhanced authentication (A02).

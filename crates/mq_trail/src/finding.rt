@@ -135,6 +135,7 @@ fn is_silent(rule: Rule) -> bool
             | Rule::D01
             | Rule::D02
             | Rule::D03
+            | Rule::D05
     )
 }
 

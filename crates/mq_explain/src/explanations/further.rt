@@ -1,5 +1,5 @@
 //! The texts of `explain` for the further statements (B05, F01 to F06, V03, V04, V06, C24, D01 to
-//! D03, A01 and A02), which are judged on request.
+//! D03, D05, A01 and A02), which are judged on request.
 
 /// The text of `explain B05`.
 pub const B05: &str = "B05 server sec-3.9.3\n\
@@ -229,6 +229,31 @@ pub const D03: &str = "D03 server MQTT-4.13.1-1\n\
     a SUBACK may refuse it.\n\n\
     See: MQTT 5.0, sections 3.1, 3.2.2.3, 3.3.2.3.4, 3.3.4, 3.8.3.1, 3.14.2.2.2,\n\
     4.12 and 4.13.1.\n";
+
+/// The text of `explain D05`.
+pub const D05: &str = "D05 server sec-3.3.4\n\
+    After more QoS 2 PUBLISHes than its Receive Maximum the server closes.\n\n\
+    Why: The Receive Maximum says how many messages the server is ready to handle at\n\
+    once. A server that takes more lets one client use memory that others need.\n\n\
+    Judged: At the first PUBLISH of QoS 2 received on a connection after the CONNACK\n\
+    with which more Packet Identifiers are unfinished than its Receive Maximum,\n\
+    65,535 by default. One is unfinished if a PUBLISH of QoS 2 came under it on the\n\
+    connection, before the CONNACK too, and since then no PUBREL came for it, and no\n\
+    PUBCOMP or PUBREC of 0x80 or more was sent. It fails if a REST comes later on\n\
+    the connection, and the server sent neither a DISCONNECT nor a CONNACK of 0x80\n\
+    or more there before that REST (see C23 for those), nor a PUBREC of 0x80 or\n\
+    more, which may refuse the message. Decided at the REST. If either end had left\n\
+    before the PUBLISH, it isn't judged. QoS 1 isn't either: a log may have what was\n\
+    received before the server read it, so each PUBLISH may have been answered\n\
+    before the next was read. It is a further statement: it is judged with --all.\n\n\
+    To see it tested: Announce a Receive Maximum of 1, send a server two PUBLISHes\n\
+    of QoS 2 without a PUBREL, and wait until it is at rest, or has closed the\n\
+    connection.\n\n\
+    In a server: The messages are taken all the same. Send a DISCONNECT with 0x93\n\
+    (Receive Maximum exceeded), and close the connection, as section 3.3.4 says. A\n\
+    maker may dispute that this is a duty: section 4.9 says what a sender has to do,\n\
+    and nothing of the receiver.\n\n\
+    See: MQTT 5.0, sections 3.2.2.3.3, 3.3.4 and 4.9.\n";
 
 /// The text of `explain A01`.
 pub const A01: &str = "A01 client MQTT-3.1.2-30\n\

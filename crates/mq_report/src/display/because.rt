@@ -141,7 +141,8 @@ fn event_words(rule: Rule) -> &'static str
         Rule::F05 => ": the CONNECT, with a Will QoS above the announced maximum",
         Rule::F06 => ": the CONNECT, with Will Retain 1",
         Rule::C24 => ": the REST, with no CONNACK before it",
-        Rule::D01 | Rule::D02 | Rule::D03 => ": the REST, and the connection was still open",
+        Rule::D01 | Rule::D02 | Rule::D03 | Rule::D05 =>
+            ": the REST, and the connection was still open",
         Rule::A01 => ": the CONNECT, with an Authentication Method, and no CONNACK before",
         Rule::A02 => ": the CONNECT, without an Authentication Method",
         _ => "",
