@@ -24,11 +24,11 @@ use Rattle.mq_rules.proofs.BoolLaws.{both_true, or_false, or_left, option_or-non
 -- ---- what an ordinary packet is not
 
 no-connect : (f : PacketFields) → is_ordinary_in f ≡ true → connect_in f ≡ None
-no-connect (Connect c) t = absurd (cc)
+no-connect (Connect c method) t = absurd (cc)
 no-connect _ t = refl
 
 pub no-connack : (f : PacketFields) → is_ordinary_in f ≡ true → connack_in f ≡ None
-no-connack (Connack c) t = absurd (cc)
+no-connack (Connack c method) t = absurd (cc)
 no-connack _ t = refl
 
 pub no-disconnect : (f : PacketFields) → is_ordinary_in f ≡ true → disconnect_in f ≡ None
@@ -36,11 +36,11 @@ no-disconnect (Disconnect d) t = absurd (cc)
 no-disconnect _ t = refl
 
 pub not-connect : (f : PacketFields) → is_ordinary_in f ≡ true → is_id (type_number types.Connect) (Some (type_number (fields_type f))) ≡ false
-not-connect (Connect c) t = absurd (cc)
+not-connect (Connect c method) t = absurd (cc)
 not-connect _ t = refl
 
 pub not-connack : (f : PacketFields) → is_ordinary_in f ≡ true → is_id (type_number types.Connack) (Some (type_number (fields_type f))) ≡ false
-not-connack (Connack c) t = absurd (cc)
+not-connack (Connack c method) t = absurd (cc)
 not-connack _ t = refl
 
 -- ---- what is kept
@@ -115,8 +115,8 @@ ordinary-quiet role _ t = absurd (cc)
 
 -- what needs a session begins no connection, and decides none
 session-ordinary : (fields : PacketFields) → is_session_packet fields ≡ true → is_ordinary_in fields ≡ true
-session-ordinary (Connect c) h = absurd (cc)
-session-ordinary (Connack c) h = absurd (cc)
+session-ordinary (Connect c method) h = absurd (cc)
+session-ordinary (Connack c method) h = absurd (cc)
 session-ordinary (Disconnect d) h = absurd (cc)
 session-ordinary _ h = refl
 

@@ -52,7 +52,7 @@ type-noted direction (disconnect code properties) = refl
 type-noted direction (auth code properties) = refl
 
 connack-typed : (fields : PacketFields) → is_connack_type (fields_type fields) ≡ is_some (connack_in fields)
-connack-typed (Connack c) = refl
+connack-typed (Connack c method) = refl
 connack-typed _ = refl
 
 -- the role of the end that a header names

@@ -1,11 +1,13 @@
 -- How much a log gives its watchers to keep.
-use Rattle.std.specs.Prelude.{ℕ, ◌+◌, Bool, not, cond, List}
+use Rattle.std.specs.Prelude.{ℕ, ◌+◌, Bool, ◌&&◌, not, cond, List, is_some}
+use Rattle.std.specs.Option.{option_and_then}
 use Rattle.mq_rules.specs.declared.note.Seen.{Seen}
 use Rattle.mq_rules.specs.Words.{is_some_and, is_id}
-use Rattle.mq_rules.specs.Moments.{Moment, note, count}
+use Rattle.mq_rules.specs.Notes.{connect_method}
+use Rattle.mq_rules.specs.Moments.{Moment, note, count, first_found}
 use Rattle.mq_rules.specs.Connections.{is_connected, connection, on_open}
 use Rattle.mq_rules.specs.declared.role.Tested.{Tested}
-use Rattle.mq_rules.specs.declared.rule.Rule.TheVariants.{D03, D05}
+use Rattle.mq_rules.specs.declared.rule.Rule.TheVariants.{D03, D05, A03}
 use Rattle.mq_rules.specs.Pasts.{came_before, set_alias}
 use Rattle.mq_rules.specs.ProtocolErrors.{alias_received}
 use Rattle.mq_rules.specs.ReceiveMaximum.{unfinished}
@@ -37,3 +39,7 @@ identifiers_heard tested log = cond (binds D05 tested) (unfinished (on_open log)
 -- what the client gives the further statements to keep
 abbrev pub further_burden : Tested → List Seen → ℕ
 further_burden tested log = aliases_heard tested log + identifiers_heard tested log
+
+-- One Authentication Method, if the CONNECT of the latest connection has one (MQTT 5.0, section 3.1.2.11.9). It counts once, as a Topic Filter does, whatever its length; and only A03 looks at it.
+unfoldable pub methods_kept : Tested → List Seen → ℕ
+methods_kept tested log = cond (binds A03 tested && is_some (option_and_then (λ method. method) (first_found (connect_method tested.role) (connection log)))) 1 0

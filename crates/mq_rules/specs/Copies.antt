@@ -1,17 +1,20 @@
 -- Which notes own memory of their own, so that a copy needs some.
-use Rattle.std.specs.Prelude.{◌<◌, length}
+use Rattle.std.specs.Prelude.{◌≡◌, ◌<◌, true, is_some, length}
 use Rattle.mq_rules.specs.declared.packet_note.PacketFields.{PacketFields}
-use Rattle.mq_rules.specs.declared.packet_note.PacketFields.TheVariants.{Publish, Subscribe, Suback}
+use Rattle.mq_rules.specs.declared.packet_note.PacketFields.TheVariants.{Auth, Connack, Connect, Publish, Subscribe, Suback}
 use Rattle.mq_rules.specs.declared.note.ItemNote.{ItemNote}
 use Rattle.mq_rules.specs.declared.note.ItemNote.TheVariants.{Packet}
 use Rattle.mq_rules.specs.declared.note.Note.{Note}
 use Rattle.mq_rules.specs.declared.note.Note.TheVariants.{Sent, Recv}
 
--- a Topic Name of more than 30 bytes, some filters or some Reason Codes
+-- a Topic Name of more than 30 bytes, some filters, some Reason Codes, or an Authentication Method
 abbrev pub fields_own : PacketFields → Type 0
+fields_own (Connect c method) = is_some method ≡ true
+fields_own (Connack c method) = is_some method ≡ true
 fields_own (Publish p) = 30 < length p.topic
 fields_own (Subscribe identifier filters wishes) = 0 < length filters
 fields_own (Suback identifier codes) = 0 < length codes
+fields_own (Auth method) = is_some method ≡ true
 fields_own _ = ⊥
 
 abbrev pub item_owns : ItemNote → Type 0

@@ -1,17 +1,20 @@
--- Further statements on one packet and on the past of its connection (F01 to F06, V03, V04, V06, A01 and A02). They are judged as C01 to C23 are, on every connection, but
+-- Further statements on one packet and on the past of its connection (F01 to F06, V03, V04, V06, A01 to A03). They are judged as C01 to C23 are, on every connection, but
 -- only if the further statements are asked for. In A01 bytes that break a rule count by their type; elsewhere only packets count.
-use Rattle.std.specs.Prelude.{ℕ, ◌==◌, nat_le, nat_lt, Bool, ◌&&◌, ◌||◌, not, Option, is_some}
+use Rattle.std.specs.Prelude.{ℕ, ◌==◌, nat_le, nat_lt, Bool, ◌&&◌, ◌||◌, not, List, Option, is_some}
 use Rattle.std.specs.Option.{option_and_then}
+use Rattle.std.specs.Str.{bytes_eq}
 use Rattle.mq_packet.specs.declared.packet.PacketType.TheVariants as types
 use Rattle.mq_rules.specs.declared.role.Role.{Role}
 use Rattle.mq_rules.specs.declared.role.Role.TheVariants.{Client, Server}
 use Rattle.mq_rules.specs.declared.note.Note.{Note}
+use Rattle.mq_rules.specs.declared.packet_note.PacketNote.{PacketNote}
 use Rattle.mq_rules.specs.declared.packet_note.ConnectNote.{ConnectNote}
 use Rattle.mq_rules.specs.declared.packet_note.ConnackNote.{ConnackNote}
 use Rattle.mq_rules.specs.declared.packet_note.WillNote.{WillNote}
 use Rattle.mq_rules.specs.Words.{is_some_and, is_id}
-use Rattle.mq_rules.specs.Notes.{is_typed, qos_number, received_item, receives_type, sends_type, sent_connack, sent_disconnect, sent_publish, sent_receipt_code, sent_wishes, sends_auth}
-use Rattle.mq_rules.specs.Moments.{Moment, note}
+use Rattle.mq_rules.specs.Notes.{connect_method, is_auth, is_typed, qos_number, received_item, receives_type, sends_type, sent_connack, sent_disconnect, sent_method, sent_packet, sent_publish, sent_receipt_code, sent_wishes, sends_auth}
+use Rattle.mq_rules.specs.Moments.{Moment, note, first_found}
+use Rattle.mq_rules.specs.Connections.{connection}
 use Rattle.mq_rules.specs.Pasts.{came_before, connack_before, connect_before, sends_typed}
 
 -- ---- words
@@ -26,6 +29,26 @@ has_method connect = is_some_and (λ c. c.has_authentication_method) connect
 
 abbrev pub lacks_method : Option ConnectNote → Bool
 lacks_method connect = is_some_and (λ c. not c.has_authentication_method) connect
+
+-- the Authentication Method of the CONNECT before the moment on its connection, if there is a CONNECT and it has one (MQTT 5.0, section 3.1.2.11.9)
+abbrev pub method_before : Role → Moment → Option (List ℕ)
+method_before role k = option_and_then (λ method. method) (first_found (connect_method role) (connection k.past))
+
+-- An AUTH that has more than its fixed header, which is two bytes: one without more leaves all out, as the standard allows (MQTT 5.0, section 3.15.2.1). Such an AUTH is sent.
+abbrev pub is_full_auth : PacketNote → Bool
+is_full_auth p = is_auth p.fields && nat_lt 2 p.size
+
+abbrev pub sends_full_auth : Note → Bool
+sends_full_auth n = is_some_and is_full_auth (sent_packet n)
+
+-- A packet is sent that has to name the method of the CONNECT: such an AUTH, or from a server a CONNACK that accepts the connection (MQTT 5.0, section 4.12).
+abbrev pub has_to_name : Role → Note → Bool
+has_to_name Client n = sends_full_auth n
+has_to_name Server n = sends_full_auth n || is_some_and (λ c. c.code == 0) (sent_connack n)
+
+-- the packet that is sent has this Authentication Method
+abbrev pub names_method : Note → List ℕ → Bool
+names_method n method = is_some_and (bytes_eq method) (sent_method n)
 
 -- A CONNACK is heard: something of that type is received, or what can't be cut into packets, which has no type and may be one.
 abbrev pub hears_connack : Note → Bool
@@ -144,3 +167,10 @@ applies_A02 Server k = (sends_auth (note k) && is_some (connect_before Server k)
 unfoldable pub breaks_A02 : Role → Moment → Bool
 breaks_A02 Client k = sends_auth (note k) && lacks_method (connect_before Client k)
 breaks_A02 Server k = (sends_auth (note k) || is_some_and (λ c. c.has_authentication_method) (sent_connack (note k))) && lacks_method (connect_before Server k)
+
+-- A03: whenever an AUTH with more than its fixed header is sent after a CONNECT with an Authentication Method, or by a server an accepting CONNACK, it has that method.
+unfoldable pub applies_A03 : Role → Moment → Bool
+applies_A03 role k = has_to_name role (note k) && is_some (method_before role k)
+
+unfoldable pub breaks_A03 : Role → Moment → Bool
+breaks_A03 role k = has_to_name role (note k) && is_some_and (λ method. not (names_method (note k) method)) (method_before role k)

@@ -84,8 +84,8 @@ connection_after role s n = followed role (begun_if (is_open n) s) n
 -- a packet other than CONNECT, CONNACK and DISCONNECT, and an event at which such a packet was sent or received: of what is kept it
 -- changes only that the tested end has sent something
 abbrev pub is_ordinary_in : PacketFields → Bool
-is_ordinary_in (Connect c) = false
-is_ordinary_in (Connack c) = false
+is_ordinary_in (Connect c method) = false
+is_ordinary_in (Connack c method) = false
 is_ordinary_in (Disconnect d) = false
 is_ordinary_in _ = true
 

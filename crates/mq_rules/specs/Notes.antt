@@ -140,6 +140,10 @@ publish_note direction p = record {
 abbrev pub disconnect_note : ℕ → List Property → DisconnectNote
 disconnect_note code properties = record { code = code; session_expiry = first_four_bytes 17 properties }
 
+-- the Authentication Method of an AUTH or a CONNACK, if it was sent and has one; of one that was received no statement looks at it (MQTT 5.0, section 4.12)
+abbrev pub noted_method : Direction → List Property → Option (List ℕ)
+noted_method direction properties = only (is_sent_direction direction) (first_text 21 properties)
+
 -- of PUBACK, PUBREC, PUBREL and PUBCOMP (MQTT 5.0, sections 3.4 to 3.7)
 abbrev pub acknowledgement_fields : AcknowledgementKind → ℕ → ℕ → PacketFields
 acknowledgement_fields acknowledgements.Puback identifier code = Puback identifier code
@@ -168,8 +172,8 @@ answer_fields direction requests.Unsubscribe identifier codes = Unsuback identif
 
 -- of any packet, by its type (MQTT 5.0, section 2.1.2)
 abbrev pub packet_fields : Direction → Entry → PacketFields
-packet_fields direction (connect fields) = Connect (connect_note fields)
-packet_fields direction (connack session_present code properties) = Connack (connack_note session_present code properties.items)
+packet_fields direction (connect fields) = Connect (connect_note fields) (first_text 21 fields.properties.items)
+packet_fields direction (connack session_present code properties) = Connack (connack_note session_present code properties.items) (noted_method direction properties.items)
 packet_fields direction (publish fields) = Publish (publish_note direction fields)
 packet_fields direction (acknowledgement kind identifier code properties) = acknowledgement_fields kind identifier code
 packet_fields direction (request kind identifier properties filters) = request_fields direction kind identifier properties.items filters
@@ -177,7 +181,7 @@ packet_fields direction (answer kind identifier properties codes) = answer_field
 packet_fields direction pingreq = Pingreq
 packet_fields direction pingresp = Pingresp
 packet_fields direction (disconnect code properties) = Disconnect (disconnect_note code properties.items)
-packet_fields direction (auth code properties) = Auth
+packet_fields direction (auth code properties) = Auth (noted_method direction properties.items)
 
 -- The list in which a Reason String and a User Property are looked for: a packet's own, if it has one (MQTT 5.0, section 2.2.2). That of a PUBLISH isn't: it may have User Properties
 -- whether the client asked for them or not, and never has a Reason String (section 3.1.2.11.7).
@@ -354,8 +358,8 @@ is_broken _ = true
 -- ---- the types of packets (MQTT 5.0, section 2.1.2)
 
 abbrev pub fields_type : PacketFields → PacketType
-fields_type (Connect c) = types.Connect
-fields_type (Connack c) = types.Connack
+fields_type (Connect c method) = types.Connect
+fields_type (Connack c method) = types.Connack
 fields_type (Publish p) = types.Publish
 fields_type (Puback identifier code) = types.Puback
 fields_type (Pubrec identifier code) = types.Pubrec
@@ -368,7 +372,7 @@ fields_type (Unsuback identifier codes) = types.Unsuback
 fields_type Pingreq = types.Pingreq
 fields_type Pingresp = types.Pingresp
 fields_type (Disconnect d) = types.Disconnect
-fields_type Auth = types.Auth
+fields_type (Auth method) = types.Auth
 
 -- The number of an item's type, which is the high four bits of its first byte: bytes that break a rule have one too.
 abbrev pub type_number_in : ItemNote → Option ℕ
@@ -394,11 +398,16 @@ receives_type type note = is_some_and (is_of_type type) (received_item note)
 -- ---- what a packet is, by its type
 
 abbrev pub connect_in : PacketFields → Option ConnectNote
-connect_in (Connect c) = Some c
+connect_in (Connect c method) = Some c
 connect_in _ = None
 
+-- the Authentication Method of a CONNECT: that it has none is known of it too
+abbrev pub connect_method_in : PacketFields → Option (Option (List ℕ))
+connect_method_in (Connect c method) = Some method
+connect_method_in _ = None
+
 abbrev pub connack_in : PacketFields → Option ConnackNote
-connack_in (Connack c) = Some c
+connack_in (Connack c method) = Some c
 connack_in _ = None
 
 abbrev pub publish_in : PacketFields → Option PublishNote
@@ -421,8 +430,14 @@ receipt_code_in (Pubrec identifier code) = Some code
 receipt_code_in _ = None
 
 abbrev pub is_auth : PacketFields → Bool
-is_auth Auth = true
+is_auth (Auth method) = true
 is_auth _ = false
+
+-- the Authentication Method of an AUTH or a CONNACK that was sent, if it has one
+abbrev pub method_in : PacketFields → Option (List ℕ)
+method_in (Auth method) = method
+method_in (Connack c method) = method
+method_in _ = None
 
 abbrev pub sent_publish : Note → Option PublishNote
 sent_publish note = option_and_then publish_in (sent_fields note)
@@ -445,9 +460,17 @@ sent_receipt_code note = option_and_then receipt_code_in (sent_fields note)
 abbrev pub sends_auth : Note → Bool
 sends_auth note = is_some_and is_auth (sent_fields note)
 
+-- the Authentication Method of the AUTH or the CONNACK that is sent, if it has one
+abbrev pub sent_method : Note → Option (List ℕ)
+sent_method note = option_and_then method_in (sent_fields note)
+
 -- the client's CONNECT and DISCONNECT, and the server's CONNACK: one from the wrong end doesn't count
 abbrev pub connect_of : Role → Note → Option ConnectNote
 connect_of role note = option_and_then connect_in (from_client role note)
+
+-- the Authentication Method of the client's CONNECT
+abbrev pub connect_method : Role → Note → Option (Option (List ℕ))
+connect_method role note = option_and_then connect_method_in (from_client role note)
 
 abbrev pub connack_of : Role → Note → Option ConnackNote
 connack_of role note = option_and_then connack_in (from_server role note)
@@ -662,11 +685,11 @@ needs_session note = is_release note || (is_some_and is_session_packet (sent_fie
 
 -- ---- memory
 
--- The note has a text or a list of its own, which takes memory: the Topic Name of a PUBLISH that was sent, the Topic Filters of a SUBSCRIBE that was received, or the
--- Reason Codes of a SUBACK that was sent.
+-- The note has a text or a list of its own, which takes memory: the Topic Name of a PUBLISH that was sent, the Topic Filters of a SUBSCRIBE that was received, the Reason
+-- Codes of a SUBACK that was sent, or the Authentication Method of a CONNECT, or of an AUTH or a CONNACK that was sent.
 abbrev pub keeps_text : PacketFields → Bool
-keeps_text (Connect c) = false
-keeps_text (Connack c) = false
+keeps_text (Connect c method) = is_some method
+keeps_text (Connack c method) = is_some method
 keeps_text (Publish p) = not (length p.topic == 0)
 keeps_text (Puback identifier code) = false
 keeps_text (Pubrec identifier code) = false
@@ -679,7 +702,7 @@ keeps_text (Unsuback identifier codes) = false
 keeps_text Pingreq = false
 keeps_text Pingresp = false
 keeps_text (Disconnect d) = false
-keeps_text Auth = false
+keeps_text (Auth method) = is_some method
 
 abbrev pub item_keeps_text : ItemNote → Bool
 item_keeps_text item = is_some_and (λ p. keeps_text p.fields) (packet_in item)

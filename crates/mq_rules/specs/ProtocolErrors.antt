@@ -42,7 +42,7 @@ was_set_before k alias = came_before receives_broken_publish k || came_before (Î
 
 -- a packet that only a server sends (MQTT 5.0, section 2.1.2)
 abbrev pub is_of_servers : PacketFields â†’ Bool
-is_of_servers (Connack c) = true
+is_of_servers (Connack c method) = true
 is_of_servers (Suback identifier codes) = true
 is_of_servers (Unsuback identifier codes) = true
 is_of_servers Pingresp = true

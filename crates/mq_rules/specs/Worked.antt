@@ -12,7 +12,7 @@ use Rattle.mq_rules.specs.declared.note.ItemNote.TheVariants as items
 use Rattle.mq_rules.specs.declared.note.Seen.{Seen}
 use Rattle.mq_rules.specs.declared.packet_note.PacketNote.{PacketNote}
 use Rattle.mq_rules.specs.declared.packet_note.PacketFields.{PacketFields}
-use Rattle.mq_rules.specs.declared.packet_note.PacketFields.TheVariants.{Connect, Connack, Publish, Subscribe, Disconnect}
+use Rattle.mq_rules.specs.declared.packet_note.PacketFields.TheVariants.{Connect, Connack, Publish, Subscribe, Disconnect, Auth}
 use Rattle.mq_rules.specs.declared.packet_note.ConnectNote.{ConnectNote}
 use Rattle.mq_rules.specs.Statements.{fails}
 use Rattle.mq_rules.specs.Wishes.{nothing_wished}
@@ -113,36 +113,43 @@ connect_with clean expiry = record { clean_start = clean; is_unnamed = false; se
 
 -- a session that is begun and kept for a minute; one that is asked for again; one that ends with its connection
 abbrev pub lasting : PacketFields
-lasting = Connect (connect_with true (Some 60))
+lasting = Connect (connect_with true (Some 60)) None
 
 abbrev pub again : PacketFields
-again = Connect (connect_with false (Some 60))
+again = Connect (connect_with false (Some 60)) None
 
 abbrev pub fleeting : PacketFields
-fleeting = Connect (connect_with true None)
+fleeting = Connect (connect_with true None) None
 
 -- of a client without an identifier
 abbrev pub unnamed : PacketFields
-unnamed = Connect (record { clean_start = true; is_unnamed = true; session_expiry = None; request_problem_information = None; request_response_information = None; receive_maximum = None; topic_alias_maximum = None; maximum_packet_size = None; will = None; has_authentication_method = false })
+unnamed = Connect (record { clean_start = true; is_unnamed = true; session_expiry = None; request_problem_information = None; request_response_information = None; receive_maximum = None; topic_alias_maximum = None; maximum_packet_size = None; will = None; has_authentication_method = false }) None
 
 -- of a client that asks for these: Request Problem Information, Request Response Information, Receive Maximum, Topic Alias Maximum, Maximum Packet Size
 abbrev pub asking : Option ℕ → Option ℕ → Option ℕ → Option ℕ → Option ℕ → PacketFields
-asking problem response receive aliases size = Connect (record { clean_start = true; is_unnamed = false; session_expiry = Some 60; request_problem_information = problem; request_response_information = response; receive_maximum = receive; topic_alias_maximum = aliases; maximum_packet_size = size; will = None; has_authentication_method = false })
+asking problem response receive aliases size = Connect (record { clean_start = true; is_unnamed = false; session_expiry = Some 60; request_problem_information = problem; request_response_information = response; receive_maximum = receive; topic_alias_maximum = aliases; maximum_packet_size = size; will = None; has_authentication_method = false }) None
 
 -- of one that asks for its session again, with this Maximum Packet Size
 abbrev pub asking_again : Option ℕ → PacketFields
-asking_again size = Connect (record { clean_start = false; is_unnamed = false; session_expiry = Some 60; request_problem_information = None; request_response_information = None; receive_maximum = None; topic_alias_maximum = None; maximum_packet_size = size; will = None; has_authentication_method = false })
+asking_again size = Connect (record { clean_start = false; is_unnamed = false; session_expiry = Some 60; request_problem_information = None; request_response_information = None; receive_maximum = None; topic_alias_maximum = None; maximum_packet_size = size; will = None; has_authentication_method = false }) None
+
+-- an Authentication Method, and another
+abbrev pub one_method : List ℕ
+one_method = 97 ∷ []
+
+abbrev pub other_method : List ℕ
+other_method = 98 ∷ []
 
 -- of a client with this Will, and one with an Authentication Method
 abbrev pub with_will : Qos → Bool → PacketFields
-with_will qos retain = Connect (record { clean_start = true; is_unnamed = false; session_expiry = Some 60; request_problem_information = None; request_response_information = None; receive_maximum = None; topic_alias_maximum = None; maximum_packet_size = None; will = Some (record { qos = qos; retain = retain }); has_authentication_method = false })
+with_will qos retain = Connect (record { clean_start = true; is_unnamed = false; session_expiry = Some 60; request_problem_information = None; request_response_information = None; receive_maximum = None; topic_alias_maximum = None; maximum_packet_size = None; will = Some (record { qos = qos; retain = retain }); has_authentication_method = false }) None
 
 abbrev pub with_method : PacketFields
-with_method = Connect (record { clean_start = true; is_unnamed = false; session_expiry = Some 60; request_problem_information = None; request_response_information = None; receive_maximum = None; topic_alias_maximum = None; maximum_packet_size = None; will = None; has_authentication_method = true })
+with_method = Connect (record { clean_start = true; is_unnamed = false; session_expiry = Some 60; request_problem_information = None; request_response_information = None; receive_maximum = None; topic_alias_maximum = None; maximum_packet_size = None; will = None; has_authentication_method = true }) (Some one_method)
 
 -- with Session Present or not, and this Reason Code
 abbrev pub connack_with : Bool → ℕ → PacketFields
-connack_with present code = Connack (record { session_present = present; code = code; session_expiry = None; receive_maximum = None; topic_alias_maximum = None; maximum_qos = None; retain_available = None; wildcard_subscription_available = None; subscription_identifier_available = None; shared_subscription_available = None; maximum_packet_size = None; has_assigned_identifier = false; has_response_information = false; has_authentication_method = false })
+connack_with present code = Connack (record { session_present = present; code = code; session_expiry = None; receive_maximum = None; topic_alias_maximum = None; maximum_qos = None; retain_available = None; wildcard_subscription_available = None; subscription_identifier_available = None; shared_subscription_available = None; maximum_packet_size = None; has_assigned_identifier = false; has_response_information = false; has_authentication_method = false }) None
 
 abbrev pub accepting : PacketFields
 accepting = connack_with false 0
@@ -156,29 +163,40 @@ refusing = connack_with false 135
 
 -- with these: Session Present, Receive Maximum, Topic Alias Maximum, Maximum QoS, Maximum Packet Size
 abbrev pub limiting : Bool → Option ℕ → Option ℕ → Option ℕ → Option ℕ → PacketFields
-limiting present receive aliases qos size = Connack (record { session_present = present; code = 0; session_expiry = None; receive_maximum = receive; topic_alias_maximum = aliases; maximum_qos = qos; retain_available = None; wildcard_subscription_available = None; subscription_identifier_available = None; shared_subscription_available = None; maximum_packet_size = size; has_assigned_identifier = false; has_response_information = false; has_authentication_method = false })
+limiting present receive aliases qos size = Connack (record { session_present = present; code = 0; session_expiry = None; receive_maximum = receive; topic_alias_maximum = aliases; maximum_qos = qos; retain_available = None; wildcard_subscription_available = None; subscription_identifier_available = None; shared_subscription_available = None; maximum_packet_size = size; has_assigned_identifier = false; has_response_information = false; has_authentication_method = false }) None
 
 -- with Session Present, and this Retain Available
 abbrev pub retaining : Option ℕ → PacketFields
-retaining available = Connack (record { session_present = true; code = 0; session_expiry = None; receive_maximum = None; topic_alias_maximum = None; maximum_qos = None; retain_available = available; wildcard_subscription_available = None; subscription_identifier_available = None; shared_subscription_available = None; maximum_packet_size = None; has_assigned_identifier = false; has_response_information = false; has_authentication_method = false })
+retaining available = Connack (record { session_present = true; code = 0; session_expiry = None; receive_maximum = None; topic_alias_maximum = None; maximum_qos = None; retain_available = available; wildcard_subscription_available = None; subscription_identifier_available = None; shared_subscription_available = None; maximum_packet_size = None; has_assigned_identifier = false; has_response_information = false; has_authentication_method = false }) None
 
 -- with an Assigned Client Identifier, and with Response Information
 abbrev pub assigning : PacketFields
-assigning = Connack (record { session_present = false; code = 0; session_expiry = None; receive_maximum = None; topic_alias_maximum = None; maximum_qos = None; retain_available = None; wildcard_subscription_available = None; subscription_identifier_available = None; shared_subscription_available = None; maximum_packet_size = None; has_assigned_identifier = true; has_response_information = false; has_authentication_method = false })
+assigning = Connack (record { session_present = false; code = 0; session_expiry = None; receive_maximum = None; topic_alias_maximum = None; maximum_qos = None; retain_available = None; wildcard_subscription_available = None; subscription_identifier_available = None; shared_subscription_available = None; maximum_packet_size = None; has_assigned_identifier = true; has_response_information = false; has_authentication_method = false }) None
 
 abbrev pub informing : PacketFields
-informing = Connack (record { session_present = false; code = 0; session_expiry = None; receive_maximum = None; topic_alias_maximum = None; maximum_qos = None; retain_available = None; wildcard_subscription_available = None; subscription_identifier_available = None; shared_subscription_available = None; maximum_packet_size = None; has_assigned_identifier = false; has_response_information = true; has_authentication_method = false })
+informing = Connack (record { session_present = false; code = 0; session_expiry = None; receive_maximum = None; topic_alias_maximum = None; maximum_qos = None; retain_available = None; wildcard_subscription_available = None; subscription_identifier_available = None; shared_subscription_available = None; maximum_packet_size = None; has_assigned_identifier = false; has_response_information = true; has_authentication_method = false }) None
 
 -- with this Reason Code, Maximum QoS and Retain Available; and with an Authentication Method
 abbrev pub announcing : ℕ → Option ℕ → Option ℕ → PacketFields
-announcing code qos retain = Connack (record { session_present = false; code = code; session_expiry = None; receive_maximum = None; topic_alias_maximum = None; maximum_qos = qos; retain_available = retain; wildcard_subscription_available = None; subscription_identifier_available = None; shared_subscription_available = None; maximum_packet_size = None; has_assigned_identifier = false; has_response_information = false; has_authentication_method = false })
+announcing code qos retain = Connack (record { session_present = false; code = code; session_expiry = None; receive_maximum = None; topic_alias_maximum = None; maximum_qos = qos; retain_available = retain; wildcard_subscription_available = None; subscription_identifier_available = None; shared_subscription_available = None; maximum_packet_size = None; has_assigned_identifier = false; has_response_information = false; has_authentication_method = false }) None
 
 -- with these of 0 or 1: Retain Available, Wildcard Subscription Available, Subscription Identifier Available and Shared Subscription Available
 abbrev pub lacking : Option ℕ → Option ℕ → Option ℕ → Option ℕ → PacketFields
-lacking retain wildcards identifiers shares = Connack (record { session_present = false; code = 0; session_expiry = None; receive_maximum = None; topic_alias_maximum = None; maximum_qos = None; retain_available = retain; wildcard_subscription_available = wildcards; subscription_identifier_available = identifiers; shared_subscription_available = shares; maximum_packet_size = None; has_assigned_identifier = false; has_response_information = false; has_authentication_method = false })
+lacking retain wildcards identifiers shares = Connack (record { session_present = false; code = 0; session_expiry = None; receive_maximum = None; topic_alias_maximum = None; maximum_qos = None; retain_available = retain; wildcard_subscription_available = wildcards; subscription_identifier_available = identifiers; shared_subscription_available = shares; maximum_packet_size = None; has_assigned_identifier = false; has_response_information = false; has_authentication_method = false }) None
 
 abbrev pub naming_method : PacketFields
-naming_method = Connack (record { session_present = false; code = 0; session_expiry = None; receive_maximum = None; topic_alias_maximum = None; maximum_qos = None; retain_available = None; wildcard_subscription_available = None; subscription_identifier_available = None; shared_subscription_available = None; maximum_packet_size = None; has_assigned_identifier = false; has_response_information = false; has_authentication_method = true })
+naming_method = Connack (record { session_present = false; code = 0; session_expiry = None; receive_maximum = None; topic_alias_maximum = None; maximum_qos = None; retain_available = None; wildcard_subscription_available = None; subscription_identifier_available = None; shared_subscription_available = None; maximum_packet_size = None; has_assigned_identifier = false; has_response_information = false; has_authentication_method = true }) (Some one_method)
+
+-- with another method
+abbrev pub naming_other : PacketFields
+naming_other = Connack (record { session_present = false; code = 0; session_expiry = None; receive_maximum = None; topic_alias_maximum = None; maximum_qos = None; retain_available = None; wildcard_subscription_available = None; subscription_identifier_available = None; shared_subscription_available = None; maximum_packet_size = None; has_assigned_identifier = false; has_response_information = false; has_authentication_method = true }) (Some other_method)
+
+-- an AUTH with no Authentication Method, and with this one
+abbrev pub auth_alone : PacketFields
+auth_alone = Auth None
+
+abbrev pub auth_by : List ℕ → PacketFields
+auth_by method = Auth (Some method)
 
 -- a DISCONNECT with this Session Expiry Interval
 abbrev pub leaving : Option ℕ → PacketFields

@@ -185,7 +185,7 @@ pub fn is_ordinary(fields: &PacketFields) -> bool
 {
     !matches!(
         fields,
-        PacketFields::Connect(_) | PacketFields::Connack(_) | PacketFields::Disconnect(_)
+        PacketFields::Connect { .. } | PacketFields::Connack { .. } | PacketFields::Disconnect(_)
     )
 }
 

@@ -2,8 +2,8 @@
 //! they were read from.
 //!
 //! Memory is taken only for a text that some statement looks at: the Topic Name of a PUBLISH that
-//! was sent, the Topic Filters of a SUBSCRIBE that was received, and the Reason Codes of a SUBACK
-//! that was sent.
+//! was sent, the Topic Filters of a SUBSCRIBE that was received, the Reason Codes of a SUBACK that
+//! was sent, and the Authentication Method of a CONNECT, or of an AUTH or a CONNACK that was sent.
 ghost use Rattle.std.specs.Prelude.{◌≡◌, ◌&&◌, ◌<◌, ◌≤◌, [], true, false, None, is_some, length, slice_index, option_map, unwrap_or, IfOk, OnErr};
 ghost use Rattle.mq_props.specs.First.{first_two_bytes, first_four_bytes, first_varint, first_text, first_pair};
 ghost use Rattle.mq_packet.specs.declared.packet.RequestKind.TheVariants as requests;
@@ -14,9 +14,10 @@ ghost use Rattle.mq_log.specs.Events.{packet, packet as packet_item};
 ghost use Rattle.mq_log.specs.Flows.{item_event};
 ghost use Rattle.mq_log.specs.Reception.{item_of, event_of};
 ghost use Rattle.mq_rules.specs.declared.packet_note.PacketFields.TheVariants as fields;
-ghost use Rattle.mq_rules.specs.Notes.{only_list, is_sent_direction, begins_acknowledged, cuts_acknowledged, will_note, connect_note, connack_note, publish_note, disconnect_note, wishes_note, packet_fields, explaining_list, uses_alias, expires_if_received, packet_note, item_note, note_of, request_fields, answer_fields, keeps_text, item_keeps_text, note_keeps_text};
+ghost use Rattle.mq_rules.specs.Notes.{only_list, is_sent_direction, begins_acknowledged, cuts_acknowledged, will_note, connect_note, connack_note, publish_note, disconnect_note, wishes_note, packet_fields, explaining_list, uses_alias, expires_if_received, packet_note, item_note, note_of, request_fields, answer_fields, noted_method, keeps_text, item_keeps_text, note_keeps_text};
 
 use crate::faults::Memory;
+use crate::method::Method;
 use crate::note::{ItemNote, Note};
 use crate::packet_note::{
     ConnackNote, ConnectNote, DisconnectNote, PacketFields, PacketNote, PublishNote, WillNote,
@@ -260,6 +261,62 @@ impl PublishNote {
     }
 }
 
+// The Authentication Method, if its packet was sent and has one.
+fn noted_method(
+    alloc: Global,
+    direction: Direction,
+    properties: &Props<'_>,
+) -> Result<Method, Memory>
+    ensures exact { IfOk result (λ method. method ≡ noted_method direction properties.now.items) }
+    ensures needed { OnErr result (is_some (noted_method direction properties.now.items) ≡ true) }
+{
+    match direction {
+        Direction::Sent => Method::of(alloc, properties.get_authentication_method()),
+        Direction::Recv => Ok(Method::none()),
+    }
+}
+
+// What the statements look at in this CONNECT, whichever way it went.
+fn connect_fields(alloc: Global, connect: &Connect<'_>) -> Result<PacketFields, Memory>
+    ensures exact { IfOk result (λ made. made ≡ fields.Connect (connect_note (connect_view connect.now)) (first_text 21 connect.now.properties.items)) }
+    ensures needed { OnErr result (is_some (first_text 21 connect.now.properties.items) ≡ true) }
+{
+    let method = Method::of(alloc, connect.properties.get_authentication_method())?;
+    Ok(PacketFields::Connect {
+        note: ConnectNote::of(connect),
+        method,
+    })
+}
+
+// What the statements look at in this CONNACK, which went this way.
+fn connack_fields(
+    alloc: Global,
+    direction: Direction,
+    connack: &Connack<'_>,
+) -> Result<PacketFields, Memory>
+    ensures exact { IfOk result (λ made. made ≡ fields.Connack (connack_note connack.now.session_present connack.now.code connack.now.properties.items) (noted_method direction connack.now.properties.items)) }
+    ensures needed { OnErr result (is_some (noted_method direction connack.now.properties.items) ≡ true) }
+{
+    let method = noted_method(alloc, direction, &connack.properties)?;
+    Ok(PacketFields::Connack {
+        note: ConnackNote::of(connack),
+        method,
+    })
+}
+
+// What the statements look at in this AUTH, which went this way.
+fn auth_fields(
+    alloc: Global,
+    direction: Direction,
+    auth: &ReasonPacket<'_>,
+) -> Result<PacketFields, Memory>
+    ensures exact { IfOk result (λ made. made ≡ fields.Auth (noted_method direction auth.now.properties.items)) }
+    ensures needed { OnErr result (is_some (noted_method direction auth.now.properties.items) ≡ true) }
+{
+    let method = noted_method(alloc, direction, &auth.properties)?;
+    Ok(PacketFields::Auth { method })
+}
+
 // What a SUBSCRIBE asks for.
 fn wishes_in(request: &Request<'_>) -> WishesNote
     ensures { result ≡ wishes_note request.now.properties.items request.now.filters }
@@ -365,8 +422,8 @@ impl PacketFields {
             }),
             Packet::Pingreq => Ok(PacketFields::Pingreq),
             Packet::Pingresp => Ok(PacketFields::Pingresp),
-            Packet::Connect(connect) => Ok(PacketFields::Connect(ConnectNote::of(connect))),
-            Packet::Connack(connack) => Ok(PacketFields::Connack(ConnackNote::of(connack))),
+            Packet::Connect(connect) => connect_fields(alloc, connect),
+            Packet::Connack(connack) => connack_fields(alloc, direction, connack),
             Packet::Subscribe(request) => subscribe_fields(alloc, direction, request),
             Packet::Suback(answer) => suback_fields(
                 alloc,
@@ -379,7 +436,7 @@ impl PacketFields {
             Packet::Disconnect(disconnect) => {
                 Ok(PacketFields::Disconnect(DisconnectNote::of(disconnect)))
             }
-            Packet::Auth(_) => Ok(PacketFields::Auth),
+            Packet::Auth(auth) => auth_fields(alloc, direction, auth),
         }
     }
 }
@@ -515,8 +572,9 @@ impl Note {
     /// # Errors
     ///
     /// `Memory` if there is no memory for a text that is kept: the Topic Name of a PUBLISH that was
-    /// sent, the Topic Filters of a SUBSCRIBE that was received, or the Reason Codes of a SUBACK
-    /// that was sent. Any other event takes no memory.
+    /// sent, the Topic Filters of a SUBSCRIBE that was received, the Reason Codes of a SUBACK that
+    /// was sent, or the Authentication Method of a CONNECT, or of an AUTH or a CONNACK that was
+    /// sent. Any other event takes no memory.
     #[inline(always)]
     pub fn of(alloc: Global, event: &Event<'_>) -> Result<Note, Memory>
         ensures exact { IfOk result (λ note. note ≡ note_of (event_of event.now)) }

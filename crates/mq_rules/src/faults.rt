@@ -156,7 +156,7 @@ impl Faults {
         };
         let last = FaultKey {
             position,
-            rule: Rule::A02,
+            rule: Rule::A03,
         };
         self.found.range(first..=last)
     }

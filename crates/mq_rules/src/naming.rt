@@ -143,6 +143,8 @@ impl Rule {
                 "A client that uses an Authentication Method sends only AUTH and DISCONNECT before a CONNACK was received.",
             Rule::A02 =>
                 "Without an Authentication Method in CONNECT there is no enhanced authentication.",
+            Rule::A03 =>
+                "AUTH and an accepting CONNACK have the Authentication Method of the CONNECT.",
         }
     }
 

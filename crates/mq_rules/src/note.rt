@@ -7,6 +7,7 @@ ghost use Rattle.mq_rules.specs.declared.role.Role.TheVariants as roles;
 ghost use Rattle.mq_rules.specs.Identifiers.{taken_by};
 
 use crate::fate::Fate;
+use crate::method::Method;
 use crate::packet_note::{
     ConnackNote, ConnectNote, DisconnectNote, PacketFields, PacketNote, PublishNote, WishesNote,
 };
@@ -385,6 +386,23 @@ impl Note {
         ensures { option_map (λ connect. connect.now) result ≡ notes.connect_of role self.now }
     {
         self.from_client(role)?.connect()
+    }
+
+    /// The Authentication Method of the CONNECT, if that is from the client; the tested end has this
+    /// role.
+    #[inline]
+    pub fn connect_method(&self, role: Role) -> Option<&Method>
+        ensures { option_map (λ method. method.now) result ≡ notes.connect_method role self.now }
+    {
+        self.from_client(role)?.connect_method()
+    }
+
+    /// The Authentication Method of the AUTH or the CONNACK that the tested end sent, if it has one.
+    #[inline]
+    pub fn sent_method(&self) -> Option<&str>
+        ensures { option_map (λ method. method.now) result ≡ notes.sent_method self.now }
+    {
+        self.sent_fields()?.method()
     }
 
     /// The CONNACK, if it is from the server; the tested end has this role.

@@ -32,8 +32,14 @@ fn copy_fields(alloc: Global, fields: &PacketFields) -> Result<PacketFields, Mem
     ensures needed { OnErr result (fields_own fields.now) }
 {
     Ok(match fields {
-        PacketFields::Connect(connect) => PacketFields::Connect(*connect),
-        PacketFields::Connack(connack) => PacketFields::Connack(*connack),
+        PacketFields::Connect { note, method } => PacketFields::Connect {
+            note: *note,
+            method: method.copy(alloc)?,
+        },
+        PacketFields::Connack { note, method } => PacketFields::Connack {
+            note: *note,
+            method: method.copy(alloc)?,
+        },
         PacketFields::Publish(publish) => PacketFields::Publish(copy_publish(alloc, publish)?),
         &PacketFields::Puback { identifier, code } => PacketFields::Puback { identifier, code },
         &PacketFields::Pubrec { identifier, code } => PacketFields::Pubrec { identifier, code },
@@ -66,7 +72,9 @@ fn copy_fields(alloc: Global, fields: &PacketFields) -> Result<PacketFields, Mem
         PacketFields::Pingreq => PacketFields::Pingreq,
         PacketFields::Pingresp => PacketFields::Pingresp,
         PacketFields::Disconnect(note) => PacketFields::Disconnect(*note),
-        PacketFields::Auth => PacketFields::Auth,
+        PacketFields::Auth { method } => PacketFields::Auth {
+            method: method.copy(alloc)?,
+        },
     })
 }
 
@@ -99,8 +107,8 @@ impl Note {
     ///
     /// # Errors
     ///
-    /// `Memory` if there is no memory for them. A note that has no filters or Reason Codes, and no
-    /// Topic Name of more than 30 bytes, needs none.
+    /// `Memory` if there is no memory for them. A note that has no filters, Reason Codes or
+    /// Authentication Method, and no Topic Name of more than 30 bytes, needs none.
     pub fn copy(&self, alloc: Global) -> Result<Note, Memory>
         ensures exact { IfOk result (λ copy. copy ≡ self.now) }
         ensures needed { OnErr result (note_owns self.now) }

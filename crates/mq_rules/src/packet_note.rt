@@ -2,9 +2,10 @@
 ghost use Rattle.std.specs.Prelude.{◌≡◌, ◌==◌, option_map, not, Some};
 ghost use Rattle.std.specs.Option.{option_and_then, option_or};
 ghost use Rattle.mq_rules.specs.Words.{only};
-ghost use Rattle.mq_rules.specs.Notes.{fate_by, resumed_by, refuses as is_refusing, is_acknowledged, delivery_in, opener_in, resend_in, is_at_least_once, is_exactly_once, fields_type, connect_in, connack_in, publish_in, disconnect_in, wishes_in, receipt_code_in, puback_in, pubrec_in, accepting_pubrec_in, pubrel_in, pubcomp_in, subscribe_in, suback_in, unsubscribe_in, unsuback_in, settled_in, ended_in, unmatched_pubrec_in, success_pubcomp_in, is_pingreq as pings, is_pingresp as answers_ping, is_session_packet as needs_a_session, may_explain as explains};
+ghost use Rattle.mq_rules.specs.Notes.{fate_by, resumed_by, refuses as is_refusing, is_acknowledged, delivery_in, opener_in, resend_in, is_at_least_once, is_exactly_once, fields_type, connect_in, connect_method_in, method_in, is_auth as authenticates, connack_in, publish_in, disconnect_in, wishes_in, receipt_code_in, puback_in, pubrec_in, accepting_pubrec_in, pubrel_in, pubcomp_in, subscribe_in, suback_in, unsubscribe_in, unsuback_in, settled_in, ended_in, unmatched_pubrec_in, success_pubcomp_in, is_pingreq as pings, is_pingresp as answers_ping, is_session_packet as needs_a_session, may_explain as explains};
 
 use crate::fate::Fate;
+use crate::method::Method;
 use crate::text::{CodeList, FilterList, Text};
 use mq_packet::{PacketType, Qos};
 
@@ -136,9 +137,20 @@ pub struct WishesNote {
 #[derive(Debug, Drop)]
 pub enum PacketFields {
     /// CONNECT.
-    Connect(ConnectNote),
+    Connect {
+        /// What the statements look at in it, but for its Authentication Method.
+        note: ConnectNote,
+        /// Its Authentication Method.
+        method: Method,
+    },
     /// CONNACK.
-    Connack(ConnackNote),
+    Connack {
+        /// What the statements look at in it, but for its Authentication Method.
+        note: ConnackNote,
+        /// The Authentication Method of a CONNACK that the tested end sent. There is none for one
+        /// that the tested end received, since no statement looks at it.
+        method: Method,
+    },
     /// PUBLISH.
     Publish(PublishNote),
     /// PUBACK.
@@ -208,7 +220,11 @@ pub enum PacketFields {
     /// DISCONNECT.
     Disconnect(DisconnectNote),
     /// AUTH.
-    Auth,
+    Auth {
+        /// The Authentication Method of an AUTH that the tested end sent. There is none for one that
+        /// the tested end received, since no statement looks at it.
+        method: Method,
+    },
 }
 
 /// What the statements look at in a packet.
@@ -378,8 +394,8 @@ impl PacketFields {
         ensures { result ≡ fields_type self.now }
     {
         match self {
-            PacketFields::Connect(_) => PacketType::Connect,
-            PacketFields::Connack(_) => PacketType::Connack,
+            PacketFields::Connect { .. } => PacketType::Connect,
+            PacketFields::Connack { .. } => PacketType::Connack,
             PacketFields::Publish(_) => PacketType::Publish,
             PacketFields::Puback { .. } => PacketType::Puback,
             PacketFields::Pubrec { .. } => PacketType::Pubrec,
@@ -392,7 +408,7 @@ impl PacketFields {
             PacketFields::Pingreq => PacketType::Pingreq,
             PacketFields::Pingresp => PacketType::Pingresp,
             PacketFields::Disconnect(_) => PacketType::Disconnect,
-            PacketFields::Auth => PacketType::Auth,
+            PacketFields::Auth { .. } => PacketType::Auth,
         }
     }
 
@@ -402,7 +418,7 @@ impl PacketFields {
         ensures { option_map (λ note. note.now) result ≡ connect_in self.now }
     {
         match self {
-            PacketFields::Connect(note) => Some(note),
+            PacketFields::Connect { note, .. } => Some(note),
             _ => None,
         }
     }
@@ -413,9 +429,39 @@ impl PacketFields {
         ensures { option_map (λ note. note.now) result ≡ connack_in self.now }
     {
         match self {
-            PacketFields::Connack(note) => Some(note),
+            PacketFields::Connack { note, .. } => Some(note),
             _ => None,
         }
+    }
+
+    /// The Authentication Method of a CONNECT, if it has one.
+    #[inline]
+    pub fn connect_method(&self) -> Option<&Method>
+        ensures { option_map (λ method. method.now) result ≡ connect_method_in self.now }
+    {
+        match self {
+            PacketFields::Connect { method, .. } => Some(method),
+            _ => None,
+        }
+    }
+
+    /// The Authentication Method of an AUTH or of a CONNACK that was sent, if it has one.
+    #[inline]
+    pub fn method(&self) -> Option<&str>
+        ensures { option_map (λ method. method.now) result ≡ method_in self.now }
+    {
+        match self {
+            PacketFields::Auth { method } | PacketFields::Connack { method, .. } => method.as_str(),
+            _ => None,
+        }
+    }
+
+    /// Whether it is an AUTH.
+    #[inline]
+    pub fn is_auth(&self) -> bool
+        ensures { result ≡ authenticates self.now }
+    {
+        matches!(self, PacketFields::Auth { .. })
     }
 
     /// What is noted of a PUBLISH.
@@ -650,12 +696,12 @@ impl PacketFields {
     {
         !matches!(
             self,
-            PacketFields::Connect(_)
-                | PacketFields::Connack(_)
+            PacketFields::Connect { .. }
+                | PacketFields::Connack { .. }
                 | PacketFields::Pingreq
                 | PacketFields::Pingresp
                 | PacketFields::Disconnect(_)
-                | PacketFields::Auth
+                | PacketFields::Auth { .. }
         )
     }
 
@@ -667,7 +713,7 @@ impl PacketFields {
     {
         matches!(
             self,
-            PacketFields::Publish(_) | PacketFields::Connack(_) | PacketFields::Disconnect(_)
+            PacketFields::Publish(_) | PacketFields::Connack { .. } | PacketFields::Disconnect(_)
         )
     }
 }

@@ -37,7 +37,7 @@ pub enum Judged {
 pub type Row = (Rule, &'static str, Ends, &'static str, &'static str, Judged);
 
 /// Each statement's row, in the order of reports.
-pub const TABLE: [Row; 91] = [
+pub const TABLE: [Row; 92] = [
     (W01, "W01", Both, "MQTT-2.1.3-1", "MQTT-2.1.3-1", Always),
     (W02, "W02", Both, "sec-2.1.2", "sec-2.1.2", Always),
     (W03, "W03", Both, "MQTT-1.5.5-1", "MQTT-1.5.5-1", Always),
@@ -178,10 +178,18 @@ pub const TABLE: [Row; 91] = [
         "MQTT-4.12.0-6",
         OnRequest,
     ),
+    (
+        A03,
+        "A03",
+        Both,
+        "MQTT-4.12.0-5,MQTT-4.12.1-1",
+        "MQTT-4.12.0-5",
+        OnRequest,
+    ),
 ];
 
 /// The statements, in the order of reports.
-const RULES: [Rule; 91] = [
+const RULES: [Rule; 92] = [
     Rule::W01,
     Rule::W02,
     Rule::W03,
@@ -273,6 +281,7 @@ const RULES: [Rule; 91] = [
     Rule::D05,
     Rule::A01,
     Rule::A02,
+    Rule::A03,
 ];
 
 // The row of a statement among these, if it has one.

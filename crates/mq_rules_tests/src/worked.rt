@@ -4,10 +4,10 @@
 ghost use Rattle.std.specs.Prelude.{◌≡◌, ◌∷◌, [], true, false, Some, None};
 ghost use Rattle.mq_packet.specs.declared.packet.Qos.TheVariants as quality;
 ghost use Rattle.mq_packet.specs.declared.rule.PacketRule.TheVariants as packets;
-ghost use Rattle.mq_rules.specs.declared.rule.Rule.TheVariants.{W01, W02, W03, W04, W05, W06, W07, W08, W09, W10, W11, W12, W13, W14, W15, W16, W17, W18, W19, W20, W21, C01, C02, C03, C04, C05, C06, C07, C08, C09, C10, C11, C12, C13, C14, C15, C16, C17, C18, C19, C20, C21, C22, C23, S01, S02, S03, S04, S05, S06, S07, E1A, E1R, E1O, E2A, E2R, E2O, E3A, E3R, E3O, E4A, E4R, E5A, E5R, E6A, E6R, E7R, L1, L2, L3, B01, B02, B03, B04, B05, F01, F02, F03, F04, F05, F06, V03, V04, V06, C24, D01, D02, D03, D05, A01, A02};
+ghost use Rattle.mq_rules.specs.declared.rule.Rule.TheVariants.{W01, W02, W03, W04, W05, W06, W07, W08, W09, W10, W11, W12, W13, W14, W15, W16, W17, W18, W19, W20, W21, C01, C02, C03, C04, C05, C06, C07, C08, C09, C10, C11, C12, C13, C14, C15, C16, C17, C18, C19, C20, C21, C22, C23, S01, S02, S03, S04, S05, S06, S07, E1A, E1R, E1O, E2A, E2R, E2O, E3A, E3R, E3O, E4A, E4R, E5A, E5R, E6A, E6R, E7R, L1, L2, L3, B01, B02, B03, B04, B05, F01, F02, F03, F04, F05, F06, V03, V04, V06, C24, D01, D02, D03, D05, A01, A02, A03};
 ghost use Rattle.mq_rules.specs.declared.note.Note.TheVariants.{Open, Rest, Release};
-ghost use Rattle.mq_rules.specs.declared.packet_note.PacketFields.TheVariants.{Puback, Pubrec, Pubrel, Pubcomp, Suback, Unsubscribe, Unsuback, Pingreq, Pingresp, Auth};
-ghost use Rattle.mq_rules.specs.Worked.{client, client_unrecorded, server, failing, Close, Cut, sends, gets, sends_sized, sends_explained, sends_bad, gets_bad, sends_lost, gets_lost, lasting, again, fleeting, unnamed, asking, connack_with, accepting, resuming, refusing, limiting, retaining, assigning, informing, leaving, at_most_once, once, exactly, retained_once, retained_exactly, expiring, aliased, subscribed, asks_a, asks_b, asks_both, asking_again, client_asked, server_asked, with_will, with_method, announcing, naming_method, lacking, leaving_by, retained_at_most_once, retained_again, asks_plainly, asks_widely, asks_identified, asks_to_share, asks_misnamed, asks_no_local};
+ghost use Rattle.mq_rules.specs.declared.packet_note.PacketFields.TheVariants.{Puback, Pubrec, Pubrel, Pubcomp, Suback, Unsubscribe, Unsuback, Pingreq, Pingresp};
+ghost use Rattle.mq_rules.specs.Worked.{client, client_unrecorded, server, failing, Close, Cut, sends, gets, sends_sized, sends_explained, sends_bad, gets_bad, sends_lost, gets_lost, lasting, again, fleeting, unnamed, asking, connack_with, accepting, resuming, refusing, limiting, retaining, assigning, informing, leaving, at_most_once, once, exactly, retained_once, retained_exactly, expiring, aliased, subscribed, asks_a, asks_b, asks_both, asking_again, client_asked, server_asked, with_will, with_method, announcing, naming_method, naming_other, auth_alone, auth_by, one_method, other_method, lacking, leaving_by, retained_at_most_once, retained_again, asks_plainly, asks_widely, asks_identified, asks_to_share, asks_misnamed, asks_no_local};
 
 /// Bytes of a client that break a rule, and those that it receives (W01 to W21).
 pub fn bytes_of_a_client()
@@ -84,7 +84,7 @@ pub fn connacks()
     ensures early_breaks { failing server C04 (Open ∷ sends accepting ∷ gets lasting ∷ []) ≡ 2 ∷ [] }
     ensures early_keeps { failing server C04 (Open ∷ gets lasting ∷ sends accepting ∷ []) ≡ [] }
     ensures first_breaks { failing server C05 (Open ∷ gets lasting ∷ sends Pingresp ∷ sends accepting ∷ []) ≡ 3 ∷ [] }
-    ensures first_keeps { failing server C05 (Open ∷ gets lasting ∷ sends Auth ∷ sends accepting ∷ sends Pingresp ∷ []) ≡ [] }
+    ensures first_keeps { failing server C05 (Open ∷ gets lasting ∷ sends auth_alone ∷ sends accepting ∷ sends Pingresp ∷ []) ≡ [] }
     ensures second_breaks { failing server C06 (Open ∷ gets lasting ∷ sends accepting ∷ sends accepting ∷ []) ≡ 4 ∷ [] }
     ensures second_keeps { failing server C06 (Open ∷ gets lasting ∷ sends accepting ∷ Close ∷ Open ∷ gets lasting ∷ sends accepting ∷ []) ≡ [] }
 {}
@@ -106,8 +106,8 @@ pub fn resumptions()
 pub fn answers_to_connect()
     ensures unnamed_breaks { failing server C10 (Open ∷ gets unnamed ∷ sends accepting ∷ []) ≡ 3 ∷ [] }
     ensures unnamed_keeps { failing server C10 (Open ∷ gets unnamed ∷ sends assigning ∷ []) ≡ [] }
-    ensures explained_breaks { failing server C21 (Open ∷ gets (asking (Some 0) None None None None) ∷ sends accepting ∷ sends_explained Auth ∷ []) ≡ 4 ∷ [] }
-    ensures explained_keeps { failing server C21 (Open ∷ gets (asking (Some 1) None None None None) ∷ sends accepting ∷ sends_explained Auth ∷ []) ≡ [] }
+    ensures explained_breaks { failing server C21 (Open ∷ gets (asking (Some 0) None None None None) ∷ sends accepting ∷ sends_explained auth_alone ∷ []) ≡ 4 ∷ [] }
+    ensures explained_keeps { failing server C21 (Open ∷ gets (asking (Some 1) None None None None) ∷ sends accepting ∷ sends_explained auth_alone ∷ []) ≡ [] }
     ensures explained_keeps_disconnect { failing server C21 (Open ∷ gets (asking (Some 0) None None None None) ∷ sends_explained accepting ∷ sends_explained (leaving None) ∷ []) ≡ [] }
     ensures informed_breaks { failing server C22 (Open ∷ gets lasting ∷ sends informing ∷ []) ≡ 3 ∷ [] }
     ensures informed_keeps { failing server C22 (Open ∷ gets (asking None (Some 1) None None None) ∷ sends informing ∷ []) ≡ [] }
@@ -397,9 +397,9 @@ pub fn unbound_ends()
 
 /// What a client with an Authentication Method sends before a CONNACK (A01).
 pub fn before_a_connack()
-    ensures packet_breaks { failing client_asked A01 (Open ∷ sends with_method ∷ sends Auth ∷ sends Pingreq ∷ gets naming_method ∷ sends Pingreq ∷ []) ≡ 4 ∷ [] }
-    ensures packet_keeps { failing client_asked A01 (Open ∷ sends with_method ∷ sends Auth ∷ gets naming_method ∷ sends Pingreq ∷ []) ≡ [] }
-    ensures auth_breaks { failing client_asked A01 (Open ∷ sends with_method ∷ gets Auth ∷ sends Pingreq ∷ []) ≡ 4 ∷ [] }
+    ensures packet_breaks { failing client_asked A01 (Open ∷ sends with_method ∷ sends auth_alone ∷ sends Pingreq ∷ gets naming_method ∷ sends Pingreq ∷ []) ≡ 4 ∷ [] }
+    ensures packet_keeps { failing client_asked A01 (Open ∷ sends with_method ∷ sends auth_alone ∷ gets naming_method ∷ sends Pingreq ∷ []) ≡ [] }
+    ensures auth_breaks { failing client_asked A01 (Open ∷ sends with_method ∷ gets auth_alone ∷ sends Pingreq ∷ []) ≡ 4 ∷ [] }
     ensures leaving_keeps { failing client_asked A01 (Open ∷ sends with_method ∷ sends (leaving_by 0) ∷ []) ≡ [] }
     ensures connect_keeps { failing client_asked A01 (Open ∷ sends with_method ∷ sends lasting ∷ []) ≡ [] }
     ensures bytes_break { failing client_asked A01 (Open ∷ sends with_method ∷ sends_bad 192 packets.W01 ∷ []) ≡ 3 ∷ [] }
@@ -421,11 +421,11 @@ pub fn after_a_connect()
     ensures refusal_keeps { failing server_asked C24 (Open ∷ gets lasting ∷ sends refusing ∷ Rest ∷ []) ≡ [] }
     ensures late_connack_breaks { failing server_asked C24 (Open ∷ gets lasting ∷ Rest ∷ sends accepting ∷ Rest ∷ []) ≡ 2 ∷ [] }
     ensures close_keeps { failing server_asked C24 (Open ∷ gets lasting ∷ Close ∷ []) ≡ [] }
-    ensures waiting_keeps { failing server_asked C24 (Open ∷ gets with_method ∷ sends Auth ∷ Rest ∷ []) ≡ [] }
-    ensures authenticated_breaks { failing server_asked C24 (Open ∷ gets with_method ∷ sends Auth ∷ gets Auth ∷ Rest ∷ []) ≡ 2 ∷ [] }
-    ensures later_rest_breaks { failing server_asked C24 (Open ∷ gets with_method ∷ sends Auth ∷ Rest ∷ gets Auth ∷ Rest ∷ []) ≡ 2 ∷ [] }
-    ensures early_auth_keeps { failing server_asked C24 (Open ∷ gets with_method ∷ gets Auth ∷ sends Auth ∷ Rest ∷ []) ≡ [] }
-    ensures late_auth_breaks { failing server_asked C24 (Open ∷ gets with_method ∷ Rest ∷ sends Auth ∷ Rest ∷ []) ≡ 2 ∷ [] }
+    ensures waiting_keeps { failing server_asked C24 (Open ∷ gets with_method ∷ sends auth_alone ∷ Rest ∷ []) ≡ [] }
+    ensures authenticated_breaks { failing server_asked C24 (Open ∷ gets with_method ∷ sends auth_alone ∷ gets auth_alone ∷ Rest ∷ []) ≡ 2 ∷ [] }
+    ensures later_rest_breaks { failing server_asked C24 (Open ∷ gets with_method ∷ sends auth_alone ∷ Rest ∷ gets auth_alone ∷ Rest ∷ []) ≡ 2 ∷ [] }
+    ensures early_auth_keeps { failing server_asked C24 (Open ∷ gets with_method ∷ gets auth_alone ∷ sends auth_alone ∷ Rest ∷ []) ≡ [] }
+    ensures late_auth_breaks { failing server_asked C24 (Open ∷ gets with_method ∷ Rest ∷ sends auth_alone ∷ Rest ∷ []) ≡ 2 ∷ [] }
     ensures second_breaks { failing server_asked C24 (Open ∷ gets lasting ∷ gets lasting ∷ Rest ∷ []) ≡ 2 ∷ [] }
     ensures left_keeps { failing server_asked C24 (Open ∷ gets lasting ∷ gets (leaving None) ∷ Rest ∷ []) ≡ [] }
     ensures goodbye_keeps { failing server_asked C24 (Open ∷ gets lasting ∷ sends (leaving_by 130) ∷ Rest ∷ []) ≡ [] }
@@ -502,8 +502,8 @@ pub fn after_a_protocol_error()
     ensures too_early_breaks { failing server_asked D03 (Open ∷ gets Pingreq ∷ gets lasting ∷ sends accepting ∷ Rest ∷ []) ≡ 2 ∷ [] }
     ensures after_bytes_keeps { failing server_asked D03 (Open ∷ gets_bad 16 packets.W13 ∷ gets Pingreq ∷ Rest ∷ []) ≡ [] }
     ensures second_connect_keeps { failing server_asked D03 (Open ∷ gets lasting ∷ sends accepting ∷ gets lasting ∷ Rest ∷ []) ≡ [] }
-    ensures auth_breaks { failing server_asked D03 (Open ∷ gets lasting ∷ sends accepting ∷ gets Auth ∷ Rest ∷ []) ≡ 4 ∷ [] }
-    ensures auth_keeps { failing server_asked D03 (Open ∷ gets with_method ∷ sends accepting ∷ gets Auth ∷ Rest ∷ []) ≡ [] }
+    ensures auth_breaks { failing server_asked D03 (Open ∷ gets lasting ∷ sends accepting ∷ gets auth_alone ∷ Rest ∷ []) ≡ 4 ∷ [] }
+    ensures auth_keeps { failing server_asked D03 (Open ∷ gets with_method ∷ sends accepting ∷ gets auth_alone ∷ Rest ∷ []) ≡ [] }
     ensures prolonging_breaks { failing server_asked D03 (Open ∷ gets fleeting ∷ sends accepting ∷ gets (leaving (Some 60)) ∷ Rest ∷ []) ≡ 4 ∷ [] }
     ensures ending_keeps { failing server_asked D03 (Open ∷ gets fleeting ∷ sends accepting ∷ gets (leaving (Some 0)) ∷ Rest ∷ []) ≡ [] }
     ensures lasting_keeps { failing server_asked D03 (Open ∷ gets lasting ∷ sends accepting ∷ gets (leaving (Some 60)) ∷ Rest ∷ []) ≡ [] }
@@ -595,12 +595,32 @@ pub fn further_statements()
     ensures will_retain_keeps { failing server_asked F06 (Open ∷ gets (with_will quality.AtMostOnce false) ∷ sends (announcing 0 None (Some 0)) ∷ []) ≡ [] }
     ensures will_retain_keeps_available { failing server_asked F06 (Open ∷ gets (with_will quality.AtMostOnce true) ∷ sends (announcing 0 None (Some 1)) ∷ []) ≡ [] }
     ensures will_retain_keeps_refused { failing server_asked F06 (Open ∷ gets (with_will quality.AtMostOnce true) ∷ sends (announcing 154 None (Some 0)) ∷ []) ≡ [] }
-    ensures method_breaks_client { failing client_asked A02 (Open ∷ sends lasting ∷ gets accepting ∷ sends Auth ∷ []) ≡ 4 ∷ [] }
-    ensures method_keeps_client { failing client_asked A02 (Open ∷ sends with_method ∷ sends Auth ∷ []) ≡ [] }
-    ensures method_keeps_before { failing client_asked A02 (Open ∷ sends Auth ∷ sends lasting ∷ []) ≡ [] }
+    ensures method_breaks_client { failing client_asked A02 (Open ∷ sends lasting ∷ gets accepting ∷ sends auth_alone ∷ []) ≡ 4 ∷ [] }
+    ensures method_keeps_client { failing client_asked A02 (Open ∷ sends with_method ∷ sends auth_alone ∷ []) ≡ [] }
+    ensures method_keeps_before { failing client_asked A02 (Open ∷ sends auth_alone ∷ sends lasting ∷ []) ≡ [] }
     ensures method_breaks_server { failing server_asked A02 (Open ∷ gets lasting ∷ sends naming_method ∷ []) ≡ 3 ∷ [] }
-    ensures method_breaks_auth { failing server_asked A02 (Open ∷ gets lasting ∷ sends Auth ∷ []) ≡ 3 ∷ [] }
+    ensures method_breaks_auth { failing server_asked A02 (Open ∷ gets lasting ∷ sends auth_alone ∷ []) ≡ 3 ∷ [] }
     ensures method_keeps_server { failing server_asked A02 (Open ∷ gets with_method ∷ sends naming_method ∷ []) ≡ [] }
+{}
+
+/// That enhanced authentication goes by the method of the CONNECT (A03).
+pub fn authentication_by_one_method()
+    ensures client_breaks { failing client_asked A03 (Open ∷ sends with_method ∷ gets (auth_by one_method) ∷ sends (auth_by other_method) ∷ []) ≡ 4 ∷ [] }
+    ensures client_breaks_without { failing client_asked A03 (Open ∷ sends with_method ∷ gets (auth_by one_method) ∷ sends auth_alone ∷ []) ≡ 4 ∷ [] }
+    ensures client_keeps { failing client_asked A03 (Open ∷ sends with_method ∷ gets (auth_by one_method) ∷ sends (auth_by one_method) ∷ []) ≡ [] }
+    ensures header_alone_keeps { failing client_asked A03 (Open ∷ sends with_method ∷ gets (auth_by one_method) ∷ sends_sized 2 auth_alone ∷ []) ≡ [] }
+    ensures before_keeps { failing client_asked A03 (Open ∷ sends (auth_by other_method) ∷ sends with_method ∷ []) ≡ [] }
+    ensures earlier_keeps { failing client_asked A03 (Open ∷ sends with_method ∷ Close ∷ Open ∷ sends (auth_by other_method) ∷ []) ≡ [] }
+    ensures without_method_keeps { failing client_asked A03 (Open ∷ sends lasting ∷ sends (auth_by one_method) ∷ []) ≡ [] }
+    ensures received_keeps { failing client_asked A03 (Open ∷ sends with_method ∷ gets (auth_by other_method) ∷ gets naming_other ∷ []) ≡ [] }
+    ensures server_breaks { failing server_asked A03 (Open ∷ gets with_method ∷ sends naming_other ∷ []) ≡ 3 ∷ [] }
+    ensures server_breaks_without { failing server_asked A03 (Open ∷ gets with_method ∷ sends accepting ∷ []) ≡ 3 ∷ [] }
+    ensures server_breaks_auth { failing server_asked A03 (Open ∷ gets with_method ∷ sends (auth_by other_method) ∷ []) ≡ 3 ∷ [] }
+    ensures server_keeps { failing server_asked A03 (Open ∷ gets with_method ∷ sends (auth_by one_method) ∷ sends naming_method ∷ []) ≡ [] }
+    ensures refusing_keeps { failing server_asked A03 (Open ∷ gets with_method ∷ sends refusing ∷ []) ≡ [] }
+    ensures first_breaks { failing server_asked A03 (Open ∷ gets with_method ∷ gets lasting ∷ sends accepting ∷ []) ≡ 4 ∷ [] }
+    ensures first_keeps { failing server_asked A03 (Open ∷ gets lasting ∷ gets with_method ∷ sends accepting ∷ []) ≡ [] }
+    ensures unasked_keeps { failing client A03 (Open ∷ sends with_method ∷ sends auth_alone ∷ []) ≡ [] }
 {}
 
 /// What a client asks of a server that announced that it hasn't got this (F01 to F04).

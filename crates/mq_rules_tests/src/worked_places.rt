@@ -4,10 +4,10 @@
 ghost use Rattle.std.specs.Prelude.{◌≡◌, ◌∷◌, [], true, false, Some, None};
 ghost use Rattle.mq_packet.specs.declared.rule.PacketRule.TheVariants as packets;
 ghost use Rattle.mq_packet.specs.declared.packet.Qos.TheVariants as quality;
-ghost use Rattle.mq_rules.specs.declared.rule.Rule.TheVariants.{C01, C02, C03, C04, C05, C06, C07, C08, C09, C10, C11, C12, C13, C14, C15, C16, C17, C18, C19, C20, C21, C22, C23, S01, S02, S03, S04, S05, S06, S07, E1A, E1R, E1O, E2A, E2R, E2O, E3A, E3R, E3O, E4A, E4R, E5A, E5R, E6A, E6R, E7R, L1, L2, L3, B01, B02, B03, B04, B05, F01, F02, F03, F04, F05, F06, V03, V04, V06, C24, D01, D02, D03, D05, A01, A02};
+ghost use Rattle.mq_rules.specs.declared.rule.Rule.TheVariants.{C01, C02, C03, C04, C05, C06, C07, C08, C09, C10, C11, C12, C13, C14, C15, C16, C17, C18, C19, C20, C21, C22, C23, S01, S02, S03, S04, S05, S06, S07, E1A, E1R, E1O, E2A, E2R, E2O, E3A, E3R, E3O, E4A, E4R, E5A, E5R, E6A, E6R, E7R, L1, L2, L3, B01, B02, B03, B04, B05, F01, F02, F03, F04, F05, F06, V03, V04, V06, C24, D01, D02, D03, D05, A01, A02, A03};
 ghost use Rattle.mq_rules.specs.declared.note.Note.TheVariants.{Open, Rest, Release};
-ghost use Rattle.mq_rules.specs.declared.packet_note.PacketFields.TheVariants.{Puback, Pubrec, Pubrel, Pubcomp, Suback, Unsubscribe, Unsuback, Pingreq, Pingresp, Auth};
-ghost use Rattle.mq_rules.specs.Worked.{client, client_unrecorded, server, applying, Close, Cut, sends, gets, sends_sized, sends_bad, gets_bad, sends_lost, gets_lost, lasting, again, unnamed, asking, accepting, resuming, refusing, limiting, retaining, assigning, informing, leaving, at_most_once, once, exactly, retained_once, expiring, aliased, asks_a, asks_both, asks_shared, client_asked, server_asked, with_will, with_method, announcing, naming_method, lacking, leaving_by, retained_at_most_once, retained_again, asks_plainly, asks_widely, asks_identified, asks_to_share, subscribed, fleeting};
+ghost use Rattle.mq_rules.specs.declared.packet_note.PacketFields.TheVariants.{Puback, Pubrec, Pubrel, Pubcomp, Suback, Unsubscribe, Unsuback, Pingreq, Pingresp};
+ghost use Rattle.mq_rules.specs.Worked.{client, client_unrecorded, server, applying, Close, Cut, sends, gets, sends_sized, sends_bad, gets_bad, sends_lost, gets_lost, lasting, again, unnamed, asking, accepting, resuming, refusing, limiting, retaining, assigning, informing, leaving, at_most_once, once, exactly, retained_once, expiring, aliased, asks_a, asks_both, asks_shared, client_asked, server_asked, with_will, with_method, announcing, naming_method, auth_alone, auth_by, one_method, other_method, lacking, leaving_by, retained_at_most_once, retained_again, asks_plainly, asks_widely, asks_identified, asks_to_share, subscribed, fleeting};
 
 /// What begins a connection (C01 to C06).
 pub fn places_of_beginnings()
@@ -15,7 +15,7 @@ pub fn places_of_beginnings()
     ensures first { applying client C02 (Open ∷ sends lasting ∷ gets accepting ∷ sends Pingreq ∷ []) ≡ 2 ∷ [] }
     ensures connect { applying client C03 (Open ∷ sends lasting ∷ gets accepting ∷ sends Pingreq ∷ []) ≡ 2 ∷ [] }
     ensures connack { applying server C04 (Open ∷ gets lasting ∷ sends accepting ∷ sends Pingresp ∷ []) ≡ 3 ∷ [] }
-    ensures before_connack { applying server C05 (Open ∷ gets lasting ∷ sends Auth ∷ sends accepting ∷ sends Pingresp ∷ []) ≡ 4 ∷ [] }
+    ensures before_connack { applying server C05 (Open ∷ gets lasting ∷ sends auth_alone ∷ sends accepting ∷ sends Pingresp ∷ []) ≡ 4 ∷ [] }
     ensures only_connack { applying server C06 (Open ∷ gets lasting ∷ sends accepting ∷ sends Pingresp ∷ []) ≡ 3 ∷ [] }
 {}
 
@@ -182,10 +182,10 @@ pub fn places_of_nothing()
 
 /// What a client with an Authentication Method sends before a CONNACK (A01).
 pub fn places_before_a_connack()
-    ensures sent { applying client_asked A01 (Open ∷ sends with_method ∷ sends Auth ∷ sends with_method ∷ sends_bad 192 packets.W01 ∷ sends_lost ∷ sends (leaving_by 0) ∷ []) ≡ 7 ∷ 5 ∷ 3 ∷ [] }
-    ensures answered { applying client_asked A01 (Open ∷ sends with_method ∷ sends Auth ∷ gets naming_method ∷ sends Pingreq ∷ []) ≡ 3 ∷ [] }
-    ensures plain { applying client_asked A01 (Open ∷ sends lasting ∷ sends Auth ∷ []) ≡ [] }
-    ensures unasked { applying client A01 (Open ∷ sends with_method ∷ sends Auth ∷ []) ≡ [] }
+    ensures sent { applying client_asked A01 (Open ∷ sends with_method ∷ sends auth_alone ∷ sends with_method ∷ sends_bad 192 packets.W01 ∷ sends_lost ∷ sends (leaving_by 0) ∷ []) ≡ 7 ∷ 5 ∷ 3 ∷ [] }
+    ensures answered { applying client_asked A01 (Open ∷ sends with_method ∷ sends auth_alone ∷ gets naming_method ∷ sends Pingreq ∷ []) ≡ 3 ∷ [] }
+    ensures plain { applying client_asked A01 (Open ∷ sends lasting ∷ sends auth_alone ∷ []) ≡ [] }
+    ensures unasked { applying client A01 (Open ∷ sends with_method ∷ sends auth_alone ∷ []) ≡ [] }
 {}
 
 /// What a server does after a CONNECT (C24).
@@ -194,8 +194,8 @@ pub fn places_after_a_connect()
     ensures refused { applying server_asked C24 (Open ∷ gets lasting ∷ sends refusing ∷ []) ≡ 2 ∷ [] }
     ensures left_open { applying server_asked C24 (Open ∷ gets lasting ∷ Rest ∷ Rest ∷ []) ≡ 2 ∷ [] }
     ensures answered_late { applying server_asked C24 (Open ∷ gets lasting ∷ Rest ∷ sends accepting ∷ []) ≡ 2 ∷ [] }
-    ensures waiting { applying server_asked C24 (Open ∷ gets with_method ∷ sends Auth ∷ Rest ∷ []) ≡ [] }
-    ensures waited { applying server_asked C24 (Open ∷ gets with_method ∷ sends Auth ∷ Rest ∷ gets Auth ∷ Rest ∷ []) ≡ 2 ∷ [] }
+    ensures waiting { applying server_asked C24 (Open ∷ gets with_method ∷ sends auth_alone ∷ Rest ∷ []) ≡ [] }
+    ensures waited { applying server_asked C24 (Open ∷ gets with_method ∷ sends auth_alone ∷ Rest ∷ gets auth_alone ∷ Rest ∷ []) ≡ 2 ∷ [] }
     ensures closed { applying server_asked C24 (Open ∷ gets lasting ∷ Close ∷ []) ≡ [] }
     ensures second { applying server_asked C24 (Open ∷ gets lasting ∷ sends accepting ∷ gets lasting ∷ sends accepting ∷ []) ≡ 2 ∷ [] }
     ensures after_bytes { applying server_asked C24 (Open ∷ gets_bad 16 packets.W13 ∷ gets lasting ∷ sends accepting ∷ []) ≡ [] }
@@ -276,8 +276,17 @@ pub fn places_of_further_statements()
     ensures will_retain_available { applying server_asked F06 (Open ∷ gets (with_will quality.AtMostOnce true) ∷ sends (announcing 0 None (Some 1)) ∷ []) ≡ [] }
     ensures method { applying server_asked A02 (Open ∷ gets lasting ∷ sends accepting ∷ []) ≡ 3 ∷ [] }
     ensures method_named { applying server_asked A02 (Open ∷ gets with_method ∷ sends naming_method ∷ []) ≡ [] }
-    ensures method_auth { applying client_asked A02 (Open ∷ sends with_method ∷ sends Auth ∷ []) ≡ 3 ∷ [] }
+    ensures method_auth { applying client_asked A02 (Open ∷ sends with_method ∷ sends auth_alone ∷ []) ≡ 3 ∷ [] }
     ensures unasked { applying server A02 (Open ∷ gets lasting ∷ sends accepting ∷ []) ≡ [] }
+{}
+
+/// That enhanced authentication goes by the method of the CONNECT (A03).
+pub fn places_of_one_method()
+    ensures sent { applying client_asked A03 (Open ∷ sends with_method ∷ sends (auth_by one_method) ∷ sends_sized 2 auth_alone ∷ sends auth_alone ∷ gets (auth_by one_method) ∷ []) ≡ 5 ∷ 3 ∷ [] }
+    ensures refused { applying server_asked A03 (Open ∷ gets with_method ∷ sends (auth_by other_method) ∷ sends refusing ∷ []) ≡ 3 ∷ [] }
+    ensures accepted { applying server_asked A03 (Open ∷ gets with_method ∷ sends accepting ∷ sends naming_method ∷ []) ≡ 4 ∷ 3 ∷ [] }
+    ensures without_method { applying server_asked A03 (Open ∷ gets lasting ∷ sends naming_method ∷ sends auth_alone ∷ []) ≡ [] }
+    ensures unasked { applying server A03 (Open ∷ gets with_method ∷ sends accepting ∷ []) ≡ [] }
 {}
 
 /// What a client asks of a server that hasn't got this (F01 to F04), shared subscriptions (V03 and
