@@ -45,8 +45,8 @@ abbrev exchange_concerns : Exchange → Note → Bool
 exchange_concerns x n = concerns_asked x n || concerns_owed x n
 
 messages-sent : (size : ℕ) (a b : Bool) (fields : PacketFields) → answers_message fields ≡ false → ((exchange_concerns publish_puback (sent size a b fields) || exchange_concerns publish_pubrec (sent size a b fields)) || (exchange_concerns pubrec_pubrel (sent size a b fields) || exchange_concerns pubrel_pubcomp (sent size a b fields))) ≡ false
-messages-sent size a b (Connect note) h = refl
-messages-sent size a b (Connack note) h = refl
+messages-sent size a b (Connect note method) h = refl
+messages-sent size a b (Connack note method) h = refl
 messages-sent size a b (Publish p) h = refl
 messages-sent size a b (Puback i c) h = absurd (cc)
 messages-sent size a b (Pubrec i c) h = absurd (cc)
@@ -59,7 +59,7 @@ messages-sent size a b (Unsuback i c) h = refl
 messages-sent size a b Pingreq h = refl
 messages-sent size a b Pingresp h = refl
 messages-sent size a b (Disconnect note) h = absurd (cc)
-messages-sent size a b Auth h = refl
+messages-sent size a b (Auth method) h = refl
 
 messages-received-publish : (size : ℕ) (a b : Bool) (p : PublishNote) (q : Qos) → is_acknowledged q ≡ false → ((exchange_concerns publish_puback (received size a b (at_qos p q)) || exchange_concerns publish_pubrec (received size a b (at_qos p q))) || (exchange_concerns pubrec_pubrel (received size a b (at_qos p q)) || exchange_concerns pubrel_pubcomp (received size a b (at_qos p q)))) ≡ false
 messages-received-publish size a b p quality.AtMostOnce h = refl
@@ -67,8 +67,8 @@ messages-received-publish size a b p quality.AtLeastOnce h = absurd (cc)
 messages-received-publish size a b p quality.ExactlyOnce h = absurd (cc)
 
 messages-received : (size : ℕ) (a b : Bool) (fields : PacketFields) → asks_by_message fields ≡ false → ((exchange_concerns publish_puback (received size a b fields) || exchange_concerns publish_pubrec (received size a b fields)) || (exchange_concerns pubrec_pubrel (received size a b fields) || exchange_concerns pubrel_pubcomp (received size a b fields))) ≡ false
-messages-received size a b (Connect note) h = refl
-messages-received size a b (Connack note) h = refl
+messages-received size a b (Connect note method) h = refl
+messages-received size a b (Connack note method) h = refl
 messages-received size a b (Publish p) h = messages-received-publish size a b p p.qos h
 messages-received size a b (Puback i c) h = refl
 messages-received size a b (Pubrec i c) h = absurd (cc)
@@ -81,7 +81,7 @@ messages-received size a b (Unsuback i c) h = refl
 messages-received size a b Pingreq h = refl
 messages-received size a b Pingresp h = refl
 messages-received size a b (Disconnect note) h = absurd (cc)
-messages-received size a b Auth h = refl
+messages-received size a b (Auth method) h = refl
 
 pub messages-unconcerned : (n : Note) → may_concern_messages n ≡ false → ((exchange_concerns publish_puback n || exchange_concerns publish_pubrec n) || (exchange_concerns pubrec_pubrel n || exchange_concerns pubrel_pubcomp n)) ≡ false
 messages-unconcerned notes.Open h = absurd (cc)
@@ -98,8 +98,8 @@ messages-unconcerned (notes.Recv items.Lost) h = absurd (cc)
 -- ---- requests
 
 requests-sent : (size : ℕ) (a b : Bool) (fields : PacketFields) → answers_request fields ≡ false → (exchange_concerns subscribe_suback (sent size a b fields) || exchange_concerns unsubscribe_unsuback (sent size a b fields)) ≡ false
-requests-sent size a b (Connect note) h = refl
-requests-sent size a b (Connack note) h = refl
+requests-sent size a b (Connect note method) h = refl
+requests-sent size a b (Connack note method) h = refl
 requests-sent size a b (Publish p) h = refl
 requests-sent size a b (Puback i c) h = refl
 requests-sent size a b (Pubrec i c) h = refl
@@ -112,11 +112,11 @@ requests-sent size a b (Unsuback i c) h = absurd (cc)
 requests-sent size a b Pingreq h = refl
 requests-sent size a b Pingresp h = refl
 requests-sent size a b (Disconnect note) h = absurd (cc)
-requests-sent size a b Auth h = refl
+requests-sent size a b (Auth method) h = refl
 
 requests-received : (size : ℕ) (a b : Bool) (fields : PacketFields) → asks_by_request fields ≡ false → (exchange_concerns subscribe_suback (received size a b fields) || exchange_concerns unsubscribe_unsuback (received size a b fields)) ≡ false
-requests-received size a b (Connect note) h = refl
-requests-received size a b (Connack note) h = refl
+requests-received size a b (Connect note method) h = refl
+requests-received size a b (Connack note method) h = refl
 requests-received size a b (Publish p) h = refl
 requests-received size a b (Puback i c) h = refl
 requests-received size a b (Pubrec i c) h = refl
@@ -129,7 +129,7 @@ requests-received size a b (Unsuback i c) h = refl
 requests-received size a b Pingreq h = refl
 requests-received size a b Pingresp h = refl
 requests-received size a b (Disconnect note) h = absurd (cc)
-requests-received size a b Auth h = refl
+requests-received size a b (Auth method) h = refl
 
 pub requests-unconcerned : (n : Note) → may_concern_requests n ≡ false → (exchange_concerns subscribe_suback n || exchange_concerns unsubscribe_unsuback n) ≡ false
 requests-unconcerned notes.Open h = absurd (cc)
@@ -167,8 +167,8 @@ requests-unconcerned_bare b = requests-unconcerned (bare_note b.direction b.size
 -- ---- releases
 
 releases-sent : (size : ℕ) (a b : Bool) (fields : PacketFields) → ends_release fields ≡ false → concerns_releases (sent size a b fields) ≡ false
-releases-sent size a b (Connect note) h = refl
-releases-sent size a b (Connack note) h = refl
+releases-sent size a b (Connect note method) h = refl
+releases-sent size a b (Connack note method) h = refl
 releases-sent size a b (Publish p) h = refl
 releases-sent size a b (Puback i c) h = refl
 releases-sent size a b (Pubrec i c) h = absurd (cc)
@@ -181,7 +181,7 @@ releases-sent size a b (Unsuback i c) h = refl
 releases-sent size a b Pingreq h = refl
 releases-sent size a b Pingresp h = refl
 releases-sent size a b (Disconnect note) h = refl
-releases-sent size a b Auth h = refl
+releases-sent size a b (Auth method) h = refl
 
 releases-received-publish : (size : ℕ) (a b : Bool) (p : PublishNote) (q : Qos) → is_acknowledged q ≡ false → concerns_releases (received size a b (at_qos p q)) ≡ false
 releases-received-publish size a b p quality.AtMostOnce h = refl
@@ -189,8 +189,8 @@ releases-received-publish size a b p quality.AtLeastOnce h = absurd (cc)
 releases-received-publish size a b p quality.ExactlyOnce h = absurd (cc)
 
 releases-received : (size : ℕ) (a b : Bool) (fields : PacketFields) → brings_message fields ≡ false → concerns_releases (received size a b fields) ≡ false
-releases-received size a b (Connect note) h = refl
-releases-received size a b (Connack note) h = refl
+releases-received size a b (Connect note method) h = refl
+releases-received size a b (Connack note method) h = refl
 releases-received size a b (Publish p) h = releases-received-publish size a b p p.qos h
 releases-received size a b (Puback i c) h = refl
 releases-received size a b (Pubrec i c) h = refl
@@ -203,7 +203,7 @@ releases-received size a b (Unsuback i c) h = refl
 releases-received size a b Pingreq h = refl
 releases-received size a b Pingresp h = refl
 releases-received size a b (Disconnect note) h = refl
-releases-received size a b Auth h = refl
+releases-received size a b (Auth method) h = refl
 
 pub releases-unconcerned : (n : Note) → may_concern_releases n ≡ false → concerns_releases n ≡ false
 releases-unconcerned notes.Open h = absurd (cc)
@@ -220,8 +220,8 @@ releases-unconcerned (notes.Recv items.Lost) h = refl
 -- ---- pings
 
 pings-sent : (size : ℕ) (a b : Bool) (fields : PacketFields) → answers_ping fields ≡ false → concerns_pings (sent size a b fields) ≡ false
-pings-sent size a b (Connect note) h = refl
-pings-sent size a b (Connack note) h = refl
+pings-sent size a b (Connect note method) h = refl
+pings-sent size a b (Connack note method) h = refl
 pings-sent size a b (Publish p) h = refl
 pings-sent size a b (Puback i c) h = refl
 pings-sent size a b (Pubrec i c) h = refl
@@ -234,11 +234,11 @@ pings-sent size a b (Unsuback i c) h = refl
 pings-sent size a b Pingreq h = refl
 pings-sent size a b Pingresp h = absurd (cc)
 pings-sent size a b (Disconnect note) h = absurd (cc)
-pings-sent size a b Auth h = refl
+pings-sent size a b (Auth method) h = refl
 
 pings-received : (size : ℕ) (a b : Bool) (fields : PacketFields) → pings fields ≡ false → concerns_pings (received size a b fields) ≡ false
-pings-received size a b (Connect note) h = refl
-pings-received size a b (Connack note) h = refl
+pings-received size a b (Connect note method) h = refl
+pings-received size a b (Connack note method) h = refl
 pings-received size a b (Publish p) h = refl
 pings-received size a b (Puback i c) h = refl
 pings-received size a b (Pubrec i c) h = refl
@@ -251,7 +251,7 @@ pings-received size a b (Unsuback i c) h = refl
 pings-received size a b Pingreq h = absurd (cc)
 pings-received size a b Pingresp h = refl
 pings-received size a b (Disconnect note) h = absurd (cc)
-pings-received size a b Auth h = refl
+pings-received size a b (Auth method) h = refl
 
 pub pings-unconcerned : (n : Note) → may_concern_pings n ≡ false → concerns_pings n ≡ false
 pings-unconcerned notes.Open h = absurd (cc)
@@ -274,10 +274,10 @@ quota-sent-publish role releases further size a b p quality.AtLeastOnce h = absu
 quota-sent-publish role releases further size a b p quality.ExactlyOnce h = absurd (cc)
 
 quota-sent : (role : Role) (releases further : Bool) (size : ℕ) (a b : Bool) (fields : PacketFields) → takes_quota fields ≡ false → concerns_quota (record { role = role; releases = releases; further = further }) (sent size a b fields) ≡ false
-quota-sent roles.Client releases further size a b (Connect note) h = refl
-quota-sent roles.Server releases further size a b (Connect note) h = refl
-quota-sent roles.Client releases further size a b (Connack note) h = refl
-quota-sent roles.Server releases further size a b (Connack note) h = refl
+quota-sent roles.Client releases further size a b (Connect note method) h = refl
+quota-sent roles.Server releases further size a b (Connect note method) h = refl
+quota-sent roles.Client releases further size a b (Connack note method) h = refl
+quota-sent roles.Server releases further size a b (Connack note method) h = refl
 quota-sent role releases further size a b (Publish p) h = quota-sent-publish role releases further size a b p p.qos h
 quota-sent roles.Client releases further size a b (Puback i c) h = refl
 quota-sent roles.Server releases further size a b (Puback i c) h = refl
@@ -301,12 +301,12 @@ quota-sent roles.Client releases further size a b Pingresp h = refl
 quota-sent roles.Server releases further size a b Pingresp h = refl
 quota-sent roles.Client releases further size a b (Disconnect note) h = refl
 quota-sent roles.Server releases further size a b (Disconnect note) h = refl
-quota-sent roles.Client releases further size a b Auth h = refl
-quota-sent roles.Server releases further size a b Auth h = refl
+quota-sent roles.Client releases further size a b (Auth method) h = refl
+quota-sent roles.Server releases further size a b (Auth method) h = refl
 
 quota-received : (role : Role) (releases further : Bool) (size : ℕ) (a b : Bool) (fields : PacketFields) → gives_quota fields ≡ false → concerns_quota (record { role = role; releases = releases; further = further }) (received size a b fields) ≡ false
-quota-received role releases further size a b (Connect note) h = absurd (cc)
-quota-received role releases further size a b (Connack note) h = absurd (cc)
+quota-received role releases further size a b (Connect note method) h = absurd (cc)
+quota-received role releases further size a b (Connack note method) h = absurd (cc)
 quota-received roles.Client releases further size a b (Publish p) h = refl
 quota-received roles.Server releases further size a b (Publish p) h = refl
 quota-received role releases further size a b (Puback i c) h = absurd (cc)
@@ -328,8 +328,8 @@ quota-received roles.Client releases further size a b Pingresp h = refl
 quota-received roles.Server releases further size a b Pingresp h = refl
 quota-received roles.Client releases further size a b (Disconnect note) h = refl
 quota-received roles.Server releases further size a b (Disconnect note) h = refl
-quota-received roles.Client releases further size a b Auth h = refl
-quota-received roles.Server releases further size a b Auth h = refl
+quota-received roles.Client releases further size a b (Auth method) h = refl
+quota-received roles.Server releases further size a b (Auth method) h = refl
 
 pub quota-unconcerned : (role : Role) (releases further : Bool) (n : Note) → may_concern_quota n ≡ false → concerns_quota (record { role = role; releases = releases; further = further }) n ≡ false
 quota-unconcerned role releases further notes.Open h = absurd (cc)
@@ -364,10 +364,10 @@ identifiers-sent-publish role releases further size a b p quality.AtLeastOnce h 
 identifiers-sent-publish role releases further size a b p quality.ExactlyOnce h = absurd (cc)
 
 identifiers-sent : (role : Role) (releases further : Bool) (size : ℕ) (a b : Bool) (fields : PacketFields) → uses_identifier fields ≡ false → concerns_flight (record { role = role; releases = releases; further = further }) (sent size a b fields) ≡ false
-identifiers-sent roles.Client releases further size a b (Connect note) h = refl
-identifiers-sent roles.Server releases further size a b (Connect note) h = refl
-identifiers-sent roles.Client releases further size a b (Connack note) h = refl
-identifiers-sent roles.Server releases further size a b (Connack note) h = refl
+identifiers-sent roles.Client releases further size a b (Connect note method) h = refl
+identifiers-sent roles.Server releases further size a b (Connect note method) h = refl
+identifiers-sent roles.Client releases further size a b (Connack note method) h = refl
+identifiers-sent roles.Server releases further size a b (Connack note method) h = refl
 identifiers-sent role releases further size a b (Publish p) h = identifiers-sent-publish role releases further size a b p p.qos h
 identifiers-sent roles.Client releases further size a b (Puback i c) h = refl
 identifiers-sent roles.Server releases further size a b (Puback i c) h = refl
@@ -387,12 +387,12 @@ identifiers-sent roles.Server releases further size a b Pingreq h = refl
 identifiers-sent roles.Client releases further size a b Pingresp h = refl
 identifiers-sent roles.Server releases further size a b Pingresp h = refl
 identifiers-sent role releases further size a b (Disconnect note) h = absurd (cc)
-identifiers-sent roles.Client releases further size a b Auth h = refl
-identifiers-sent roles.Server releases further size a b Auth h = refl
+identifiers-sent roles.Client releases further size a b (Auth method) h = refl
+identifiers-sent roles.Server releases further size a b (Auth method) h = refl
 
 identifiers-received : (role : Role) (releases further : Bool) (size : ℕ) (a b : Bool) (fields : PacketFields) → frees_identifier fields ≡ false → concerns_flight (record { role = role; releases = releases; further = further }) (received size a b fields) ≡ false
-identifiers-received role releases further size a b (Connect note) h = absurd (cc)
-identifiers-received role releases further size a b (Connack note) h = absurd (cc)
+identifiers-received role releases further size a b (Connect note method) h = absurd (cc)
+identifiers-received role releases further size a b (Connack note method) h = absurd (cc)
 identifiers-received roles.Client releases further size a b (Publish p) h = refl
 identifiers-received roles.Server releases further size a b (Publish p) h = refl
 identifiers-received role releases further size a b (Puback i c) h = absurd (cc)
@@ -411,8 +411,8 @@ identifiers-received roles.Server releases further size a b Pingreq h = refl
 identifiers-received roles.Client releases further size a b Pingresp h = refl
 identifiers-received roles.Server releases further size a b Pingresp h = refl
 identifiers-received role releases further size a b (Disconnect note) h = absurd (cc)
-identifiers-received roles.Client releases further size a b Auth h = refl
-identifiers-received roles.Server releases further size a b Auth h = refl
+identifiers-received roles.Client releases further size a b (Auth method) h = refl
+identifiers-received roles.Server releases further size a b (Auth method) h = refl
 
 pub identifiers-unconcerned : (role : Role) (releases further : Bool) (n : Note) → may_concern_identifiers n ≡ false → concerns_flight (record { role = role; releases = releases; further = further }) n ≡ false
 identifiers-unconcerned role releases further notes.Open h = absurd (cc)
@@ -437,8 +437,8 @@ undelivered tested bound is size a b p h =
     ∙ ap (λ t. t || false) (sym is ∙ parts.0)
 
 subscriptions-sent : (tested : Tested) (bound : Bool) → bound ≡ binds B01 tested → (size : ℕ) (a b : Bool) (fields : PacketFields) → delivers_or_grants bound fields ≡ false → (concerns_deliveries tested (sent size a b fields) || (concerns_count subscribes (sent size a b fields) || concerns_count unsubscribes (sent size a b fields))) ≡ false
-subscriptions-sent tested bound is size a b (Connect note) h = refl
-subscriptions-sent tested bound is size a b (Connack note) h = refl
+subscriptions-sent tested bound is size a b (Connect note method) h = refl
+subscriptions-sent tested bound is size a b (Connack note method) h = refl
 subscriptions-sent tested bound is size a b (Publish p) h = undelivered tested bound is size a b p h
 subscriptions-sent tested bound is size a b (Puback i c) h = refl
 subscriptions-sent tested bound is size a b (Pubrec i c) h = refl
@@ -451,11 +451,11 @@ subscriptions-sent tested bound is size a b (Unsuback i c) h = absurd (cc)
 subscriptions-sent tested bound is size a b Pingreq h = refl
 subscriptions-sent tested bound is size a b Pingresp h = refl
 subscriptions-sent tested bound is size a b (Disconnect note) h = refl
-subscriptions-sent tested bound is size a b Auth h = refl
+subscriptions-sent tested bound is size a b (Auth method) h = refl
 
 subscriptions-received : (tested : Tested) (bound : Bool) → bound ≡ binds B01 tested → (size : ℕ) (a b : Bool) (fields : PacketFields) → subscribes_or_not fields ≡ false → (concerns_deliveries tested (received size a b fields) || (concerns_count subscribes (received size a b fields) || concerns_count unsubscribes (received size a b fields))) ≡ false
-subscriptions-received tested bound is size a b (Connect note) h = refl
-subscriptions-received tested bound is size a b (Connack note) h = refl
+subscriptions-received tested bound is size a b (Connect note method) h = refl
+subscriptions-received tested bound is size a b (Connack note method) h = refl
 subscriptions-received tested bound is size a b (Publish p) h = refl
 subscriptions-received tested bound is size a b (Puback i c) h = refl
 subscriptions-received tested bound is size a b (Pubrec i c) h = refl
@@ -468,7 +468,7 @@ subscriptions-received tested bound is size a b (Unsuback i c) h = refl
 subscriptions-received tested bound is size a b Pingreq h = refl
 subscriptions-received tested bound is size a b Pingresp h = refl
 subscriptions-received tested bound is size a b (Disconnect note) h = refl
-subscriptions-received tested bound is size a b Auth h = refl
+subscriptions-received tested bound is size a b (Auth method) h = refl
 
 answers-unconcerned : (tested : Tested) (bound : Bool) → bound ≡ binds B01 tested → (n : Note) → may_concern_subscriptions bound n ≡ false → (concerns_deliveries tested n || (concerns_count subscribes n || concerns_count unsubscribes n)) ≡ false
 answers-unconcerned tested bound is notes.Open h = absurd (cc)

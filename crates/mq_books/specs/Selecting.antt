@@ -97,8 +97,8 @@ uses_identifier (Disconnect note) = true
 uses_identifier _ = false
 
 abbrev pub frees_identifier : PacketFields → Bool
-frees_identifier (Connect note) = true
-frees_identifier (Connack note) = true
+frees_identifier (Connect note method) = true
+frees_identifier (Connack note method) = true
 frees_identifier (Puback identifier code) = true
 frees_identifier (Pubrec identifier code) = true
 frees_identifier (Pubcomp identifier code) = true
@@ -117,8 +117,8 @@ takes_quota (Publish p) = is_acknowledged p.qos
 takes_quota _ = false
 
 abbrev pub gives_quota : PacketFields → Bool
-gives_quota (Connect note) = true
-gives_quota (Connack note) = true
+gives_quota (Connect note method) = true
+gives_quota (Connack note method) = true
 gives_quota (Puback identifier code) = true
 gives_quota (Pubrec identifier code) = true
 gives_quota (Pubcomp identifier code) = true

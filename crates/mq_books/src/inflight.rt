@@ -516,8 +516,8 @@ fn frees_identifier(fields: &PacketFields) -> bool
 {
     matches!(
         fields,
-        PacketFields::Connect(_)
-            | PacketFields::Connack(_)
+        PacketFields::Connect { .. }
+            | PacketFields::Connack { .. }
             | PacketFields::Puback { .. }
             | PacketFields::Pubrec { .. }
             | PacketFields::Pubcomp { .. }

@@ -218,8 +218,8 @@ pub fn note_may_concern_quota(note: &Note) -> bool
         },
         Note::Recv(ItemNote::Packet(packet)) => matches!(
             packet.fields,
-            PacketFields::Connect(_)
-                | PacketFields::Connack(_)
+            PacketFields::Connect { .. }
+                | PacketFields::Connack { .. }
                 | PacketFields::Puback { .. }
                 | PacketFields::Pubrec { .. }
                 | PacketFields::Pubcomp { .. }

@@ -1,29 +1,32 @@
 -- By what is kept of the latest connection, which further statements on the past of a connection are false at the next event, and which it puts to the test.
 use Rattle.std.proofs.Common.{◌≡◌, ℕ, ◌+◌, ◌<◌, Bool, true, false, cond, ◌&&◌, ◌||◌, not, ◌⊎◌, inl, inr, length, List, [], ◌∷◌, Option, Some, None, refl, ap, sym, subst, ◌∙◌, arith}
-use Rattle.std.specs.Option.{option_or}
+use Rattle.std.specs.Prelude.{is_some}
+use Rattle.std.specs.Option.{option_and_then, option_or}
 use denote.Enum.Bare.{same_true}
 use Rattle.mq_rules.specs.declared.role.Role.{Role}
 use Rattle.mq_rules.specs.declared.role.Role.TheVariants.{Client, Server}
 use Rattle.mq_rules.specs.declared.role.Tested.{Tested}
 use Rattle.mq_rules.specs.declared.rule.Rule.{Rule}
 use Rattle.mq_rules.specs.contracts.rule.Rule.{the_type}
-use Rattle.mq_rules.specs.declared.rule.Rule.TheVariants.{W01, F01, F02, F03, F04, F05, F06, V03, V04, V06, A01, A02}
+use Rattle.mq_rules.specs.declared.rule.Rule.TheVariants.{W01, F01, F02, F03, F04, F05, F06, V03, V04, V06, A01, A02, A03}
 use Rattle.mq_rules.specs.declared.fate.Fate.{Fate}
+use Rattle.mq_rules.specs.declared.fate.Fate.TheVariants.{Void}
 use Rattle.mq_rules.specs.declared.note.Seen.{Seen}
 use Rattle.mq_connections.specs.declared.manners.Manners.{Manners}
 use Rattle.mq_connections.specs.declared.manners.MannersPlaces.{MannersPlaces}
-use Rattle.mq_rules.specs.Notes.{connack_of, connect_of, is_open}
-use Rattle.mq_rules.specs.Moments.{Moment, newest, note, some}
+use Rattle.mq_rules.specs.Notes.{connack_of, connect_method, connect_of, is_open}
+use Rattle.mq_rules.specs.Moments.{Moment, newest, note, some, first_found}
 use Rattle.mq_rules.specs.Connections.{connection, first_connack, first_connect}
-use Rattle.mq_rules.specs.FurtherPasts.{breaks_F01, breaks_F02, breaks_F03, breaks_F04, breaks_F05, breaks_F06, breaks_V03, breaks_V04, breaks_V06, breaks_A01, breaks_A02, applies_F01, applies_F02, applies_F03, applies_F04, applies_F05, applies_F06, applies_V03, applies_V04, applies_V06, applies_A01, applies_A02, hears_connack}
+use Rattle.mq_rules.specs.FurtherPasts.{breaks_F01, breaks_F02, breaks_F03, breaks_F04, breaks_F05, breaks_F06, breaks_V03, breaks_V04, breaks_V06, breaks_A01, breaks_A02, breaks_A03, applies_F01, applies_F02, applies_F03, applies_F04, applies_F05, applies_F06, applies_V03, applies_V04, applies_V06, applies_A01, applies_A02, applies_A03, hears_connack}
 use Rattle.mq_rules.specs.Rules.{binds, found_line, is_further, line_of, lines, same_rule}
 use Rattle.mq_rules.specs.Statements.{on_past, statement, is_by_past, is_on_further}
 use Rattle.mq_rules.specs.Steps.{shows, turns}
 use Rattle.mq_rules.specs.Under.{Follows}
 use Rattle.mq_rules.specs.Growing.{added, at_place, Gains, GainsWithin, Judges, JudgesWithin, news}
 use Rattle.mq_rules.specs.Occasions.{occasion, places}
+use Rattle.mq_rules.specs.Burden.{methods_kept}
 use Rattle.mq_connections.specs.Finding.{is_among}
-use Rattle.mq_connections.specs.Manners.{connack_after, connect_after, heard_after, further_verdicts, tries_F01, tries_F02, tries_F03, tries_F04, tries_F05, tries_F06, tries_shares, tries_V06, tries_A01, tries_A02, CountsManners, IsManners}
+use Rattle.mq_connections.specs.Manners.{connack_after, connect_after, heard_after, manners_weigh, method_after, further_verdicts, tries_F01, tries_F02, tries_F03, tries_F04, tries_F05, tries_F06, tries_shares, tries_V06, tries_A01, tries_A02, tries_A03, CountsManners, IsManners}
 use Rattle.mq_rules.specs.FaultKeys.{FaultMap, fault_at}
 use Rattle.mq_rules.proofs.Exports.{and_false, first_found-next, gains_nothing, or-turn, places-most, places-past, places-start, places-unbound, some-next}
 use Rattle.mq_connections.proofs.FindLaws.{among-picked, found_news, past_says, pick, picked, client, server}
@@ -34,13 +37,17 @@ use Rattle.mq_connections.proofs.FindLaws.{among-picked, found_news, past_says, 
 abbrev heard_on : List Seen → Bool
 heard_on past = some (λ j. hears_connack (note j)) (connection past)
 
+-- the Authentication Method of its CONNECT
+abbrev method_on : Role → List Seen → Option (Option (List ℕ))
+method_on role past = first_found (connect_method role) (connection past)
+
 last : (b : Bool) → (b || false) ≡ (b && true)
 last true = refl
 last false = refl
 
 client-further : (releases : Bool) (e : Seen) (past : List Seen) (rule : Rule)
-    → picked (further_verdicts Client (first_connect Client (connection past)) (first_connack Client (connection past)) (heard_on past) e.note) rule ≡ ((is_further rule && past_says (statement Client rule) (newest e past)) && binds rule (client releases true))
-unfolding picked pick past_says found_line lines line_of breaks_F01 breaks_F02 breaks_F03 breaks_F04 breaks_F05 breaks_F06 breaks_V03 breaks_V04 breaks_V06 breaks_A01 breaks_A02
+    → picked (further_verdicts Client (first_connect Client (connection past)) (first_connack Client (connection past)) (heard_on past) (method_on Client past) e.note) rule ≡ ((is_further rule && past_says (statement Client rule) (newest e past)) && binds rule (client releases true))
+unfolding picked pick past_says found_line lines line_of breaks_F01 breaks_F02 breaks_F03 breaks_F04 breaks_F05 breaks_F06 breaks_V03 breaks_V04 breaks_V06 breaks_A01 breaks_A02 breaks_A03
 client-further releases e past F01 = last (breaks_F01 (newest e past))
 client-further releases e past F02 = last (breaks_F02 (newest e past))
 client-further releases e past F03 = last (breaks_F03 (newest e past))
@@ -52,11 +59,12 @@ client-further releases e past V04 = last (breaks_V04 (newest e past))
 client-further releases e past V06 = last (breaks_V06 Client (newest e past))
 client-further releases e past A01 = last (breaks_A01 (newest e past))
 client-further releases e past A02 = last (breaks_A02 Client (newest e past))
+client-further releases e past A03 = last (breaks_A03 Client (newest e past))
 client-further releases e past _ = refl
 
 server-further : (releases : Bool) (e : Seen) (past : List Seen) (rule : Rule)
-    → picked (further_verdicts Server (first_connect Server (connection past)) (first_connack Server (connection past)) (heard_on past) e.note) rule ≡ ((is_further rule && past_says (statement Server rule) (newest e past)) && binds rule (server releases true))
-unfolding picked pick past_says found_line lines line_of breaks_F01 breaks_F02 breaks_F03 breaks_F04 breaks_F05 breaks_F06 breaks_V03 breaks_V04 breaks_V06 breaks_A01 breaks_A02
+    → picked (further_verdicts Server (first_connect Server (connection past)) (first_connack Server (connection past)) (heard_on past) (method_on Server past) e.note) rule ≡ ((is_further rule && past_says (statement Server rule) (newest e past)) && binds rule (server releases true))
+unfolding picked pick past_says found_line lines line_of breaks_F01 breaks_F02 breaks_F03 breaks_F04 breaks_F05 breaks_F06 breaks_V03 breaks_V04 breaks_V06 breaks_A01 breaks_A02 breaks_A03
 server-further releases e past F01 = sym (and_false (breaks_F01 (newest e past)))
 server-further releases e past F02 = sym (and_false (breaks_F02 (newest e past)))
 server-further releases e past F03 = sym (and_false (breaks_F03 (newest e past)))
@@ -68,46 +76,47 @@ server-further releases e past V04 = sym (and_false (breaks_V04 (newest e past))
 server-further releases e past V06 = last (breaks_V06 Server (newest e past))
 server-further releases e past A01 = sym (and_false (breaks_A01 (newest e past)))
 server-further releases e past A02 = last (breaks_A02 Server (newest e past))
+server-further releases e past A03 = last (breaks_A03 Server (newest e past))
 server-further releases e past _ = refl
 
 -- by what is kept, exactly the further statements that are false at an event are found there
 finds : (tested : Tested) (e : Seen) (past : List Seen) (rule : Rule) → tested.further ≡ true
-    → is_among (further_verdicts tested.role (first_connect tested.role (connection past)) (first_connack tested.role (connection past)) (heard_on past) e.note) rule ≡ ((is_further rule && past_says (statement tested.role rule) (newest e past)) && binds rule tested)
+    → is_among (further_verdicts tested.role (first_connect tested.role (connection past)) (first_connack tested.role (connection past)) (heard_on past) (method_on tested.role past) e.note) rule ≡ ((is_further rule && past_says (statement tested.role rule) (newest e past)) && binds rule tested)
 finds tested e past rule asked =
-    among-picked (further_verdicts tested.role (first_connect tested.role (connection past)) (first_connack tested.role (connection past)) (heard_on past) e.note) rule
+    among-picked (further_verdicts tested.role (first_connect tested.role (connection past)) (first_connack tested.role (connection past)) (heard_on past) (method_on tested.role past) e.note) rule
     ∙ go tested.role tested.releases
     ∙ ap (λ f. (is_further rule && past_says (statement tested.role rule) (newest e past)) && binds rule (record { role = tested.role; releases = tested.releases; further = f })) (sym asked)
   where
-    go : (role : Role) (releases : Bool) → picked (further_verdicts role (first_connect role (connection past)) (first_connack role (connection past)) (heard_on past) e.note) rule
+    go : (role : Role) (releases : Bool) → picked (further_verdicts role (first_connect role (connection past)) (first_connack role (connection past)) (heard_on past) (method_on role past) e.note) rule
         ≡ ((is_further rule && past_says (statement role rule) (newest e past)) && binds rule (record { role = role; releases = releases; further = true }))
     go Client releases = client-further releases e past rule
     go Server releases = server-further releases e past rule
 
 -- the same of a watcher
 found_by : (m : Manners) (tested : Tested) (taken : Option Fate) (e : Seen) (past : List Seen) (rule : Rule) → m.further ≡ true → IsManners m tested taken past
-    → is_among (further_verdicts m.role m.connect m.connack m.has_heard_connack e.note) rule ≡ ((is_further rule && past_says (statement tested.role rule) (newest e past)) && binds rule tested)
+    → is_among (further_verdicts m.role m.connect m.connack m.has_heard_connack m.method e.note) rule ≡ ((is_further rule && past_says (statement tested.role rule) (newest e past)) && binds rule tested)
 found_by m tested taken e past rule asked here =
-    (λ i. is_among (further_verdicts (here.same_role i) (here.same_connect asked i) (here.same_connack asked i) (here.same_heard asked i) e.note) rule) ∙ finds tested e past rule (sym here.same_further ∙ asked)
+    (λ i. is_among (further_verdicts (here.same_role i) (here.same_connect asked i) (here.same_connack asked i) (here.same_heard asked i) (here.same_method asked i) e.note) rule) ∙ finds tested e past rule (sym here.same_further ∙ asked)
 
 at_place-further : (m : Manners) (tested : Tested) (taken : Option Fate) (e : Seen) (past : List Seen) (k : ℕ) (rule : Rule) → m.further ≡ true → e.place.position ≡ length past + 1 → IsManners m tested taken past
-    → at_place e.place k (is_among (further_verdicts m.role m.connect m.connack m.has_heard_connack e.note) rule) ≡ news (is_on_further tested) tested e past k rule
+    → at_place e.place k (is_among (further_verdicts m.role m.connect m.connack m.has_heard_connack m.method e.note) rule) ≡ news (is_on_further tested) tested e past k rule
 unfolding turns
 at_place-further m tested taken e past k rule asked placed here =
-    found_news (statement tested.role rule) (is_further rule) (binds rule tested) (is_among (further_verdicts m.role m.connect m.connack m.has_heard_connack e.note) rule) tested.role e past k placed (found_by m tested taken e past rule asked here)
+    found_news (statement tested.role rule) (is_further rule) (binds rule tested) (is_among (further_verdicts m.role m.connect m.connack m.has_heard_connack m.method e.note) rule) tested.role e past k placed (found_by m tested taken e past rule asked here)
 
 pub further-gains : (m : Manners) (tested : Tested) (taken : Option Fate) (e : Seen) (past : List Seen) (old new : FaultMap) → m.further ≡ true → Follows tested e past → IsManners m tested taken past
-    → Judges (is_among (further_verdicts m.role m.connect m.connack m.has_heard_connack e.note)) e.place old new
+    → Judges (is_among (further_verdicts m.role m.connect m.connack m.has_heard_connack m.method e.note)) e.place old new
     → Gains (λ k r. is_on_further tested r && turns tested e past k r) tested (e ∷ past) (length past + 1) old new
 further-gains m tested taken e past old new asked follows here h = record {
   each = λ k rule. h.each k rule ∙ ap (option_or (fault_at old k rule)) (at_place-further m tested taken e past k rule asked follows.placed.0 here);
 }
 
 pub further-within : (m : Manners) (tested : Tested) (taken : Option Fate) (e : Seen) (past : List Seen) (old new : FaultMap) → m.further ≡ true → Follows tested e past → IsManners m tested taken past
-    → JudgesWithin (is_among (further_verdicts m.role m.connect m.connack m.has_heard_connack e.note)) e.place old new
+    → JudgesWithin (is_among (further_verdicts m.role m.connect m.connack m.has_heard_connack m.method e.note)) e.place old new
     → GainsWithin (λ k r. is_on_further tested r && turns tested e past k r) tested (e ∷ past) (length past + 1) old new
 further-within m tested taken e past old new asked follows here h = record { each = λ k rule. go k rule (h.each k rule) }
   where
-    go : (k : ℕ) (rule : Rule) → (fault_at new k rule ≡ fault_at old k rule) ⊎ (fault_at new k rule ≡ option_or (fault_at old k rule) (at_place e.place k (is_among (further_verdicts m.role m.connect m.connack m.has_heard_connack e.note) rule)))
+    go : (k : ℕ) (rule : Rule) → (fault_at new k rule ≡ fault_at old k rule) ⊎ (fault_at new k rule ≡ option_or (fault_at old k rule) (at_place e.place k (is_among (further_verdicts m.role m.connect m.connack m.has_heard_connack m.method e.note) rule)))
         → (fault_at new k rule ≡ fault_at old k rule) ⊎ (fault_at new k rule ≡ option_or (fault_at old k rule) (added (λ k r. is_on_further tested r && turns tested e past k r) tested (e ∷ past) (length past + 1) k rule))
     go k rule (inl same) = inl same
     go k rule (inr more) = inr (more ∙ ap (option_or (fault_at old k rule)) (at_place-further m tested taken e past k rule asked follows.placed.0 here))
@@ -136,13 +145,66 @@ unfolding turns
 unasked-gains tested e past m off = gains_nothing (λ k r. is_on_further tested r && turns tested e past k r) tested (e ∷ past) (length past + 1) m
     (λ k r. apart (is_by_past (statement tested.role r)) (is_further r) (binds r tested) (shows tested.role (statement tested.role r) e past k) (not-bound tested r off))
 
+-- ---- the Authentication Method that is kept
+
+-- the method of a CONNECT, as it counts
+abbrev weighed : Option (Option (List ℕ)) → ℕ
+weighed method = cond (is_some (option_and_then (λ method. method) method)) 1 0
+
+method-next : (old new : Manners) (tested : Tested) (taken : Option Fate) (e : Seen) (past : List Seen) → IsManners old tested taken past → old.further ≡ true → new.method ≡ method_after old.role old.method e.note
+    → new.method ≡ method_on tested.role (e ∷ past)
+method-next old new tested taken e past here asked method =
+    method ∙ (λ i. method_after (here.same_role i) (here.same_method asked i) e.note) ∙ sym (first_found-next (connect_method tested.role) e past)
+
+bound-asked : (role : Role) (releases : Bool) → binds A03 (record { role = role; releases = releases; further = true }) ≡ true
+unfolding found_line lines line_of
+bound-asked Client releases = refl
+bound-asked Server releases = refl
+
+bound-unasked : (tested : Tested) → tested.further ≡ false → binds A03 tested ≡ false
+unfolding found_line lines line_of
+bound-unasked tested off = not-bound tested A03 off
+
+-- what is kept counts as much as the log gives to keep, where the statements are asked for
+kept-many : (m : Manners) (tested : Tested) (log : List Seen) → tested.further ≡ true → m.method ≡ method_on tested.role log → manners_weigh m ≡ methods_kept tested log
+unfolding methods_kept
+kept-many m tested log asked same =
+    ap weighed same
+    ∙ sym (ap (λ b. cond (b && is_some (option_and_then (λ method. method) (method_on tested.role log))) 1 0)
+    (ap (λ f. binds A03 (record { role = tested.role; releases = tested.releases; further = f })) asked ∙ bound-asked tested.role tested.releases))
+
+pub many-next : (old new : Manners) (tested : Tested) (taken : Option Fate) (e : Seen) (past : List Seen) → IsManners old tested taken past → old.further ≡ true → new.method ≡ method_after old.role old.method e.note
+    → manners_weigh new ≡ methods_kept tested (e ∷ past)
+many-next old new tested taken e past here asked method = kept-many new tested (e ∷ past) (sym here.same_further ∙ asked) (method-next old new tested taken e past here asked method)
+
+-- and where they aren't asked for, that is nothing
+none-kept : (tested : Tested) (log : List Seen) → tested.further ≡ false → methods_kept tested log ≡ 0
+unfolding methods_kept
+none-kept tested log off = ap (λ b. cond (b && is_some (option_and_then (λ method. method) (method_on tested.role log))) 1 0) (bound-unasked tested off)
+
+none-said : (tested : Tested) → methods_kept tested [] ≡ 0
+unfolding methods_kept
+none-said tested = ap (λ (b : Bool). cond b 1 0) (and_false (binds A03 tested))
+
+-- before any event
+pub manners-start : (m : Manners) (tested : Tested) → m.role ≡ tested.role → m.further ≡ tested.further → m.connect ≡ None → m.connack ≡ None → m.has_heard_connack ≡ false → m.method ≡ None → IsManners m tested (Some Void) []
+manners-start m tested role further connect connack heard method = record {
+  same_role = role;
+  same_further = further;
+  same_connect = λ asked. connect;
+  same_connack = λ asked. connack;
+  same_heard = λ asked. heard;
+  same_method = λ asked. method;
+  as_many = ap weighed method ∙ sym (none-said tested);
+}
+
 -- ---- what is kept with one event more
 
 pub manners-next : (old new : Manners) (tested : Tested) (taken after : Option Fate) (e : Seen) (past : List Seen) → IsManners old tested taken past → new.role ≡ old.role → new.further ≡ old.further
     → (old.further ≡ true → new.connect ≡ connect_after old.role old.connect e.note) → (old.further ≡ true → new.connack ≡ connack_after old.role old.connack e.note)
-    → (old.further ≡ true → new.has_heard_connack ≡ heard_after old.has_heard_connack e.note)
-    → IsManners new tested after (e ∷ past)
-manners-next old new tested taken after e past here role further connect connack heard = record {
+    → (old.further ≡ true → new.has_heard_connack ≡ heard_after old.has_heard_connack e.note) → (old.further ≡ true → new.method ≡ method_after old.role old.method e.note)
+    → manners_weigh new ≡ methods_kept tested (e ∷ past) → IsManners new tested after (e ∷ past)
+manners-next old new tested taken after e past here role further connect connack heard method many = record {
   same_role = role ∙ here.same_role;
   same_further = further ∙ here.same_further;
   same_connect = λ asked.
@@ -155,11 +217,14 @@ manners-next old new tested taken after e past here role further connect connack
       let was = sym further ∙ asked in
       heard was ∙ ap (λ b. heard_after b e.note) (here.same_heard was)
       ∙ sym (some-next (λ j. hears_connack (note j)) e past ∙ or-turn (hears_connack e.note) (not (is_open e.note) && heard_on past));
+  same_method = λ asked. method-next old new tested taken e past here (sym further ∙ asked) (method (sym further ∙ asked));
+  as_many = many;
 }
 
 -- where they aren't asked for, nothing is kept
 pub unasked-stays : (m : Manners) (tested : Tested) (taken after : Option Fate) (e : Seen) (past : List Seen) → m.further ≡ false → IsManners m tested taken past → IsManners m tested after (e ∷ past)
-unasked-stays m tested taken after e past off here = manners-next m m tested taken after e past here refl refl (λ asked. absurd (cc)) (λ asked. absurd (cc)) (λ asked. absurd (cc))
+unasked-stays m tested taken after e past off here = manners-next m m tested taken after e past here refl refl (λ asked. absurd (cc)) (λ asked. absurd (cc)) (λ asked. absurd (cc)) (λ asked. absurd (cc))
+    (here.as_many ∙ none-kept tested past (sym here.same_further ∙ off) ∙ sym (none-kept tested (e ∷ past) (sym here.same_further ∙ off)))
 
 -- ---- how often each is put to the test
 
@@ -218,6 +283,11 @@ unfolding found_line lines line_of applies_A02
 tried-A02 Client releases e past = refl
 tried-A02 Server releases e past = refl
 
+tried-A03 : (role : Role) (releases : Bool) (e : Seen) (past : List Seen) → (binds A03 (record { role = role; releases = releases; further = true }) && applies_A03 role (newest e past)) ≡ tries_A03 role (method_on role past) e.note
+unfolding found_line lines line_of applies_A03
+tried-A03 Client releases e past = refl
+tried-A03 Server releases e past = refl
+
 -- one event more: what is counted of a statement
 counted : (tested : Tested) (rule : Rule) (test : Moment → Bool) (tries : Bool) (e : Seen) (past : List Seen) (old new at : ℕ) → occasion tested.role rule ≡ Some (on_past test) → (binds rule tested && test (newest e past)) ≡ tries
     → at ≡ length past + 1 → old ≡ places tested past rule → (old < at → new ≡ cond tries 1 0 + old) → new ≡ places tested (e ∷ past) rule
@@ -244,6 +314,7 @@ pub record Counted (m : Manners) (old new : MannersPlaces) (e : Seen) : Type 0 w
   pub v06 : old.v06 < e.place.position → new.v06 ≡ cond (tries_V06 m.role e.note) 1 0 + old.v06
   pub a01 : old.a01 < e.place.position → new.a01 ≡ cond (tries_A01 m.role m.connect m.has_heard_connack e.note) 1 0 + old.a01
   pub a02 : old.a02 < e.place.position → new.a02 ≡ cond (tries_A02 m.role m.connect e.note) 1 0 + old.a02
+  pub a03 : old.a03 < e.place.position → new.a03 ≡ cond (tries_A03 m.role m.method e.note) 1 0 + old.a03
 
 pub counts-next : (m : Manners) (old new : MannersPlaces) (tested : Tested) (taken : Option Fate) (e : Seen) (past : List Seen) → m.further ≡ true → Follows tested e past → IsManners m tested taken past → CountsManners old tested past
     → Counted m old new e → CountsManners new tested (e ∷ past)
@@ -270,6 +341,8 @@ counts-next m old new tested taken e past asked follows here was more = record {
       (ap (λ t. binds A01 t && applies_A01 (newest e past)) whole ∙ tried-A01 tested.role tested.releases e past ∙ sym (λ i. tries_A01 (here.same_role i) (here.same_connect asked i) (here.same_heard asked i) e.note)) follows.placed.0 was.a01 more.a01;
   a02 = counted tested A02 (applies_A02 tested.role) (tries_A02 m.role m.connect e.note) e past old.a02 new.a02 e.place.position refl
       (ap (λ t. binds A02 t && applies_A02 tested.role (newest e past)) whole ∙ tried-A02 tested.role tested.releases e past ∙ sym (λ i. tries_A02 (here.same_role i) (here.same_connect asked i) e.note)) follows.placed.0 was.a02 more.a02;
+  a03 = counted tested A03 (applies_A03 tested.role) (tries_A03 m.role m.method e.note) e past old.a03 new.a03 e.place.position refl
+      (ap (λ t. binds A03 t && applies_A03 tested.role (newest e past)) whole ∙ tried-A03 tested.role tested.releases e past ∙ sym (λ i. tries_A03 (here.same_role i) (here.same_method asked i) e.note)) follows.placed.0 was.a03 more.a03;
 }
   where
     whole : tested ≡ record { role = tested.role; releases = tested.releases; further = true }
@@ -290,6 +363,7 @@ counts-unasked p tested e past off was = record {
   v06 = was.v06 ∙ none V06 past refl ∙ sym (none V06 (e ∷ past) refl);
   a01 = was.a01 ∙ none A01 past refl ∙ sym (none A01 (e ∷ past) refl);
   a02 = was.a02 ∙ none A02 past refl ∙ sym (none A02 (e ∷ past) refl);
+  a03 = was.a03 ∙ none A03 past refl ∙ sym (none A03 (e ∷ past) refl);
 }
   where
     bound : (r : Rule) → is_further r ≡ true → binds r tested ≡ false
@@ -298,7 +372,7 @@ counts-unasked p tested e past off was = record {
     none : (r : Rule) (log : List Seen) → is_further r ≡ true → places tested log r ≡ 0
     none r log is = places-unbound tested log r (bound r is)
 
-pub counts-start : (tested : Tested) → CountsManners (record { f01 = 0; f02 = 0; f03 = 0; f04 = 0; f05 = 0; f06 = 0; v03 = 0; v04 = 0; v06 = 0; a01 = 0; a02 = 0 }) tested []
+pub counts-start : (tested : Tested) → CountsManners (record { f01 = 0; f02 = 0; f03 = 0; f04 = 0; f05 = 0; f06 = 0; v03 = 0; v04 = 0; v06 = 0; a01 = 0; a02 = 0; a03 = 0 }) tested []
 counts-start tested = record {
   f01 = sym (places-start tested F01);
   f02 = sym (places-start tested F02);
@@ -311,10 +385,11 @@ counts-start tested = record {
   v06 = sym (places-start tested V06);
   a01 = sym (places-start tested A01);
   a02 = sym (places-start tested A02);
+  a03 = sym (places-start tested A03);
 }
 
 -- these are the further statements on the past of a connection
-pub is-whole : (role : Role) (rule : Rule) → (is_by_past (statement role rule) && is_further rule) ≡ (same_rule rule F01 || (same_rule rule F02 || (same_rule rule F03 || (same_rule rule F04 || (same_rule rule F05 || (same_rule rule F06 || (same_rule rule V03 || (same_rule rule V04 || (same_rule rule V06 || (same_rule rule A01 || same_rule rule A02))))))))))
+pub is-whole : (role : Role) (rule : Rule) → (is_by_past (statement role rule) && is_further rule) ≡ (same_rule rule F01 || (same_rule rule F02 || (same_rule rule F03 || (same_rule rule F04 || (same_rule rule F05 || (same_rule rule F06 || (same_rule rule V03 || (same_rule rule V04 || (same_rule rule V06 || (same_rule rule A01 || (same_rule rule A02 || same_rule rule A03)))))))))))
 unfolding found_line lines line_of
 is-whole role W01 = refl
 is-whole role _ = refl
@@ -363,6 +438,10 @@ is-A02 : (role : Role) → (is_by_past (statement role A02) && is_further A02) �
 unfolding found_line lines line_of
 is-A02 role = refl
 
+is-A03 : (role : Role) → (is_by_past (statement role A03) && is_further A03) ≡ true
+unfolding found_line lines line_of
+is-A03 role = refl
+
 -- what is counted of a statement, where that one is asked for
 counted-there : (tested : Tested) (rule one : Rule) (past : List Seen) (n : ℕ) → same_rule rule one ≡ true → n ≡ places tested past one → is_on_further tested one ≡ true
     → Some n ≡ cond (is_on_further tested rule) (Some (places tested past rule)) None
@@ -403,8 +482,11 @@ counted-A01 tested rule past p same was = counted-there tested rule A01 past p.a
 pub counted-A02 : (tested : Tested) (rule : Rule) (past : List Seen) (p : MannersPlaces) → same_rule rule A02 ≡ true → CountsManners p tested past → Some p.a02 ≡ cond (is_on_further tested rule) (Some (places tested past rule)) None
 counted-A02 tested rule past p same was = counted-there tested rule A02 past p.a02 same was.a02 (is-A02 tested.role)
 
+pub counted-A03 : (tested : Tested) (rule : Rule) (past : List Seen) (p : MannersPlaces) → same_rule rule A03 ≡ true → CountsManners p tested past → Some p.a03 ≡ cond (is_on_further tested rule) (Some (places tested past rule)) None
+counted-A03 tested rule past p same was = counted-there tested rule A03 past p.a03 same was.a03 (is-A03 tested.role)
+
 -- another statement isn't counted here
-pub counted-elsewhere : (tested : Tested) (rule : Rule) (past : List Seen) → same_rule rule F01 ≡ false → same_rule rule F02 ≡ false → same_rule rule F03 ≡ false → same_rule rule F04 ≡ false → same_rule rule F05 ≡ false → same_rule rule F06 ≡ false → same_rule rule V03 ≡ false → same_rule rule V04 ≡ false → same_rule rule V06 ≡ false → same_rule rule A01 ≡ false → same_rule rule A02 ≡ false
+pub counted-elsewhere : (tested : Tested) (rule : Rule) (past : List Seen) → same_rule rule F01 ≡ false → same_rule rule F02 ≡ false → same_rule rule F03 ≡ false → same_rule rule F04 ≡ false → same_rule rule F05 ≡ false → same_rule rule F06 ≡ false → same_rule rule V03 ≡ false → same_rule rule V04 ≡ false → same_rule rule V06 ≡ false → same_rule rule A01 ≡ false → same_rule rule A02 ≡ false → same_rule rule A03 ≡ false
     → None ≡ cond (is_on_further tested rule) (Some (places tested past rule)) None
-counted-elsewhere tested rule past f01 f02 f03 f04 f05 f06 v03 v04 v06 a01 a02 =
-    sym (ap (λ (t : Bool). cond t (Some (places tested past rule)) None) (is-whole tested.role rule ∙ (λ i. (f01 i || (f02 i || (f03 i || (f04 i || (f05 i || (f06 i || (v03 i || (v04 i || (v06 i || (a01 i || a02 i)))))))))))))
+counted-elsewhere tested rule past f01 f02 f03 f04 f05 f06 v03 v04 v06 a01 a02 a03 =
+    sym (ap (λ (t : Bool). cond t (Some (places tested past rule)) None) (is-whole tested.role rule ∙ (λ i. (f01 i || (f02 i || (f03 i || (f04 i || (f05 i || (f06 i || (v03 i || (v04 i || (v06 i || (a01 i || (a02 i || a03 i))))))))))))))

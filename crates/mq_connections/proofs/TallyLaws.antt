@@ -43,8 +43,8 @@ tally-next rule test found says finds tested role s e past here beside old new a
 
 -- a packet has a type from 1 to 15
 pub has_type : (fields : PacketFields) → true ≡ not (type_number (fields_type fields) == 0)
-has_type (Connect c) = refl
-has_type (Connack c) = refl
+has_type (Connect c method) = refl
+has_type (Connack c method) = refl
 has_type (Publish p) = refl
 has_type (Puback identifier code) = refl
 has_type (Pubrec identifier code) = refl
@@ -57,7 +57,7 @@ has_type (Unsuback identifier codes) = refl
 has_type Pingreq = refl
 has_type Pingresp = refl
 has_type (Disconnect d) = refl
-has_type Auth = refl
+has_type (Auth method) = refl
 
 -- C01 to C23 are the statements on the past of a connection
 pub is_whole : (role : Role) (rule : Rule) → (is_by_past (statement role rule) && not (is_further rule)) ≡ is_tallied rule

@@ -1,14 +1,14 @@
--- What is kept of the latest connection, so that the further statements on one packet and on its past (F01 to F06, V03, V04, V06, A01 and A02) are judged in one pass: its
--- CONNECT, its CONNACK, and whether a CONNACK was heard. Whether each is false at the next event, and whether that puts it to the test.
-use Rattle.std.specs.Prelude.{◌≡◌, ◌==◌, nat_lt, Bool, true, false, ◌&&◌, ◌||◌, not, cond, List, [], ◌∷◌, Option, None, is_some}
-use Rattle.std.specs.Option.{option_or}
+-- What is kept of the latest connection, so that the further statements on one packet and on its past (F01 to F06, V03, V04, V06, and A01 to A03) are judged in one pass: its
+-- CONNECT, with its Authentication Method, its CONNACK, and whether a CONNACK was heard. Whether each is false at the next event, and whether that puts it to the test.
+use Rattle.std.specs.Prelude.{ℕ, ◌≡◌, ◌==◌, nat_lt, Bool, true, false, ◌&&◌, ◌||◌, not, cond, List, [], ◌∷◌, Option, None, is_some}
+use Rattle.std.specs.Option.{option_and_then, option_or}
 use Rattle.mq_packet.specs.declared.packet.PacketType.TheVariants as types
 use Rattle.mq_rules.specs.declared.role.Role.{Role}
 use Rattle.mq_rules.specs.declared.role.Role.TheVariants.{Client, Server}
 use Rattle.mq_rules.specs.declared.role.Tested.{Tested}
 use Rattle.mq_rules.specs.declared.fate.Fate.{Fate}
 use Rattle.mq_rules.specs.declared.rule.Rule.{Rule}
-use Rattle.mq_rules.specs.declared.rule.Rule.TheVariants.{F01, F02, F03, F04, F05, F06, V03, V04, V06, A01, A02}
+use Rattle.mq_rules.specs.declared.rule.Rule.TheVariants.{F01, F02, F03, F04, F05, F06, V03, V04, V06, A01, A02, A03}
 use Rattle.mq_rules.specs.declared.note.Note.{Note}
 use Rattle.mq_rules.specs.declared.note.Seen.{Seen}
 use Rattle.mq_rules.specs.declared.packet_note.ConnectNote.{ConnectNote}
@@ -16,11 +16,12 @@ use Rattle.mq_rules.specs.declared.packet_note.ConnackNote.{ConnackNote}
 use Rattle.mq_connections.specs.declared.manners.Manners.{Manners}
 use Rattle.mq_connections.specs.declared.manners.MannersPlaces.{MannersPlaces}
 use Rattle.mq_rules.specs.Words.{is_some_and, is_id}
-use Rattle.mq_rules.specs.Notes.{is_open, is_typed, qos_number, connect_of, connack_of, sent_connack, sent_disconnect, sent_item, sent_publish, sent_receipt_code, sent_wishes, sends_auth, sends_type}
-use Rattle.mq_rules.specs.Moments.{note, some}
+use Rattle.mq_rules.specs.Notes.{connect_method, is_open, is_typed, qos_number, connect_of, connack_of, sent_connack, sent_disconnect, sent_item, sent_publish, sent_receipt_code, sent_wishes, sends_auth, sends_type}
+use Rattle.mq_rules.specs.Moments.{note, some, first_found}
 use Rattle.mq_rules.specs.Connections.{connection, first_connack, first_connect}
-use Rattle.mq_rules.specs.FurtherPasts.{will_in, has_method, lacks_method, hears_connack, lacks_retain, lacks_wildcards, lacks_identifiers, lacks_shares, is_code_of_servers, is_code_of_clients, is_receipt_of_servers}
+use Rattle.mq_rules.specs.FurtherPasts.{has_to_name, names_method, will_in, has_method, lacks_method, hears_connack, lacks_retain, lacks_wildcards, lacks_identifiers, lacks_shares, is_code_of_servers, is_code_of_clients, is_receipt_of_servers}
 use Rattle.mq_rules.specs.Occasions.{places}
+use Rattle.mq_rules.specs.Burden.{methods_kept}
 
 -- ---- what is kept
 
@@ -36,14 +37,24 @@ connack_after role connack n = option_or (cond (is_open n) None connack) (connac
 abbrev pub heard_after : Bool → Note → Bool
 heard_after heard n = (not (is_open n) && heard) || hears_connack n
 
--- What the watcher keeps is the CONNECT and the CONNACK of the latest connection of these events, the newest first, and whether a CONNACK was heard there, if the further
--- statements are asked for.
+-- the Authentication Method of its first CONNECT likewise
+abbrev pub method_after : Role → Option (Option (List ℕ)) → Note → Option (Option (List ℕ))
+method_after role method n = option_or (cond (is_open n) None method) (connect_method role n)
+
+-- how much is kept: an Authentication Method counts once
+abbrev pub manners_weigh : Manners → ℕ
+manners_weigh m = cond (is_some (option_and_then (λ method. method) m.method)) 1 0
+
+-- What the watcher keeps is the CONNECT, with its Authentication Method, and the CONNACK of the latest connection of these events, the newest first, and whether a CONNACK was
+-- heard there, if the further statements are asked for.
 pub record IsManners (m : Manners) (tested : Tested) (taken : Option Fate) (past : List Seen) : Type 0 where
   pub same_role : m.role ≡ tested.role
   pub same_further : m.further ≡ tested.further
   pub same_connect : m.further ≡ true → m.connect ≡ first_connect tested.role (connection past)
   pub same_connack : m.further ≡ true → m.connack ≡ first_connack tested.role (connection past)
   pub same_heard : m.further ≡ true → m.has_heard_connack ≡ some (λ j. hears_connack (note j)) (connection past)
+  pub same_method : m.further ≡ true → m.method ≡ first_found (connect_method tested.role) (connection past)
+  pub as_many : manners_weigh m ≡ methods_kept tested past
 
 -- ---- whether each statement is false at the next event
 
@@ -83,13 +94,18 @@ abbrev pub finds_A02 : Role → Option ConnectNote → Note → Bool
 finds_A02 Client connect n = sends_auth n && lacks_method connect
 finds_A02 Server connect n = (sends_auth n || is_some_and (λ c. c.has_authentication_method) (sent_connack n)) && lacks_method connect
 
+abbrev pub finds_A03 : Role → Option (Option (List ℕ)) → Note → Bool
+finds_A03 role method n = has_to_name role n && is_some_and (λ method. not (names_method n method)) (option_and_then (λ method. method) method)
+
 -- each statement that binds the end, with whether it is false at the event
-abbrev pub further_verdicts : Role → Option ConnectNote → Option ConnackNote → Bool → Note → List (Rule × Bool)
-further_verdicts Client connect connack heard n =
+abbrev pub further_verdicts : Role → Option ConnectNote → Option ConnackNote → Bool → Option (Option (List ℕ)) → Note → List (Rule × Bool)
+further_verdicts Client connect connack heard method n =
     (F01, finds_F01 connack n) ∷ (F02, finds_F02 connack n) ∷ (F03, finds_F03 connack n) ∷ (F04, finds_F04 connack n)
-    ∷ (V03, finds_V03 n) ∷ (V04, finds_V04 n) ∷ (V06, finds_V06 Client n) ∷ (A01, finds_A01 connect heard n) ∷ (A02, finds_A02 Client connect n) ∷ []
-further_verdicts Server connect connack heard n =
-    (F05, finds_F05 connect (sent_connack n)) ∷ (F06, finds_F06 connect (sent_connack n)) ∷ (V06, finds_V06 Server n) ∷ (A02, finds_A02 Server connect n) ∷ []
+    ∷ (V03, finds_V03 n) ∷ (V04, finds_V04 n) ∷ (V06, finds_V06 Client n) ∷ (A01, finds_A01 connect heard n) ∷ (A02, finds_A02 Client connect n)
+    ∷ (A03, finds_A03 Client method n) ∷ []
+further_verdicts Server connect connack heard method n =
+    (F05, finds_F05 connect (sent_connack n)) ∷ (F06, finds_F06 connect (sent_connack n)) ∷ (V06, finds_V06 Server n) ∷ (A02, finds_A02 Server connect n)
+    ∷ (A03, finds_A03 Server method n) ∷ []
 
 -- ---- whether the next event puts it to the test
 
@@ -134,6 +150,9 @@ abbrev pub tries_A02 : Role → Option ConnectNote → Note → Bool
 tries_A02 Client connect n = sends_auth n && is_some connect
 tries_A02 Server connect n = (sends_auth n && is_some connect) || (is_some (sent_connack n) && lacks_method connect)
 
+abbrev pub tries_A03 : Role → Option (Option (List ℕ)) → Note → Bool
+tries_A03 role method n = has_to_name role n && is_some (option_and_then (λ method. method) method)
+
 -- the counts are those of these events, the newest first
 pub record CountsManners (p : MannersPlaces) (tested : Tested) (past : List Seen) : Type 0 where
   pub f01 : p.f01 ≡ places tested past F01
@@ -147,3 +166,4 @@ pub record CountsManners (p : MannersPlaces) (tested : Tested) (past : List Seen
   pub v06 : p.v06 ≡ places tested past V06
   pub a01 : p.a01 ≡ places tested past A01
   pub a02 : p.a02 ≡ places tested past A02
+  pub a03 : p.a03 ≡ places tested past A03

@@ -1,34 +1,42 @@
 //! The further statements on one packet and on the past of its connection, in one pass: F01 to F06,
-//! V03, V04, V06, A01 and A02.
+//! V03, V04, V06, and A01 to A03.
 //!
-//! The client's CONNECT and the server's CONNACK are kept, and whether a CONNACK was heard.
+//! The client's CONNECT, with its Authentication Method, and the server's CONNACK are kept, and
+//! whether a CONNACK was heard.
 ghost use Rattle.std.specs.Prelude.{◌≡◌, ◌∷◌, ◌+◌, ◌<◌, ◌&&◌, ◌||◌, not, false, ℕ, [], cond, length, List, Option, Some, None, OnOk, OnErr, nat_lt, option_map, is_some, ◌==◌};
-ghost use Rattle.mq_packet.specs.declared.packet.PacketType.TheVariants as types;
+ghost use Rattle.std.specs.Option.{option_or};
 ghost use Rattle.mq_rules.specs.declared.role.Role.TheVariants as roles;
 ghost use Rattle.mq_rules.specs.declared.role.Tested.{Tested as TheTested};
 ghost use Rattle.mq_rules.specs.declared.fate.Fate.{Fate as TheFate};
 ghost use Rattle.mq_rules.specs.declared.fate.Fate.TheVariants.{Void};
 ghost use Rattle.mq_rules.specs.declared.note.Seen.{Seen as TheSeen};
 ghost use Rattle.mq_rules.specs.Words.{is_some_and, is_id};
-ghost use Rattle.mq_rules.specs.Notes.{sends_auth as sends_an_auth, sends_type, sent_connack as connack_of, sent_disconnect as disconnect_of, sent_publish as publish_of, sent_receipt_code as receipt_code_of, sent_wishes as wishes_of, qos_number as number_of};
+ghost use Rattle.mq_rules.specs.Notes.{sent_connack as connack_of, sent_disconnect as disconnect_of, sent_publish as publish_of, sent_receipt_code as receipt_code_of, sent_wishes as wishes_of, qos_number as number_of};
 ghost use Rattle.mq_rules.specs.FurtherPasts as pasts;
-ghost use Rattle.mq_rules.specs.FurtherPasts.{will_in, lacks_method};
+ghost use Rattle.mq_rules.specs.FurtherPasts.{will_in};
 ghost use Rattle.mq_rules.specs.Growing.{Judges, JudgesWithin};
 ghost use Rattle.mq_connections.specs.Finding.{is_among};
 ghost use Rattle.mq_connections.specs.Manners as keeping;
-ghost use Rattle.mq_connections.specs.Manners.{CountsManners, IsManners, connack_after, connect_after, further_verdicts, heard_after};
+ghost use Rattle.mq_connections.specs.Manners.{CountsManners, IsManners, connack_after, connect_after, further_verdicts, heard_after, manners_weigh, method_after};
 ghost use Rattle.mq_rules.specs.Occasions.{places};
 ghost use Rattle.mq_rules.specs.Statements.{is_on_further};
 ghost use Rattle.mq_rules.specs.Steps.{turns};
 ghost use Rattle.mq_rules.specs.Under.{seen};
+ghost use Rattle.mq_rules.specs.Burden.{methods_kept};
+
+pub(crate) mod authentication;
 
 use crate::conn::{Verdict, judge_each};
-use mq_log::Place3;
-use mq_packet::PacketType;
-use mq_rules::{
-    Bare, Brisk, ConnackNote, ConnectNote, Faults, Memory, Note, PacketFields, Role, Rule, Tested,
-    Watch, WillNote, places_after, qos_number, step_apart,
+use authentication::{
+    breaks_a01, breaks_a02, breaks_a03, has_no_method, hears_connack, method_of, sends_auth,
+    tries_a01, tries_a02, tries_a03,
 };
+use mq_log::Place3;
+use mq_rules::{
+    Bare, Brisk, ConnackNote, ConnectNote, Faults, Memory, Method, Note, Role, Rule, Tested, Watch,
+    WillNote, places_after, qos_number, step_apart,
+};
+use std::alloc::Global;
 
 /// The Reason Code QoS not supported of a CONNACK (MQTT 5.0, section 3.2.2.2).
 const QOS_NOT_SUPPORTED: u8 = 0x9B;
@@ -43,10 +51,11 @@ const NO_MATCH: u8 = 0x10;
 /// The Reason Code Disconnect with Will Message of a DISCONNECT (MQTT 5.0, section 3.14.2.1).
 const WITH_WILL: u8 = 0x04;
 
-/// Watches F01 to F06, V03, V04, V06, A01 and A02, if the further statements are asked for. It takes
-/// in each event of a log.
+/// Watches F01 to F06, V03, V04, V06, and A01 to A03, if the further statements are asked for. It
+/// takes in each event of a log.
 #[derive(Drop)]
 pub struct Manners {
+    alloc: Global,
     role: Role,
     /// Whether they are asked for. If not, nothing is kept.
     further: bool,
@@ -57,60 +66,93 @@ pub struct Manners {
     /// Whether a CONNACK was heard there: something of that type was received, or what can't be cut
     /// into packets.
     has_heard_connack: bool,
+    /// The Authentication Method of that CONNECT. None before there is a CONNECT.
+    method: Option<Method>,
 }
 
 impl Manners {
     /// The watcher before the first event, for this tested end.
-    pub fn new(tested: Tested) -> Self
+    pub fn new(alloc: Global, tested: Tested) -> Self
         ensures { ⟦<Manners as Watch>⟧.agrees result tested (Some Void) [] }
     {
         Manners {
+            alloc,
             role: tested.role,
             further: tested.further,
             connect: None,
             connack: None,
             has_heard_connack: false,
+            method: None,
         }
     }
 
     // Takes in an event.
-    fn consume(&mut self, note: &Note)
-        ensures { self.new ≡ record { role = self.old.role; further = self.old.further; connect = connect_after self.old.role self.old.connect note.now; connack = connack_after self.old.role self.old.connack note.now; has_heard_connack = heard_after self.old.has_heard_connack note.now } }
+    fn consume(&mut self, note: &Note) -> Result<(), Memory>
+        ensures { OnOk result (self.new ≡ record { alloc = self.old.alloc; role = self.old.role; further = self.old.further; connect = connect_after self.old.role self.old.connect note.now; connack = connack_after self.old.role self.old.connack note.now; has_heard_connack = heard_after self.old.has_heard_connack note.now; method = method_after self.old.role self.old.method note.now }) }
     {
         if note.is_open() {
             self.connect = None;
             self.connack = None;
             self.has_heard_connack = false;
+            self.method = None;
         }
         self.connect = self.connect.or(note.connect(self.role).copied());
         self.connack = self.connack.or(note.connack(self.role).copied());
         self.has_heard_connack |= hears_connack(note);
+        self.name_method(note.connect_method(self.role))
+    }
+
+    // Keeps the Authentication Method of a CONNECT, if there is one and none came before it.
+    fn name_method(&mut self, named: Option<&Method>) -> Result<(), Memory>
+        ensures { OnOk result (self.new ≡ record { alloc = self.old.alloc; role = self.old.role; further = self.old.further; connect = self.old.connect; connack = self.old.connack; has_heard_connack = self.old.has_heard_connack; method = option_or self.old.method (option_map (λ method. method.now) named.entry) }) }
+    {
+        if self.method.is_some() {
+            return Ok(());
+        }
+        if let Some(named) = named {
+            self.method = Some(named.copy(self.alloc)?);
+        }
+        Ok(())
     }
 
     // Judges an event, and then takes it in.
     #[inline(never)]
     fn take(&mut self, place: Place3, note: &Note, faults: &mut Faults) -> Result<(), Memory>
-        ensures kept { OnOk result (self.new ≡ record { role = self.old.role; further = self.old.further; connect = connect_after self.old.role self.old.connect note.now; connack = connack_after self.old.role self.old.connack note.now; has_heard_connack = heard_after self.old.has_heard_connack note.now }) }
-        ensures ok { OnOk result (Judges (is_among (further_verdicts self.old.role self.old.connect self.old.connack self.old.has_heard_connack note.now)) place faults.old faults.new) }
-        ensures memory { OnErr result (JudgesWithin (is_among (further_verdicts self.old.role self.old.connect self.old.connack self.old.has_heard_connack note.now)) place faults.old faults.new) }
+        ensures kept { OnOk result (self.new ≡ record { alloc = self.old.alloc; role = self.old.role; further = self.old.further; connect = connect_after self.old.role self.old.connect note.now; connack = connack_after self.old.role self.old.connack note.now; has_heard_connack = heard_after self.old.has_heard_connack note.now; method = method_after self.old.role self.old.method note.now }) }
+        ensures ok { OnOk result (Judges (is_among (further_verdicts self.old.role self.old.connect self.old.connack self.old.has_heard_connack self.old.method note.now)) place faults.old faults.new) }
+        ensures memory { OnErr result (JudgesWithin (is_among (further_verdicts self.old.role self.old.connect self.old.connack self.old.has_heard_connack self.old.method note.now)) place faults.old faults.new) }
     {
         self.judge(place, note, faults)?;
-        self.consume(note);
+        self.consume(note)?;
         Ok(())
+    }
+
+    // How many Authentication Methods are kept: one at most.
+    fn methods_kept(&self) -> usize
+        ensures { result ≡ manners_weigh self.now }
+    {
+        match method_of(self.method.as_ref()) {
+            Some(_) => 1,
+            None => 0,
+        }
     }
 
     // Judges an event by what is kept.
     fn judge(&self, place: Place3, note: &Note, faults: &mut Faults) -> Result<(), Memory>
-        ensures ok { OnOk result (Judges (is_among (further_verdicts self.now.role self.now.connect self.now.connack self.now.has_heard_connack note.now)) place faults.old faults.new) }
-        ensures memory { OnErr result (JudgesWithin (is_among (further_verdicts self.now.role self.now.connect self.now.connack self.now.has_heard_connack note.now)) place faults.old faults.new) }
+        ensures ok { OnOk result (Judges (is_among (further_verdicts self.now.role self.now.connect self.now.connack self.now.has_heard_connack self.now.method note.now)) place faults.old faults.new) }
+        ensures memory { OnErr result (JudgesWithin (is_among (further_verdicts self.now.role self.now.connect self.now.connack self.now.has_heard_connack self.now.method note.now)) place faults.old faults.new) }
     {
         match self.role {
             Role::Client => {
                 let heard = self.has_heard_connack;
-                let verdicts = client_verdicts(self.connect, self.connack, heard, note);
+                let method = self.method.as_ref();
+                let verdicts = client_verdicts(self.connect, self.connack, heard, method, note);
                 judge_each(place, &verdicts, faults)
             }
-            Role::Server => judge_each(place, &server_verdicts(self.connect, note), faults),
+            Role::Server => {
+                let verdicts = server_verdicts(self.connect, self.method.as_ref(), note);
+                judge_each(place, &verdicts, faults)
+            }
         }
     }
 }
@@ -122,9 +164,9 @@ impl Watch for Manners {
 
     ghost adds = { λ tested e past k r. is_on_further tested r && turns tested e past k r };
 
-    ghost weighs = { λ s. 0 };
+    ghost weighs = { manners_weigh };
 
-    ghost bound = { λ tested taken past. 0 };
+    ghost bound = { λ tested taken past. methods_kept tested past };
 
     #[inline(always)]
     fn step(&mut self, at: Place3, note: &Note, faults: &mut Faults) -> Result<(), Memory> {
@@ -136,7 +178,7 @@ impl Watch for Manners {
     }
 
     fn weight(&self) -> usize {
-        0
+        self.methods_kept()
     }
 }
 
@@ -151,15 +193,16 @@ impl Brisk for Manners {
     }
 }
 
-// The statements on what a client sends, by what is kept: this CONNECT, this CONNACK, and whether a
-// CONNACK was heard.
+// The statements on what a client sends, by what is kept: this CONNECT, this CONNACK, whether a
+// CONNACK was heard, and the Authentication Method of the CONNECT.
 fn client_verdicts(
     connect: Option<ConnectNote>,
     connack: Option<ConnackNote>,
     has_heard_connack: bool,
+    method: Option<&Method>,
     note: &Note,
-) -> [Verdict; 9]
-    ensures { result ≡ further_verdicts roles.Client connect connack has_heard_connack note.now }
+) -> [Verdict; 10]
+    ensures { result ≡ further_verdicts roles.Client connect connack has_heard_connack (option_map (λ method. method.now) method.entry) note.now }
 {
     [
         (Rule::F01, retains_anew(note) && lacks_retain(connack)),
@@ -174,18 +217,25 @@ fn client_verdicts(
         (Rule::V06, sends_code_of_servers(note)),
         (Rule::A01, breaks_a01(connect, has_heard_connack, note)),
         (Rule::A02, sends_auth(note) && has_no_method(connect)),
+        (Rule::A03, breaks_a03(Role::Client, method, note)),
     ]
 }
 
-// The statements on what a server sends, after this CONNECT. None looks at the CONNACK before.
-fn server_verdicts(connect: Option<ConnectNote>, note: &Note) -> [Verdict; 4]
-    ensures { result ≡ further_verdicts roles.Server connect None false note.now }
+// The statements on what a server sends, after this CONNECT with this Authentication Method. None
+// looks at the CONNACK before.
+fn server_verdicts(
+    connect: Option<ConnectNote>,
+    method: Option<&Method>,
+    note: &Note,
+) -> [Verdict; 5]
+    ensures { result ≡ further_verdicts roles.Server connect None false (option_map (λ method. method.now) method.entry) note.now }
 {
     [
         (Rule::F05, breaks_f05(connect, note)),
         (Rule::F06, breaks_f06(connect, note)),
         (Rule::V06, sends_code_of_clients(note)),
         (Rule::A02, breaks_a02(connect, note)),
+        (Rule::A03, breaks_a03(Role::Server, method, note)),
     ]
 }
 
@@ -391,80 +441,6 @@ fn is_to_be_retained(connect: Option<ConnectNote>) -> bool
     }
 }
 
-// A01: whether something else than a CONNECT, an AUTH or a DISCONNECT is sent after a CONNECT with an
-// Authentication Method, and before a CONNACK was heard.
-fn breaks_a01(connect: Option<ConnectNote>, has_heard_connack: bool, note: &Note) -> bool
-    ensures { result ≡ keeping.finds_A01 connect has_heard_connack note.now }
-{
-    note.is_typed_sent() && !may_precede_connack(note) && has_method(connect) && !has_heard_connack
-}
-
-// Whether something of a type is sent that may come before the CONNACK.
-fn may_precede_connack(note: &Note) -> bool
-    ensures { result ≡ (sends_type types.Connect note.now || (sends_type types.Auth note.now || sends_type types.Disconnect note.now)) }
-{
-    note.sends_type(PacketType::Connect)
-        || note.sends_type(PacketType::Auth)
-        || note.sends_type(PacketType::Disconnect)
-}
-
-// Whether a CONNACK is heard: something of that type is received, or what can't be cut into packets.
-fn hears_connack(note: &Note) -> bool
-    ensures { result ≡ pasts.hears_connack note.now }
-{
-    match note.received_item() {
-        Some(item) => item.is_of_type(PacketType::Connack) || !item.is_typed(),
-        None => false,
-    }
-}
-
-// A02, of a server.
-fn breaks_a02(connect: Option<ConnectNote>, note: &Note) -> bool
-    ensures { result ≡ keeping.finds_A02 roles.Server connect note.now }
-{
-    (sends_auth(note) || names_method(note.sent_connack())) && has_no_method(connect)
-}
-
-// Whether an AUTH is sent.
-fn sends_auth(note: &Note) -> bool
-    ensures { result ≡ sends_an_auth note.now }
-{
-    match note.sent_packet() {
-        Some(packet) => matches!(packet.fields, PacketFields::Auth),
-        None => false,
-    }
-}
-
-// Whether there is a CONNACK with an Authentication Method.
-fn names_method(connack: Option<&ConnackNote>) -> bool
-    ensures { result ≡ is_some_and (λ c. c.has_authentication_method) (option_map (λ c. c.now) connack.entry) }
-{
-    match connack {
-        Some(connack) => connack.has_authentication_method,
-        None => false,
-    }
-}
-
-// Whether there is a CONNECT, and it has an Authentication Method.
-fn has_method(connect: Option<ConnectNote>) -> bool
-    ensures { result ≡ pasts.has_method connect }
-{
-    match connect {
-        Some(connect) => connect.has_authentication_method,
-        None => false,
-    }
-}
-
-/// Whether there is a CONNECT, and it has no Authentication Method.
-pub(crate) fn has_no_method(connect: Option<ConnectNote>) -> bool
-    ensures { result ≡ lacks_method connect }
-{
-    match connect {
-        Some(connect) => !connect.has_authentication_method,
-        None => false,
-    }
-}
-
 // The Will of a CONNECT, if it has one.
 fn will(connect: Option<ConnectNote>) -> Option<WillNote>
     ensures { result ≡ will_in connect }
@@ -486,12 +462,13 @@ struct MannersPlaces {
     v06: u32,
     a01: u32,
     a02: u32,
+    a03: u32,
 }
 
 impl MannersPlaces {
     // The counts of nothing.
     fn none() -> MannersPlaces
-        ensures { result ≡ record { f01 = 0; f02 = 0; f03 = 0; f04 = 0; f05 = 0; f06 = 0; v03 = 0; v04 = 0; v06 = 0; a01 = 0; a02 = 0 } }
+        ensures { result ≡ record { f01 = 0; f02 = 0; f03 = 0; f04 = 0; f05 = 0; f06 = 0; v03 = 0; v04 = 0; v06 = 0; a01 = 0; a02 = 0; a03 = 0 } }
     {
         MannersPlaces {
             f01: 0,
@@ -505,6 +482,7 @@ impl MannersPlaces {
             v06: 0,
             a01: 0,
             a02: 0,
+            a03: 0,
         }
     }
 
@@ -521,6 +499,7 @@ impl MannersPlaces {
         ensures v06 { self.old.v06 < position → self.new.v06 ≡ cond (keeping.tries_V06 manners.now.role note.now) 1 0 + self.old.v06 }
         ensures a01 { self.old.a01 < position → self.new.a01 ≡ cond (keeping.tries_A01 manners.now.role manners.now.connect manners.now.has_heard_connack note.now) 1 0 + self.old.a01 }
         ensures a02 { self.old.a02 < position → self.new.a02 ≡ cond (keeping.tries_A02 manners.now.role manners.now.connect note.now) 1 0 + self.old.a02 }
+        ensures a03 { self.old.a03 < position → self.new.a03 ≡ cond (keeping.tries_A03 manners.now.role manners.now.method note.now) 1 0 + self.old.a03 }
     {
         let role = manners.role;
         let (connect, connack) = (manners.connect, manners.connack);
@@ -536,6 +515,8 @@ impl MannersPlaces {
         self.v06 = places_after(tries_v06(role, note), self.v06, position);
         self.a01 = places_after(tries_a01(role, connect, heard, note), self.a01, position);
         self.a02 = places_after(tries_a02(role, connect, note), self.a02, position);
+        let method = manners.method.as_ref();
+        self.a03 = places_after(tries_a03(role, method, note), self.a03, position);
     }
 }
 
@@ -641,34 +622,6 @@ fn retains_nothing(connack: Option<&ConnackNote>) -> bool
     }
 }
 
-// Whether an event puts A01 to the test.
-fn tries_a01(role: Role, connect: Option<ConnectNote>, has_heard_connack: bool, note: &Note) -> bool
-    ensures { result ≡ keeping.tries_A01 role connect has_heard_connack note.now }
-{
-    match role {
-        Role::Client => {
-            note.is_typed_sent()
-                && !note.sends_type(PacketType::Connect)
-                && has_method(connect)
-                && !has_heard_connack
-        }
-        Role::Server => false,
-    }
-}
-
-// Whether an event puts A02 to the test.
-fn tries_a02(role: Role, connect: Option<ConnectNote>, note: &Note) -> bool
-    ensures { result ≡ keeping.tries_A02 role connect note.now }
-{
-    match role {
-        Role::Client => sends_auth(note) && connect.is_some(),
-        Role::Server => {
-            (sends_auth(note) && connect.is_some())
-                || (note.sent_connack().is_some() && has_no_method(connect))
-        }
-    }
-}
-
 /// The watcher of the same statements, and how often each of them was put to the test.
 #[derive(Drop)]
 pub struct CountingManners {
@@ -678,11 +631,11 @@ pub struct CountingManners {
 
 impl CountingManners {
     /// The watcher before the first event, for this tested end.
-    pub fn new(tested: Tested) -> Self
+    pub fn new(alloc: Global, tested: Tested) -> Self
         ensures { ⟦<CountingManners as Watch>⟧.agrees result tested (Some Void) [] }
     {
         CountingManners {
-            manners: Manners::new(tested),
+            manners: Manners::new(alloc, tested),
             places: MannersPlaces::none(),
         }
     }
@@ -724,6 +677,9 @@ impl CountingManners {
         if rule == Rule::A02 {
             return Some(self.places.a02);
         }
+        if rule == Rule::A03 {
+            return Some(self.places.a03);
+        }
         None
     }
 }
@@ -735,9 +691,9 @@ impl Watch for CountingManners {
 
     ghost adds = { λ tested e past k r. is_on_further tested r && turns tested e past k r };
 
-    ghost weighs = { λ s. 0 };
+    ghost weighs = { λ s. manners_weigh s.manners };
 
-    ghost bound = { λ tested taken past. 0 };
+    ghost bound = { λ tested taken past. methods_kept tested past };
 
     fn step(&mut self, at: Place3, note: &Note, faults: &mut Faults) -> Result<(), Memory> {
         if !self.manners.further {
@@ -749,7 +705,7 @@ impl Watch for CountingManners {
     }
 
     fn weight(&self) -> usize {
-        0
+        self.manners.methods_kept()
     }
 }
 

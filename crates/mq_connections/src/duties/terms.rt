@@ -5,13 +5,14 @@ ghost use Rattle.std.specs.BTreeSet.{contains, btree_set_len};
 ghost use Rattle.std.specs.Ordering.{nat_cmp};
 ghost use Rattle.mq_rules.specs.declared.role.Role.TheVariants as roles;
 ghost use Rattle.mq_rules.specs.Words.{is_id, is_some_and, only};
-ghost use Rattle.mq_rules.specs.Notes.{is_auth, is_open as opens, publish_in, wishes_in};
+ghost use Rattle.mq_rules.specs.Notes.{is_open as opens, publish_in, wishes_in};
 ghost use Rattle.mq_connections.specs.Finding.{is_another};
 ghost use Rattle.mq_connections.specs.Manners.{connack_after, connect_after};
 ghost use Rattle.mq_rules.specs.ProtocolErrors as errors;
 ghost use Rattle.mq_connections.specs.Terms.{TermsNext, finds_error, may_be_set, terms_weigh};
 
-use crate::manners::{has_no_method, lacks_identifiers, lacks_retain};
+use crate::manners::authentication::has_no_method;
+use crate::manners::{lacks_identifiers, lacks_retain};
 use mq_packet::PacketType;
 use mq_rules::{
     ConnackNote, ConnectNote, DisconnectNote, ItemNote, Memory, Note, PacketFields, PacketNote,
@@ -210,7 +211,7 @@ fn is_of_servers(fields: &PacketFields) -> bool
 {
     matches!(
         fields,
-        PacketFields::Connack(_)
+        PacketFields::Connack { .. }
             | PacketFields::Suback { .. }
             | PacketFields::Unsuback { .. }
             | PacketFields::Pingresp
@@ -228,14 +229,7 @@ fn precedes_connect(connected: bool, fields: &PacketFields) -> bool
 fn authenticates_unasked(connect: Option<ConnectNote>, fields: &PacketFields) -> bool
     ensures { result ≡ errors.authenticates_unasked connect fields.now }
 {
-    is_auth(fields) && has_no_method(connect)
-}
-
-// Whether it is an AUTH.
-fn is_auth(fields: &PacketFields) -> bool
-    ensures { result ≡ is_auth fields.now }
-{
-    matches!(fields, PacketFields::Auth)
+    fields.is_auth() && has_no_method(connect)
 }
 
 // Whether it is a DISCONNECT with a Session Expiry Interval other than 0, and that of the CONNECT

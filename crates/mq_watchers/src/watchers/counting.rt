@@ -44,7 +44,7 @@ impl CountingWatchers {
                 Both::new(
                     CountingConn::new(alloc, tested),
                     Both::new(
-                        CountingManners::new(tested),
+                        CountingManners::new(alloc, tested),
                         Both::new(
                             CountingDuties::new(alloc, tested),
                             Early::new(alloc, tested, Counting::new(Sessions::new(alloc, tested))),

@@ -40,7 +40,7 @@ impl PlainWatchers {
                 Both::new(
                     Conn::new(alloc, tested),
                     Both::new(
-                        Manners::new(tested),
+                        Manners::new(alloc, tested),
                         Both::new(
                             Duties::new(alloc, tested),
                             Early::new(alloc, tested, Sessions::new(alloc, tested)),

@@ -1,5 +1,5 @@
 use Rattle.std.proofs.Common.{sym, ◌∙◌}
-use Rattle.mq_connections.proofs.MannersLaws.{counted-F01, counted-F02, counted-F03, counted-F04, counted-F05, counted-F06, counted-V03, counted-V04, counted-V06, counted-A01, counted-A02, counted-elsewhere}
+use Rattle.mq_connections.proofs.MannersLaws.{counted-F01, counted-F02, counted-F03, counted-F04, counted-F05, counted-F06, counted-V03, counted-V04, counted-V06, counted-A01, counted-A02, counted-A03, counted-elsewhere}
 use Rattle.mq_connections.proofs.manners.CountingManners.places.Goals as goal
 
 pub returns-then-eq : goal.returns-then-eq
@@ -35,6 +35,9 @@ returns-then-eq-10 c = λ tested taken past was. counted-A01 tested c.args.rule 
 pub returns-then-eq-11 : goal.returns-then-eq-11
 returns-then-eq-11 c = λ tested taken past was. counted-A02 tested c.args.rule past c.args.self.now.places (sym c.eq-11.ensures ∙ c.if-eq-11.true) was.1
 
+pub returns-then-eq-12 : goal.returns-then-eq-12
+returns-then-eq-12 c = λ tested taken past was. counted-A03 tested c.args.rule past c.args.self.now.places (sym c.eq-12.ensures ∙ c.if-eq-12.true) was.1
+
 pub returns : goal.returns
 returns c = λ tested taken past was.
-    counted-elsewhere tested c.args.rule past (sym c.eq.ensures ∙ c.if-eq.false) (sym c.eq-2.ensures ∙ c.if-eq-2.false) (sym c.eq-3.ensures ∙ c.if-eq-3.false) (sym c.eq-4.ensures ∙ c.if-eq-4.false) (sym c.eq-5.ensures ∙ c.if-eq-5.false) (sym c.eq-6.ensures ∙ c.if-eq-6.false) (sym c.eq-7.ensures ∙ c.if-eq-7.false) (sym c.eq-8.ensures ∙ c.if-eq-8.false) (sym c.eq-9.ensures ∙ c.if-eq-9.false) (sym c.eq-10.ensures ∙ c.if-eq-10.false) (sym c.eq-11.ensures ∙ c.if-eq-11.false)
+    counted-elsewhere tested c.args.rule past (sym c.eq.ensures ∙ c.if-eq.false) (sym c.eq-2.ensures ∙ c.if-eq-2.false) (sym c.eq-3.ensures ∙ c.if-eq-3.false) (sym c.eq-4.ensures ∙ c.if-eq-4.false) (sym c.eq-5.ensures ∙ c.if-eq-5.false) (sym c.eq-6.ensures ∙ c.if-eq-6.false) (sym c.eq-7.ensures ∙ c.if-eq-7.false) (sym c.eq-8.ensures ∙ c.if-eq-8.false) (sym c.eq-9.ensures ∙ c.if-eq-9.false) (sym c.eq-10.ensures ∙ c.if-eq-10.false) (sym c.eq-11.ensures ∙ c.if-eq-11.false) (sym c.eq-12.ensures ∙ c.if-eq-12.false)

@@ -2,7 +2,7 @@ use Rattle.std.proofs.Common.{◌∷◌, sym, ap, ◌∙◌}
 use Rattle.mq_rules.specs.Connections.{latest_fate}
 use Rattle.mq_rules.specs.Under.{seen}
 use Rattle.mq_rules.proofs.Exports.{on_err}
-use Rattle.mq_connections.proofs.MannersLaws.{counts-next, counts-unasked, further-gains, further-within, manners-next, unasked-gains, unasked-stays}
+use Rattle.mq_connections.proofs.MannersLaws.{counts-next, counts-unasked, further-gains, further-within, manners-next, many-next, unasked-gains, unasked-stays}
 use Rattle.mq_connections.proofs.manners.CountingMannersWatch.step.Goals as goal
 
 pub returns-then-not-self-clause-agrees : goal.returns-then-not-self-clause-agrees
@@ -25,9 +25,10 @@ pub returns-clause-agrees : goal.returns-clause-agrees
 returns-clause-agrees c = λ tested taken past follows takes here.
     let kept = c.in_ok-take.ensures.kept in (
       manners-next c.args.self.now.manners c.take.new.self tested taken (latest_fate tested.role (seen c.args.at c.args.note.now ∷ past)) (seen c.args.at c.args.note.now) past here.0
-          (ap (λ m. m.role) kept) (ap (λ m. m.further) kept) (λ asked. ap (λ m. m.connect) kept) (λ asked. ap (λ m. m.connack) kept) (λ asked. ap (λ m. m.has_heard_connack) kept),
+          (ap (λ m. m.role) kept) (ap (λ m. m.further) kept) (λ asked. ap (λ m. m.connect) kept) (λ asked. ap (λ m. m.connack) kept) (λ asked. ap (λ m. m.has_heard_connack) kept) (λ asked. ap (λ m. m.method) kept)
+          (many-next c.args.self.now.manners c.take.new.self tested taken (seen c.args.at c.args.note.now) past here.0 c.if-not-self.false (ap (λ m. m.method) kept)),
       counts-next c.args.self.now.manners c.args.self.now.places c.count.new.self tested taken (seen c.args.at c.args.note.now) past c.if-not-self.false follows here.0 here.1
-          (record { f01 = c.count.ensures.f01; f02 = c.count.ensures.f02; f03 = c.count.ensures.f03; f04 = c.count.ensures.f04; f05 = c.count.ensures.f05; f06 = c.count.ensures.f06; v03 = c.count.ensures.v03; v04 = c.count.ensures.v04; v06 = c.count.ensures.v06; a01 = c.count.ensures.a01; a02 = c.count.ensures.a02 }),
+          (record { f01 = c.count.ensures.f01; f02 = c.count.ensures.f02; f03 = c.count.ensures.f03; f04 = c.count.ensures.f04; f05 = c.count.ensures.f05; f06 = c.count.ensures.f06; v03 = c.count.ensures.v03; v04 = c.count.ensures.v04; v06 = c.count.ensures.v06; a01 = c.count.ensures.a01; a02 = c.count.ensures.a02; a03 = c.count.ensures.a03 }),
     )
 
 pub returns-clause-grows : goal.returns-clause-grows

@@ -2,7 +2,7 @@ use Rattle.std.proofs.Common.{◌∷◌, sym, ap, ◌∙◌}
 use Rattle.mq_rules.specs.Connections.{latest_fate}
 use Rattle.mq_rules.specs.Under.{seen}
 use Rattle.mq_rules.proofs.Exports.{on_err}
-use Rattle.mq_connections.proofs.MannersLaws.{further-gains, further-within, manners-next, unasked-gains, unasked-stays}
+use Rattle.mq_connections.proofs.MannersLaws.{further-gains, further-within, manners-next, many-next, unasked-gains, unasked-stays}
 use Rattle.mq_connections.proofs.manners.MannersWatch.step.Goals as goal
 
 pub returns-then-not-self-clause-agrees : goal.returns-then-not-self-clause-agrees
@@ -22,7 +22,8 @@ pub returns-clause-agrees : goal.returns-clause-agrees
 returns-clause-agrees c = λ tested taken past follows takes here.
     let kept = c.in_ok-take.ensures.kept in
     manners-next c.args.self.now c.take.new.self tested taken (latest_fate tested.role (seen c.args.at c.args.note.now ∷ past)) (seen c.args.at c.args.note.now) past here
-    (ap (λ m. m.role) kept) (ap (λ m. m.further) kept) (λ asked. ap (λ m. m.connect) kept) (λ asked. ap (λ m. m.connack) kept) (λ asked. ap (λ m. m.has_heard_connack) kept)
+    (ap (λ m. m.role) kept) (ap (λ m. m.further) kept) (λ asked. ap (λ m. m.connect) kept) (λ asked. ap (λ m. m.connack) kept) (λ asked. ap (λ m. m.has_heard_connack) kept) (λ asked. ap (λ m. m.method) kept)
+    (many-next c.args.self.now c.take.new.self tested taken (seen c.args.at c.args.note.now) past here c.if-not-self.false (ap (λ m. m.method) kept))
 
 pub returns-clause-grows : goal.returns-clause-grows
 returns-clause-grows c = λ tested taken past follows takes here.
