@@ -126,11 +126,11 @@ unanswering-settled _ h = refl
 
 -- of a packet by which a connection neither begins nor ends
 ungreeting-connect : (f : PacketFields) → not (greets f) ≡ true → connect_in f ≡ None
-ungreeting-connect (Connect c) h = absurd (cc)
+ungreeting-connect (Connect c method) h = absurd (cc)
 ungreeting-connect _ h = refl
 
 ungreeting-connack : (f : PacketFields) → not (greets f) ≡ true → connack_in f ≡ None
-ungreeting-connack (Connack c) h = absurd (cc)
+ungreeting-connack (Connack c method) h = absurd (cc)
 ungreeting-connack _ h = refl
 
 ungreeting-disconnect : (f : PacketFields) → not (greets f) ≡ true → disconnect_in f ≡ None
@@ -138,11 +138,11 @@ ungreeting-disconnect (Disconnect d) h = absurd (cc)
 ungreeting-disconnect _ h = refl
 
 not-connect : (f : PacketFields) → not (greets f) ≡ true → is_id 1 (Some (type_number (fields_type f))) ≡ false
-not-connect (Connect c) h = absurd (cc)
+not-connect (Connect c method) h = absurd (cc)
 not-connect _ h = refl
 
 not-connack : (f : PacketFields) → not (greets f) ≡ true → is_id 2 (Some (type_number (fields_type f))) ≡ false
-not-connack (Connack c) h = absurd (cc)
+not-connack (Connack c method) h = absurd (cc)
 not-connack _ h = refl
 
 amid-sent : {A : Type 0} (word : PacketFields → Option A) → ((f : PacketFields) → not (greets f) ≡ true → word f ≡ None) → (n : Note) → is_amid n ≡ true → option_and_then word (sent_fields n) ≡ None

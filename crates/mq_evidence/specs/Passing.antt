@@ -32,8 +32,8 @@ answers _ = false
 
 -- a packet by which a connection begins or ends
 abbrev pub greets : PacketFields → Bool
-greets (Connect c) = true
-greets (Connack c) = true
+greets (Connect c method) = true
+greets (Connack c method) = true
 greets (Disconnect d) = true
 greets _ = false
 

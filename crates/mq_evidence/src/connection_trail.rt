@@ -91,6 +91,7 @@ impl ConnectionTrail {
             Rule::F04 => Some(handshake.connack()),
             Rule::A01 => Some(handshake.connect()),
             Rule::A02 => Some(handshake.connect()),
+            Rule::A03 => Some(handshake.connect()),
             _ => None,
         }
     }
@@ -116,6 +117,7 @@ impl ConnectionTrail {
             Rule::F05 => Some(handshake.connect()),
             Rule::F06 => Some(handshake.connect()),
             Rule::A02 => Some(handshake.connect()),
+            Rule::A03 => Some(handshake.connect()),
             _ => None,
         }
     }

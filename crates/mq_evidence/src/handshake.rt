@@ -376,7 +376,7 @@ impl Handshake {
         it(self.sent.connack)
     }
 
-    /// The client's CONNECT: C07, C10, C21 and C22; F05, F06, A01 and A02.
+    /// The client's CONNECT: C07, C10, C21 and C22; F05, F06 and A01 to A03.
     pub fn connect(&self) -> Evidence
         ensures { (role : TheRole) (s : Stretches) → IsHandshake self.now role s → result ≡ evidence.it (earliest (evidence.is_connect role) s.connection) }
     {

@@ -56,8 +56,8 @@ fn greets(fields: &PacketFields) -> bool
     ensures { result ≡ passing.greets fields.now }
 {
     match fields {
-        PacketFields::Connect(_) => true,
-        PacketFields::Connack(_) => true,
+        PacketFields::Connect { .. } => true,
+        PacketFields::Connack { .. } => true,
         PacketFields::Disconnect(_) => true,
         _ => false,
     }

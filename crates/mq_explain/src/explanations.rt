@@ -112,6 +112,7 @@ pub fn explanation(rule: Rule) -> &'static str
         Rule::D05 => further::D05,
         Rule::A01 => further::A01,
         Rule::A02 => further::A02,
+        Rule::A03 => further::A03,
     }
 }
 

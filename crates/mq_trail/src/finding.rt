@@ -64,6 +64,7 @@ fn is_on_connection(role: Role, rule: Rule) -> bool
                 | Rule::F04
                 | Rule::A01
                 | Rule::A02
+                | Rule::A03
         ),
         Role::Server => matches!(
             rule,
@@ -82,6 +83,7 @@ fn is_on_connection(role: Role, rule: Rule) -> bool
                 | Rule::F05
                 | Rule::F06
                 | Rule::A02
+                | Rule::A03
         ),
     }
 }

@@ -1,5 +1,5 @@
 //! The texts of `explain` for the further statements (B05, F01 to F06, V03, V04, V06, C24, D01 to
-//! D03, D05, A01 and A02), which are judged on request.
+//! D03, D05, and A01 to A03), which are judged on request.
 
 /// The text of `explain B05`.
 pub const B05: &str = "B05 server sec-3.9.3\n\
@@ -287,3 +287,20 @@ pub const A02: &str = "A02 both MQTT-4.12.0-7;MQTT-4.12.0-6\n\
     In a server: The method of its configuration is written into each CONNACK.\n\
     Write it only where the CONNECT named one.\n\n\
     See: MQTT 5.0, section 4.12.\n";
+
+/// The text of `explain A03`.
+pub const A03: &str = "A03 both MQTT-4.12.0-5,MQTT-4.12.1-1;MQTT-4.12.0-5\n\
+    AUTH and an accepting CONNACK have the Authentication Method of the CONNECT.\n\n\
+    Why: The client chooses the method once, by its CONNECT. What follows means\n\
+    nothing by another one, and a CONNACK without it says that it wasn't used.\n\n\
+    Judged: At an AUTH, or a server's CONNACK of 0x00, after a CONNECT with an\n\
+    Authentication Method, on every connection. A fault if its own is missing, or\n\
+    isn't the same text, byte for byte. An AUTH of Remaining Length 0 isn't judged:\n\
+    it leaves all out, which section 3.15.2.1 allows. Decided at once. It is a\n\
+    further statement: it is judged with --all.\n\n\
+    To see it tested: Let the client connect with an Authentication Method, and send\n\
+    an AUTH, or the server accept the connection.\n\n\
+    In a client: The method is written into the CONNECT alone, or another is taken\n\
+    to authenticate again. Write that of the CONNECT into each AUTH.\n\
+    In a server: The same of its AUTHs, and of the CONNACK with which it accepts.\n\n\
+    See: MQTT 5.0, sections 3.15.2.1, 4.12 and 4.12.1.\n";

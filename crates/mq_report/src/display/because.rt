@@ -145,6 +145,7 @@ fn event_words(rule: Rule) -> &'static str
             ": the REST, and the connection was still open",
         Rule::A01 => ": the CONNECT, with an Authentication Method, and no CONNACK before",
         Rule::A02 => ": the CONNECT, without an Authentication Method",
+        Rule::A03 => ": the CONNECT, whose Authentication Method it must have",
         _ => "",
     }
 }

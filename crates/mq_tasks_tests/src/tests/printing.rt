@@ -22,11 +22,11 @@ fn lists_the_statements(rt: HostRuntime) -> Result<(), Fail> {
         b"W01 both MQTT-2.1.3-1 The flags of a packet other than PUBLISH are those of its type.\n";
     for (words, lines) in [
         (&["mqjudge", "rules"][..], 74),
-        (&["mqjudge", "rules", "--all"][..], 90),
+        (&["mqjudge", "rules", "--all"][..], 91),
         (&["mqjudge", "rules", "--role", "client"][..], 54),
         (&["mqjudge", "rules", "--role", "server"][..], 64),
-        (&["mqjudge", "rules", "--all", "--role", "client"][..], 63),
-        (&["mqjudge", "rules", "--all", "--role", "server"][..], 73),
+        (&["mqjudge", "rules", "--all", "--role", "client"][..], 64),
+        (&["mqjudge", "rules", "--all", "--role", "server"][..], 74),
     ] {
         assert!(rt; lists(rt.alloc(), words, lines, first)?, "{words:?}");
     }

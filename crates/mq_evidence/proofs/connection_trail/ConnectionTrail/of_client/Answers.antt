@@ -44,3 +44,6 @@ returns-in-A01 c = rw c.in-A01.is (λ at past is. ap (λ x. Some x) (c.connect.e
 
 pub returns-in-A02 : goal.returns-in-A02
 returns-in-A02 c = rw c.in-A02.is (λ at past is. ap (λ x. Some x) (c.connect-in-A02.ensures Client (latest_connection past) is))
+
+pub returns-in-A03 : goal.returns-in-A03
+returns-in-A03 c = rw c.in-A03.is (λ at past is. ap (λ x. Some x) (c.connect-in-A03.ensures Client (latest_connection past) is))

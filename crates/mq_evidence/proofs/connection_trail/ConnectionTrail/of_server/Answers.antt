@@ -46,3 +46,6 @@ returns-in-F06 c = rw c.in-F06.is (λ at past is accepted. ap (λ x. Some x) (c.
 
 pub returns-in-A02 : goal.returns-in-A02
 returns-in-A02 c = rw c.in-A02.is (λ at past is accepted. ap (λ x. Some x) (c.connect-in-A02.ensures Server (latest_connection past) is))
+
+pub returns-in-A03 : goal.returns-in-A03
+returns-in-A03 c = rw c.in-A03.is (λ at past is accepted. ap (λ x. Some x) (c.connect-in-A03.ensures Server (latest_connection past) is))
