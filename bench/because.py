@@ -516,6 +516,12 @@ def authenticates_unasked(log: Log, k: int) -> Evidence:
     return Evidence("the CONNECT, without an Authentication Method", connect_of(log, k))
 
 
+@says("A03")
+def names_another_method(log: Log, k: int) -> Evidence:
+    """The CONNECT, which names the method."""
+    return Evidence("the CONNECT, whose Authentication Method it must have", connect_of(log, k))
+
+
 assert set(REASONS) == {*CITATIONS, *JUDGED}
 
 # ---- what is said

@@ -43,7 +43,7 @@ R01 - MQTT-3.3.1-11,MQTT-3.3.1-12 RETAIN is 0 where no matching subscription can
 R02 - sec-4.8.2 No retained message is sent for a shared subscription
 A01 MQTT-3.1.2-30 - A client that uses an Authentication Method sends only AUTH and DISCONNECT before a CONNACK was received
 A02 MQTT-4.12.0-7 MQTT-4.12.0-6 Without an Authentication Method in CONNECT there is no enhanced authentication
-A03 MQTT-4.12.0-5,MQTT-4.12.1-1 MQTT-4.12.0-5 AUTH and CONNACK have the Authentication Method of the CONNECT
+A03 MQTT-4.12.0-5,MQTT-4.12.1-1 MQTT-4.12.0-5 AUTH and an accepting CONNACK have the Authentication Method of the CONNECT
 K01 MQTT-3.1.2-20,MQTT-3.2.2-21 - A client isn't silent for longer than the Keep Alive
 K02 - MQTT-3.1.2-22,MQTT-3.2.2-22 A server closes the connection of a client that is silent
 """
@@ -54,7 +54,7 @@ for line in SHAPES.strip().split("\n"):
     CITATIONS[code] = {role: text for role, text in (("client", client), ("server", server)) if text != "-"}
     SENTENCES[code] = sentence
 # That the program judges too, if `--all` asks for them.
-JUDGED = ("B05", "F01", "F02", "F03", "F04", "F05", "F06", "V03", "V04", "V06", "C24", "D01", "D02", "D03", "A01", "A02")
+JUDGED = ("B05", "F01", "F02", "F03", "F04", "F05", "F06", "V03", "V04", "V06", "C24", "D01", "D02", "D03", "A01", "A02", "A03")
 TIMED = {"K01", "K02"}  # that look at moments
 OF_SESSIONS = {code for code in CITATIONS if code[0] in "BPR"}  # that are judged only where the session is known
 

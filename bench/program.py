@@ -105,6 +105,7 @@ FURTHER_OF_CLIENT = {
     "V06": "sec-3.14.2.1,sec-3.4.2.1",
     "A01": "MQTT-3.1.2-30",
     "A02": "MQTT-4.12.0-7",
+    "A03": "MQTT-4.12.0-5,MQTT-4.12.1-1",
 }
 
 
@@ -158,7 +159,7 @@ CODES = (
     + "E1A E1R E1O E2A E2R E2O E3A E3R E3O E4A E4R E5A E5R E6A E6R E7R L1 L2 L3 B01 B02 B03 B04".split()
 )
 # Those that are judged only on request, and named all the same.
-FURTHER = ["B05", "F01", "F02", "F03", "F04", "F05", "F06", "V03", "V04", "V06", "C24", "D01", "D02", "D03", "A01", "A02"]
+FURTHER = ["B05", "F01", "F02", "F03", "F04", "F05", "F06", "V03", "V04", "V06", "C24", "D01", "D02", "D03", "A01", "A02", "A03"]
 FURTHER_ROWS = """\
 B05 server sec-3.9.3 A SUBACK grants no more than was asked for.
 F01 client MQTT-3.2.2-14 A new PUBLISH has RETAIN 0 where Retain Available is 0.
@@ -176,6 +177,7 @@ D02 server MQTT-3.1.0-2 After a second CONNECT the server closes the connection.
 D03 server MQTT-4.13.1-1 After a Protocol Error the server closes the connection.
 A01 client MQTT-3.1.2-30 A client that uses an Authentication Method sends only AUTH and DISCONNECT before a CONNACK was received.
 A02 both MQTT-4.12.0-7;MQTT-4.12.0-6 Without an Authentication Method in CONNECT there is no enhanced authentication.
+A03 both MQTT-4.12.0-5,MQTT-4.12.1-1;MQTT-4.12.0-5 AUTH and an accepting CONNACK have the Authentication Method of the CONNECT.
 """
 OF_CLIENT = """\
 F01 client MQTT-3.2.2-14 A new PUBLISH has RETAIN 0 where Retain Available is 0.
@@ -187,6 +189,7 @@ V04 client MQTT-3.8.3-4 No Local is 0 for a shared filter.
 V06 both sec-3.14.2.1,sec-3.4.2.1 A Reason Code is one that this end may send.
 A01 client MQTT-3.1.2-30 A client that uses an Authentication Method sends only AUTH and DISCONNECT before a CONNACK was received.
 A02 both MQTT-4.12.0-7 Without an Authentication Method in CONNECT there is no enhanced authentication.
+A03 both MQTT-4.12.0-5,MQTT-4.12.1-1 AUTH and an accepting CONNACK have the Authentication Method of the CONNECT.
 """
 
 

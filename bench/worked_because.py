@@ -113,7 +113,8 @@ D01 4 event 5
 D02 4 event 5
 D03 4 event 5
 A01 5 event 2
-A02 3 event 2"""
+A02 3 event 2
+A03 5 event 2"""
 
 # A statement, a log in the words of check_rows.py, and the evidence of all its faults there. The log may have faults of others.
 KEPT = "client OPEN >CONNECT-KEPT <CONNACK"  # a session that may be resumed
@@ -263,18 +264,20 @@ D03 | server OPEN <PINGREQ REST CLOSE OPEN <CONNECT >CONNACK <PUBLISH0-7 REST | 
 A01 | client OPEN >PINGREQ >CONNECT-M >CONNECT-M >PINGREQ <AUTH-M >PUBLISH0 | 5 event 3; 7 event 3
 A01 | client OPEN >CONNECT-M <CONNACK CLOSE OPEN >CONNECT-M >PINGREQ | 7 event 6
 A02 | client OPEN >CONNECT >CONNECT-M <CONNACK >AUTH >AUTH-M | 5 event 2; 6 event 2
-A02 | server OPEN <PINGREQ <CONNECT >AUTH >CONNACK-M | 4 event 3; 5 event 3"""
+A02 | server OPEN <PINGREQ <CONNECT >AUTH >CONNACK-M | 4 event 3; 5 event 3
+A03 | client OPEN >CONNECT-M >CONNECT <AUTH-M >AUTH-N CLOSE OPEN >CONNECT-M <CONNACK >AUTH-BARE | 5 event 2; 10 event 8
+A03 | server OPEN <PINGREQ <CONNECT-M >AUTH-N >CONNACK | 4 event 3; 5 event 3"""
 
 
 # ---- what holds of all evidence
 
 # Statements whose faults always have an event, and those whose faults never have one. Of the others it depends on the log.
 ALWAYS = """C03 C06 C07 C10 C11 C12 C13 C14 C17 C20 C21 C22 C23 S01 S03 S04 S05 S06 E1R E2R E3R E4R E5R E6R E1O E2O E3O E7R L2 L3 B02
-B03 B04 B05 F01 F02 F03 F04 F05 F06 A01 A02 C24 D01 D02 D03""".split()
+B03 B04 B05 F01 F02 F03 F04 F05 F06 A01 A02 A03 C24 D01 D02 D03""".split()
 NEVER = [*(f"W{number:02}" for number in range(1, 22)), *"C01 C02 C04 C05 C09 C16 C18 C19 B01 V03 V04 V06".split()]
 # Those whose event, if there is one, is on the connection of the fault; those which a later REST shows, whose event may come after it.
 HERE = """C03 C06 C07 C10 C11 C12 C13 C14 C15 C17 C20 C21 C22 C23 S03 S05 S07 E1R E2R E3R E4R E5R E6R E1O E2O E3O E7R B03
-B04 B05 F01 F02 F03 F04 F05 F06 A01 A02 C24 D01 D02 D03""".split()
+B04 B05 F01 F02 F03 F04 F05 F06 A01 A02 A03 C24 D01 D02 D03""".split()
 SHOWN_LATER = "S06 E1R E2R E3R E4R E5R E6R C24 D01 D02 D03".split()
 COUNTS = {"C14": 2, "C15": 2, "C16": 1, "C17": 2, "C20": 1, "S05": 2, "S07": 2, "E7R": 2, "B01": 1, "B02": 2, "B03": 2, "B04": 2}
 
@@ -287,7 +290,7 @@ S05 >PUBLISH | S06 <CONNACK >CONNACK | S07 <CONNECT <CONNACK | E1A =>PUBACK <CON
 E3A =>PUBREL =<PUBREC <CONNACK >CONNACK | E4A =>PUBCOMP <CONNACK >CONNACK | E5A =>SUBACK >CONNACK | E6A =>UNSUBACK >CONNACK
 E1R REST | E2R REST | E3R REST | E4R REST | E5R REST | E6R REST | E1O <PUBLISH | E2O <PUBLISH | E3O <PUBREC | E7R <PINGREQ
 L1 =>PUBREC =>PUBCOMP <CONNACK >CONNACK | L2 =RELEASE | L3 =<PUBLISH | B02 <SUBSCRIBE | B03 =<SUBSCRIBE | B04 =<UNSUBSCRIBE
-B05 =<SUBSCRIBE | F01 <CONNACK | F02 <CONNACK | F03 <CONNACK | F04 <CONNACK | F05 <CONNECT | F06 <CONNECT | A01 >CONNECT | A02 >CONNECT <CONNECT
+B05 =<SUBSCRIBE | F01 <CONNACK | F02 <CONNACK | F03 <CONNACK | F04 <CONNACK | F05 <CONNECT | F06 <CONNECT | A01 >CONNECT | A02 >CONNECT <CONNECT | A03 >CONNECT <CONNECT
 C24 REST | D01 REST | D02 REST | D03 REST"""
 KINDS = {words[0]: words[1:] for words in (one.split() for row in EVENTS.split("\n") for one in row.split("|"))}
 WAYS = {SENT: ">", RECV: "<"}

@@ -251,6 +251,11 @@ WORDS: dict[str, Callable] = {
         False, retain=retain, wildcards=wildcards, identifiers=identifiers, shares=shares
     ),
     "naming_method": lambda: replace(connack(False), properties=[METHOD]),
+    "naming_other": lambda: replace(connack(False), properties=[(METHOD[0], b"b")]),
+    "one_method": lambda: METHOD[1],
+    "other_method": lambda: b"b",
+    "auth_alone": lambda: packet(AUTH),
+    "auth_by": lambda method: packet(AUTH, properties=[(METHOD[0], method)]),
     "assigning": lambda: connack(False, 0, 0x12),
     "informing": lambda: connack(False, 0, 0x1A),
     "leaving": lambda expiry: packet(DISCONNECT, properties=given(expiry=expiry)),
@@ -282,7 +287,6 @@ WORDS: dict[str, Callable] = {
     "Unsuback": lambda i, count: packet(UNSUBACK, identifier=i, codes=[0] * count),
     "Pingreq": lambda: packet(PINGREQ),
     "Pingresp": lambda: packet(PINGRESP),
-    "Auth": lambda: packet(AUTH),
 }
 # Whether it is a client, whether it records releases, and whether it is judged by the further statements too.
 ENDS = {

@@ -22,6 +22,7 @@ SEEN = 12  # lines of what isn't judged
 WHY_NOT = {  # what a broker didn't do, where a statement isn't tested
     "A01": "it sent nothing between a CONNECT with an Authentication Method and the CONNACK",
     "A02": "it sent no AUTH",
+    "A03": "it sent no AUTH to who has an Authentication Method, and accepted none such",
     "B05": "it granted nothing",
     "C10": "it assigned no Client Identifier",
     "C11": "it sent no DISCONNECT",

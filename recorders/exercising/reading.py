@@ -23,7 +23,7 @@ KEPT_MOST = 1_000  # places with the same tags: a flood has a million of them
 FEW_LEFT = 2  # bytes up to a Maximum Packet Size
 DEFAULT_MAXIMUM = 65_535
 RETAIN_NOT_SUPPORTED, QOS_NOT_SUPPORTED = 0x9A, 0x9B
-SMALLEST_CONNACK = 5  # bytes
+SMALLEST_CONNACK, FIXED_HEADER = 5, 2  # bytes
 # The rules of which D01 says that who breaks one sends what can't be read.
 MALFORMED = frozenset("W01 W02 W04 W05 W06 W07 W10 W11 W12 W16 W17 W18 W19 W21".split())
 MISSING = {"F02": Prop.WILDCARD_AVAILABLE, "F03": Prop.SUBSCRIPTION_IDENTIFIER_AVAILABLE, "F04": Prop.SHARED_AVAILABLE}
@@ -414,6 +414,12 @@ class Reading:
         if not self.is_server and self.here.is_resumed and self.lacks_session:
             self.place("C13")
 
+    def _has_to_name_a_method(self, packet: Packet) -> bool:
+        """An AUTH with more than its fixed header, or from a server a CONNACK that accepts."""
+        if packet.kind == Type.AUTH:
+            return packet.size > FIXED_HEADER
+        return self.is_server and packet.kind == Type.CONNACK and packet.code == 0
+
     def _on_request(self, packet: Packet, tags: set[str]) -> None:
         """The further statements: what the server hasn't got, Reason Codes of the other end, and AUTH."""
         kind, connect = packet.kind, self.here.connect
@@ -422,6 +428,8 @@ class Reading:
         lacks_method = connect is not None and not connect.has(Prop.AUTHENTICATION_METHOD)
         if (kind == Type.AUTH and connect is not None) or (self.is_server and kind == Type.CONNACK and lacks_method):
             self.place("A02", more=tags)
+        if connect is not None and not lacks_method and self._has_to_name_a_method(packet):
+            self.place("A03", more=tags)
         if self.is_server and kind == Type.CONNACK and connect is not None and connect.has_will:
             if packet.has(Prop.MAXIMUM_QOS) or packet.code == QOS_NOT_SUPPORTED:
                 self.place("F05", more=tags)
