@@ -498,7 +498,7 @@ def leaves_a_connect(log: Log, k: int) -> Evidence:
     return Evidence("the REST, with no CONNACK before it", earliest(log.connection_positions[log.places[k]], is_idle))
 
 
-@says("D01", "D02", "D03")
+@says("D01", "D02", "D03", "D05")
 def keeps_a_connection(log: Log, k: int) -> Evidence:
     """The first REST after it on its connection."""
     return Evidence("the REST, and the connection was still open", earliest(log.connection_positions[log.places[k]], lambda t: t > k and log.is_rest(t)))

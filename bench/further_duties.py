@@ -11,7 +11,7 @@ from further_table import (
     is_shared,
 )
 from reading import (
-    AUTH, BROKEN, Bad, CLOSE, CONNACK, CONNECT, DISCONNECT, FROM_SERVER_ALONE, LOST, Lost, PUBACK, PUBCOMP, PUBLISH, PUBREC, Packet,
+    AUTH, BROKEN, Bad, CLOSE, CONNACK, CONNECT, DISCONNECT, FROM_SERVER_ALONE, LOST, Lost, PUBCOMP, PUBLISH, PUBREC, PUBREL, Packet,
     SUBSCRIBE, Subject,
 )
 from sessions import DEFAULTS, Log, MAXIMUM_PACKET_SIZE, MAXIMUM_QOS, RECEIVE_MAXIMUM, TOPIC_ALIAS_MAXIMUM
@@ -34,15 +34,19 @@ def is_first_of(kind: Kind, log: Log, k: int) -> bool:
     return log.role == "server" and kind(log, k) and not any(kind(log, j) for j in log.before_on(k))
 
 
-def open_rest(log: Log, k: int) -> int | None:
+def never(log: Log, k: int) -> bool:
+    return False
+
+
+def open_rest(log: Log, k: int, is_unjudged: Kind) -> int | None:
     """The first REST after k, if nothing excuses that the connection is still open there."""
     t = next(iter(rests_after(log, k)), None)
-    return None if t is None or is_excused(log, k) or is_leaving(log, t) else t
+    return None if t is None or is_excused(log, k) or is_leaving(log, t) or is_unjudged(log, t) else t
 
 
-def is_seen_leaving(log: Log, k: int) -> bool:
+def is_seen_leaving(log: Log, k: int, is_unjudged: Kind) -> bool:
     """After k the server disconnects or refuses, or the connection closes, or a REST comes."""
-    later = [j for j in log.connection_positions[log.places[k]] if j > k]
+    later = [j for j in log.connection_positions[log.places[k]] if j > k and not is_unjudged(log, j)]
     return any(log.is_rest(j) or log.event(j).kind == CLOSE or leaves(log, j) for j in later)
 
 
@@ -51,16 +55,17 @@ def leaves(log: Log, k: int) -> bool:
     return p is not None and (p.type == DISCONNECT or p.code >= 0x80)
 
 
-def closes_after(code: str, subjects: set[Subject], kind: Kind) -> None:
+def closes_after(code: str, subjects: set[Subject], kind: Kind, is_unjudged: Kind = never) -> None:
+    """Where the last test is passed, what the server does there says nothing."""
     @fails_later(code, subjects)
     def stays(log: Log, k: int) -> int | None:
-        return open_rest(log, k) if is_first_of(kind, log, k) else None
+        return open_rest(log, k, is_unjudged) if is_first_of(kind, log, k) else None
 
     @applies(code)
     def has_to_close(log: Log, k: int) -> bool:
         """The first item of its kind is received, the server wasn't leaving before it, and it is seen whether it does then."""
         is_owed = is_first_of(kind, log, k) and not is_excused(log, k) and not is_leaving(log, k)
-        return is_owed and is_seen_leaving(log, k)
+        return is_owed and is_seen_leaving(log, k, is_unjudged)
 
 
 # ---- D01 and D02
@@ -170,15 +175,22 @@ ONCE_ACCEPTED = (
 
 
 def brought(log: Log, k: int) -> int | None:
-    """The identifier of a PUBLISH of QoS 1 or 2 that is received."""
+    """The identifier of a PUBLISH of QoS 2 that is received. One of QoS 1 may have been answered before the next was read."""
     p = log.received_packet(k, PUBLISH)
-    return p.identifier if p is not None and p.qos > 0 else None
+    return p.identifier if p is not None and p.qos == 2 else None
 
 
 def finished(log: Log, k: int) -> int | None:
-    """The identifier of a PUBACK, a PUBCOMP, or a PUBREC of 0x80 or more that is sent."""
-    p = log.sent_packet(k, PUBACK, PUBCOMP, PUBREC)
+    """The identifier of a PUBREL that is received, or of a PUBCOMP, or a PUBREC of 0x80 or more, that is sent."""
+    if (release := log.received_packet(k, PUBREL)) is not None:
+        return release.identifier
+    p = log.sent_packet(k, PUBCOMP, PUBREC)
     return None if p is None or (p.type == PUBREC and p.code < 0x80) else p.identifier
+
+
+def has_refused_a_message(log: Log, k: int) -> bool:
+    """A PUBREC of 0x80 or more was sent before k on its connection."""
+    return any((p := log.sent_packet(j, PUBREC)) is not None and p.code >= 0x80 for j in log.before_on(k))
 
 
 def unfinished(log: Log, k: int) -> set[int]:
@@ -197,4 +209,4 @@ def is_over_the_maximum(log: Log, k: int) -> bool:
 closes_after("D01", received((BROKEN, LOST)), is_malformed)
 closes_after("D02", received((CONNECT, BROKEN)), is_second_connect)
 closes_after("D03", received(ANY), breaks_protocol)
-closes_after("D05", received([PUBLISH]), is_over_the_maximum)
+closes_after("D05", received([PUBLISH]), is_over_the_maximum, is_unjudged=has_refused_a_message)

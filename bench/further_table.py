@@ -36,7 +36,7 @@ C24 - MQTT-3.1.4-5 A CONNECT is answered by a CONNACK, if the connection stays o
 D01 - MQTT-4.13.1-1 After a Malformed Packet the server closes the connection
 D02 - MQTT-3.1.0-2 After a second CONNECT the server closes the connection
 D03 - MQTT-4.13.1-1 After a Protocol Error the server closes the connection
-D05 - sec-3.3.4 After more PUBLISHes than its Receive Maximum the server closes
+D05 - sec-3.3.4 After more QoS 2 PUBLISHes than its Receive Maximum the server closes
 P01 - sec-3.3.4 A Subscription Identifier is that of a matching subscription
 P02 - MQTT-3.3.4-3 A PUBLISH has an identifier if each matching subscription has one
 R01 - MQTT-3.3.1-11,MQTT-3.3.1-12 RETAIN is 0 where no matching subscription can make it 1
@@ -54,7 +54,7 @@ for line in SHAPES.strip().split("\n"):
     CITATIONS[code] = {role: text for role, text in (("client", client), ("server", server)) if text != "-"}
     SENTENCES[code] = sentence
 # That the program judges too, if `--all` asks for them.
-JUDGED = ("B05", "F01", "F02", "F03", "F04", "F05", "F06", "V03", "V04", "V06", "C24", "D01", "D02", "D03", "A01", "A02", "A03")
+JUDGED = ("B05", "F01", "F02", "F03", "F04", "F05", "F06", "V03", "V04", "V06", "C24", "D01", "D02", "D03", "D05", "A01", "A02", "A03")
 TIMED = {"K01", "K02"}  # that look at moments
 OF_SESSIONS = {code for code in CITATIONS if code[0] in "BPR"}  # that are judged only where the session is known
 

@@ -159,7 +159,7 @@ CODES = (
     + "E1A E1R E1O E2A E2R E2O E3A E3R E3O E4A E4R E5A E5R E6A E6R E7R L1 L2 L3 B01 B02 B03 B04".split()
 )
 # Those that are judged only on request, and named all the same.
-FURTHER = ["B05", "F01", "F02", "F03", "F04", "F05", "F06", "V03", "V04", "V06", "C24", "D01", "D02", "D03", "A01", "A02", "A03"]
+FURTHER = ["B05", "F01", "F02", "F03", "F04", "F05", "F06", "V03", "V04", "V06", "C24", "D01", "D02", "D03", "D05", "A01", "A02", "A03"]
 FURTHER_ROWS = """\
 B05 server sec-3.9.3 A SUBACK grants no more than was asked for.
 F01 client MQTT-3.2.2-14 A new PUBLISH has RETAIN 0 where Retain Available is 0.
@@ -175,6 +175,7 @@ C24 server MQTT-3.1.4-5 A CONNECT is answered by a CONNACK, if the connection st
 D01 server MQTT-4.13.1-1 After a Malformed Packet the server closes the connection.
 D02 server MQTT-3.1.0-2 After a second CONNECT the server closes the connection.
 D03 server MQTT-4.13.1-1 After a Protocol Error the server closes the connection.
+D05 server sec-3.3.4 After more QoS 2 PUBLISHes than its Receive Maximum the server closes.
 A01 client MQTT-3.1.2-30 A client that uses an Authentication Method sends only AUTH and DISCONNECT before a CONNACK was received.
 A02 both MQTT-4.12.0-7;MQTT-4.12.0-6 Without an Authentication Method in CONNECT there is no enhanced authentication.
 A03 both MQTT-4.12.0-5,MQTT-4.12.1-1;MQTT-4.12.0-5 AUTH and an accepting CONNACK have the Authentication Method of the CONNECT.

@@ -212,6 +212,31 @@ class Readings(unittest.TestCase):
         self.assertNotIn("D03", broken.tested)
         self.assertNotIn("D03", read(log_of(*plain, pong, (REST, b""))).tested)
 
+    def test_after_too_many_publishes(self) -> None:
+        """The first PUBLISH of QoS 2 with which more messages aren't finished than the Receive Maximum."""
+        begun = [(OPEN, b""), (RECV, connect("a", True)), (SENT, connack(False, 0, [(Prop.RECEIVE_MAXIMUM, 1)]))]
+        first, second, third = ((RECV, publish("t", b"", 2, i)) for i in (1, 2, 3))
+        once, again = (RECV, publish("t", b"", 1, 2)), (RECV, publish("t", b"", 2, 1, dup=True))
+        answer = lambda kind, code=0: (SENT, acknowledgement(kind, 1, code))
+        received, refused, release = answer(Type.PUBREC), answer(Type.PUBREC, 0x97), (RECV, acknowledgement(Type.PUBREL, 1))
+        logs: list[tuple[list, list[int]]] = [
+            ([*begun, first], []), ([*begun, first, second, third], [5]), ([*begun, first, received, second], [6]),
+            ([*begun, first, received, release, second], []), ([*begun, first, answer(Type.PUBCOMP), second], []),
+            ([*begun, first, refused, second], []), ([*begun, first, refused, second, third], []),
+            ([*begun, first, second, refused], []), ([*begun, first, second, (REST, b""), refused], [5]),
+            ([*begun, first, again], []), ([*begun, first, once], []), ([*begun, once, (RECV, publish("t", b"", 1, 3))], []),
+            ([*begun[:2], first, begun[2], second], [5]), ([*begun[:2], first, second, begun[2]], []),
+            ([*begun, first, (RECV, publish("t", b"", 0, 0))], []), ([*opened(), first, second], []),
+            ([*begun, first, (CLOSE, b""), *begun, second], []),
+        ]
+        for events, wanted in logs:
+            for shown in ((REST, b""), (CLOSE, b""), (SENT, packet(Type.DISCONNECT))):
+                found = [place.position for place in read(log_of(*events, shown), {}, is_of_all=True).places if place.code == "D05"]
+                self.assertEqual(found, wanted, events)
+        left = log_of(*begun, first, (RECV, packet(Type.DISCONNECT)), second, (REST, b""))
+        self.assertNotIn("D05", read(left, {}, is_of_all=True).tested)
+        self.assertNotIn("D05", read(log_of(*begun, first, second, (REST, b""))).tested)
+
     def test_after_a_connect(self) -> None:
         """It is answered, or left at a REST at which the server doesn't wait for an AUTH."""
         plain, asks = connect("a", True), connect("a", True, [(Prop.AUTHENTICATION_METHOD, b"m")])

@@ -110,7 +110,7 @@ class Findings(unittest.TestCase):
         self.assertEqual(asked.codes(BROKEN), ["V06"])
         self.assertEqual(set(asked.bound - unasked.bound), set(FURTHER[True]))
         self.assertEqual([code for code in every_code([asked]) if code not in every_code([unasked])],
-                         ["B05", "F01", "F02", "F03", "F04", "F05", "F06", "V03", "V04", "V06", "C24", "D01", "D02", "D03", "A01", "A02", "A03"])
+                         ["B05", "F01", "F02", "F03", "F04", "F05", "F06", "V03", "V04", "V06", "C24", "D01", "D02", "D03", "D05", "A01", "A02", "A03"])
 
     def test_a_table_that_is_none(self) -> None:
         self.assertIsNone(read_run(SESSIONS))
@@ -161,7 +161,7 @@ class Page(unittest.TestCase):
         self.assertEqual(shown[1], f"mqjudge show --long --faults {ALL} examples/sessions/survey/client-x-v06.log")
         html = front([one], kinds_of([one]), {"V06": "It is so."}, {})
         for words in ('<th scope=col class=further title="It is so. (judged on request)"><span>V06</span>',
-                      "V03 V04 V06 C24 D01 D02 D03 A01 A02 A03</em> judged on request</span>", "<td>It is so. <em>(judged on request)</em>"):
+                      "V03 V04 V06 C24 D01 D02 D03 D05 A01 A02 A03</em> judged on request</span>", "<td>It is so. <em>(judged on request)</em>"):
             self.assertIn(words, html)
         self.assertNotIn("further", head_of("S07", {}))
 

@@ -22,7 +22,7 @@ from arguments import counted
 from log_format import HEADER_SIZE, MARK, Version, body_size, version_of
 
 LOOK, ONCE = "look", "once"  # why a fault doesn't count: what comes after our own, or was seen once and not again
-BY_SILENCE = frozenset(("E1R", "E2R", "E3R", "E4R", "E5R", "E6R", "E7R", "S06", "C23", "C24", "D01", "D02", "D03"))
+BY_SILENCE = frozenset(("E1R", "E2R", "E3R", "E4R", "E5R", "E6R", "E7R", "S06", "C23", "C24", "D01", "D02", "D03", "D05"))
 EXCHANGED = {SENT: RECV, RECV: SENT}
 OF_BYTES = "W"  # the letter of the statements on a packet's bytes
 

@@ -37,6 +37,7 @@ WHY_NOT = {  # what a broker didn't do, where a statement isn't tested
     "D01": "it had no Malformed Packet on a connection",
     "D02": "it had no second CONNECT on a connection",
     "D03": "it had no Protocol Error on a connection",
+    "D05": "it had no more PUBLISHes of QoS 2 at once than its Receive Maximum, or refused some",
     "F01": "it published nothing where Retain Available is 0",
     "F05": "it announced no Maximum QoS to who has a Will, and refused none for it",
     "F06": "it announced no Retain Available 0 to who has a Will, and refused none for it",

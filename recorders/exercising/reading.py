@@ -6,7 +6,7 @@ from collections.abc import Iterable, Mapping
 from dataclasses import dataclass, field
 
 from exercising.evidence import CLOSE, OPEN, RECV, REST, SENT, Event, Place, of_bytes, tags_of
-from exercising.errors import is_error, sets_alias
+from exercising.errors import MOST_QOS, is_error, sets_alias
 from exercising.packets import RESERVED, Packet, Prop, Type
 
 CAUSES = {Type.PUBREL: "E4", Type.SUBSCRIBE: "E5", Type.UNSUBSCRIBE: "E6"}  # the other three depend on more
@@ -82,6 +82,9 @@ class Connection:
     has_error: bool = False  # it received a Protocol Error
     client_aliases: set[int] = field(default_factory=set)  # that a client set
     has_broken_publish: bool = False  # it received a PUBLISH whose bytes break a rule, which may have set any
+    unfinished: set[int] = field(default_factory=set)  # identifiers of messages of QoS 2 that it received
+    has_excess: bool = False  # it received more of these than its Receive Maximum
+    has_refused: bool = False  # it sent a PUBREC of 0x80 or more
     has_ended: bool = False  # either end said that it closes the connection
     owes_close: list[Place] = field(default_factory=list)  # errors, of which nothing shows yet what a server did about them
     owes_connack: Place | None = None  # the first CONNECT, of which nothing shows yet whether a server answers it
@@ -187,20 +190,24 @@ class Reading:
             here.awaits_auth = event.kind == SENT
 
     def _after_error(self, event: Event) -> None:
-        """D01 to D03: after what can't be read, after a second CONNECT, and after another Protocol Error, a server says that
-        it closes the connection, closes it, or is at rest."""
+        """D01 to D03, and D05: after what can't be read, after a second CONNECT, after another Protocol Error, and after more
+        QoS 2 PUBLISHes than its Receive Maximum a server says that it closes the connection, closes it, or is at rest. Of
+        D05 that says nothing where it refused a message."""
         here, packet = self.here, event.packet
         is_goodbye = event.kind == SENT and packet is not None and not event.is_bad and (
             packet.kind == Type.DISCONNECT or (packet.kind == Type.CONNACK and (packet.code or 0) >= RESERVED))
         if is_goodbye or event.kind in (CLOSE, REST):
             for place in here.owes_close:
-                self._keep(place)
+                if place.code != "D05" or not here.has_refused:
+                    self._keep(place)
             here.owes_close.clear()
         if event.kind == RECV and (event.is_lost or (event.is_bad and self.bad[self.at] in MALFORMED)):
             self._owe_close("D01", is_first=not here.has_malformed)
             here.has_malformed = True
         if event.kind == RECV and packet is not None:
             self._after_packet(packet, event.is_bad)
+        if packet is not None and not event.is_bad:
+            self._count_unfinished(packet, is_received=event.kind == RECV)
         if event.kind == RECV and packet is not None and packet.kind == Type.CONNECT:
             here.connects += 1
             self._owe_close("D02", is_first=here.connects == 2)
@@ -218,6 +225,22 @@ class Reading:
             here.has_error = True
         if (alias := sets_alias(packet)) is not None:
             here.client_aliases.add(alias)
+
+    def _count_unfinished(self, packet: Packet, is_received: bool) -> None:
+        """D05: a PUBLISH of QoS 2 after the CONNACK, with which more messages aren't finished than the Receive Maximum."""
+        here = self.here
+        refuses = not is_received and packet.kind == Type.PUBREC and (packet.code or 0) >= RESERVED
+        here.has_refused = here.has_refused or refuses
+        if packet.identifier is None:
+            return
+        if refuses or packet.kind == (Type.PUBREL if is_received else Type.PUBCOMP):
+            here.unfinished.discard(packet.identifier)
+        if not is_received or packet.kind != Type.PUBLISH or packet.qos != MOST_QOS:
+            return
+        here.unfinished.add(packet.identifier)
+        if here.connack is not None and len(here.unfinished) > here.connack.number(Prop.RECEIVE_MAXIMUM, DEFAULT_MAXIMUM):
+            self._owe_close("D05", is_first=not here.has_excess)
+            here.has_excess = True
 
     def _owe_close(self, code: str, is_first: bool) -> None:
         """The first error of its kind, if neither end had said that it closes the connection."""

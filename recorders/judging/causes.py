@@ -62,6 +62,7 @@ WORDS = (  # of statements: what the event is, with its numbers; and what is sai
     ("D01", "the REST, and the connection was still open", ""),
     ("D02", "the REST, and the connection was still open", ""),
     ("D03", "the REST, and the connection was still open", ""),
+    ("D05", "the REST, and the connection was still open", ""),
     ("A01", "the CONNECT, with an Authentication Method, and no CONNACK before", ""),
     ("A02", "the CONNECT, without an Authentication Method", ""),
     ("A03", "the CONNECT, whose Authentication Method it must have", ""),
