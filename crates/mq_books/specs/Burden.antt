@@ -11,7 +11,7 @@ use Rattle.mq_rules.specs.declared.note.Seen.{Seen}
 use Rattle.mq_rules.specs.Words.{is_id}
 use Rattle.mq_rules.specs.Notes.{received_subscription, sent_as, received_as, subscribe_in, suback_in, unsubscribe_in, unsuback_in}
 use Rattle.mq_rules.specs.Moments.{Moment, note, moments, some, since}
-use Rattle.mq_rules.specs.Burden.{aliases_heard, aliases_sent, methods_kept}
+use Rattle.mq_rules.specs.Burden.{aliases_sent, further_burden, methods_kept}
 use Rattle.mq_rules.specs.IdentifierCounts.{ids_where}
 use Rattle.mq_rules.specs.Connections.{number, connection, on_open, latest_fate, voided, fate_under, session}
 use Rattle.mq_rules.specs.Identifiers.{opens_id, closes_id, delivers, sent_under}
@@ -128,9 +128,9 @@ abbrev pub aliases_undecided : Role → List Seen → ℕ
 aliases_undecided role log = cond (is_some (latest_fate role log)) 0 (aliases_sent log)
 
 -- How much a log gives its watchers to keep: what the events up to the latest decided connection give the statements on sessions, and of an undecided connection after
--- them its events, with their filters and Reason Codes, and its Topic Aliases; and the Topic Aliases that the client has set, if D03 is judged, and the
--- Authentication Method of the CONNECT, if A03 is.
+-- them its events, with their filters and Reason Codes, and its Topic Aliases; and, if D03 and D05 are judged, the Topic Aliases that the client has set and its unfinished
+-- messages of QoS 2, and, if A03 is, the Authentication Method of the CONNECT.
 unfoldable pub burden : Tested → List Seen → ℕ
 burden tested log =
     session_burden tested.role (latest_fate tested.role (settled tested.role log)) (settled tested.role log) + waiting tested.role log + aliases_undecided tested.role log
-    + aliases_heard tested log + methods_kept tested log
+    + further_burden tested log + methods_kept tested log

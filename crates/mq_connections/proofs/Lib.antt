@@ -11,4 +11,5 @@ mod LaterLaws
 mod MannersLaws
 pub mod TallyLaws
 mod TermsLaws
+mod UnfinishedLaws
 pub mod WatchLaws

@@ -5,4 +5,5 @@ pub mod Finding
 pub mod Trying
 pub mod Manners
 pub mod Terms
+pub mod Unfinished
 pub mod Duties

@@ -1,4 +1,4 @@
-//! The further statements that a later REST shows, in one pass: C24, and D01 to D03.
+//! The further statements that a later REST shows, in one pass: C24, D01 to D03, and D05.
 //!
 //! With some event a server comes to owe an answer, or that it closes the connection. Until a REST
 //! shows what came of that, the event's place is kept.
@@ -8,38 +8,52 @@ ghost use Rattle.mq_rules.specs.declared.role.Role.TheVariants as roles;
 ghost use Rattle.mq_rules.specs.declared.fate.Fate.{Fate as TheFate};
 ghost use Rattle.mq_rules.specs.declared.fate.Fate.TheVariants.{Void};
 ghost use Rattle.mq_rules.specs.declared.note.Seen.{Seen as TheSeen};
-ghost use Rattle.mq_rules.specs.declared.rule.Rule.TheVariants.{C24, D01, D02, D03};
+ghost use Rattle.mq_rules.specs.declared.rule.Rule.TheVariants.{C24, D01, D02, D03, D05};
 ghost use Rattle.mq_rules.specs.Words.{is_some_and};
 ghost use Rattle.mq_rules.specs.Notes.{connect_of, is_broken, is_open};
 ghost use Rattle.mq_packet.specs.declared.packet.PacketType.TheVariants as types;
 ghost use Rattle.mq_rules.specs.Notes as notes;
 ghost use Rattle.mq_rules.specs.Pasts.{is_sent_refusal};
 ghost use Rattle.mq_rules.specs.FurtherRests as rests;
+ghost use Rattle.mq_rules.specs.ReceiveMaximum as maximum;
 ghost use Rattle.mq_connections.specs.Duties as keeping;
 ghost use Rattle.mq_connections.specs.Duties.{blamed, blamed_all, nothing_said, talk_after, BlamesWithin, CountsDuties, CountsTrial, IsDuties};
 ghost use Rattle.mq_rules.specs.Occasions.{places};
 ghost use Rattle.mq_rules.specs.Statements.{is_on_later};
 ghost use Rattle.mq_rules.specs.Steps.{turns};
-ghost use Rattle.mq_rules.specs.Burden.{aliases_heard};
+ghost use Rattle.mq_rules.specs.Burden.{further_burden};
 ghost use Rattle.mq_rules.specs.Connections.{IsOnConnection};
-ghost use Rattle.mq_connections.specs.Terms.{finds_error, terms_weigh, TermsNext};
+ghost use Rattle.mq_connections.specs.Terms.{TermsNext};
+ghost use Rattle.mq_connections.specs.Unfinished.{UnfinishedNext};
 
 mod terms;
+mod unfinished;
 
 use mq_log::Place3;
 use mq_packet::{PacketRule, PacketType};
 use mq_rules::{
-    Bare, Brisk, ConnectNote, Fault, FaultKey, Faults, ItemNote, Memory, Note, Role, Rule, Tested,
-    Watch, places_after, step_apart,
+    Bare, Brisk, ConnectNote, Fault, FaultKey, Faults, ItemNote, Memory, Note, PacketFields, Role,
+    Rule, Tested, Watch, places_after, step_apart,
 };
 use std::alloc::Global;
 use terms::Terms;
+use unfinished::Unfinished;
 
-/// The least Reason Code of a CONNACK that refuses (MQTT 5.0, section 3.2.2.2).
+/// The least Reason Code of a CONNACK or a PUBREC that refuses (MQTT 5.0, sections 3.2.2.2 and
+/// 3.5.2.1).
 const LEAST_REFUSAL: u8 = 0x80;
 
 /// The size of the smallest CONNACK, in bytes: it has no properties (MQTT 5.0, section 3.2).
 const SMALLEST_CONNACK: u32 = 5;
+
+/// What an event is by what is kept of the connection before it.
+#[derive(Clone, Copy, Debug, PartialEq, Eq)]
+struct Found {
+    /// Whether it is a Protocol Error.
+    is_error: bool,
+    /// Whether it is a PUBLISH above the server's Receive Maximum.
+    is_excess: bool,
+}
 
 /// What is kept of the latest connection.
 #[derive(Clone, Copy, Debug, PartialEq, Eq)]
@@ -52,6 +66,10 @@ struct Talk {
     has_malformed: bool,
     /// Whether a packet was received there that is a Protocol Error.
     has_error: bool,
+    /// Whether a PUBLISH was received there above the server's Receive Maximum.
+    has_excess: bool,
+    /// Whether the server refused a message of QoS 2 there.
+    has_refusal: bool,
     /// Whether either end said that it closes the connection.
     has_ended: bool,
     /// Whether the server did.
@@ -69,6 +87,9 @@ struct Talk {
     repeated: Option<Place3>,
     /// Where the first Protocol Error was received, if the server then had to close the connection.
     mistaken: Option<Place3>,
+    /// Where the first PUBLISH above the Receive Maximum was received, if the server then had to
+    /// close the connection.
+    excessive: Option<Place3>,
 }
 
 impl Talk {
@@ -81,6 +102,8 @@ impl Talk {
             has_repeat: false,
             has_malformed: false,
             has_error: false,
+            has_excess: false,
+            has_refusal: false,
             has_ended: false,
             has_goodbye: false,
             has_settled: false,
@@ -89,6 +112,7 @@ impl Talk {
             malformed: None,
             repeated: None,
             mistaken: None,
+            excessive: None,
         }
     }
 
@@ -123,16 +147,25 @@ impl Talk {
         is_error && !self.has_error && !self.has_ended
     }
 
-    // Takes in an event of the connection. The flag says whether it is a Protocol Error.
-    fn follow(&mut self, at: Place3, note: &Note, is_error: bool)
-        ensures { self.new ≡ keeping.followed self.old at note.now is_error }
+    // The same after a PUBLISH above the Receive Maximum. The flag says whether the event is one.
+    fn finds_excessive(&self, is_excess: bool) -> bool
+        ensures { result ≡ keeping.finds_excessive self.now is_excess }
+    {
+        is_excess && !self.has_excess && !self.has_ended
+    }
+
+    // Takes in an event of the connection, which is such an error or not.
+    fn follow(&mut self, at: Place3, note: &Note, found: Found)
+        ensures { self.new ≡ keeping.followed self.old at note.now found }
     {
         let connects = note.receives_type(PacketType::Connect);
         *self = Talk {
             has_connect: self.has_connect | connects,
             has_repeat: self.has_repeat | (connects & self.has_connect),
             has_malformed: self.has_malformed | receives_malformed(note),
-            has_error: self.has_error | is_error,
+            has_error: self.has_error | found.is_error,
+            has_excess: self.has_excess | found.is_excess,
+            has_refusal: self.has_refusal | refuses_message(note),
             has_ended: self.has_ended | ends_talk(note),
             has_goodbye: self.has_goodbye | says_goodbye(note),
             has_settled: self.has_settled | settles_connect(note),
@@ -140,18 +173,19 @@ impl Talk {
             unanswered: place_after(self.unanswered, self.finds_unanswered(note), at),
             malformed: place_after(self.malformed, self.finds_malformed(note), at),
             repeated: place_after(self.repeated, self.finds_repeated(note), at),
-            mistaken: place_after(self.mistaken, self.finds_mistake(is_error), at),
+            mistaken: place_after(self.mistaken, self.finds_mistake(found.is_error), at),
+            excessive: place_after(self.excessive, self.finds_excessive(found.is_excess), at),
         };
     }
 
     // Takes in an event: at an OPEN a new connection begins.
-    fn consume(&mut self, at: Place3, note: &Note, is_error: bool)
-        ensures { self.new ≡ talk_after self.old at note.now is_error }
+    fn consume(&mut self, at: Place3, note: &Note, found: Found)
+        ensures { self.new ≡ talk_after self.old at note.now found }
     {
         if note.is_open() {
             *self = Talk::new();
         }
-        self.follow(at, note, is_error);
+        self.follow(at, note, found);
     }
 
     // Whether the event is a REST, and the CONNECT would still have to be answered.
@@ -166,6 +200,20 @@ impl Talk {
         ensures { result ≡ keeping.stays_now self.now note.now }
     {
         note.is_rest() && !self.has_goodbye
+    }
+
+    // The same; and no message of QoS 2 was refused.
+    fn stays_unrefused(&self, note: &Note) -> bool
+        ensures { result ≡ keeping.stays_unrefused self.now note.now }
+    {
+        self.stays_now(note) && !self.has_refusal
+    }
+
+    // Whether the event shows what comes of an error before it, and no message of QoS 2 was refused.
+    fn tries_excess(&self, note: &Note) -> bool
+        ensures { result ≡ keeping.tries_excess self.now note.now }
+    {
+        shows_outcome(note) && !self.has_refusal
     }
 
     // Whether the event answers the CONNECT, or shows that it is left without an answer.
@@ -191,6 +239,13 @@ impl Talk {
         blame(Rule::D01, self.malformed, stays, place, faults)?;
         blame(Rule::D02, self.repeated, stays, place, faults)?;
         blame(Rule::D03, self.mistaken, stays, place, faults)?;
+        blame(
+            Rule::D05,
+            self.excessive,
+            self.stays_unrefused(note),
+            place,
+            faults,
+        )?;
         Ok(())
     }
 }
@@ -337,6 +392,25 @@ fn refuses(note: &Note) -> bool
     }
 }
 
+// Whether a PUBREC of 0x80 or more is sent.
+fn refuses_message(note: &Note) -> bool
+    ensures { result ≡ maximum.refuses_message note.now }
+{
+    match note.sent_fields() {
+        Some(fields) => is_refusing_pubrec(fields),
+        None => false,
+    }
+}
+
+fn is_refusing_pubrec(fields: &PacketFields) -> bool
+    ensures { result ≡ maximum.is_refusing_pubrec fields.now }
+{
+    match fields {
+        PacketFields::Pubrec { code, .. } => *code >= LEAST_REFUSAL,
+        _ => false,
+    }
+}
+
 // Whether either end says that it closes the connection, where the server is tested.
 fn ends_talk(note: &Note) -> bool
     ensures { result ≡ rests.ends_talk note.now }
@@ -351,14 +425,15 @@ fn shows_outcome(note: &Note) -> bool
     says_goodbye(note) || note.is_close() || note.is_rest()
 }
 
-/// Watches C24, and D01 to D03, if the further statements are asked for and a server is tested. It
-/// takes in each event of a log in which nothing is sent or received between two connections.
+/// Watches C24, D01 to D03, and D05, if the further statements are asked for and a server is tested.
+/// It takes in each event of a log in which nothing is sent or received between two connections.
 #[derive(Drop)]
 pub struct Duties {
     /// Whether they bind the tested end. If not, nothing is kept.
     is_bound: bool,
     talk: Talk,
     terms: Terms,
+    unfinished: Unfinished,
 }
 
 impl Duties {
@@ -370,29 +445,35 @@ impl Duties {
             is_bound: Rule::D02.is_judged(tested),
             talk: Talk::new(),
             terms: Terms::new(alloc),
+            unfinished: Unfinished::new(alloc),
         }
     }
 
-    // Whether the event is a Protocol Error.
-    fn finds_error(&self, note: &Note) -> bool
-        ensures { result ≡ finds_error self.now.talk.has_connect self.now.terms note.now }
+    // What the event is by what is kept.
+    fn find(&self, note: &Note) -> Found
+        ensures { result ≡ keeping.found self.now note.now }
     {
-        self.terms.finds_error(self.talk.has_connect, note)
+        Found {
+            is_error: self.terms.finds_error(self.talk.has_connect, note),
+            is_excess: self.unfinished.finds_excess(self.terms.connack(), note),
+        }
     }
 
     // Judges an event, and then takes it in.
     #[inline(never)]
     fn take(&mut self, place: Place3, note: &Note, faults: &mut Faults) -> Result<(), Memory>
         ensures bound { OnOk result (self.new.is_bound ≡ self.old.is_bound) }
-        ensures talk { OnOk result (self.new.talk ≡ talk_after self.old.talk place note.now (finds_error self.old.talk.has_connect self.old.terms note.now)) }
+        ensures talk { OnOk result (self.new.talk ≡ talk_after self.old.talk place note.now (keeping.found self.old note.now)) }
         ensures terms { OnOk result (TermsNext self.old.terms self.new.terms note.now) }
+        ensures unfinished { OnOk result (UnfinishedNext self.old.unfinished self.new.unfinished note.now) }
         ensures ok { OnOk result (faults.new ≡ blamed_all self.old.talk note.now place faults.old) }
         ensures memory { OnErr result (BlamesWithin self.old.talk note.now place faults.old faults.new) }
     {
         self.talk.judge(place, note, faults)?;
-        let is_error = self.finds_error(note);
-        self.talk.consume(place, note, is_error);
+        let found = self.find(note);
+        self.talk.consume(place, note, found);
         self.terms.consume(note)?;
+        self.unfinished.consume(note)?;
         Ok(())
     }
 }
@@ -404,9 +485,9 @@ impl Watch for Duties {
 
     ghost adds = { λ tested e past k r. is_on_later tested r && turns tested e past k r };
 
-    ghost weighs = { λ s. terms_weigh s.terms };
+    ghost weighs = { keeping.duties_weigh };
 
-    ghost bound = { λ tested taken past. aliases_heard tested past };
+    ghost bound = { λ tested taken past. further_burden tested past };
 
     #[inline(always)]
     fn step(&mut self, at: Place3, note: &Note, faults: &mut Faults) -> Result<(), Memory> {
@@ -418,7 +499,9 @@ impl Watch for Duties {
     }
 
     fn weight(&self) -> usize {
-        self.terms.aliases_kept()
+        self.terms
+            .aliases_kept()
+            .saturating_add(self.unfinished.identifiers_kept())
     }
 }
 
@@ -472,28 +555,30 @@ struct DutiesPlaces {
     d01: Trial,
     d02: Trial,
     d03: Trial,
+    d05: Trial,
 }
 
 impl DutiesPlaces {
     // The counts of nothing.
     fn none() -> DutiesPlaces
-        ensures { result ≡ record { c24 = record { places = 0; waits = false }; d01 = record { places = 0; waits = false }; d02 = record { places = 0; waits = false }; d03 = record { places = 0; waits = false } } }
+        ensures { result ≡ record { c24 = record { places = 0; waits = false }; d01 = record { places = 0; waits = false }; d02 = record { places = 0; waits = false }; d03 = record { places = 0; waits = false }; d05 = record { places = 0; waits = false } } }
     {
         DutiesPlaces {
             c24: Trial::none(),
             d01: Trial::none(),
             d02: Trial::none(),
             d03: Trial::none(),
+            d05: Trial::none(),
         }
     }
 
-    // Counts the statements that an event puts to the test, by what is kept before it. The flag
-    // says whether it is a Protocol Error.
-    fn count(&mut self, talk: &Talk, note: &Note, is_error: bool, position: u32)
+    // Counts the statements that an event puts to the test, by what is kept before it.
+    fn count(&mut self, talk: &Talk, note: &Note, found: Found, position: u32)
         ensures c24 { CountsTrial self.old.c24 self.new.c24 (keeping.tries_answer talk.now note.now) (keeping.finds_unanswered talk.now note.now) (is_open note.now) position }
         ensures d01 { CountsTrial self.old.d01 self.new.d01 (rests.shows_outcome note.now) (keeping.finds_malformed talk.now note.now) (is_open note.now) position }
         ensures d02 { CountsTrial self.old.d02 self.new.d02 (rests.shows_outcome note.now) (keeping.finds_repeated talk.now note.now) (is_open note.now) position }
-        ensures d03 { CountsTrial self.old.d03 self.new.d03 (rests.shows_outcome note.now) (keeping.finds_mistake talk.now is_error) (is_open note.now) position }
+        ensures d03 { CountsTrial self.old.d03 self.new.d03 (rests.shows_outcome note.now) (keeping.finds_mistake talk.now found.is_error) (is_open note.now) position }
+        ensures d05 { CountsTrial self.old.d05 self.new.d05 (keeping.tries_excess talk.now note.now) (keeping.finds_excessive talk.now found.is_excess) (is_open note.now) position }
     {
         let opens = note.is_open();
         let tried = shows_outcome(note);
@@ -508,7 +593,13 @@ impl DutiesPlaces {
         self.d02
             .count(tried, talk.finds_repeated(note), opens, position);
         self.d03
-            .count(tried, talk.finds_mistake(is_error), opens, position);
+            .count(tried, talk.finds_mistake(found.is_error), opens, position);
+        self.d05.count(
+            talk.tries_excess(note),
+            talk.finds_excessive(found.is_excess),
+            opens,
+            position,
+        );
     }
 }
 
@@ -539,6 +630,7 @@ impl CountingDuties {
             Rule::D01 => Some(self.places.d01.places),
             Rule::D02 => Some(self.places.d02.places),
             Rule::D03 => Some(self.places.d03.places),
+            Rule::D05 => Some(self.places.d05.places),
             _ => None,
         }
     }
@@ -551,17 +643,17 @@ impl Watch for CountingDuties {
 
     ghost adds = { λ tested e past k r. is_on_later tested r && turns tested e past k r };
 
-    ghost weighs = { λ s. terms_weigh s.duties.terms };
+    ghost weighs = { λ s. keeping.duties_weigh s.duties };
 
-    ghost bound = { λ tested taken past. aliases_heard tested past };
+    ghost bound = { λ tested taken past. further_burden tested past };
 
     fn step(&mut self, at: Place3, note: &Note, faults: &mut Faults) -> Result<(), Memory> {
         if !self.duties.is_bound {
             return Ok(());
         }
-        let is_error = self.duties.finds_error(note);
+        let found = self.duties.find(note);
         self.places
-            .count(&self.duties.talk, note, is_error, at.position);
+            .count(&self.duties.talk, note, found, at.position);
         self.duties.take(at, note, faults)?;
         Ok(())
     }

@@ -186,6 +186,13 @@ impl Terms {
         Ok(())
     }
 
+    /// The first CONNACK that was sent on the latest connection.
+    pub fn connack(&self) -> Option<ConnackNote>
+        ensures { result ≡ self.now.connack }
+    {
+        self.connack
+    }
+
     /// How many Topic Aliases are kept.
     pub fn aliases_kept(&self) -> usize
         ensures { result ≡ terms_weigh self.now }

@@ -1,6 +1,6 @@
-use Rattle.std.proofs.Common.{refl, sym, ap, ◌∙◌}
-use Rattle.mq_rules.specs.declared.rule.Rule.TheVariants.{C24, D01, D02, D03}
-use Rattle.mq_connections.proofs.DutiesLaws.{counted-of, counted-elsewhere}
+use Rattle.std.proofs.Common.{refl}
+use Rattle.mq_rules.specs.declared.rule.Rule.TheVariants.{C24, D01, D02, D03, D05}
+use Rattle.mq_connections.proofs.DutiesLaws.{counted-of}
 use Rattle.mq_connections.proofs.duties.CountingDuties.places.Goals as goal
 
 pub returns-in-C24 : goal.returns-in-C24
@@ -14,3 +14,6 @@ returns-in-D02 c = λ tested taken past was. counted-of tested c.args.rule D02 c
 
 pub returns-in-D03 : goal.returns-in-D03
 returns-in-D03 c = λ tested taken past was. counted-of tested c.args.rule D03 c.args.self.now.places.d03.places past c.in-D03.is refl was.1.d03.same_places
+
+pub returns-in-D05 : goal.returns-in-D05
+returns-in-D05 c = λ tested taken past was. counted-of tested c.args.rule D05 c.args.self.now.places.d05.places past c.in-D05.is refl was.1.d05.same_places

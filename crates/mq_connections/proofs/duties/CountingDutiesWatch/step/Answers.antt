@@ -1,11 +1,9 @@
 use Rattle.std.proofs.Common.{◌∷◌, sym, subst, ◌∙◌}
-use Rattle.mq_rules.specs.Notes.{is_open}
 use Rattle.mq_rules.specs.Connections.{latest_fate}
 use Rattle.mq_rules.specs.Under.{seen}
-use Rattle.mq_rules.specs.FurtherRests.{shows_outcome}
-use Rattle.mq_connections.specs.Duties.{finds_mistake, CountsTrial}
 use Rattle.mq_rules.proofs.Exports.{on_err}
-use Rattle.mq_connections.proofs.DutiesLaws.{counts-next, counts-unbound, duties-gain, duties-next, duties-within, unbound-gains, unbound-stays}
+use Rattle.mq_connections.proofs.DutiesLaws.{Counted, counts-next, counts-unbound, duties-gain, duties-next, duties-within, unbound-gains, unbound-stays}
+use Rattle.mq_connections.proofs.UnfinishedLaws.{received-small}
 use Rattle.mq_connections.proofs.duties.CountingDutiesWatch.step.Goals as goal
 
 pub returns-then-not-self-clause-agrees : goal.returns-then-not-self-clause-agrees
@@ -27,9 +25,11 @@ returns-in_err-take-clause-memory c =
 pub returns-clause-agrees : goal.returns-clause-agrees
 returns-clause-agrees c = λ tested taken past follows takes here. (
   duties-next c.args.self.now.duties c.take.new.self tested taken (latest_fate tested.role (seen c.args.at c.args.note.now ∷ past)) (seen c.args.at c.args.note.now) past c.if-not-self.false takes here.0
-      c.in_ok-take.ensures.bound c.in_ok-take.ensures.talk c.in_ok-take.ensures.terms,
-  counts-next c.args.self.now.duties c.args.self.now.places c.count.new.self tested taken (seen c.args.at c.args.note.now) past c.if-not-self.false follows takes here.0 here.1
-      (record { c24 = c.count.ensures.c24; d01 = c.count.ensures.d01; d02 = c.count.ensures.d02; d03 = subst (λ b. CountsTrial c.args.self.now.places.d03 c.count.new.self.d03 (shows_outcome c.args.note.now) (finds_mistake c.args.self.now.duties.talk b) (is_open c.args.note.now) c.args.at.position) c.finds_error-is_error.ensures c.count.ensures.d03 }),
+      c.in_ok-take.ensures.bound c.in_ok-take.ensures.talk c.in_ok-take.ensures.terms c.in_ok-take.ensures.unfinished,
+  counts-next c.args.self.now.duties c.args.self.now.places c.count.new.self tested taken (seen c.args.at c.args.note.now) past c.if-not-self.false follows takes here.0
+      (received-small c.args.self.now.duties.unfinished c.take.new.self.unfinished c.args.note.now c.in_ok-take.ensures.unfinished) here.1
+      (subst (λ f. Counted c.args.self.now.duties.talk c.args.self.now.places c.count.new.self (seen c.args.at c.args.note.now) f) c.find-found.ensures
+      (record { c24 = c.count.ensures.c24; d01 = c.count.ensures.d01; d02 = c.count.ensures.d02; d03 = c.count.ensures.d03; d05 = c.count.ensures.d05 })),
 )
 
 pub returns-clause-grows : goal.returns-clause-grows

@@ -1,4 +1,4 @@
-use Rattle.std.proofs.Common.{◌∷◌, sym, ap, ◌∙◌}
+use Rattle.std.proofs.Common.{◌∷◌, sym, ◌∙◌}
 use Rattle.mq_rules.specs.Connections.{latest_fate}
 use Rattle.mq_rules.specs.Under.{seen}
 use Rattle.mq_rules.proofs.Exports.{on_err}
@@ -21,7 +21,7 @@ returns-in_err-take-clause-memory c =
 pub returns-clause-agrees : goal.returns-clause-agrees
 returns-clause-agrees c = λ tested taken past follows takes here.
     duties-next c.args.self.now c.take.new.self tested taken (latest_fate tested.role (seen c.args.at c.args.note.now ∷ past)) (seen c.args.at c.args.note.now) past c.if-not-self.false takes here
-    c.in_ok-take.ensures.bound c.in_ok-take.ensures.talk c.in_ok-take.ensures.terms
+    c.in_ok-take.ensures.bound c.in_ok-take.ensures.talk c.in_ok-take.ensures.terms c.in_ok-take.ensures.unfinished
 
 pub returns-clause-grows : goal.returns-clause-grows
 returns-clause-grows c = λ tested taken past follows takes here.
