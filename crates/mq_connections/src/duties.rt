@@ -209,7 +209,7 @@ impl Talk {
         self.stays_now(note) && !self.has_refusal
     }
 
-    // Whether the event shows what comes of an error before it, and no message of QoS 2 was refused.
+    // Whether the event shows what comes of an error, and no message of QoS 2 was refused.
     fn tries_excess(&self, note: &Note) -> bool
         ensures { result ≡ keeping.tries_excess self.now note.now }
     {
@@ -425,8 +425,9 @@ fn shows_outcome(note: &Note) -> bool
     says_goodbye(note) || note.is_close() || note.is_rest()
 }
 
-/// Watches C24, D01 to D03, and D05, if the further statements are asked for and a server is tested.
-/// It takes in each event of a log in which nothing is sent or received between two connections.
+/// Watches C24, D01 to D03, and D05, if the further statements are asked for and a server is
+/// tested. It takes in each event of a log in which nothing is sent or received between two
+/// connections.
 #[derive(Drop)]
 pub struct Duties {
     /// Whether they bind the tested end. If not, nothing is kept.
