@@ -40,6 +40,7 @@ pub struct Asked<X: Exchange> {
 }
 
 // Takes in an event of a connection that has this fate. What isn't accepted changes nothing.
+#[inline(always)]
 fn take_answered(
     answered: &mut CountedByIdentifier<u32>,
     position: u32,
@@ -76,6 +77,7 @@ pub fn opened_after(opened: u32, position: u32, opens: bool) -> u32
 }
 
 // Whether the statement is judged, and an answer has no cause that is owed.
+#[inline(always)]
 fn is_unasked(
     binds: bool,
     fate: Fate,

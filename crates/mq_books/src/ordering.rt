@@ -19,6 +19,7 @@ pub struct Debt {
 }
 
 // Whether this debt is what is due under its identifier.
+#[inline(always)]
 fn is_still_due(due: &CountedByIdentifier<Place3>, debt: Debt) -> bool
     ensures { result ≡ keeping.is_still_due (value_under due.now) debt }
 {
@@ -29,6 +30,7 @@ fn is_still_due(due: &CountedByIdentifier<Place3>, debt: Debt) -> bool
 }
 
 // The debt at the front, if there is one. It may have been answered.
+#[inline(always)]
 fn first_of(queue: &VecDeque<Debt>) -> Option<Debt>
     ensures { result ≡ first_debt queue.now.items }
 {
@@ -39,6 +41,7 @@ fn first_of(queue: &VecDeque<Debt>) -> Option<Debt>
 }
 
 // Drops what is before the first debt that is still due. Each debt is dropped once.
+#[inline(always)]
 fn drop_settled(queue: &mut VecDeque<Debt>, due: &CountedByIdentifier<Place3>)
     ensures { queue.new.items ≡ from_due (value_under due.now) queue.old.items }
 {
@@ -52,6 +55,7 @@ fn drop_settled(queue: &mut VecDeque<Debt>, due: &CountedByIdentifier<Place3>)
 
 /// Whether this identifier isn't the first one under which something is due, though something is
 /// due under it.
+#[inline(always)]
 pub fn passes_over(
     queue: &mut VecDeque<Debt>,
     due: &CountedByIdentifier<Place3>,
@@ -72,6 +76,7 @@ pub fn passes_over(
 }
 
 /// Takes in a cause: it falls due, if nothing is due under its identifier.
+#[inline(always)]
 pub fn enqueue(
     queue: &mut VecDeque<Debt>,
     due: &CountedByIdentifier<Place3>,
@@ -97,6 +102,7 @@ pub fn enqueue(
 }
 
 /// Takes in a cause of a connection that has this fate, if there is a statement on the order.
+#[inline(always)]
 pub fn take_queue(
     queue: &mut VecDeque<Debt>,
     due: &CountedByIdentifier<Place3>,
@@ -116,6 +122,7 @@ pub fn take_queue(
 }
 
 // Drops all that is no longer due.
+#[inline(never)]
 fn drop_all_settled(queue: &mut VecDeque<Debt>, due: &CountedByIdentifier<Place3>)
     ensures { queue.new.items ≡ filter (keeping.is_still_due (value_under due.now)) queue.old.items }
 {
@@ -125,6 +132,7 @@ fn drop_all_settled(queue: &mut VecDeque<Debt>, due: &CountedByIdentifier<Place3
 /// Drops all that is no longer due, once it is more than half of the queue, so that after a cause
 /// the queue is at most twice as long as what is due. Each debt that is dropped pays for one that
 /// is kept.
+#[inline(always)]
 pub fn tidy(queue: &mut VecDeque<Debt>, due: &CountedByIdentifier<Place3>, cause: Option<u16>)
     ensures tidied { IsTidied (value_under due.now) queue.old.items queue.new.items }
     ensures bounded { (n : ℕ) (test : ℕ → Bool) → is_some cause ≡ true → IsQueue (value_under due.now) queue.old.items n → ((i : ℕ) → is_some (value_under due.now i) ≡ true → test i ≡ true) → length queue.new.items ≤ 2 * ids_where test }
@@ -139,6 +147,7 @@ pub fn tidy(queue: &mut VecDeque<Debt>, due: &CountedByIdentifier<Place3>, cause
 }
 
 /// Adds the fault of the statement on the order, if there is one.
+#[inline(always)]
 pub fn judge_order(
     rule: Option<Rule>,
     broken: bool,

@@ -38,6 +38,7 @@ use std::marker::PhantomData;
 
 // Takes in an event: an answer settles what is due under its identifier, and a cause falls due
 // where nothing is.
+#[inline(always)]
 fn fall_due(
     due: &mut CountedByIdentifier<Place3>,
     at: Place3,
@@ -62,6 +63,7 @@ fn fall_due(
 }
 
 // Takes in an event of a connection that has this fate. What isn't accepted changes nothing.
+#[inline(always)]
 fn take_due(
     due: &mut CountedByIdentifier<Place3>,
     at: Place3,
@@ -81,6 +83,7 @@ fn take_due(
 }
 
 // Adds the faults of what is due.
+#[inline(never)]
 #[tactic(auto, using(crate::proofs::BlameLaws::keeps_with_fault, crate::proofs::BlameLaws::keeps_blamed))]
 fn blame(
     due: &CountedByIdentifier<Place3>,
@@ -114,6 +117,8 @@ fn blame(
 }
 
 // Adds the faults of what is due, if a REST binds.
+#[inline(always)]
+#[inline(always)]
 #[tactic(auto, using(crate::proofs::BlameLaws::keeps_same))]
 fn settle(
     rests: bool,
@@ -169,6 +174,7 @@ fn is_any_judged(rule: Option<Rule>, tested: Tested) -> bool
 }
 
 // Whether the statement on the order is judged, and an answer passes over what is due.
+#[inline(always)]
 fn is_out_of_order(
     binds: bool,
     fate: Fate,
