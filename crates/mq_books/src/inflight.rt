@@ -108,6 +108,7 @@ pub struct Inflight {
 }
 
 // Puts in what is begun, after what is ended is out. An OPEN and a CLOSE end all.
+#[inline(always)]
 fn await_answer(
     waiting: &mut IndexSet<u16>,
     alloc: Global,
@@ -131,6 +132,7 @@ fn await_answer(
 }
 
 // Puts in the identifier of a PUBLISH that is sent on a void connection.
+#[inline(always)]
 fn take_void(void: &mut IndexSet<u16>, fate: Fate, note: &Note) -> Result<(), Memory>
     ensures { OnOk result ((i : ℕ) → contains nat_eq void.new i ≡ void_next fate note.now i (contains nat_eq void.old i)) }
 {
@@ -145,6 +147,7 @@ fn take_void(void: &mut IndexSet<u16>, fate: Fate, note: &Note) -> Result<(), Me
 
 // Takes in a PUBLISH whose identifier isn't open, and what acknowledges it. What is open was taken
 // in before.
+#[inline(always)]
 fn take_stray(
     stray: &mut IndexSet<u16>,
     alloc: Global,
@@ -183,6 +186,7 @@ fn sent_under(note: &Note) -> Option<u16>
 }
 
 // Takes in a PUBLISH or a PUBREL that is sent on a resumed connection, and what answers it.
+#[inline(always)]
 fn take_unanswered(
     unanswered: &mut IndexSet<u16>,
     alloc: Global,
@@ -222,6 +226,7 @@ fn keep_unanswered(
 }
 
 // Takes in a SUBSCRIBE and a SUBACK.
+#[inline(always)]
 fn take_subscribing(
     subscribing: &mut IndexSet<u16>,
     alloc: Global,
@@ -236,6 +241,7 @@ fn take_subscribing(
 }
 
 // Takes in an UNSUBSCRIBE and an UNSUBACK.
+#[inline(always)]
 fn take_unsubscribing(
     unsubscribing: &mut IndexSet<u16>,
     alloc: Global,
