@@ -22,7 +22,7 @@ fn lists_the_statements(rt: HostRuntime) -> Result<(), Fail> {
         b"W01 both MQTT-2.1.3-1 The flags of a packet other than PUBLISH are those of its type.\n";
     for (words, lines) in [
         (&["mqjudge", "rules"][..], 74),
-        (&["mqjudge", "rules", "--all"][..], 91),
+        (&["mqjudge", "rules", "--all"][..], 92),
         (&["mqjudge", "rules", "--role", "client"][..], 54),
         (&["mqjudge", "rules", "--role", "server"][..], 64),
         (&["mqjudge", "rules", "--all", "--role", "client"][..], 64),
