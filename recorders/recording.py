@@ -175,6 +175,10 @@ class Connection:
         return self.connack is not None and self.connack.reason == 0
 
     @property
+    def is_refused(self) -> bool:
+        return self.is_answered and not self.is_accepted
+
+    @property
     def is_unanswered(self) -> bool:
         """It has a CONNECT and no CONNACK: where it ends so, the server may have accepted it."""
         return self.connect is not None and not self.is_answered
@@ -325,6 +329,7 @@ class Recorder:
         self._connections: dict[Hashable, Connection] = {}
         self._logs: OrderedDict[str, SessionLog] = OrderedDict()  # of each Client Identifier the latest
         self._released_logs: dict[Hashable, SessionLog] = {}  # of connections that are over
+        self._unsure: set[str] = set()  # Client Identifiers of whose sessions nobody knows what the tested end took
         self._kept_bytes = 0
         self.is_stopped = False
 
@@ -350,12 +355,19 @@ class Recorder:
         self._bytes(key, Kind.FROM_SERVER, data)
 
     @guarded
-    def closed(self, key: Hashable) -> None:
-        """The connection ended."""
+    def closed(self, key: Hashable, is_unread: bool = False) -> None:
+        """The connection ended.
+
+        `is_unread` says that the tested end hadn't read all that was sent to it, so that nobody knows what it took:
+        what goes on of its session is left out. A new session of its Client Identifier is recorded again.
+        """
         connection = self._connections.pop(key, None)
         if connection is None or connection.is_left_out:
             return
         self._end(connection)
+        if is_unread and connection.name is not None and not connection.is_refused:
+            self._forget(connection.name)
+            self._unsure.add(connection.name)
         if self._releases and connection.log is not None:
             self._released_logs[key] = connection.log
             connection.log.keys.append(key)
@@ -399,7 +411,7 @@ class Recorder:
         connection = self._connections.get(key)
         if connection is None or connection.log is None or connection.has_rest:
             return
-        if connection.has_disconnect or (connection.is_answered and not connection.is_accepted):
+        if connection.has_disconnect or connection.is_refused:
             self._rest(connection)
 
     @guarded
@@ -560,10 +572,12 @@ class Recorder:
             self._take_over(log)
         has_begun_before = log is None or not log.may_have_session
         if not connection.connect.clean_start and connection.connack.session_present and has_begun_before:
-            if not self._from_start:
+            if name in self._unsure or not self._from_start:
                 self._logs.pop(name, None)
-                self._leave_out(connection, f"{name} resumes a session that began before the recording")
+                which = "of which not all was read" if name in self._unsure else "that began before the recording"
+                self._leave_out(connection, f"{name} resumes a session {which}")
                 return
+        self._unsure.discard(name)
         if log is None or connection.connect.clean_start:
             log = self._new_log(name)
         self._begin(connection, log)

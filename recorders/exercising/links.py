@@ -3,7 +3,9 @@
 The log is the tested end's. What the exerciser sends is written there before it is sent, and what it gets once it has
 been read: so what the tested end received is never too late in the log, and what it sent never too early. As with a
 proxy, faults can be missed, and none is made, as long as the tested end has read all that was sent before a connection
-ends. So a link is ended once the tested end is at rest, by ending its stream and reading the other to its end.
+ends. So a link is ended once the tested end is at rest, by ending its stream and reading the other to its end. Where
+the tested end closes itself, and hadn't read all, TCP says so by a reset: what it took is then unknown, and what goes on
+of the session is left out.
 """
 from __future__ import annotations
 
@@ -59,6 +61,7 @@ class Link:
         self.inbox: list[Packet] = []  # what came and wasn't taken yet
         self.seen: list[Packet] = []  # all that came
         self.has_ended = False  # the tested end sends no more
+        self.is_unread = False  # it closed before it had read all that we sent
         self.is_closed = False  # we have closed
         self.waited = 0.0  # for the last answer, in seconds
         connection.setsockopt(socket.IPPROTO_TCP, socket.TCP_NODELAY, 1)
@@ -79,7 +82,7 @@ class Link:
             self._socket.sendall(data)
         except OSError:
             self.pump(SHORTEST)
-            self.has_ended = True
+            self.has_ended = self.is_unread = True
             raise Gone(f"the connection was closed at {name_of(data)}") from None
 
     def pump(self, seconds: float) -> bool:
@@ -92,7 +95,7 @@ class Link:
         try:
             data = self._socket.recv(CHUNK)
         except OSError:
-            data = b""
+            data, self.is_unread = b"", True
         if not data:
             self.has_ended = True
             return False
@@ -168,9 +171,11 @@ class Link:
         self._end()
 
     def _end(self) -> None:
+        if self._socket.getsockopt(socket.SOL_SOCKET, socket.SO_ERROR):  # a reset that came after its last bytes
+            self.is_unread = True
         self._socket.close()
         self.is_closed = self.has_ended = True
-        self._recorder.closed(self._key)
+        self._recorder.closed(self._key, self.is_unread)
 
 
 def name_of(data: bytes) -> str:
