@@ -40,7 +40,7 @@ from exercising.packets import (
 )
 
 HOST = "127.0.0.1"
-RECEIVE_MAXIMUM, ALIAS_MAXIMUM = 20, 10
+RECEIVE_MAXIMUM, ALIAS_MAXIMUM, SIZE_MAXIMUM = 20, 10, 200_000
 DENIED, WRONG_PASSWORD = b"denied/x", b"wrong"
 MALFORMED, PROTOCOL_ERROR, NOT_AUTHORIZED, BAD_PASSWORD = 0x81, 0x82, 0x87, 0x86
 BAD_METHOD, TAKEN_OVER, KEEP_ALIVE, BAD_ALIAS, TOO_MANY, TOO_LARGE = 0x8C, 0x8E, 0x8D, 0x94, 0x93, 0x95
@@ -52,6 +52,7 @@ OF_WILL = frozenset((0x01, 0x02, 0x03, 0x08, 0x09, 0x18, 0x26))
 OF_OTHERS = {Type.SUBSCRIBE: frozenset((0x0B, 0x26)), Type.UNSUBSCRIBE: frozenset((0x26,)),
              Type.DISCONNECT: frozenset((0x11, 0x1F, 0x26))}
 OF_ACKNOWLEDGEMENTS = frozenset((0x1F, 0x26))
+IDENTIFIER_AND_CODE = 3  # bytes of an acknowledgement before its properties
 BOOLEAN = (0x01, 0x17, 0x19)
 TEXTS = (0x03, 0x08, 0x15, 0x1F)
 ACK_CODES = frozenset((0, 0x10, 0x80, 0x83, 0x87, 0x90, 0x91, 0x97, 0x99))
@@ -297,6 +298,8 @@ class Link(asyncio.Protocol):
                 raise Wrong(PROTOCOL_ERROR)
             self.connect(packet)
             return
+        if packet.size > SIZE_MAXIMUM:
+            raise Wrong(TOO_LARGE)
         self.watch()
         if kind != Type.PUBLISH and (kind == 0 or packet.first & 15 != FIXED_FLAGS.get(Type(kind), 0)):
             raise Wrong
@@ -359,7 +362,7 @@ class Link(asyncio.Protocol):
 
     def welcome(self, packet: Packet, identifier: str, is_clean: bool) -> None:
         said: list[tuple[int, Value]] = [(Prop.RECEIVE_MAXIMUM, RECEIVE_MAXIMUM)]
-        said.append((Prop.TOPIC_ALIAS_MAXIMUM, ALIAS_MAXIMUM))
+        said += [(Prop.TOPIC_ALIAS_MAXIMUM, ALIAS_MAXIMUM), (Prop.MAXIMUM_PACKET_SIZE, SIZE_MAXIMUM)]
         if not identifier:
             self.broker.assigned += 1
             identifier = f"assigned-{self.broker.assigned}"
@@ -490,6 +493,9 @@ class Link(asyncio.Protocol):
         if len(packet.body) < 2 or (packet.code or 0) not in allowed:
             raise Wrong
         check_properties(packet.properties, OF_ACKNOWLEDGEMENTS)
+        fields = Reader(packet.body[IDENTIFIER_AND_CODE:])
+        if fields.data and (fields.properties(), fields.rest())[1]:
+            raise Wrong
 
     def pump(self) -> None:
         """Sends again what is to be, and then what waits, as far as the client's Receive Maximum allows."""

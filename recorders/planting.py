@@ -23,6 +23,7 @@ from pathlib import Path
 sys.dont_write_bytecode = True  # the repository stays as it is
 sys.path.insert(0, str(Path(__file__).resolve().parent))
 from exercising.packets import (
+    PONG,
     RESERVED,
     Cutter,
     Packet,
@@ -39,6 +40,7 @@ HOST = "127.0.0.1"
 CHUNK = 65_536
 LOOKS, LOOK_SECONDS = 400, 0.05  # for a broker that starts
 LONG_OPEN = 4.0  # seconds that a connection stays open which should be closed
+SERVED_SECONDS = 60.0  # at most, where its pings are answered
 
 
 @dataclass
@@ -61,6 +63,7 @@ class State:
     number: int = 0  # of the connection
     count: int = 0
     has_done: bool = False
+    is_left: bool = False  # the broker has closed
     held: bytes = b""
     flights: dict[int, Flight] = field(default_factory=dict)  # of the session, by their identifiers
     filters: list[int] = field(default_factory=list)  # how many the SUBSCRIBEs so far had
@@ -87,6 +90,7 @@ class Plant:
     change: Change
     at_opening: bytes = b""  # sent before anything else
     stays_open: bool = False
+    goes_on: bool = False  # it stays open until the client ends it, and its pings are answered
     quota: int = 0  # the Receive Maximum that the broker is told in place of the client's
     dies: bool = False  # the exerciser starts the broker, and kills it
     is_slow: bool = False
@@ -184,11 +188,14 @@ async def relay(plant: Plant, port: int, reader: asyncio.StreamReader, writer: a
         writer.close()
         return
     writer.write(plant.at_opening)
-    up = asyncio.create_task(pass_up(plant, state, reader, broker_writer))
+    up = asyncio.create_task(pass_up(plant, state, reader, broker_writer, writer))
     try:
         with contextlib.suppress(OSError):
             await pass_down(plant, state, broker_reader, writer)
-            if plant.stays_open:
+            state.is_left = True
+            if plant.goes_on:
+                await asyncio.wait((up,), timeout=SERVED_SECONDS)
+            elif plant.stays_open:
                 await asyncio.sleep(LONG_OPEN)
     finally:
         up.cancel()
@@ -196,7 +203,8 @@ async def relay(plant: Plant, port: int, reader: asyncio.StreamReader, writer: a
             one.close()
 
 
-async def pass_up(plant: Plant, state: State, reader: asyncio.StreamReader, writer: asyncio.StreamWriter) -> None:
+async def pass_up(plant: Plant, state: State, reader: asyncio.StreamReader, writer: asyncio.StreamWriter,
+                  client: asyncio.StreamWriter) -> None:
     """What the client sends. It is looked at, and the Receive Maximum may be another one."""
     cutter = Cutter()
     with contextlib.suppress(OSError):
@@ -206,8 +214,11 @@ async def pass_up(plant: Plant, state: State, reader: asyncio.StreamReader, writ
                 most = state.announces(Prop.RECEIVE_MAXIMUM)
                 if got.kind == Type.CONNECT and plant.quota and most:
                     data = data.replace(b"\x21" + two(most), b"\x21" + two(plant.quota), 1)
-            writer.write(data)
-            await writer.drain()
+                if got.kind == Type.PINGREQ and plant.goes_on and state.is_left:
+                    client.write(PONG)
+            if not state.is_left:
+                writer.write(data)
+                await writer.drain()
         writer.write_eof()
 
 

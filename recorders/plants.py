@@ -528,8 +528,16 @@ def of_requests() -> Iterator[Plant]:
         yield Plant(code, code, only, on(Type.CONNACK, lambda got, _, one=(key, value): reconnack(got, more=[one])))
     yield Plant("B05", "B05", "subscribe-granted-0", on(Type.SUBACK, lambda got, _: codes(
         Type.SUBACK, got.identifier or 0, b"\1") if got.codes == b"\0" else None))
+    yield Plant("C24", "C24", "connect-plain", when(is_of("connect-plain"), on(Type.CONNACK, gone)))
+    for code, only in {"D01": "bad-ping-flags", "D02": "second-connect-clean", "D03": "bad-pong"}.items():
+        yield Plant(code, code, only, on(Type.DISCONNECT, gone), goes_on=True)
     for name, only in {"new": "takeover-clean-300", "resumed": "takeover-3-times"}.items():
         yield Plant(f"V06-{name}", "V06", only, on(Type.DISCONNECT, lambda got, _: disconnect(4)))
+
+
+def is_of(scenario: str) -> Callable[[Packet, State], bool]:
+    """The connection is this scenario's, by its Client Identifier: the exerciser's first look at a broker is no scenario."""
+    return lambda _, state: state.connect is not None and scenario.encode() in (state.connect.client or b"")
 
 
 def all_plants() -> dict[str, Plant]:

@@ -27,6 +27,7 @@ from exercising.stage import Stage, Unfit
 
 CLOSE_SECONDS = 1.0  # for a broker that has to close
 DUP = 8  # in the first byte of a PUBLISH
+OVERSIZE_MOST = 10_000_000  # bytes
 IDLE_SECONDS = 0.2  # after which there is nothing more to answer
 
 
@@ -120,6 +121,14 @@ class Player(Actor):
         elif qos == 2 and self._is_received(identifier):
             self.link.send(acknowledgement(Type.PUBREL, identifier))
             self.expect(Type.PUBCOMP, identifier)
+
+    def oversize(self, topic: str) -> None:
+        """Publishes a message that is a byte too large for the broker, if it announces a limit that isn't huge."""
+        most = self.limits.number(Prop.MAXIMUM_PACKET_SIZE, 0)
+        if not 0 < most <= OVERSIZE_MOST:
+            raise Unfit(f"the broker announces Maximum Packet Size {most or 'no limit'}")
+        beside = len(publish(topic, b"x" * most, 1, 1)) - most
+        self.link.send(publish(topic, b"x" * (most + 1 - beside), 1, self.new_identifier()))
 
     def begin(self, topic: str, payload: bytes, qos: int) -> None:
         """Publishes a message, and leaves its exchange to be gone on with."""

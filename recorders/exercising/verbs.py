@@ -313,6 +313,12 @@ def publish(player: Player, step: Step) -> None:
                        retain="retain" in step.flags, properties=pairs)
 
 
+@verb("oversize", Shape(1, 1))
+def oversize(player: Player, step: Step) -> None:
+    """A message of QoS 1 that is a byte larger than the broker's Maximum Packet Size allows."""
+    player.oversize(name_in(player, step.words[0]))
+
+
 @verb("begin", Shape(1, 1, options=frozenset(("qos",))))
 def begin(player: Player, step: Step) -> None:
     """A message of which only the PUBLISH is sent."""
