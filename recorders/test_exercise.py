@@ -33,11 +33,14 @@ HERE = Path(__file__).resolve().parent
 sys.path.insert(0, str(HERE))
 from exercising.both_ends import Fairness, other_end
 from exercising.campaign import Campaign
+from exercising.client import missing_needs
 from exercising.client_verbs import HOSTS
 from exercising.client_verbs import NEEDS as CLIENT_NEEDS
 from exercising.evidence import FOREIGN, FURTHER, binding
+from exercising.hosts import Program
+from exercising.links import Tape
 from exercising.notation import NotationError, bytes_of
-from exercising.packets import Cutter, Packet, Prop, Type, connack, connect, packet, publish, reply, subscribe
+from exercising.packets import PING, Cutter, Packet, Prop, Type, connack, connect, packet, publish, reply, subscribe
 from exercising.running import CONNECTIONS_MOST, Fate, Result, Runner, death_of, in_turn
 from exercising.situations import situations
 from exercising.stage import Silence, Target
@@ -46,10 +49,12 @@ from exercising.verbs import CLIENTS, NEEDS
 from judging.program import Judge
 from judging.statements import ALL, CLIENT, SERVER, every_statement_of, judges_further
 from judging.verdict import Verdict
-from log_format import VERSIONS
+from log_format import VERSIONS, records
 from planting import Plant, State, serve
+from recording import End
 from testing import (
     HOST,
+    KINDS,
     PATIENCE,
     InFolder,
     accepts,
@@ -376,6 +381,56 @@ class Order(unittest.TestCase):
             played = Campaign._play_again(SimpleNamespace(), runner)
         self.assertEqual(list(played), ["one", "two"])
         self.assertEqual([sorted(one.broken) for one in results], [["S01"], ["S01", "S06"], ["S01"], ["S01"]])
+
+    def test_each_scenario_with_another_error_is_played_again(self) -> None:
+        """Of D01 and D03 each has an error of its own; of the other statements one is enough."""
+        def result(name: str, *codes: str) -> Result:
+            verdict = Verdict(Path(name), 1, keeps=True)
+            for code in codes:
+                verdict.take(f"fault 4 {code} x decided 9 record 4 offset -", 0)
+            return Result(Scenario(name, (), frozenset(), False, (), "x:1"), Fate.COMPLETED, verdicts=[verdict])
+
+        again = {"one": ["D01"], "two": ["D01"], "three": ["D03"], "four": [], "five": ["D02"], "six": ["D02"]}
+        first = {"one": "D01", "two": "D01", "three": "D03", "four": "D01", "five": "D02", "six": "D02"}
+        results = [result(name, first[name]) for name in again]
+        runner = SimpleNamespace(results=results, stop_reason="", play_again=lambda one: result(
+            one.scenario.name, *again[one.scenario.name]))
+        with contextlib.redirect_stderr(io.StringIO()):
+            played = Campaign._play_again(SimpleNamespace(), runner)
+        self.assertEqual(set(played), set(again) - {"six"})
+        self.assertEqual({one.scenario.name for one in results if one.broken}, {"one", "two", "three", "five"})
+
+
+class Unread(InFolder):
+    """A broker that closes before it has read all that was sent to it."""
+
+    def session(self, reads_all: bool) -> list[str]:
+        """The kinds of records of two connections of a session, at whose first the broker closes."""
+        with socket.create_server((HOST, 0)) as listener:
+            tape = Tape(self.folder / str(reads_all), End.SERVER, "", self.warnings.append)
+            for number in range(2):
+                link = tape.link(socket.create_connection(listener.getsockname()))
+                server, _ = listener.accept()
+                link.send(connect("me", clean=number == 0, properties=[(Prop.SESSION_EXPIRY, 100)]))
+                server.recv(1000)
+                server.sendall(connack(session_present=number == 1))
+                link.expect(Type.CONNACK)
+                link.send(PING)
+                if reads_all or number == 1:
+                    server.recv(1000)
+                server.close()
+                self.assertTrue(link.closes(PATIENCE))
+                link.close()
+            tape.finish()
+        return [KINDS[kind] for log in sorted((self.folder / str(reads_all)).iterdir())
+                for kind, _, _ in records(log.read_bytes())]
+
+    def test_what_goes_on_of_its_session_is_left_out(self) -> None:
+        self.warnings: list[str] = []
+        one = ["OPEN", "RECV", "SENT", "RECV", "CLOSE"]
+        self.assertEqual((self.session(reads_all=True), self.warnings), ([*one, *one], []))
+        self.assertEqual((self.session(reads_all=False), self.warnings),
+                         (one, ["not recorded: me resumes a session of which not all was read"]))
 
 
 class Misuse(Called):
@@ -717,6 +772,14 @@ class Clients(Called):
         self.assertTrue(30 <= sizes[0] and sizes[-1] <= 75, sizes)
         for page in (HERE / "EXERCISE.md", HERE.parent / "README.md"):
             self.assertRegex(" ".join(page.read_text().split()), r"driver\*?:? (?:of )?30 to 75 lines in")
+
+    def test_a_method_only_where_the_command_takes_one(self) -> None:
+        options = SimpleNamespace(does="driver", slow=True, words=["x", "{port}", "{method}"])
+        self.assertEqual(missing_needs(options), {})
+        self.assertEqual(Program(tuple(options.words), "driver").command(7, "me", 0, 1, 1, "m"), ["x", "7", "m"])
+        self.assertEqual(Program(tuple(options.words), "driver").command(7, "me", 0, 1, 1), ["x", "7", ""])
+        options.words.pop()
+        self.assertEqual(missing_needs(options), {"method": "the client's command has no {method}"})
 
     def test_one_that_never_connects(self) -> None:
         words = ("client", "--out", self.logs, "--program", judge_program(), "--only", "plain-q0", "--")

@@ -7,13 +7,14 @@ import signal
 import sys
 import time
 from collections import Counter
-from collections.abc import Mapping
+from collections.abc import Iterable, Mapping
+from concurrent.futures import ThreadPoolExecutor
 from dataclasses import dataclass
 from pathlib import Path
 from types import FrameType
 
-from arguments import Parser
-from exercising.both_ends import BY_SILENCE, ONCE, Fairness, take_out
+from arguments import Parser, counted
+from exercising.both_ends import BY_SILENCE, OF_ERRORS, ONCE, Fairness, take_out
 from exercising.links import Gone
 from exercising.live import Live, LiveJudge, find_library
 from exercising.outcome import Outcome, silent_faults
@@ -30,6 +31,7 @@ from judging.verdict import FAILED, FAULTS, PASSED, REFUSED, Verdict
 RUN_BYTES = 2  # of the name that is this run's own
 AGAIN_SECONDS = 60.0  # after which no more faults by silence are tried again
 AGAIN_OF_A_CODE = 3  # scenarios of a code that are played again, until one of them shows it again
+SIDE_BY_SIDE = 20  # scenarios that are played again at a time, where all of a code are
 ENDED_MOST = 0.25  # of the scenarios, beyond which a run says too little
 REACHABLE = "REACHABLE"
 
@@ -135,22 +137,11 @@ class Campaign:
     # ---- missing answers once more
 
     def _play_again(self, runner: Runner) -> dict[str, Result]:
-        """Plays scenarios with missing answers again, each alone, with ten times the silence. What isn't seen again
-        doesn't count."""
-        again: dict[str, Result] = {}
-        until = time.monotonic() + AGAIN_SECONDS
+        """Plays scenarios with missing answers again, with ten times the silence. What isn't seen again doesn't count."""
         suspects = [result for result in runner.results if silent_faults(result, BY_SILENCE)]
-        tried: Counter[str] = Counter()
-        confirmed: set[str] = set()
-        for result in sorted(suspects, key=lambda one: one.seconds):
-            fresh = [code for code in silent_faults(result, BY_SILENCE)
-                     if code not in confirmed and tried[code] < AGAIN_OF_A_CODE]
-            if not fresh or time.monotonic() > until or runner.stop_reason:
-                continue
-            say(f"again, alone and with more time: {result.scenario.name} ({' '.join(sorted(fresh))})")
-            again[result.scenario.name] = repeated = runner.play_again(result)
-            tried.update(fresh)
-            confirmed |= repeated.broken
+        again = play_alone(runner, suspects)
+        again |= play_side_by_side(runner, [result for result in suspects if result.scenario.name not in again
+                                            and silent_faults(result, OF_ERRORS)])
         for result in suspects:
             seen = again[result.scenario.name].broken if result.scenario.name in again else set()
             for verdict in result.verdicts:
@@ -224,6 +215,38 @@ class Campaign:
         if FAILED in statuses or REFUSED in statuses:
             return max(statuses)
         return FAULTS if FAULTS in statuses or missing else PASSED
+
+
+def play_alone(runner: Runner, suspects: Iterable[Result]) -> dict[str, Result]:
+    """Plays scenarios again, one after the other, until each statement was seen broken again, or was tried often."""
+    again: dict[str, Result] = {}
+    until = time.monotonic() + AGAIN_SECONDS
+    tried: Counter[str] = Counter()
+    confirmed: set[str] = set()
+    for result in sorted(suspects, key=lambda one: one.seconds):
+        fresh = [code for code in silent_faults(result, BY_SILENCE)
+                 if code not in confirmed and tried[code] < AGAIN_OF_A_CODE]
+        if not fresh or time.monotonic() > until or runner.stop_reason:
+            continue
+        say(f"again, alone and with more time: {result.scenario.name} ({' '.join(sorted(fresh))})")
+        again[result.scenario.name] = repeated = runner.play_again(result)
+        tried.update(fresh)
+        confirmed |= repeated.broken
+    return again
+
+
+def play_side_by_side(runner: Runner, suspects: list[Result]) -> dict[str, Result]:
+    """Plays all of these again: each has another error of the client in it."""
+    until = time.monotonic() + AGAIN_SECONDS
+
+    def play(result: Result) -> Result | None:
+        return None if time.monotonic() > until or runner.stop_reason else runner.play_again(result)
+
+    if suspects:
+        say(f"again, side by side and with more time: {counted(len(suspects), 'scenario')} ({' '.join(sorted(OF_ERRORS))})")
+    with ThreadPoolExecutor(SIDE_BY_SIDE) as pool:
+        played = zip(suspects, pool.map(play, suspects), strict=True)
+        return {result.scenario.name: repeated for result, repeated in played if repeated is not None}
 
 
 def stop_at_signals(runner: Runner) -> None:

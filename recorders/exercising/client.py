@@ -7,7 +7,7 @@ from pathlib import Path
 
 from exercising.campaign import Campaign, Plan
 from exercising.client_verbs import DOES, HOSTS
-from exercising.hosts import HOST, ClientStage, Program
+from exercising.hosts import HOST, METHOD, ClientStage, Program
 from exercising.links import Tape
 from exercising.running import Runner
 from exercising.stage import Silence, Stage, Target
@@ -22,6 +22,8 @@ def missing_needs(options: argparse.Namespace) -> dict[str, str]:
     """What scenarios may need and isn't there, with what is said of it."""
     missing = {need: f"the client doesn't do it (--does {options.does})" for need, ways in DOES.items()
                if options.does not in ways}
+    if not any(METHOD in word for word in options.words):
+        missing["method"] = f"the client's command has no {METHOD}"
     if not options.slow:
         missing["slow"] = "no --slow"
     return missing

@@ -14,7 +14,7 @@ from exercising.verbs import VERBS as CLIENT_SIDE
 from exercising.verbs import Act, Verb, Vocabulary, told_seconds, whole
 
 SHARED = ("send", "dribble", "rest", "quiet", "wait", "await", "closes", "drop", "reset")
-NEEDS = frozenset(("driven", "publishing", "subscribing", "slow", "alone"))
+NEEDS = frozenset(("driven", "publishing", "subscribing", "method", "slow", "alone"))
 DOES = {"driven": {DRIVEN}, "publishing": {DRIVEN, PUBLISHES}, "subscribing": {DRIVEN, SUBSCRIBES}}
 HOLD_SECONDS, SERVE_SECONDS = 0.8, 0.7
 TOPIC = "do/nothing"  # that a driver subscribes to, and does nothing for
@@ -34,10 +34,10 @@ def verb(name: str, shape: Shape = Shape()) -> Callable[[Act], Act]:
 # ---- connections
 
 
-@verb("start", Shape(options=frozenset(("qos", "count", "size"))))
+@verb("start", Shape(options=frozenset(("qos", "count", "size", "method"))))
 def start(host: Host, step: Step) -> None:
-    """Starts the client, which publishes so many messages by itself, or is told to by `want`."""
-    host.start(whole(step, "qos", 1), whole(step, "count", 12), whole(step, "size", 10))
+    """Starts the client, which publishes so many messages by itself, or is told to by `want`; with an Authentication Method."""
+    host.start(whole(step, "qos", 1), whole(step, "count", 12), whole(step, "size", 10), step.options.get("method", ""))
 
 
 @verb("accept", Shape(options=frozenset(("seconds",))))

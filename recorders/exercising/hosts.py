@@ -32,6 +32,7 @@ CONNECT_SECONDS = 6.0  # for a client that starts, or comes again
 SUBSCRIBE_SECONDS = 3.0
 STOP_SECONDS = 3.0
 DRIVEN, PUBLISHES, SUBSCRIBES = "driver", "publish", "subscribe"  # what a client does
+METHOD = "{method}"  # in a client's command: the Authentication Method that it is to use, or nothing
 TASKS = "do/it"  # the topic on which a driver is told what to do
 
 
@@ -42,8 +43,8 @@ class Program:
     words: tuple[str, ...]
     does: str
 
-    def command(self, port: int, identifier: str, qos: int, count: int, size: int) -> list[str]:
-        values = {"{port}": port, "{id}": identifier, "{qos}": qos, "{n}": count, "{size}": size}
+    def command(self, port: int, identifier: str, qos: int, count: int, size: int, method: str = "") -> list[str]:
+        values = {"{port}": port, "{id}": identifier, "{qos}": qos, "{n}": count, "{size}": size, METHOD: method}
         words = []
         for word in self.words:
             for name, value in values.items():
@@ -80,10 +81,10 @@ class Host(Actor):
 
     # ---- the client
 
-    def start(self, qos: int, count: int, size: int) -> None:
-        """Starts the client, which publishes so by itself, or is told to."""
+    def start(self, qos: int, count: int, size: int, method: str = "") -> None:
+        """Starts the client, which publishes so by itself, or is told to; with an Authentication Method, if one is given."""
         self.qos, self.count, self.size = qos, count, size
-        words = self.stage.program.command(self._listener.getsockname()[1], self.identifier, qos, count, size)
+        words = self.stage.program.command(self._listener.getsockname()[1], self.identifier, qos, count, size, method)
         try:
             with self.stage.output.open("ab") as output:
                 self._process = subprocess.Popen(words, stdin=subprocess.DEVNULL, stdout=output,

@@ -184,24 +184,24 @@ def paho_python(folder: Path) -> list[str]:
     python = next((one for one in PYTHONS if answers([one, "-c", "import paho.mqtt.client"])), None)
     if python is None:
         raise Missing("paho-mqtt for Python isn't installed")
-    return command(python, str(DRIVERS / "paho_python.py"), "{port}", "{id}")
+    return command(python, str(DRIVERS / "paho_python.py"), "{port}", "{id}", "{method}")
 
 
 def paho_c(folder: Path) -> list[str]:
-    return command(compiled(folder, "paho_c.c", "MQTTAsync.h", "paho-mqtt3a"), "{port}", "{id}")
+    return command(compiled(folder, "paho_c.c", "MQTTAsync.h", "paho-mqtt3a"), "{port}", "{id}", "{method}")
 
 
 def paho_c_sync(folder: Path) -> list[str]:
-    return command(compiled(folder, "paho_c_sync.c", "MQTTClient.h", "paho-mqtt3c"), "{port}", "{id}")
+    return command(compiled(folder, "paho_c_sync.c", "MQTTClient.h", "paho-mqtt3c"), "{port}", "{id}", "{method}")
 
 
 def paho_cpp(folder: Path) -> list[str]:
     driver = compiled(folder, "paho_cpp.cpp", "mqtt/async_client.h", "paho-mqttpp3", "paho-mqtt3a")
-    return command(driver, "{port}", "{id}")
+    return command(driver, "{port}", "{id}", "{method}")
 
 
 def libmosquitto(folder: Path) -> list[str]:
-    return command(compiled(folder, "mosquitto.c", "mosquitto.h", "mosquitto"), "{port}", "{id}")
+    return command(compiled(folder, "mosquitto.c", "mosquitto.h", "mosquitto"), "{port}", "{id}", "{method}")
 
 
 def mqtt_js(folder: Path) -> list[str]:
@@ -209,7 +209,7 @@ def mqtt_js(folder: Path) -> list[str]:
     paths = os.pathsep.join(filter(None, (os.environ.get("NODE_PATH"), NODE_MODULES)))
     if not answers([node, "-e", "require('mqtt')"], {"NODE_PATH": paths}):
         raise Missing("MQTT.js isn't installed")
-    return command("env", f"NODE_PATH={paths}", node, str(DRIVERS / "mqtt_js.js"), "{port}", "{id}")
+    return command("env", f"NODE_PATH={paths}", node, str(DRIVERS / "mqtt_js.js"), "{port}", "{id}", "{method}")
 
 
 def mosquitto_bridge(folder: Path) -> list[str]:

@@ -1,4 +1,4 @@
-/* A driver of libmosquitto: a client that does what it is told on do/#.  mosquitto PORT CLIENT_IDENTIFIER */
+/* A driver of libmosquitto: a client that does what it is told on do/#.  mosquitto PORT CLIENT_IDENTIFIER [METHOD] */
 #include <mosquitto.h>
 #include <mqtt_protocol.h>
 #include <stdio.h>
@@ -33,12 +33,13 @@ static void on_message(struct mosquitto *client, void *user, const struct mosqui
 }
 
 int main(int count, char **words) {
-    if (count != 3) return 3;
+    if (count != 3 && count != 4) return 3;
     mosquitto_lib_init();
     struct mosquitto *client = mosquitto_new(words[2], false, NULL);
     mosquitto_property *properties = NULL;
     mosquitto_int_option(client, MOSQ_OPT_PROTOCOL_VERSION, MQTT_PROTOCOL_V5);
     mosquitto_property_add_int32(&properties, MQTT_PROP_SESSION_EXPIRY_INTERVAL, 300);
+    if (count == 4 && *words[3]) mosquitto_property_add_string(&properties, MQTT_PROP_AUTHENTICATION_METHOD, words[3]);
     mosquitto_connect_v5_callback_set(client, on_connect);
     mosquitto_message_v5_callback_set(client, on_message);
     mosquitto_reconnect_delay_set(client, 1, 1, false);

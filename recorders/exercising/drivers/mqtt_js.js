@@ -1,5 +1,6 @@
-// A driver of MQTT.js: a client that does what it is told on do/#.  node mqtt_js.js PORT CLIENT_IDENTIFIER
+// A driver of MQTT.js: a client that does what it is told on do/#.  node mqtt_js.js PORT CLIENT_IDENTIFIER [METHOD]
 const mqtt = require('mqtt')
+const authenticationMethod = process.argv[4] || undefined
 
 const client = mqtt.connect({
   host: '127.0.0.1',
@@ -10,8 +11,10 @@ const client = mqtt.connect({
   keepalive: 5,
   reconnectPeriod: 1000,
   resubscribe: false,
-  properties: { sessionExpiryInterval: 300, topicAliasMaximum: 5, receiveMaximum: 60 }
+  properties: { sessionExpiryInterval: 300, topicAliasMaximum: 5, receiveMaximum: 60, ...(authenticationMethod && { authenticationMethod }) }
 })
+
+client.handleAuth = (packet, answer) => answer(null, { cmd: 'auth', reasonCode: 0x18, properties: { authenticationMethod } })
 
 client.on('connect', (connack) => {
   if (!connack.sessionPresent) client.subscribe('do/#', { qos: 2 })

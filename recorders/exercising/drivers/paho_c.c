@@ -1,4 +1,4 @@
-/* A driver of paho for C (MQTTAsync): a client that does what it is told on do/#.  paho_c PORT CLIENT_IDENTIFIER */
+/* A driver of paho for C (MQTTAsync): a client that does what it is told on do/#.  paho_c PORT CLIENT_IDENTIFIER [METHOD] */
 #include <MQTTAsync.h>
 #include <stdio.h>
 #include <stdlib.h>
@@ -50,7 +50,7 @@ static int on_message(void *context, char *topic, int length, MQTTAsync_message 
 
 int main(int count, char **words) {
     char address[64];
-    if (count != 3) return 3;
+    if (count != 3 && count != 4) return 3;
     snprintf(address, sizeof address, "tcp://127.0.0.1:%s", words[1]);
     MQTTAsync_createOptions creating = MQTTAsync_createOptions_initializer5;
     creating.sendWhileDisconnected = 1;
@@ -60,6 +60,11 @@ int main(int count, char **words) {
     MQTTProperties properties = MQTTProperties_initializer;
     MQTTProperty expiry = {.identifier = MQTTPROPERTY_CODE_SESSION_EXPIRY_INTERVAL, .value.integer4 = 300};
     MQTTProperties_add(&properties, &expiry);
+    if (count == 4 && *words[3]) {
+        MQTTProperty method = {.identifier = MQTTPROPERTY_CODE_AUTHENTICATION_METHOD};
+        method.value.data.data = words[3], method.value.data.len = strlen(words[3]);
+        MQTTProperties_add(&properties, &method);
+    }
     options.cleanstart = 0, options.keepAliveInterval = 5, options.connectProperties = &properties;
     options.automaticReconnect = options.minRetryInterval = options.maxRetryInterval = 1;
     options.onSuccess5 = on_connected, options.onFailure5 = on_failure;

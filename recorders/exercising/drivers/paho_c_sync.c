@@ -1,4 +1,4 @@
-/* A driver of paho for C (MQTTClient): a client that does what it is told on do/#.  paho_c_sync PORT CLIENT_IDENTIFIER */
+/* A driver of paho for C (MQTTClient): a client that does what it is told on do/#.  paho_c_sync PORT CLIENT_IDENTIFIER [METHOD] */
 #include <MQTTClient.h>
 #include <stdio.h>
 #include <stdlib.h>
@@ -42,11 +42,13 @@ static void receive(void) {
     obey(text);
 }
 
-static void connect_it(void) {
+static void connect_it(char *method) {
     MQTTClient_connectOptions options = MQTTClient_connectOptions_initializer5;
     MQTTProperties properties = MQTTProperties_initializer;
     MQTTProperty expiry = {.identifier = MQTTPROPERTY_CODE_SESSION_EXPIRY_INTERVAL, .value.integer4 = 300};
     MQTTProperties_add(&properties, &expiry);
+    MQTTProperty own = {.identifier = MQTTPROPERTY_CODE_AUTHENTICATION_METHOD};
+    if (method != NULL && *method) own.value.data.data = method, own.value.data.len = strlen(method), MQTTProperties_add(&properties, &own);
     options.cleanstart = 0, options.keepAliveInterval = 5, options.reliable = 0, options.connectTimeout = 3;
     MQTTResponse answer = MQTTClient_connect5(client, &options, &properties, NULL);
     int is_accepted = answer.reasonCode == MQTTREASONCODE_SUCCESS;
@@ -58,13 +60,13 @@ static void connect_it(void) {
 
 int main(int count, char **words) {
     char address[64];
-    if (count != 3) return 3;
+    if (count != 3 && count != 4) return 3;
     snprintf(address, sizeof address, "tcp://127.0.0.1:%s", words[1]);
     MQTTClient_createOptions creating = MQTTClient_createOptions_initializer;
     creating.MQTTVersion = MQTTVERSION_5;
     MQTTClient_createWithOptions(&client, address, words[2], MQTTCLIENT_PERSISTENCE_NONE, NULL, &creating);
     while (!is_over) {
-        if (!MQTTClient_isConnected(client)) connect_it();
+        if (!MQTTClient_isConnected(client)) connect_it(words[3]);
         else receive();
     }
     return 0;

@@ -1,4 +1,4 @@
-// A driver of paho for C++: a client that does what it is told on do/#.  paho_cpp PORT CLIENT_IDENTIFIER
+// A driver of paho for C++: a client that does what it is told on do/#.  paho_cpp PORT CLIENT_IDENTIFIER [METHOD]
 #include <mqtt/async_client.h>
 #include <atomic>
 #include <sstream>
@@ -26,7 +26,7 @@ static void obey(mqtt::async_client &client, const std::string &text) {
 }
 
 int main(int count, char **words) {
-    if (count != 3) return 3;
+    if (count != 3 && count != 4) return 3;
     mqtt::create_options creating(MQTTVERSION_5, 1000);
     mqtt::async_client client("tcp://127.0.0.1:" + std::string(words[1]), words[2], creating, nullptr);
     client.set_message_callback([&](mqtt::const_message_ptr message) {
@@ -42,7 +42,9 @@ int main(int count, char **words) {
                        .keep_alive_interval(std::chrono::seconds(5))
                        .automatic_reconnect(std::chrono::seconds(1), std::chrono::seconds(1))
                        .finalize();
-    options.set_properties({{mqtt::property::SESSION_EXPIRY_INTERVAL, 300}});
+    mqtt::properties properties{{mqtt::property::SESSION_EXPIRY_INTERVAL, 300}};
+    if (count == 4 && *words[3]) properties.add({mqtt::property::AUTHENTICATION_METHOD, words[3]});
+    options.set_properties(properties);
     try {
         auto token = client.connect(options);
         token->wait();

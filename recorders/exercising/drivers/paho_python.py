@@ -1,4 +1,4 @@
-"""A driver of paho-mqtt for Python: a client that does what it is told on do/#.  paho_python.py PORT CLIENT_IDENTIFIER"""
+"""A driver of paho-mqtt for Python: a client that does what it is told on do/#.  paho_python.py PORT CLIENT_IDENTIFIER [METHOD]"""
 import sys
 
 import paho.mqtt.client as mqtt
@@ -38,5 +38,7 @@ client.on_connect, client.on_message = on_connect, on_message
 client.reconnect_delay_set(1, 1)
 properties = Properties(PacketTypes.CONNECT)
 properties.SessionExpiryInterval, properties.TopicAliasMaximum, properties.ReceiveMaximum = 300, 5, 60
+if sys.argv[3:] and sys.argv[3]:
+    properties.AuthenticationMethod = sys.argv[3]
 client.connect("127.0.0.1", int(sys.argv[1]), 5, clean_start=False, properties=properties)
 client.loop_forever(retry_first_connection=True)
