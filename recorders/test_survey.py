@@ -5,6 +5,7 @@ usage: recorders/test_survey.py
 """
 from __future__ import annotations
 
+import gzip
 import json
 import re
 import shutil
@@ -33,7 +34,7 @@ from surveying.document import (
 )
 from surveying.findings import FOREIGN_SIGN, PROVOKED, TABLE, UNBOUND, Cell, Run, Surveyed, every_code, kinds_of, read_run
 from surveying.front import front, head_of
-from surveying.software import SOFTWARE
+from surveying.software import SOFTWARE, Missing, ejabberd, mosquitto, unpacked_version
 from testing import HOST, TOP, InFolder, accepts, free_port, judge_program, missing, process, wait_until
 
 MISUSE = 3
@@ -184,6 +185,21 @@ class Page(unittest.TestCase):
                       '<td class=v title="C15: not tested: it didn&#x27;t come about">',
                       '<td class=g2 title="S01: kept at 7 places">7'):
             self.assertIn(words, html)
+
+
+class Unpacked(InFolder):
+    def test_a_version_is_that_of_its_changes(self) -> None:
+        place = self.folder / "usr/share/doc/one"
+        place.mkdir(parents=True)
+        with gzip.open(place / "changelog.Debian.gz", "wt") as changes:
+            changes.write("one (2.0.21-1~bpo12+1) bookworm-backports; urgency=medium\n\n  * (no) more\n")
+        self.assertEqual(unpacked_version(self.folder, "one"), "2.0.21-1~bpo12+1")
+        self.assertEqual(unpacked_version(self.folder, "two"), "of no package")
+
+    def test_what_isnt_there_is_said(self) -> None:
+        for prepare, name in ((mosquitto, "mosquitto"), (ejabberd, "ejabberd")):
+            with self.assertRaisesRegex(Missing, f"{name} isn't unpacked in "):
+                prepare(self.folder, root=self.folder)
 
 
 class Repository(unittest.TestCase):

@@ -1,6 +1,7 @@
 """The brokers and clients that are surveyed: what each needs, which version is there, and how it is put to the test."""
 from __future__ import annotations
 
+import gzip
 import os
 import shlex
 import shutil
@@ -9,11 +10,13 @@ import subprocess
 import sys
 from collections.abc import Callable
 from dataclasses import dataclass
+from functools import partial
 from pathlib import Path
 
 HOST = "127.0.0.1"
 PATHS = os.pathsep.join((os.environ.get("PATH", os.defpath), "/usr/sbin", "/usr/local/sbin"))  # of servers
-INCLUDED = ("/usr/include", "/usr/local/include")
+ROOT, BACKPORTS = Path("/"), Path("/opt/backports")  # below which packages are installed; or unpacked, to be there beside them
+INCLUDED = ("usr/include", "usr/local/include")  # below the root
 PYTHONS = (sys.executable, "/usr/bin/python3")  # a system's modules are for its own Python
 NODE_MODULES = "/usr/share/nodejs"  # where Debian has those of Node.js
 DRIVERS = Path(__file__).resolve().parent.parent / "exercising/drivers"
@@ -79,6 +82,7 @@ class Software:
     end: str
     prepare: Callable[[Path], list[str]]  # the exerciser's words for it, with what was made in a folder; raises Missing
     also: tuple[str, ...] = ()  # other packages of Debian's that it takes
+    root: Path = ROOT  # below which its files are
 
     @property
     def packages(self) -> tuple[str, ...]:
@@ -87,6 +91,8 @@ class Software:
     @property
     def version(self) -> str:
         """The version of its package; in words where that isn't known."""
+        if self.root != ROOT:
+            return unpacked_version(self.root, self.package)
         try:
             answer = subprocess.run(["dpkg-query", "-W", "-f", "${Version}", self.package], capture_output=True,
                                     text=True, timeout=ASK_SECONDS)
@@ -95,23 +101,55 @@ class Software:
         return answer.stdout.strip() if answer.returncode == 0 and answer.stdout.strip() else "of no package"
 
 
+def unpacked_version(root: Path, package: str) -> str:
+    """The version of a package that was unpacked, from the first line of its changes."""
+    try:
+        with gzip.open(root / f"usr/share/doc/{package}/changelog.Debian.gz", "rt", encoding="utf-8") as changes:
+            return changes.readline().partition("(")[2].partition(")")[0]
+    except OSError:
+        return "of no package"
+
+
 # ---- what has to be there
 
 
-def program(name: str) -> str:
-    found = shutil.which(name, path=PATHS)
+def program(name: str, root: Path = ROOT) -> str:
+    found = shutil.which(name, path=paths(root))
     if found is None:
-        raise Missing(f"{name} isn't installed")
+        raise Missing(f"{name} isn't {there(root)}")
     return found
 
 
-def compiled(folder: Path, source: str, header: str, *libraries: str) -> str:
+def there(root: Path) -> str:
+    return "installed" if root == ROOT else f"unpacked in {root}"
+
+
+def paths(root: Path) -> str:
+    """Where programs are, of those below a root."""
+    return PATHS if root == ROOT else os.pathsep.join((f"{root}/usr/sbin", f"{root}/usr/bin"))
+
+
+def loading(root: Path) -> list[str]:
+    """The words before a command that let it find the libraries below a root."""
+    return [] if root == ROOT else ["env", f"LD_LIBRARY_PATH={library_folder(root)}"]
+
+
+def library_folder(root: Path) -> Path:
+    found = sorted(root.glob("usr/lib/*/libmosquitto.so.1"))
+    if not found:
+        raise Missing(f"libmosquitto isn't {there(root)}")
+    return found[0].parent
+
+
+def compiled(folder: Path, source: str, header: str, *libraries: str, root: Path = ROOT) -> str:
     """A driver, made from its source."""
     compiler = program("c++" if source.endswith(".cpp") else "cc")
-    if not any(Path(place, header).exists() for place in INCLUDED):
-        raise Missing(f"{header} isn't installed")
+    if not any((root / place / header).exists() for place in INCLUDED):
+        raise Missing(f"{header} isn't {there(root)}")
     driver = folder / Path(source).stem
     words = [compiler, *(("-std=c++17",) if source.endswith(".cpp") else ()), "-o", str(driver), str(DRIVERS / source)]
+    if root != ROOT:
+        words += [f"-I{root}/{INCLUDED[0]}", f"-L{library_folder(root)}"]
     answer = subprocess.run([*words, *(f"-l{library}" for library in libraries)], capture_output=True, text=True)
     if answer.returncode != 0:
         raise Missing(f"{source} can't be compiled: {(answer.stderr.splitlines() or ['it said nothing'])[-1]}")
@@ -135,8 +173,8 @@ def free_port() -> int:
 # ---- brokers
 
 
-def mosquitto(folder: Path, more: str = "") -> list[str]:
-    broker, passwords, port = program("mosquitto"), program("mosquitto_passwd"), free_port()
+def mosquitto(folder: Path, more: str = "", root: Path = ROOT) -> list[str]:
+    broker, passwords, port = program("mosquitto", root), program("mosquitto_passwd"), free_port()
     (folder / "acl").write_text("topic readwrite #\ntopic readwrite $SYS/#\ntopic deny denied/#\n")
     (folder / "passwd").touch()
     if not answers([passwords, "-b", str(folder / "passwd"), "right", "right"]):
@@ -145,7 +183,7 @@ def mosquitto(folder: Path, more: str = "") -> list[str]:
     user = "" if os.geteuid() else "user root\n"
     settings.write_text(MOSQUITTO.format(user=user, port=port, folder=folder, more=more))
     return [f"{HOST}:{port}", "--denied", DENIED, "--wrong-password", "wrong",
-            "--start", shlex.join([broker, "-c", str(settings)])]
+            "--start", shlex.join([*loading(root), broker, "-c", str(settings)])]
 
 
 def mosquitto_with_limits(folder: Path) -> list[str]:
@@ -153,24 +191,24 @@ def mosquitto_with_limits(folder: Path) -> list[str]:
     return mosquitto(folder, LIMITS)
 
 
-def ejabberd(folder: Path) -> list[str]:
+def ejabberd(folder: Path, root: Path = ROOT) -> list[str]:
     """ejabberd in the foreground, with nothing but MQTT, and no node that others could reach."""
-    erl, beams, port = program("erl"), ejabberd_beams(), free_port()
+    beams, erl, port = ejabberd_beams(root), program("erl"), free_port()
     (folder / "spool").mkdir(exist_ok=True)
     settings, log = folder / "ejabberd.yml", folder / "ejabberd.log"
     settings.write_text(EJABBERD.format(port=port))
     words = ["env", f"HOME={folder}", f"EJABBERD_LOG_PATH={log}", erl, "+K", "true", "-noinput", "+S", "1:1",
-             "-pa", str(beams), "-mnesia", "dir", f'"{folder}/spool"', "-ejabberd", "config", f'"{settings}"',
+             "-pa", *map(str, beams), "-mnesia", "dir", f'"{folder}/spool"', "-ejabberd", "config", f'"{settings}"',
              "log_path", f'"{log}"', "-start_epmd", "false", "-s", "ejabberd"]
     return [f"{HOST}:{port}", "--denied", DENIED, "--user", USER, "--password", USER, "--start", shlex.join(words)]
 
 
-def ejabberd_beams() -> Path:
-    """The folder of ejabberd's own modules."""
-    found = [path for place in EJABBERD_PLACES for path in sorted(Path("/").glob(f"{place}/ebin/mod_mqtt.beam"))]
+def ejabberd_beams(root: Path) -> list[Path]:
+    """The folders of ejabberd's own modules; and of those that it uses, where these aren't installed."""
+    found = [path for place in EJABBERD_PLACES for path in sorted(root.glob(f"{place}/ebin/mod_mqtt.beam"))]
     if not found:
-        raise Missing("ejabberd isn't installed")
-    return found[0].resolve().parent
+        raise Missing(f"ejabberd isn't {there(root)}")
+    return [found[0].resolve().parent, *([] if root == ROOT else sorted(root.glob("usr/lib/erlang/lib/*/ebin")))]
 
 
 # ---- clients
@@ -200,8 +238,9 @@ def paho_cpp(folder: Path) -> list[str]:
     return command(driver, "{port}", "{id}", "{method}")
 
 
-def libmosquitto(folder: Path) -> list[str]:
-    return command(compiled(folder, "mosquitto.c", "mosquitto.h", "mosquitto"), "{port}", "{id}", "{method}")
+def libmosquitto(folder: Path, root: Path = ROOT) -> list[str]:
+    driver = compiled(folder, "mosquitto.c", "mosquitto.h", "mosquitto", root=root)
+    return command(*loading(root), driver, "{port}", "{id}", "{method}")
 
 
 def mqtt_js(folder: Path) -> list[str]:
@@ -212,10 +251,10 @@ def mqtt_js(folder: Path) -> list[str]:
     return command("env", f"NODE_PATH={paths}", node, str(DRIVERS / "mqtt_js.js"), "{port}", "{id}", "{method}")
 
 
-def mosquitto_bridge(folder: Path) -> list[str]:
+def mosquitto_bridge(folder: Path, root: Path = ROOT) -> list[str]:
     for name in ("mosquitto", "mosquitto_pub", "mosquitto_sub"):
-        program(name)
-    return command("env", f"PATH={PATHS}", sys.executable, str(DRIVERS / "mosquitto_bridge.py"), "{port}", "{id}")
+        program(name, root)
+    return command(*(loading(root) or ["env"]), f"PATH={paths(root)}", sys.executable, str(DRIVERS / "mosquitto_bridge.py"), "{port}", "{id}")
 
 
 def mosquitto_pub(folder: Path) -> list[str]:
@@ -246,4 +285,12 @@ SOFTWARE = (
              ("libpaho-mqttpp-dev", "libpaho-mqtt-dev", "g++")),
     Software("paho-python", "paho for Python, by a driver", "python3-paho-mqtt", CLIENT, paho_python),
     Software("mqtt-js", "MQTT.js, by a driver", "node-mqtt", CLIENT, mqtt_js, ("nodejs",)),
+    Software("mosquitto-bpo", "mosquitto, of the backports", "mosquitto", BROKER, partial(mosquitto, root=BACKPORTS),
+             ("libmosquitto1",), BACKPORTS),
+    Software("ejabberd-bpo", "ejabberd, of the backports", "ejabberd", BROKER, partial(ejabberd, root=BACKPORTS),
+             root=BACKPORTS),
+    Software("bridge-bpo", "a mosquitto's bridge, of the backports", "mosquitto", CLIENT,
+             partial(mosquitto_bridge, root=BACKPORTS), ("mosquitto-clients", "libmosquitto1"), BACKPORTS),
+    Software("libmosquitto-bpo", "libmosquitto of the backports, by a driver", "libmosquitto1", CLIENT,
+             partial(libmosquitto, root=BACKPORTS), ("libmosquitto-dev", "gcc"), BACKPORTS),
 )
