@@ -15,7 +15,8 @@ from pathlib import Path
 
 HOST = "127.0.0.1"
 PATHS = os.pathsep.join((os.environ.get("PATH", os.defpath), "/usr/sbin", "/usr/local/sbin"))  # of servers
-ROOT, BACKPORTS = Path("/"), Path("/opt/backports")  # below which packages are installed; or unpacked, to be there beside them
+ROOT = Path("/")  # below which packages are installed
+BACKPORTS = Path("/opt/backports")  # below which those of the backports may be unpacked, beside the others
 INCLUDED = ("usr/include", "usr/local/include")  # below the root
 PYTHONS = (sys.executable, "/usr/bin/python3")  # a system's modules are for its own Python
 NODE_MODULES = "/usr/share/nodejs"  # where Debian has those of Node.js
@@ -254,7 +255,8 @@ def mqtt_js(folder: Path) -> list[str]:
 def mosquitto_bridge(folder: Path, root: Path = ROOT) -> list[str]:
     for name in ("mosquitto", "mosquitto_pub", "mosquitto_sub"):
         program(name, root)
-    return command(*(loading(root) or ["env"]), f"PATH={paths(root)}", sys.executable, str(DRIVERS / "mosquitto_bridge.py"), "{port}", "{id}")
+    return command(*(loading(root) or ["env"]), f"PATH={paths(root)}", sys.executable,
+                   str(DRIVERS / "mosquitto_bridge.py"), "{port}", "{id}")
 
 
 def mosquitto_pub(folder: Path) -> list[str]:
@@ -269,12 +271,20 @@ def mosquitto_sub(folder: Path) -> list[str]:
 
 SOFTWARE = (
     Software("mosquitto", "mosquitto", "mosquitto", BROKER, mosquitto),
-    Software("ejabberd", "ejabberd, with its listener for MQTT", "ejabberd", BROKER, ejabberd),
+    Software("mosquitto-bpo", "mosquitto, of the backports", "mosquitto", BROKER, partial(mosquitto, root=BACKPORTS),
+             ("libmosquitto1",), BACKPORTS),
     Software("mosquitto-limits", "mosquitto with Maximum QoS 1 and Retain Available 0", "mosquitto", BROKER,
              mosquitto_with_limits),
+    Software("ejabberd", "ejabberd, with its listener for MQTT", "ejabberd", BROKER, ejabberd),
+    Software("ejabberd-bpo", "ejabberd, of the backports", "ejabberd", BROKER, partial(ejabberd, root=BACKPORTS),
+             root=BACKPORTS),
     Software("mosquitto-bridge", "a mosquitto's bridge", "mosquitto", CLIENT, mosquitto_bridge, ("mosquitto-clients",)),
+    Software("bridge-bpo", "a mosquitto's bridge, of the backports", "mosquitto", CLIENT,
+             partial(mosquitto_bridge, root=BACKPORTS), ("mosquitto-clients", "libmosquitto1"), BACKPORTS),
     Software("libmosquitto", "libmosquitto, by a driver", "libmosquitto1", CLIENT, libmosquitto,
              ("libmosquitto-dev", "gcc")),
+    Software("libmosquitto-bpo", "libmosquitto of the backports, by a driver", "libmosquitto1", CLIENT,
+             partial(libmosquitto, root=BACKPORTS), ("libmosquitto-dev", "gcc"), BACKPORTS),
     Software("mosquitto_pub", "mosquitto_pub", "mosquitto-clients", CLIENT, mosquitto_pub),
     Software("mosquitto_sub", "mosquitto_sub", "mosquitto-clients", CLIENT, mosquitto_sub),
     Software("paho-c", "paho for C, MQTTAsync, by a driver", "libpaho-mqtt1.3", CLIENT, paho_c,
@@ -285,12 +295,4 @@ SOFTWARE = (
              ("libpaho-mqttpp-dev", "libpaho-mqtt-dev", "g++")),
     Software("paho-python", "paho for Python, by a driver", "python3-paho-mqtt", CLIENT, paho_python),
     Software("mqtt-js", "MQTT.js, by a driver", "node-mqtt", CLIENT, mqtt_js, ("nodejs",)),
-    Software("mosquitto-bpo", "mosquitto, of the backports", "mosquitto", BROKER, partial(mosquitto, root=BACKPORTS),
-             ("libmosquitto1",), BACKPORTS),
-    Software("ejabberd-bpo", "ejabberd, of the backports", "ejabberd", BROKER, partial(ejabberd, root=BACKPORTS),
-             root=BACKPORTS),
-    Software("bridge-bpo", "a mosquitto's bridge, of the backports", "mosquitto", CLIENT,
-             partial(mosquitto_bridge, root=BACKPORTS), ("mosquitto-clients", "libmosquitto1"), BACKPORTS),
-    Software("libmosquitto-bpo", "libmosquitto of the backports, by a driver", "libmosquitto1", CLIENT,
-             partial(libmosquitto, root=BACKPORTS), ("libmosquitto-dev", "gcc"), BACKPORTS),
 )
