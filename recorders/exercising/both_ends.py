@@ -23,9 +23,9 @@ from log_format import HEADER_SIZE, MARK, Version, body_size, version_of
 
 LOOK, ONCE = "look", "once"  # why a fault doesn't count: what comes after our own, or was seen once and not again
 BY_SILENCE = frozenset(("E1R", "E2R", "E3R", "E4R", "E5R", "E6R", "E7R", "S06", "C23", "C24", "D01", "D02", "D03", "D05"))
-OF_ERRORS = frozenset(("D01", "D03"))  # of these, whose scenarios have each another error of the client in them
 EXCHANGED = {SENT: RECV, RECV: SENT}
 OF_BYTES = "W"  # the letter of the statements on a packet's bytes
+OF_ERRORS = frozenset(("D01", "D03"))  # their scenarios have each another error of the client in them: all are tried again
 
 
 class Pieces:
