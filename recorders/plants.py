@@ -526,8 +526,10 @@ def of_requests() -> Iterator[Plant]:
     }
     for code, (only, key, value) in announced.items():
         yield Plant(code, code, only, on(Type.CONNACK, lambda got, _, one=(key, value): reconnack(got, more=[one])))
-    yield Plant("B05", "B05", "subscribe-granted-0", on(Type.SUBACK, lambda got, _: codes(
-        Type.SUBACK, got.identifier or 0, b"\1") if got.codes == b"\0" else None))
+    more: Change = on(Type.SUBACK, lambda got, _: codes(
+        Type.SUBACK, got.identifier or 0, bytes(code or 1 for code in got.codes)) if 0 in got.codes else None)
+    for name, only in {"one": "subscribe-granted-0", "some": "subscribe-mixed-up", "many": "subscribe-60"}.items():
+        yield Plant(f"B05-{name}", "B05", only, more)
     yield Plant("C24", "C24", "connect-plain", when(is_of("connect-plain"), on(Type.CONNACK, gone)))
     for code, only in {"D01": "bad-ping-flags", "D02": "second-connect-clean", "D03": "bad-pong"}.items():
         yield Plant(code, code, only, on(Type.DISCONNECT, gone), goes_on=True)
