@@ -388,8 +388,8 @@ impl Note {
         self.from_client(role)?.connect()
     }
 
-    /// The Authentication Method of the CONNECT, if that is from the client; the tested end has this
-    /// role.
+    /// The Authentication Method of the CONNECT, if that is from the client; the tested end has
+    /// this role.
     #[inline]
     pub fn connect_method(&self, role: Role) -> Option<&Method>
         ensures { option_map (λ method. method.now) result ≡ notes.connect_method role self.now }
@@ -397,7 +397,8 @@ impl Note {
         self.from_client(role)?.connect_method()
     }
 
-    /// The Authentication Method of the AUTH or the CONNACK that the tested end sent, if it has one.
+    /// The Authentication Method of the AUTH or the CONNACK that the tested end sent, if it has
+    /// one.
     #[inline]
     pub fn sent_method(&self) -> Option<&str>
         ensures { option_map (λ method. method.now) result ≡ notes.sent_method self.now }

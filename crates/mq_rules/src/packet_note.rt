@@ -221,8 +221,8 @@ pub enum PacketFields {
     Disconnect(DisconnectNote),
     /// AUTH.
     Auth {
-        /// The Authentication Method of an AUTH that the tested end sent. There is none for one that
-        /// the tested end received, since no statement looks at it.
+        /// The Authentication Method of an AUTH that the tested end sent. There is none for one
+        /// that the tested end received, since no statement looks at it.
         method: Method,
     },
 }

@@ -213,8 +213,8 @@ pub enum Rule {
     /// Without an Authentication Method in CONNECT there is no enhanced authentication (MQTT 5.0,
     /// section 4.12).
     A02,
-    /// AUTH and an accepting CONNACK have the Authentication Method of the CONNECT (MQTT 5.0, section
-    /// 4.12).
+    /// AUTH and an accepting CONNACK have the Authentication Method of the CONNECT (MQTT 5.0,
+    /// section 4.12).
     A03,
 }
 

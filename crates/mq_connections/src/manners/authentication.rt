@@ -15,8 +15,8 @@ use mq_rules::{ConnackNote, ConnectNote, Method, Note, PacketNote, Role};
 /// The size of a fixed header with a Remaining Length of one byte (MQTT 5.0, section 2.1.1).
 const FIXED_HEADER: u32 = 2;
 
-/// A01: whether something else than a CONNECT, an AUTH or a DISCONNECT is sent after a CONNECT with an
-/// Authentication Method, and before a CONNACK was heard.
+/// A01: whether something else than a CONNECT, an AUTH or a DISCONNECT is sent after a CONNECT with
+/// an Authentication Method, and before a CONNACK was heard.
 pub fn breaks_a01(connect: Option<ConnectNote>, has_heard_connack: bool, note: &Note) -> bool
     ensures { result ≡ keeping.finds_A01 connect has_heard_connack note.now }
 {
@@ -32,7 +32,8 @@ fn may_precede_connack(note: &Note) -> bool
         || note.sends_type(PacketType::Disconnect)
 }
 
-/// Whether a CONNACK is heard: something of that type is received, or what can't be cut into packets.
+/// Whether a CONNACK is heard: something of that type is received, or what can't be cut into
+/// packets.
 pub fn hears_connack(note: &Note) -> bool
     ensures { result ≡ pasts.hears_connack note.now }
 {
