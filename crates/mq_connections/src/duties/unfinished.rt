@@ -1,7 +1,6 @@
 //! The Packet Identifiers of a client's QoS 2 messages that aren't finished, and which PUBLISH is
 //! above the server's Receive Maximum by them.
 ghost use Rattle.std.specs.Prelude.{◌≡◌, ◌||◌, ◌&&◌, ℕ, not, Option, OnOk, false};
-ghost use Rattle.mq_rules.specs.Notes.{ended_in, is_boundary, pubrel_in, received_as, received_exactly_once, sent_as};
 ghost use Rattle.mq_rules.specs.Words.{is_id};
 ghost use Rattle.mq_rules.specs.ReceiveMaximum.{receive_maximum_in};
 ghost use Rattle.mq_connections.specs.Unfinished as keeping;
@@ -73,8 +72,8 @@ impl Unfinished {
         ensures { OnOk result (UnfinishedNext self.old self.new note.now) }
     {
         self.clear_if(note.is_boundary());
-        self.finish(released_identifier(note));
-        self.finish(ended_identifier(note));
+        self.finish(note.received_pubrel());
+        self.finish(note.ender());
         self.receive(note.received_exactly_once())?;
         Ok(())
     }
@@ -120,24 +119,4 @@ fn receive_maximum(connack: ConnackNote) -> u16
     ensures { result ≡ receive_maximum_in connack }
 {
     connack.receive_maximum.unwrap_or(GREATEST_RECEIVE_MAXIMUM)
-}
-
-// The identifier of a PUBREL that is received.
-fn released_identifier(note: &Note) -> Option<u16>
-    ensures { result ≡ received_as pubrel_in note.now }
-{
-    match note.received_fields() {
-        Some(fields) => fields.pubrel(),
-        None => None,
-    }
-}
-
-// The identifier of a PUBCOMP, or a PUBREC of 0x80 or more, that is sent.
-fn ended_identifier(note: &Note) -> Option<u16>
-    ensures { result ≡ sent_as ended_in note.now }
-{
-    match note.sent_fields() {
-        Some(fields) => fields.ended_identifier(),
-        None => None,
-    }
 }
