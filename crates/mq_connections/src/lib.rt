@@ -1,6 +1,6 @@
-//! Watchers of the statements on one packet and on its connection: W01 to W21, C01 to C23, and those
-//! on request, F01 to F06, V03, V04, V06, A01 to A03, C24, D01 to D03 and D05. Each event is taken in
-//! once.
+//! Watchers of the statements on one packet and on its connection: W01 to W21, C01 to C23, and
+//! those on request, F01 to F06, V03, V04, V06, A01 to A03, C24, D01 to D03 and D05. Each event is
+//! taken in once.
 //!
 //! `Shapes` (W), `Conn` (C01 to C23), `Manners` and `Duties` (on request) find the faults. The
 //! places of their statements are counted by `ByteTally`, `CountingConn`, `CountingManners` and
