@@ -167,6 +167,7 @@ class Session:
         self.takes_all = False  # any packet may come now
         self.is_left = False  # the connection, by the client
         self.has_will = False  # the last CONNECT
+        self.bursts = False  # the peer, on this connection
         self.shares = self.chance(0.1)
         self.retains = draw.choice((0.1, 0.1, 0.9))  # how often a PUBLISH has RETAIN 1
         self.tape = Tape(draw, self.role, self.has_releases)
@@ -191,6 +192,7 @@ class Session:
     def _connection(self, is_first: bool, is_last: bool) -> None:
         self.tape.mark(OPEN)
         self.takes_all = self.is_early
+        self.bursts = self.chance(0.1)
         self._begin_again()
         is_clean = self.chance(0.8 if is_first else 0.25)
         if self.chance(0.95):
@@ -235,9 +237,20 @@ class Session:
                 for _ in range(self.draw.choice((0, 0, 1, 2))):
                     self._say(self.role, self._answer(self.role) if self.owed[self.role] else self._news(self.role))
                 self.tape.mark(REST)
+            case _ if self.bursts:
+                self._burst()
             case _:
                 for _ in range(self.draw.randint(0, 12)):
                     self._step()
+
+    def _burst(self) -> None:
+        """The peer sends messages of QoS 2 and waits for no answer. Some are answered, and then the tested end is at rest."""
+        for identifier in IDENTIFIERS:
+            self._say(1 - self.role, self._publish(1 - self.role, identifier, 2, dup=False))
+        for _ in range(self.draw.randrange(3)):
+            self._say(self.role, self._answer(self.role) if self.owed[self.role] else self._news(self.role))
+        self.tape.flush()
+        self.tape.mark(REST)
 
     def _close(self) -> None:
         if self.is_left:
@@ -382,7 +395,9 @@ class Session:
     def _connack(self, session_present: bool) -> bytes:
         refusals = (0x87, 0x9A, 0x9B) if self.has_will else (0x87,)
         code = self.draw.choice(refusals) if self.chance(0.1) else 0x00
-        chosen = self._chosen(0.12, SESSION_EXPIRY_INTERVAL, *OF_CONNACK, AUTHENTICATION_METHOD)
+        others = OF_CONNACK[: 2 if self.bursts else None]
+        chosen = self._chosen(0.12, SESSION_EXPIRY_INTERVAL, *others, AUTHENTICATION_METHOD)
+        chosen += self.draw.choice(RECEIVE_MAXIMUM) if self.bursts else b""
         if self.has_will and self.role == SERVER:
             chosen += self._chosen(0.5, MAXIMUM_QOS, RETAIN_AVAILABLE)
         else:
