@@ -494,8 +494,10 @@ class Link(asyncio.Protocol):
             raise Wrong
         check_properties(packet.properties, OF_ACKNOWLEDGEMENTS)
         fields = Reader(packet.body[IDENTIFIER_AND_CODE:])
-        if fields.data and (fields.properties(), fields.rest())[1]:
-            raise Wrong
+        if fields.data:
+            fields.properties()
+            if fields.rest():
+                raise Wrong
 
     def pump(self) -> None:
         """Sends again what is to be, and then what waits, as far as the client's Receive Maximum allows."""

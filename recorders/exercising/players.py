@@ -126,7 +126,7 @@ class Player(Actor):
         """Publishes a message that is a byte too large for the broker, if it announces a limit that isn't huge."""
         most = self.limits.number(Prop.MAXIMUM_PACKET_SIZE, 0)
         if not 0 < most <= OVERSIZE_MOST:
-            raise Unfit(f"the broker announces Maximum Packet Size {most or 'no limit'}")
+            raise Unfit(f"the broker announces {f'Maximum Packet Size {most}' if most else 'no Maximum Packet Size'}")
         beside = len(publish(topic, b"x" * most, 1, 1)) - most
         self.link.send(publish(topic, b"x" * (most + 1 - beside), 1, self.new_identifier()))
 

@@ -48,7 +48,8 @@ static void connect_it(char *method) {
     MQTTProperty expiry = {.identifier = MQTTPROPERTY_CODE_SESSION_EXPIRY_INTERVAL, .value.integer4 = 300};
     MQTTProperties_add(&properties, &expiry);
     MQTTProperty own = {.identifier = MQTTPROPERTY_CODE_AUTHENTICATION_METHOD};
-    if (method != NULL && *method) own.value.data.data = method, own.value.data.len = strlen(method), MQTTProperties_add(&properties, &own);
+    own.value.data = (MQTTLenString){.len = method != NULL ? strlen(method) : 0, .data = method};
+    if (own.value.data.len > 0) MQTTProperties_add(&properties, &own);
     options.cleanstart = 0, options.keepAliveInterval = 5, options.reliable = 0, options.connectTimeout = 3;
     MQTTResponse answer = MQTTClient_connect5(client, &options, &properties, NULL);
     int is_accepted = answer.reasonCode == MQTTREASONCODE_SUCCESS;
