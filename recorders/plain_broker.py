@@ -2,9 +2,9 @@
 """A small broker of MQTT 5.0 that keeps the rules: what the exerciser's tests are played against.
 
 It keeps its sessions and messages in memory, or also in a file, so that they outlive it, and serves 127.0.0.1 alone. It
-answers whatever breaks a rule by closing the connection. `denied/x` is a topic that nobody may use, and `wrong` is a
-wrong password. It does all that a broker may do, so that each statement is put to the test: it assigns Topic Aliases,
-sends Response Information and reasons.
+answers whatever breaks a rule by closing the connection. `denied/x` is a topic that nobody may use, `wrong` is a wrong
+password, and `plain` the one Authentication Method, which needs no AUTH. It does all that a broker may do, so that each
+statement is put to the test: it assigns Topic Aliases, sends Response Information and reasons.
 
 usage: recorders/plain_broker.py PORT [FILE]
 """
@@ -42,6 +42,7 @@ from exercising.packets import (
 HOST = "127.0.0.1"
 RECEIVE_MAXIMUM, ALIAS_MAXIMUM, SIZE_MAXIMUM = 20, 10, 200_000
 DENIED, WRONG_PASSWORD = b"denied/x", b"wrong"
+METHOD, AUTHENTICATION_DATA = b"plain", 0x16  # the only Authentication Method, and a property
 MALFORMED, PROTOCOL_ERROR, NOT_AUTHORIZED, BAD_PASSWORD = 0x81, 0x82, 0x87, 0x86
 BAD_METHOD, TAKEN_OVER, KEEP_ALIVE, BAD_ALIAS, TOO_MANY, TOO_LARGE = 0x8C, 0x8E, 0x8D, 0x94, 0x93, 0x95
 NO_MATCH, UNKNOWN_IDENTIFIER, NO_SUBSCRIPTION = 0x10, 0x92, 0x11
@@ -331,7 +332,8 @@ class Link(asyncio.Protocol):
             raise Wrong
         check_properties(properties, OF_CONNECT)
         self.read_limits(packet, properties)
-        if any(key in (0x15, 0x16) for key, _ in properties):
+        authentication = dict(one for one in properties if one[0] in (Prop.AUTHENTICATION_METHOD, AUTHENTICATION_DATA))
+        if authentication and authentication.get(Prop.AUTHENTICATION_METHOD) != METHOD:
             self.turn_away(BAD_METHOD)
         elif password == WRONG_PASSWORD or user == b"nobody":
             self.turn_away(BAD_PASSWORD)
@@ -367,6 +369,8 @@ class Link(asyncio.Protocol):
             self.broker.assigned += 1
             identifier = f"assigned-{self.broker.assigned}"
             said.append((Prop.ASSIGNED_CLIENT_IDENTIFIER, identifier.encode()))
+        if packet.has(Prop.AUTHENTICATION_METHOD):
+            said.append((Prop.AUTHENTICATION_METHOD, METHOD))
         if packet.number(Prop.REQUEST_RESPONSE_INFORMATION, 0):
             said.append((Prop.RESPONSE_INFORMATION, b"replies/"))
         greeting = connack(False, 0, said)

@@ -531,7 +531,10 @@ def of_requests() -> Iterator[Plant]:
     for name, only in {"one": "subscribe-granted-0", "some": "subscribe-mixed-up", "many": "subscribe-60"}.items():
         yield Plant(f"B05-{name}", "B05", only, more)
     yield Plant("C24", "C24", "connect-plain", when(is_of("connect-plain"), on(Type.CONNACK, gone)))
-    for code, only in {"D01": "bad-ping-flags", "D02": "second-connect-clean", "D03": "bad-pong"}.items():
+    yield Plant("A03", "A03", "auth-method-alone", on(Type.CONNACK, lambda got, _: reconnack(
+        got, without=Prop.AUTHENTICATION_METHOD)))
+    for code, only in {"D01": "bad-ping-flags", "D02": "second-connect-clean", "D03": "bad-pong",
+                       "D05": "over-receive-maximum-by-1"}.items():
         yield Plant(code, code, only, on(Type.DISCONNECT, gone), goes_on=True)
     for name, only in {"new": "takeover-clean-300", "resumed": "takeover-3-times"}.items():
         yield Plant(f"V06-{name}", "V06", only, on(Type.DISCONNECT, lambda got, _: disconnect(4)))
