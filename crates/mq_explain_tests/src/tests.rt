@@ -2,22 +2,20 @@
 use mq_explain::explanation;
 use mq_rules::{Role, Rule};
 
-// Whether a statement's text begins with its code and citations, has its sentence next, says why,
-// where it is judged and what puts it to the test, and has no line of more than 80 bytes.
-fn is_explained(rule: Rule) -> bool {
-    let text = explanation(rule);
+// Whether these are the citations of a statement, for both ends.
+fn are_citations(rule: Rule, citations: &str) -> bool {
+    citations.contains(rule.citation(Role::Client))
+        && citations.contains(rule.citation(Role::Server))
+}
+
+// Whether a statement's text begins with its code and citations, and has its sentence next.
+fn has_head(rule: Rule, text: &str) -> bool {
     let mut words = text.split_whitespace();
     if words.next() != Some(rule.code()) {
         return false;
     }
     words.next();
-    let Some(citation) = words.next() else {
-        return false;
-    };
-    if !citation.contains(rule.citation(Role::Client)) {
-        return false;
-    }
-    if !citation.contains(rule.citation(Role::Server)) {
+    if !are_citations(rule, words.next().unwrap_or("")) {
         return false;
     }
     for word in rule.sentence().split_whitespace() {
@@ -25,13 +23,22 @@ fn is_explained(rule: Rule) -> bool {
             return false;
         }
     }
-    if !text.contains("\n\nWhy: ") || !text.contains("\n\nJudged: ") {
-        return false;
-    }
-    if !text.contains("\n\nTo see it tested: ") {
-        return false;
-    }
-    text.lines().all(|line| line.len() <= 80)
+    true
+}
+
+// Whether a text says why, where its statement is judged and what puts it to the test, and has no
+// line of more than 80 bytes.
+fn has_parts(text: &str) -> bool {
+    text.contains("\n\nWhy: ")
+        && text.contains("\n\nJudged: ")
+        && text.contains("\n\nTo see it tested: ")
+        && text.lines().all(|line| line.len() <= 80)
+}
+
+// Whether a statement has such a text.
+fn is_explained(rule: Rule) -> bool {
+    let text = explanation(rule);
+    has_head(rule, text) && has_parts(text)
 }
 
 #[test]
