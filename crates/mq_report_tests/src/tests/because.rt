@@ -6,6 +6,7 @@ use mq_evidence::{Evidence, Numbers};
 use mq_report::{Extent, show_faults};
 use mq_rules::{Fault, FaultKey, Faults, Role, Rule};
 use std::alloc::Global;
+use std::process::Abort;
 
 // A client's log: a connection is opened.
 const CLIENT_LOG: &[u8] = b"MQTR\x01\x00\x00\x00\x01\x00\x00\x00\x00";
@@ -87,108 +88,127 @@ fn is_at_fault_by_itself(alloc: Global, rule: Rule) -> bool {
 }
 
 // Statements on a packet's bytes, and others that a packet breaks by itself.
-#[test]
-fn nothing_is_said_of_what_is_at_fault_by_itself(rt: HostRuntime) {
-    for rule in [
-        Rule::W01,
-        Rule::W02,
-        Rule::W03,
-        Rule::W04,
-        Rule::W05,
-        Rule::W06,
-        Rule::W07,
-        Rule::W08,
-        Rule::W09,
-        Rule::W10,
-        Rule::W11,
-        Rule::W12,
-        Rule::W13,
-        Rule::W14,
-        Rule::W15,
-        Rule::W16,
-        Rule::W17,
-        Rule::W18,
-        Rule::W19,
-        Rule::W20,
-        Rule::W21,
-        Rule::C01,
-        Rule::C09,
-        Rule::C18,
-        Rule::C19,
-    ] {
-        assert!(rt; is_at_fault_by_itself(rt.alloc(), rule), "{rule:?}");
+static BY_THEMSELVES: [Rule; 25] = [
+    Rule::W01,
+    Rule::W02,
+    Rule::W03,
+    Rule::W04,
+    Rule::W05,
+    Rule::W06,
+    Rule::W07,
+    Rule::W08,
+    Rule::W09,
+    Rule::W10,
+    Rule::W11,
+    Rule::W12,
+    Rule::W13,
+    Rule::W14,
+    Rule::W15,
+    Rule::W16,
+    Rule::W17,
+    Rule::W18,
+    Rule::W19,
+    Rule::W20,
+    Rule::W21,
+    Rule::C01,
+    Rule::C09,
+    Rule::C18,
+    Rule::C19,
+];
+
+// Asserts that nothing is said of faults of these.
+fn assert_by_themselves(rt: &(impl Abort + AllocGlobal), rules: &[Rule]) {
+    for rule in rules {
+        assert!(rt; is_at_fault_by_itself(rt.alloc(), *rule), "{rule:?}");
     }
 }
+
+#[test]
+fn nothing_is_said_of_what_is_at_fault_by_itself(rt: HostRuntime) {
+    assert_by_themselves(&rt, &BY_THEMSELVES);
+}
+
+// A statement, and the words on a fault of it.
+type Said = (Rule, &'static str);
+
+// Asserts that the words of each row are said of a fault of its statement that has this reason.
+fn assert_said(rt: &(impl Abort + AllocGlobal), rows: &[Said], reason: Option<Evidence>) {
+    for (rule, words) in rows {
+        assert!(rt; is_said(rt.alloc(), *rule, reason, words), "{words}");
+    }
+}
+
+// What is said of event 2, on a connection.
+static ON_CONNECTIONS: [Said; 11] = [
+    (Rule::C03, " (because of event 2: the first CONNECT)"),
+    (Rule::C06, " (because of event 2: the first CONNACK)"),
+    (
+        Rule::C07,
+        " (because of event 2: the CONNECT, with Clean Start 1)",
+    ),
+    (
+        Rule::C08,
+        " (because of event 2: the last CONNACK that accepted, whose session has ended)",
+    ),
+    (
+        Rule::C10,
+        " (because of event 2: the CONNECT, with an empty Client Identifier)",
+    ),
+    (Rule::C11, " (because of event 2: the DISCONNECT)"),
+    (Rule::C12, " (because of event 2: the CONNACK that refuses)"),
+    (
+        Rule::C13,
+        " (because of event 2: the CONNACK, with Session Present 1)",
+    ),
+    (
+        Rule::C21,
+        " (because of event 2: the CONNECT, with Request Problem Information 0)",
+    ),
+    (
+        Rule::C22,
+        " (because of event 2: the CONNECT, without Request Response Information 1)",
+    ),
+    (
+        Rule::C23,
+        " (because of event 2: it had to close after that)",
+    ),
+];
 
 #[test]
 fn says_what_the_event_is_on_a_connection(rt: HostRuntime) {
-    for (rule, words) in [
-        (Rule::C03, " (because of event 2: the first CONNECT)"),
-        (Rule::C06, " (because of event 2: the first CONNACK)"),
-        (
-            Rule::C07,
-            " (because of event 2: the CONNECT, with Clean Start 1)",
-        ),
-        (
-            Rule::C08,
-            " (because of event 2: the last CONNACK that accepted, whose session has ended)",
-        ),
-        (
-            Rule::C10,
-            " (because of event 2: the CONNECT, with an empty Client Identifier)",
-        ),
-        (Rule::C11, " (because of event 2: the DISCONNECT)"),
-        (Rule::C12, " (because of event 2: the CONNACK that refuses)"),
-        (
-            Rule::C13,
-            " (because of event 2: the CONNACK, with Session Present 1)",
-        ),
-        (
-            Rule::C21,
-            " (because of event 2: the CONNECT, with Request Problem Information 0)",
-        ),
-        (
-            Rule::C22,
-            " (because of event 2: the CONNECT, without Request Response Information 1)",
-        ),
-        (
-            Rule::C23,
-            " (because of event 2: it had to close after that)",
-        ),
-    ] {
-        assert!(rt; is_said(rt.alloc(), rule, by_event(2), words), "{words}");
-    }
+    assert_said(&rt, &ON_CONNECTIONS, by_event(2));
 }
+
+// What is said of event 40, in a session.
+static IN_SESSIONS: [Said; 8] = [
+    (Rule::S01, " (because of event 40: it holds the identifier)"),
+    (
+        Rule::S02,
+        " (because of event 40: the exchange was over with it)",
+    ),
+    (
+        Rule::S03,
+        " (because of event 40: the PUBLISH before, on this connection)",
+    ),
+    (Rule::S04, " (because of event 40: the PUBREL)"),
+    (
+        Rule::S06,
+        " (because of event 40: the CONNACK that resumed the session)",
+    ),
+    (
+        Rule::L1,
+        " (because of event 40: the exchange was over with it)",
+    ),
+    (Rule::L2, " (because of event 40: the RELEASE before)"),
+    (
+        Rule::L3,
+        " (because of event 40: the PUBLISH that brought it, and wasn't released)",
+    ),
+];
 
 #[test]
 fn says_what_the_event_is_in_a_session(rt: HostRuntime) {
-    for (rule, words) in [
-        (Rule::S01, " (because of event 40: it holds the identifier)"),
-        (
-            Rule::S02,
-            " (because of event 40: the exchange was over with it)",
-        ),
-        (
-            Rule::S03,
-            " (because of event 40: the PUBLISH before, on this connection)",
-        ),
-        (Rule::S04, " (because of event 40: the PUBREL)"),
-        (
-            Rule::S06,
-            " (because of event 40: the CONNACK that resumed the session)",
-        ),
-        (
-            Rule::L1,
-            " (because of event 40: the exchange was over with it)",
-        ),
-        (Rule::L2, " (because of event 40: the RELEASE before)"),
-        (
-            Rule::L3,
-            " (because of event 40: the PUBLISH that brought it, and wasn't released)",
-        ),
-    ] {
-        assert!(rt; is_said(rt.alloc(), rule, by_event(40), words), "{words}");
-    }
+    assert_said(&rt, &IN_SESSIONS, by_event(40));
 }
 
 // Whether these words are said of a fault of each of these statements, because of event 5.
@@ -201,152 +221,180 @@ fn are_said(alloc: Global, rules: &[Rule], words: &str) -> bool {
     true
 }
 
+#[rattlefmt::skip]
+const ANSWERS: [Rule; 6] = [Rule::E1A, Rule::E2A, Rule::E3A, Rule::E4A, Rule::E5A, Rule::E6A];
+
+#[rattlefmt::skip]
+const ANSWERED: [Rule; 6] = [Rule::E1R, Rule::E2R, Rule::E3R, Rule::E4R, Rule::E5R, Rule::E6R];
+
+const ORDERED: [Rule; 3] = [Rule::E1O, Rule::E2O, Rule::E3O];
+
 #[test]
 #[rattlefmt::skip]
 fn says_what_the_event_is_to_an_exchange(rt: HostRuntime) {
-    let answers = [Rule::E1A, Rule::E2A, Rule::E3A, Rule::E4A, Rule::E5A, Rule::E6A];
-    assert!(rt; are_said(rt.alloc(), &answers, " (because of event 5: nothing asked for it after that)"));
-    let missing = [Rule::E1R, Rule::E2R, Rule::E3R, Rule::E4R, Rule::E5R, Rule::E6R];
-    assert!(rt; are_said(rt.alloc(), &missing, " (because of event 5: the REST, with no answer before it)"));
-    let orders = [Rule::E1O, Rule::E2O, Rule::E3O];
-    assert!(rt; are_said(rt.alloc(), &orders, " (because of event 5: it came first, and waits for its answer)"));
+    assert!(rt; are_said(rt.alloc(), &ANSWERS, " (because of event 5: nothing asked for it after that)"));
+    assert!(rt; are_said(rt.alloc(), &ANSWERED, " (because of event 5: the REST, with no answer before it)"));
+    assert!(rt; are_said(rt.alloc(), &ORDERED, " (because of event 5: it came first, and waits for its answer)"));
 }
+
+// A statement, the numbers that it compares, and the words on a fault of it.
+type Compared = (Rule, Numbers, &'static str);
+
+// Asserts that the words of each row are said of a fault with its numbers, and this event.
+fn assert_compared(rt: &(impl Abort + AllocGlobal), rows: &[Compared], because: Option<u32>) {
+    for (rule, numbers, words) in rows {
+        let reason = by_numbers(because, *numbers);
+        assert!(rt; is_said(rt.alloc(), *rule, reason, words), "{words}");
+    }
+}
+
+// What is said of numbers, and of event 3.
+static COMPARED: [Compared; 10] = [
+    (
+        Rule::C14,
+        Numbers::Two(300, 128),
+        " (because of event 3: 300 bytes, at most 128 allowed)",
+    ),
+    (
+        Rule::C15,
+        Numbers::Two(6, 5),
+        " (because of event 3: Topic Alias 6, at most 5 allowed)",
+    ),
+    (
+        Rule::C17,
+        Numbers::Two(2, 1),
+        " (because of event 3: QoS 2, at most 1 allowed)",
+    ),
+    (
+        Rule::C20,
+        Numbers::One(60),
+        " (because of event 3: the CONNECT, with Session Expiry Interval 0 or none, and here 60 seconds)",
+    ),
+    (
+        Rule::S05,
+        Numbers::Two(6, 5),
+        " (because of event 3: first sent as event 6, and this one as event 5 before it)",
+    ),
+    (
+        Rule::S07,
+        Numbers::Two(11, 10),
+        " (because of event 3: 11 in flight, at most 10 allowed)",
+    ),
+    (
+        Rule::E7R,
+        Numbers::Two(2, 1),
+        " (because of event 3: 2 asked, 1 answered)",
+    ),
+    (
+        Rule::B02,
+        Numbers::Two(2, 0),
+        " (because of event 3: QoS 2, at most 0 granted)",
+    ),
+    (
+        Rule::B03,
+        Numbers::Two(3, 2),
+        " (because of event 3: 3 filters, 2 Reason Codes)",
+    ),
+    (
+        Rule::B04,
+        Numbers::Two(3, 2),
+        " (because of event 3: 3 filters, 2 Reason Codes)",
+    ),
+];
 
 #[test]
 fn says_what_the_numbers_are(rt: HostRuntime) {
-    for (rule, numbers, words) in [
-        (
-            Rule::C14,
-            Numbers::Two(300, 128),
-            " (because of event 3: 300 bytes, at most 128 allowed)",
-        ),
-        (
-            Rule::C15,
-            Numbers::Two(6, 5),
-            " (because of event 3: Topic Alias 6, at most 5 allowed)",
-        ),
-        (
-            Rule::C17,
-            Numbers::Two(2, 1),
-            " (because of event 3: QoS 2, at most 1 allowed)",
-        ),
-        (
-            Rule::C20,
-            Numbers::One(60),
-            " (because of event 3: the CONNECT, with Session Expiry Interval 0 or none, and here 60 seconds)",
-        ),
-        (
-            Rule::S05,
-            Numbers::Two(6, 5),
-            " (because of event 3: first sent as event 6, and this one as event 5 before it)",
-        ),
-        (
-            Rule::S07,
-            Numbers::Two(11, 10),
-            " (because of event 3: 11 in flight, at most 10 allowed)",
-        ),
-        (
-            Rule::E7R,
-            Numbers::Two(2, 1),
-            " (because of event 3: 2 asked, 1 answered)",
-        ),
-        (
-            Rule::B02,
-            Numbers::Two(2, 0),
-            " (because of event 3: QoS 2, at most 0 granted)",
-        ),
-        (
-            Rule::B03,
-            Numbers::Two(3, 2),
-            " (because of event 3: 3 filters, 2 Reason Codes)",
-        ),
-        (
-            Rule::B04,
-            Numbers::Two(3, 2),
-            " (because of event 3: 3 filters, 2 Reason Codes)",
-        ),
-    ] {
-        assert!(rt;
-            is_said(rt.alloc(), rule, by_numbers(Some(3), numbers), words),
-            "{words}"
-        );
-    }
+    assert_compared(&rt, &COMPARED, Some(3));
 }
+
+// What is said where there is no event.
+static MISSING: [Said; 12] = [
+    (Rule::C02, " (no CONNECT was sent before)"),
+    (Rule::C04, " (no CONNECT was received before)"),
+    (Rule::C05, " (no CONNACK was sent before)"),
+    (Rule::C08, " (no session was begun)"),
+    (Rule::S02, " (never sent in this session)"),
+    (Rule::E1A, " (never asked for in this session)"),
+    (Rule::E2A, " (never asked for in this session)"),
+    (Rule::E3A, " (never asked for in this session)"),
+    (Rule::E4A, " (never asked for in this session)"),
+    (Rule::E5A, " (never asked for in this session)"),
+    (Rule::E6A, " (never asked for in this session)"),
+    (Rule::L1, " (never received in this session)"),
+];
 
 #[test]
 fn says_what_never_came(rt: HostRuntime) {
-    for (rule, words) in [
-        (Rule::C02, " (no CONNECT was sent before)"),
-        (Rule::C04, " (no CONNECT was received before)"),
-        (Rule::C05, " (no CONNACK was sent before)"),
-        (Rule::C08, " (no session was begun)"),
-        (Rule::S02, " (never sent in this session)"),
-        (Rule::E1A, " (never asked for in this session)"),
-        (Rule::E2A, " (never asked for in this session)"),
-        (Rule::E3A, " (never asked for in this session)"),
-        (Rule::E4A, " (never asked for in this session)"),
-        (Rule::E5A, " (never asked for in this session)"),
-        (Rule::E6A, " (never asked for in this session)"),
-        (Rule::L1, " (never received in this session)"),
-    ] {
-        assert!(rt; is_said(rt.alloc(), rule, by_nothing(), words), "{words}");
-    }
+    assert_said(&rt, &MISSING, by_nothing());
 }
+
+// What is said of numbers, without an event.
+static COMPARED_ALONE: [Compared; 4] = [
+    (
+        Rule::C15,
+        Numbers::Two(1, 0),
+        " (Topic Alias 1, at most 0 allowed by default)",
+    ),
+    (
+        Rule::C16,
+        Numbers::One(9),
+        " (Topic Alias 9 wasn't set on this connection)",
+    ),
+    (
+        Rule::S07,
+        Numbers::Two(65536, 65535),
+        " (65536 in flight, at most 65535 allowed by default)",
+    ),
+    (
+        Rule::B01,
+        Numbers::One(0),
+        " (0 filters stand, and none matches)",
+    ),
+];
 
 #[test]
 fn says_what_the_numbers_are_without_an_event(rt: HostRuntime) {
-    for (rule, numbers, words) in [
-        (
-            Rule::C15,
-            Numbers::Two(1, 0),
-            " (Topic Alias 1, at most 0 allowed by default)",
-        ),
-        (
-            Rule::C16,
-            Numbers::One(9),
-            " (Topic Alias 9 wasn't set on this connection)",
-        ),
-        (
-            Rule::S07,
-            Numbers::Two(65536, 65535),
-            " (65536 in flight, at most 65535 allowed by default)",
-        ),
-        (
-            Rule::B01,
-            Numbers::One(0),
-            " (0 filters stand, and none matches)",
-        ),
-    ] {
-        assert!(rt;
-            is_said(rt.alloc(), rule, by_numbers(None, numbers), words),
-            "{words}"
-        );
-    }
+    assert_compared(&rt, &COMPARED_ALONE, None);
 }
+
+// Reasons with an event, if there is one, and numbers that their statement doesn't compare; and
+// what is said of them.
+static NOT_COMPARED: [(Rule, Option<u32>, Numbers, &str); 7] = [
+    (
+        Rule::S07,
+        Some(3),
+        Numbers::Nothing,
+        " (because of event 3)",
+    ),
+    (Rule::S07, None, Numbers::Nothing, ""),
+    (
+        Rule::S07,
+        Some(3),
+        Numbers::One(11),
+        " (because of event 3)",
+    ),
+    (
+        Rule::S01,
+        Some(3),
+        Numbers::Two(11, 10),
+        " (because of event 3)",
+    ),
+    (Rule::C14, None, Numbers::Two(11, 10), ""),
+    (Rule::C20, None, Numbers::One(60), ""),
+    (Rule::S01, None, Numbers::Nothing, ""),
+];
 
 // What a statement's evidence never has is left out.
 #[test]
 fn numbers_that_are_not_compared_are_left_out(rt: HostRuntime) {
-    for (rule, reason, words) in [
-        (Rule::S07, by_event(3), " (because of event 3)"),
-        (Rule::S07, by_nothing(), ""),
-        (
-            Rule::S07,
-            by_numbers(Some(3), Numbers::One(11)),
-            " (because of event 3)",
-        ),
-        (
-            Rule::S01,
-            by_numbers(Some(3), Numbers::Two(11, 10)),
-            " (because of event 3)",
-        ),
-        (Rule::C14, by_numbers(None, Numbers::Two(11, 10)), ""),
-        (Rule::C20, by_numbers(None, Numbers::One(60)), ""),
-        (Rule::S01, by_nothing(), ""),
-        (Rule::S02, None, ""),
-    ] {
-        assert!(rt; is_said(rt.alloc(), rule, reason, words), "{words}");
+    for (rule, because, numbers, words) in &NOT_COMPARED {
+        let reason = by_numbers(*because, *numbers);
+        assert!(rt;
+            is_said(rt.alloc(), *rule, reason, words),
+            "{rule:?} {words}"
+        );
     }
+    assert!(rt; is_said(rt.alloc(), Rule::S02, None, ""));
 }
 
 #[test]

@@ -128,8 +128,11 @@ fn words_say_what_was_not_judged(rt: HostRuntime) {
         unjudged answers no-rest\n\
         unjudged L1 L2 L3 no-releases\n\
         pass 45 events\n";
-    for form in [Form::Text, Form::Summary] {
-        assert!(rt; is_reported_as(&rt, 45, &[], &[], &unjudged(), form, text));
+    for form in &[Form::Text, Form::Summary] {
+        assert!(rt;
+            is_reported_as(&rt, 45, &[], &[], &unjudged(), *form, text),
+            "{form:?}"
+        );
     }
 }
 
@@ -153,11 +156,14 @@ fn no_statement_is_none_of_none(rt: HostRuntime) {
     let words = "covered 0 of 0 statements\npass 7 events\n";
     let json =
         "{\"coverage\":[],\"events\":7,\"faults\":[],\"unjudged\":[],\"verdict\":\"pass\"}\n";
-    for (form, text) in [
+    for (form, text) in &[
         (Form::Text, words),
         (Form::Summary, words),
         (Form::Json, json),
     ] {
-        assert!(rt; is_reported_as(&rt, 7, &[], &[], &[], form, text), "{text}");
+        assert!(rt;
+            is_reported_as(&rt, 7, &[], &[], &[], *form, text),
+            "{text}"
+        );
     }
 }
