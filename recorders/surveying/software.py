@@ -16,7 +16,7 @@ from pathlib import Path
 HOST = "127.0.0.1"
 PATHS = os.pathsep.join((os.environ.get("PATH", os.defpath), "/usr/sbin", "/usr/local/sbin"))  # of servers
 ROOT = Path("/")  # below which packages are installed
-BACKPORTS = Path("/opt/backports")  # below which those of the backports may be unpacked, beside the others
+BACKPORTS = Path("backports").absolute()  # below which those of the backports may be unpacked, beside the others
 INCLUDED = ("usr/include", "usr/local/include")  # below the root
 PYTHONS = (sys.executable, "/usr/bin/python3")  # a system's modules are for its own Python
 NODE_MODULES = "/usr/share/nodejs"  # where Debian has those of Node.js
