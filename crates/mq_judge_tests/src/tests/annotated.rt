@@ -91,14 +91,16 @@ fn is_shown(alloc: Global, log: &[u8], around: Option<u32>, text: &[u8]) -> Resu
     Ok(shown == Ok(()) && written.as_slice() == text)
 }
 
+// The same of the log of a client with these parts.
+fn are_shown(alloc: Global, parts: &[Part], around: Option<u32>, text: &str) -> Result<bool, Fail> {
+    let log = log_of(alloc, CLIENT, parts)?;
+    is_shown(alloc, &log, around, text.as_bytes())
+}
+
 #[test]
 fn shows_faults_under_their_events(rt: HostRuntime) -> Result<(), Fail> {
-    for (parts, around, text) in ROWS {
-        let log = log_of(rt.alloc(), CLIENT, parts)?;
-        assert!(rt;
-            is_shown(rt.alloc(), &log, around, text.as_bytes())?,
-            "{text}"
-        );
+    for (parts, around, text) in &ROWS {
+        assert!(rt; are_shown(rt.alloc(), parts, *around, text)?, "{text}");
     }
     Ok(())
 }
@@ -130,26 +132,44 @@ fn lines_of_faults(alloc: Global) -> Result<String, Fail> {
     Ok(text)
 }
 
+// Whether it is shown so.
+fn are_faults_shown(alloc: Global) -> Result<bool, Fail> {
+    let log = log_of_faults(alloc)?;
+    let text = lines_of_faults(alloc)?;
+    is_shown(alloc, log.as_slice(), Some(0), text.as_bytes())
+}
+
 #[test]
 fn shows_3000_faults(rt: HostRuntime) -> Result<(), Fail> {
-    let log = log_of_faults(rt.alloc())?;
-    let text = lines_of_faults(rt.alloc())?;
-    assert!(rt; is_shown(rt.alloc(), log.as_slice(), Some(0), text.as_bytes())?);
+    assert!(rt; are_faults_shown(rt.alloc())?);
     Ok(())
+}
+
+// Why a log isn't judged, if it isn't.
+fn refusal_of(alloc: Global, mut log: &[u8]) -> Option<RunFault> {
+    judge_reader(alloc, &mut log, Choice::Usual).err()
 }
 
 #[test]
 fn refuses_a_log_that_is_cut_short(rt: HostRuntime) {
-    let judged = judge_reader(rt.alloc(), &mut &HEADER[..7], Choice::Usual);
-    assert!(rt; matches!(judged, Err(RunFault::Refused(Refusal::Cut(7)))));
+    let cut = RunFault::Refused(Refusal::Cut(7));
+    assert_eq!(rt; refusal_of(rt.alloc(), &HEADER[..7]), Some(cut));
+}
+
+// How showing a log in long lines ends, and whether this text is written.
+fn shown_long(alloc: Global, mut log: &[u8], text: &str) -> (Result<(), RunFault>, bool) {
+    let mut written = Vec::new(alloc);
+    let answer = show_long(alloc, &mut log, &mut written);
+    (answer, written.as_slice() == text.as_bytes())
 }
 
 // The events up to there are shown.
 #[test]
 fn stops_at_the_end_of_a_log_that_is_cut_short(rt: HostRuntime) {
     let log = b"MQTR\x01\x00\x01\x00\x01\x00\x00\x00\x00\x02";
-    let mut written = Vec::new(rt.alloc());
-    let shown = show_long(rt.alloc(), &mut log.as_slice(), &mut written);
-    assert_eq!(rt; shown, Err(RunFault::Refused(Refusal::Cut(14))));
-    assert!(rt; written.as_slice() == b"1 record 1 OPEN\n".as_slice());
+    let cut = RunFault::Refused(Refusal::Cut(14));
+    assert_eq!(rt;
+        shown_long(rt.alloc(), log.as_slice(), "1 record 1 OPEN\n"),
+        (Err(cut), true)
+    );
 }

@@ -27,15 +27,17 @@ fn is_judged(alloc: Global, limit: u32, log: &[u8], answer: Result<u32, Refusal>
     }
 }
 
+// Limits, and how many events the log then has, or how it is refused.
+static ROWS: [(u32, Result<u32, Refusal>); 4] = [
+    (268_435_460, Ok(3)),
+    (268_435_459, Err(Refusal::TooLarge(52))),
+    (15, Err(Refusal::TooLarge(52))),
+    (14, Err(Refusal::TooLarge(19))),
+];
+
 #[test]
 fn reads_packets_up_to_the_limit(rt: HostRuntime) {
-    let rows = [
-        (268_435_460, Ok(3)),
-        (268_435_459, Err(Refusal::TooLarge(52))),
-        (15, Err(Refusal::TooLarge(52))),
-        (14, Err(Refusal::TooLarge(19))),
-    ];
-    for (limit, answer) in rows {
-        assert!(rt; is_judged(rt.alloc(), limit, LOG, answer), "{limit}");
+    for (limit, answer) in &ROWS {
+        assert!(rt; is_judged(rt.alloc(), *limit, LOG, *answer), "{limit}");
     }
 }

@@ -8,6 +8,7 @@ use mq_harness::{
 };
 use mq_judge::Outcome;
 use std::alloc::{AllocError, Global};
+use std::process::Abort;
 use std::test::Fail;
 
 // A log's records, and the expected result.
@@ -571,17 +572,23 @@ static BROKEN: [Broken; 23] = [
     },
 ];
 
-#[test]
-fn judges_packets_whole_and_byte_by_byte(rt: HostRuntime) -> Result<(), Fail> {
-    for row in &ROWS {
-        let log = log_of(rt.alloc(), row.role, row.parts)?;
-        assert!(rt;
-            is_reported(rt.alloc(), &log, row.outcome, row.report)?,
-            "{}",
-            row.report
-        );
+// Whether the log of a row is judged as the row says.
+fn is_row_right(alloc: Global, row: &Row) -> Result<bool, Fail> {
+    let log = log_of(alloc, row.role, row.parts)?;
+    is_reported(alloc, &log, row.outcome, row.report)
+}
+
+// Asserts that the log of each row is.
+fn assert_rows(rt: &(impl Abort + AllocGlobal), rows: &[Row]) -> Result<(), Fail> {
+    for row in rows {
+        assert!(rt; is_row_right(rt.alloc(), row)?, "{}", row.report);
     }
     Ok(())
+}
+
+#[test]
+fn judges_packets_whole_and_byte_by_byte(rt: HostRuntime) -> Result<(), Fail> {
+    assert_rows(&rt, &ROWS)
 }
 
 // The report on that packet.
@@ -602,16 +609,29 @@ fn report_on(alloc: Global, broken: &Broken) -> Result<String, AllocError> {
     }
 }
 
-#[test]
-fn names_the_rule_that_bytes_break(rt: HostRuntime) -> Result<(), Fail> {
-    for broken in &BROKEN {
-        let parts = [Open, Sent(CONNECT), Recv(CONNACK), Sent(broken.packet)];
-        let log = log_of(rt.alloc(), CLIENT, &parts)?;
-        let report = report_on(rt.alloc(), broken)?;
+// Whether the log of a client that sends this packet has that report.
+fn is_named(alloc: Global, broken: &Broken) -> Result<bool, Fail> {
+    let parts = [Open, Sent(CONNECT), Recv(CONNACK), Sent(broken.packet)];
+    let log = log_of(alloc, CLIENT, &parts)?;
+    let report = report_on(alloc, broken)?;
+    is_reported(alloc, &log, FAULTY, report.as_str())
+}
+
+// Asserts that the rule is named that each packet breaks, and where.
+fn assert_named(rt: &(impl Abort + AllocGlobal), rows: &[Broken]) -> Result<(), Fail> {
+    for broken in rows {
         assert!(rt;
-            is_reported(rt.alloc(), &log, FAULTY, report.as_str())?,
-            "{report}"
+            is_named(rt.alloc(), broken)?,
+            "{} {} {:?}",
+            broken.statement,
+            broken.offset,
+            broken.also
         );
     }
     Ok(())
+}
+
+#[test]
+fn names_the_rule_that_bytes_break(rt: HostRuntime) -> Result<(), Fail> {
+    assert_named(&rt, &BROKEN)
 }

@@ -9,7 +9,6 @@ use std::alloc::Global;
 use std::fmt::Write as _;
 use std::io;
 use std::io::{ErrorKind, Read};
-use std::process::Abort;
 use std::test::Fail;
 
 /// A connection that a server accepted. Without its CONNACK it may have no more than 4,096 events.
@@ -27,61 +26,80 @@ fn pings(alloc: Global, parts: &[Part], count: u32) -> Result<Vec<u8>, Fail> {
     Ok(log)
 }
 
+// The lines on an OPEN and 1,000 PINGREQs in one record.
+fn lines_of_pings(alloc: Global) -> Result<String, Fail> {
+    let mut lines = String::new(alloc);
+    write!(lines, "1 record 1 OPEN\n")?;
+    for position in 2..1002 {
+        write!(lines, "{position} record 2 RECV PINGREQ size 2\n")?;
+    }
+    Ok(lines)
+}
+
+// How showing these ends, and whether their lines are written.
+fn shown_pings(alloc: Global) -> Result<(Result<(), RunFault>, bool), Fail> {
+    let log = pings(alloc, &[Part::Open], 1000)?;
+    let expected = lines_of_pings(alloc)?;
+    let mut shown = Vec::new(alloc);
+    let answer = show(alloc, &mut log.as_slice(), &mut shown);
+    Ok((answer, shown.as_slice() == expected.as_bytes()))
+}
+
 #[test]
 fn shows_more_lines_than_a_buffer_holds(rt: HostRuntime) -> Result<(), Fail> {
-    let log = pings(rt.alloc(), &[Part::Open], 1000)?;
-    let mut expected = String::new(rt.alloc());
-    write!(expected, "1 record 1 OPEN\n")?;
-    for position in 2..1002 {
-        write!(expected, "{position} record 2 RECV PINGREQ size 2\n")?;
-    }
-    let mut shown = Vec::new(rt.alloc());
-    let answer = show(rt.alloc(), &mut log.as_slice(), &mut shown);
-    assert_eq!(rt; answer, Ok(()));
-    assert!(rt; shown.as_slice() == expected.as_bytes());
+    assert_eq!(rt; shown_pings(rt.alloc())?, (Ok(()), true));
     Ok(())
+}
+
+// How showing these ends if the first write fails, and how many bytes are written.
+fn shown_unwritten(alloc: Global) -> Result<(Result<(), RunFault>, usize), Fail> {
+    let log = pings(alloc, &[Part::Open], 1000)?;
+    let mut writer = Failing::after(alloc, 0, Some(ErrorKind::Other));
+    let answer = show(alloc, &mut log.as_slice(), &mut writer);
+    Ok((answer, writer.taken.len()))
 }
 
 #[test]
 fn writes_nothing_after_a_failed_write(rt: HostRuntime) -> Result<(), Fail> {
-    let log = pings(rt.alloc(), &[Part::Open], 1000)?;
-    let mut writer = Failing::after(rt.alloc(), 0, Some(ErrorKind::Other));
-    let answer = show(rt.alloc(), &mut log.as_slice(), &mut writer);
-    assert_eq!(rt; answer, Err(RunFault::Write));
-    assert!(rt; writer.taken.is_empty());
+    assert_eq!(rt; shown_unwritten(rt.alloc())?, (Err(RunFault::Write), 0));
     Ok(())
+}
+
+// How a run on what this reader gives ends, and whether this report is written.
+fn ran<R: Read>(alloc: Global, reader: &mut R, report: &str) -> (Result<Outcome, RunFault>, bool) {
+    let mut written = Vec::new(alloc);
+    let answer = run(alloc, reader, &mut written, Form::Text, Choice::Usual);
+    (answer, written.as_slice() == report.as_bytes())
+}
+
+// The same on a connection with 69,997 PINGREQs.
+fn ran_at_once(alloc: Global, report: &str) -> Result<(Result<Outcome, RunFault>, bool), Fail> {
+    let log = pings(alloc, &ACCEPTED, 69_997)?;
+    Ok(ran(alloc, &mut log.as_slice(), report))
 }
 
 #[test]
 fn judges_70000_events(rt: HostRuntime) -> Result<(), Fail> {
-    let log = pings(rt.alloc(), &ACCEPTED, 69_997)?;
-    let mut written = Vec::new(rt.alloc());
-    let answer = run(
-        rt.alloc(),
-        &mut log.as_slice(),
-        &mut written,
-        Form::Text,
-        Choice::Usual,
+    assert_eq!(rt;
+        ran_at_once(rt.alloc(), "pass 70000 events\n")?,
+        (Ok(Outcome::Pass), true)
     );
-    assert_eq!(rt; answer, Ok(Outcome::Pass));
-    assert!(rt; written.as_slice() == b"pass 70000 events\n".as_slice());
     Ok(())
+}
+
+// The same on one with 26,000 PINGREQs, of which a byte comes every other turn.
+fn ran_in_turns(alloc: Global, report: &str) -> Result<(Result<Outcome, RunFault>, bool), Fail> {
+    let log = pings(alloc, &ACCEPTED, 26_000)?;
+    let mut reader = Pieces::interrupted(log.as_slice(), 1, false);
+    Ok(ran(alloc, &mut reader, report))
 }
 
 #[test]
 fn reads_for_more_than_100000_turns(rt: HostRuntime) -> Result<(), Fail> {
-    let log = pings(rt.alloc(), &ACCEPTED, 26_000)?;
-    let mut reader = Pieces::interrupted(log.as_slice(), 1, false);
-    let mut written = Vec::new(rt.alloc());
-    let answer = run(
-        rt.alloc(),
-        &mut reader,
-        &mut written,
-        Form::Text,
-        Choice::Usual,
+    assert_eq!(rt;
+        ran_in_turns(rt.alloc(), "pass 26003 events\n")?,
+        (Ok(Outcome::Pass), true)
     );
-    assert_eq!(rt; answer, Ok(Outcome::Pass));
-    assert!(rt; written.as_slice() == b"pass 26003 events\n".as_slice());
     Ok(())
 }
 
@@ -122,31 +140,41 @@ impl Read for Interrupted {
     }
 }
 
+// How a run of so many turns on such a reader ends, how many bytes it writes, and how many reads it
+// makes.
+fn ran_interrupted(alloc: Global, turns: u32) -> (Result<Outcome, RunFault>, usize, u32) {
+    let mut reader = Interrupted { reads: 0 };
+    let mut written = Vec::new(alloc);
+    let answer = run_bounded(
+        alloc,
+        &mut reader,
+        &mut written,
+        Form::Json,
+        Choice::Usual,
+        turns,
+    );
+    (answer, written.len(), reader.reads)
+}
+
 #[test]
 fn refuses_after_as_many_reads_as_it_was_given(rt: HostRuntime) {
-    for turns in [0, 1, 2, 1000] {
-        let mut reader = Interrupted { reads: 0 };
-        let mut written = Vec::new(rt.alloc());
-        let answer = run_bounded(
-            rt.alloc(),
-            &mut reader,
-            &mut written,
-            Form::Json,
-            Choice::Usual,
-            turns,
-        );
-        assert_eq!(rt; answer, Err(RunFault::Refused(Refusal::Read(0))));
-        assert!(rt; written.is_empty());
-        assert_eq!(rt; reader.reads, turns);
+    let unread = Err(RunFault::Refused(Refusal::Read(0)));
+    for turns in &[0, 1, 2, 1000] {
+        assert_eq!(rt; ran_interrupted(rt.alloc(), *turns), (unread, 0, *turns));
     }
+}
+
+// How showing a connection with 18,000 PINGREQs ends, of which a byte comes every other turn.
+fn shown_in_turns(alloc: Global) -> Result<Result<(), RunFault>, Fail> {
+    let log = pings(alloc, &ACCEPTED, 18_000)?;
+    let mut reader = Pieces::interrupted(log.as_slice(), 1, false);
+    let mut shown = Vec::new(alloc);
+    Ok(show(alloc, &mut reader, &mut shown))
 }
 
 #[test]
 fn shows_for_more_than_65536_turns(rt: HostRuntime) -> Result<(), Fail> {
-    let log = pings(rt.alloc(), &ACCEPTED, 18_000)?;
-    let mut reader = Pieces::interrupted(log.as_slice(), 1, false);
-    let mut shown = Vec::new(rt.alloc());
-    assert_eq!(rt; show(rt.alloc(), &mut reader, &mut shown), Ok(()));
+    assert_eq!(rt; shown_in_turns(rt.alloc())?, Ok(()));
     Ok(())
 }
 
@@ -160,20 +188,28 @@ fn many_faults(alloc: Global) -> Result<Vec<u8>, Fail> {
     Ok(log)
 }
 
+// How judging that log ends, with a report in this form.
+fn outcome_of_many(alloc: Global, form: Form) -> Result<Result<Outcome, RunFault>, Fail> {
+    let log = many_faults(alloc)?;
+    let mut written = Vec::new(alloc);
+    Ok(run(
+        alloc,
+        &mut log.as_slice(),
+        &mut written,
+        form,
+        Choice::Usual,
+    ))
+}
+
 // What is written has more than 8,192 bytes in two of the three forms.
 #[test]
 fn reports_1200_faults_in_each_form(rt: HostRuntime) -> Result<(), Fail> {
-    let log = many_faults(rt.alloc())?;
-    for form in [Form::Text, Form::Json, Form::Summary] {
-        let mut written = Vec::new(rt.alloc());
-        let answer = run(
-            rt.alloc(),
-            &mut log.as_slice(),
-            &mut written,
-            form,
-            Choice::Usual,
+    for form in &[Form::Text, Form::Json, Form::Summary] {
+        assert_eq!(rt;
+            outcome_of_many(rt.alloc(), *form)?,
+            Ok(Outcome::Fail),
+            "{form:?}"
         );
-        assert_eq!(rt; answer, Ok(Outcome::Fail));
     }
     Ok(())
 }

@@ -127,8 +127,8 @@ fn shows_moments_on_short_lines(rt: HostRuntime) {
 #[test]
 fn shows_moments_of_a_log_that_comes_in_pieces(rt: HostRuntime) {
     assert!(rt; is_shown(rt.alloc(), &mut Pieces::of(LOG, 1), SHORT));
-    for size in [5, 7, 8, 9] {
-        let mut reader = Pieces::interrupted(LOG, size, false);
+    for size in &[5, 7, 8, 9] {
+        let mut reader = Pieces::interrupted(LOG, *size, false);
         assert!(rt; is_shown(rt.alloc(), &mut reader, SHORT), "{size}");
     }
 }
@@ -158,8 +158,8 @@ fn is_told_as(alloc: Global, moment: u64, words: &str) -> Result<bool, Fail> {
 
 #[test]
 fn tells_when_a_fault_happened(rt: HostRuntime) -> Result<(), Fail> {
-    for (moment, words) in TIMES {
-        assert!(rt; is_told_as(rt.alloc(), moment, words)?, "{moment}");
+    for (moment, words) in &TIMES {
+        assert!(rt; is_told_as(rt.alloc(), *moment, words)?, "{moment}");
     }
     Ok(())
 }
@@ -177,14 +177,18 @@ fn shows_a_moment_of_0(rt: HostRuntime) {
     assert!(rt; is_shown_around(rt.alloc(), OPENED, None, text));
 }
 
+// How showing a log ends, and how many bytes are written.
+fn shown_of(alloc: Global, mut log: &[u8]) -> (Result<(), RunFault>, usize) {
+    let mut written = Vec::new(alloc);
+    let shown = show(alloc, &mut log, &mut written);
+    (shown, written.len())
+}
+
 // A log that ends inside its header has no lines, whatever version it names.
 #[test]
-fn shows_nothing_of_a_header_that_is_cut_short(rt: HostRuntime) -> Result<(), Fail> {
+fn shows_nothing_of_a_header_that_is_cut_short(rt: HostRuntime) {
     for count in 0..8 {
-        let mut written = Vec::new(rt.alloc());
-        let shown = show(rt.alloc(), &mut &LOG[..count], &mut written);
-        assert_eq!(rt; shown, Err(RunFault::Refused(Refusal::Cut(count as u64))));
-        assert!(rt; written.is_empty());
+        let cut = RunFault::Refused(Refusal::Cut(count as u64));
+        assert_eq!(rt; shown_of(rt.alloc(), &LOG[..count]), (Err(cut), 0));
     }
-    Ok(())
 }

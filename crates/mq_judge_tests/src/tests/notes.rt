@@ -43,31 +43,54 @@ fn is_noted(
     Ok(Note::of_packet(alloc, direction, size, &packet).is_ok())
 }
 
-// The longest Topic Name, with the largest Topic Alias, of a PUBLISH that was sent.
+// The same by the note of the PUBLISH that was sent with this body, if that isn't too long.
+fn noted_topic(
+    alloc: Global,
+    body: &[u8],
+    size: u32,
+) -> Result<Option<(usize, Option<u16>)>, Fail> {
+    if body.len() > MAX_BODY {
+        return Ok(None);
+    }
+    let packet = decode(0x30, body)?;
+    let note = Note::of_packet(alloc, Direction::Sent, size, &packet)?;
+    Ok(topic_of(&note))
+}
+
+// The same of a PUBLISH with the longest Topic Name and the largest Topic Alias.
+fn longest_topic(alloc: Global) -> Result<Option<(usize, Option<u16>)>, Fail> {
+    let mut body = filled(alloc, &[0xff, 0xff], b'a', 65_537)?;
+    body.extend_from_slice(&[3, 0x23, 0xff, 0xff])?;
+    noted_topic(alloc, &body, 65_545)
+}
+
 #[test]
 fn notes_the_longest_topic(rt: HostRuntime) -> Result<(), Fail> {
-    let mut body = filled(rt.alloc(), &[0xff, 0xff], b'a', 65_537)?;
-    body.extend_from_slice(&[3, 0x23, 0xff, 0xff])?;
-    assert!(rt; body.len() <= MAX_BODY);
-    let packet = decode(0x30, &body)?;
-    let note = Note::of_packet(rt.alloc(), Direction::Sent, 65_545, &packet)?;
-    assert_eq!(rt; topic_of(&note), Some((65_535, Some(65_535))));
+    assert_eq!(rt; longest_topic(rt.alloc())?, Some((65_535, Some(65_535))));
     Ok(())
 }
 
-// The longest Topic Filter of a SUBSCRIBE that was received.
+// Whether a SUBSCRIBE with the longest Topic Filter, that was received, is noted.
+fn is_longest_filter_noted(alloc: Global) -> Result<bool, Fail> {
+    let mut body = filled(alloc, &[0, 1, 0, 0xff, 0xff], b'a', 65_540)?;
+    body.push(2)?;
+    is_noted(alloc, Direction::Recv, 0x82, &body, 65_545)
+}
+
 #[test]
 fn notes_the_longest_filter(rt: HostRuntime) -> Result<(), Fail> {
-    let mut body = filled(rt.alloc(), &[0, 1, 0, 0xff, 0xff], b'a', 65_540)?;
-    body.push(2)?;
-    assert!(rt; is_noted(rt.alloc(), Direction::Recv, 0x82, &body, 65_545)?);
+    assert!(rt; is_longest_filter_noted(rt.alloc())?);
     Ok(())
 }
 
-// A SUBACK of very many Reason Codes that was sent.
+// Whether a SUBACK with very many Reason Codes, that was sent, is noted.
+fn are_many_codes_noted(alloc: Global) -> Result<bool, Fail> {
+    let body = filled(alloc, &[0, 1, 0], 2, MAX_BODY)?;
+    is_noted(alloc, Direction::Sent, 0x90, &body, 100_004)
+}
+
 #[test]
 fn notes_many_codes(rt: HostRuntime) -> Result<(), Fail> {
-    let body = filled(rt.alloc(), &[0, 1, 0], 2, MAX_BODY)?;
-    assert!(rt; is_noted(rt.alloc(), Direction::Sent, 0x90, &body, 100_004)?);
+    assert!(rt; are_many_codes_noted(rt.alloc())?);
     Ok(())
 }

@@ -10,6 +10,13 @@ use mq_log::Refusal;
 use std::alloc::{AllocError, Global};
 use std::process::Abort;
 
+// The result for what a reader gives, and whether this is written.
+fn ran(alloc: Global, mut reader: Pieces<'_>, text: &str) -> (Result<Outcome, RunFault>, bool) {
+    let mut written = Vec::new(alloc);
+    let answer = run(alloc, &mut reader, &mut written, Form::Text, Choice::Usual);
+    (answer, written.as_slice() == text.as_bytes())
+}
+
 // Asserts the result for a log and what is written, for each size of a turn.
 fn assert_runs(
     rt: &(impl Abort + AllocGlobal),
@@ -17,18 +24,13 @@ fn assert_runs(
     answer: Result<Outcome, RunFault>,
     text: &str,
 ) {
-    for size in [1, 7, 8192] {
-        let mut written = Vec::new(rt.alloc());
-        let mut reader = Pieces::interrupted(log, size, false);
-        let ran = run(
-            rt.alloc(),
-            &mut reader,
-            &mut written,
-            Form::Text,
-            Choice::Usual,
+    for size in &[1, 7, 8192] {
+        let reader = Pieces::interrupted(log, *size, false);
+        assert_eq!(rt;
+            ran(rt.alloc(), reader, text),
+            (answer, true),
+            "in turns of {size}"
         );
-        assert_eq!(rt; ran, answer, "in turns of {size}");
-        assert!(rt; written.as_slice() == text.as_bytes(), "in turns of {size}");
     }
 }
 
@@ -85,21 +87,20 @@ fn refuses_where_the_reader_fails(rt: HostRuntime) -> Result<(), AllocError> {
         Close,
     ];
     let log = log_of(rt.alloc(), CLIENT, &parts)?;
-    for count in 0..log.len() + 1 {
-        let mut written = Vec::new(rt.alloc());
-        let mut reader = Pieces::interrupted(&log[..count], 5, true);
-        let ran = run(
-            rt.alloc(),
-            &mut reader,
-            &mut written,
-            Form::Text,
-            Choice::Usual,
-        );
-        let refusal = Refusal::Read(count as u64);
-        assert_eq!(rt; ran, Err(RunFault::Refused(refusal)));
-        assert!(rt; written.is_empty());
-    }
+    assert_unread(&rt, log.as_slice());
     Ok(())
+}
+
+// Asserts that nothing is written where the reader of a log fails, after any number of bytes.
+fn assert_unread(rt: &(impl Abort + AllocGlobal), log: &[u8]) {
+    for count in 0..log.len() + 1 {
+        let reader = Pieces::interrupted(&log[..count], 5, true);
+        let refusal = Refusal::Read(count as u64);
+        assert_eq!(rt;
+            ran(rt.alloc(), reader, ""),
+            (Err(RunFault::Refused(refusal)), true)
+        );
+    }
 }
 
 // A CONNACK that allows packets of 10 bytes and no Topic Alias, and a PUBLISH of 11 bytes that has
@@ -132,13 +133,17 @@ fn stops_where_the_writer_fails(rt: HostRuntime) -> Result<(), AllocError> {
         Sent(WIDE_PUBLISH),
     ];
     let log = log_of(rt.alloc(), CLIENT, &parts)?;
-    for (form, report) in [(Form::Text, TEXT), (Form::Json, JSON)] {
-        for room in 0..report.len() {
-            assert!(rt;
-                is_stopped(rt.alloc(), &log, form, &report[..room]),
-                "{room}"
-            );
-        }
-    }
+    assert_stops(&rt, log.as_slice(), Form::Text, TEXT);
+    assert_stops(&rt, log.as_slice(), Form::Json, JSON);
     Ok(())
+}
+
+// Asserts that a run stops wherever its writer fails in this report.
+fn assert_stops(rt: &(impl Abort + AllocGlobal), log: &[u8], form: Form, report: &[u8]) {
+    for room in 0..report.len() {
+        assert!(rt;
+            is_stopped(rt.alloc(), log, form, &report[..room]),
+            "{form:?} {room}"
+        );
+    }
 }
