@@ -26,7 +26,7 @@ fn lists_the_statements(rt: HostRuntime) -> Result<(), Fail> {
         (&["mqjudge", "rules", "--role", "client"][..], 54),
         (&["mqjudge", "rules", "--role", "server"][..], 64),
         (&["mqjudge", "rules", "--all", "--role", "client"][..], 64),
-        (&["mqjudge", "rules", "--all", "--role", "server"][..], 74),
+        (&["mqjudge", "rules", "--all", "--role", "server"][..], 75),
     ] {
         assert!(rt; lists(rt.alloc(), words, lines, first)?, "{words:?}");
     }
