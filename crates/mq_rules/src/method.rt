@@ -1,6 +1,6 @@
 //! The Authentication Method of a packet, as notes have it.
 //!
-//! Few packets have one. So its text lies in memory of its own, and a note is no larger for it.
+//! Few packets have one. So its text lies in memory of its own, and a note hardly grows by it.
 
 use crate::faults::Memory;
 use crate::text::Text;
