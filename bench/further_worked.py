@@ -27,8 +27,8 @@ WHICH = ("broken", "kept", "near")
 BEGINNINGS = 4  # of each log that isn't worked, with which it is compared
 SHORT = 5_000  # bytes of a worked log of the 74 statements on which the laws are checked
 LONGEST = 150  # events of a log that is made on which they are
-# What honest_logs.py doesn't heed: its servers answer each UNSUBSCRIBE by 0x00, and give any message a Subscription Identifier.
-NOT_HEEDED = {"server": {"B07", "D03", "P01"}, "client": set()}
+# What honest_logs.py doesn't heed: its servers give any message a Subscription Identifier.
+NOT_HEEDED = {"server": {"P01"}, "client": set()}
 # The beginnings of the names of packets that only one end sends.
 OF_CLIENTS = ("CONNECT", "RECONNECT", "BAD-CONNECT", "SUBSCRIBE", "SHARE", "UNSUBSCRIBE", "PINGREQ")
 OF_SERVERS = ("CONNACK", "RESUMED", "BAD-CONNACK", "SUBACK", "UNSUBACK", "PINGRESP")

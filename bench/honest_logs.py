@@ -14,6 +14,7 @@ usage: bench/honest_logs.py SEED NUMBER > FILE
 """
 import random
 import sys
+from collections import Counter
 from dataclasses import dataclass, field, replace
 from itertools import accumulate
 
@@ -57,6 +58,9 @@ class State:
     of_peer: list[Message] = field(default_factory=list)
     to_complete: dict[int, bool] = field(default_factory=dict)  # received messages of QoS 2, and whether they were released
     filters: dict[str, int] = field(default_factory=dict)  # that the client subscribed to, each with the QoS
+    # How many SUBSCRIBEs with a filter weren't refused; and the last one, with what it asks for, if no UNSUBSCRIBE came later.
+    heard: Counter[str] = field(default_factory=Counter)
+    wanted: dict[str, list[tuple[str, int]]] = field(default_factory=dict)
     # Identifiers that were released before the session began: L2 would take the next release of each for the second one.
     released_before: set[int] = field(default_factory=set)
     # Those of discarded messages of the tested end: S05 would take the next message under each for the one before, were it no event.
@@ -64,7 +68,8 @@ class State:
 
     def copy(self) -> "State":
         messages = [replace(one) for one in self.own], [replace(one) for one in self.of_peer]
-        return State(*messages, dict(self.to_complete), dict(self.filters), set(self.released_before), set(self.discarded))
+        filters = dict(self.filters), Counter(self.heard), dict(self.wanted)
+        return State(*messages, dict(self.to_complete), *filters, set(self.released_before), set(self.discarded))
 
     def to_release(self) -> list[int]:
         return [one for one, is_released in self.to_complete.items() if not is_released]
@@ -114,6 +119,7 @@ class Line:
     to_come: list[Answer] = field(default_factory=list)  # from the peer
     asked: set[int] = field(default_factory=set)  # SUBSCRIBEs and UNSUBSCRIBEs without an answer
     requests: dict[int, list[tuple[str, int]]] = field(default_factory=dict)  # the filters in each of them
+    unwanted: dict[int, set[str]] = field(default_factory=dict)  # those of an UNSUBSCRIBE that no SUBSCRIBE since the last one has
     topics: dict[int, str] = field(default_factory=dict)  # of the tested end's Topic Aliases
     unanswered: set[int] = field(default_factory=set)  # PUBLISHes and PUBRELs that the tested end sent
     is_filled: bool = False  # the peer sent what changes a session
@@ -131,6 +137,7 @@ class Honest:
         self.is_named = self.chance(0.8)
         self.is_hurried = self.chance(0.4)  # connections are short, and leave much open
         self.is_patient = self.chance(0.4)  # sends again one after the other
+        self.is_fickle = self.chance(0.2)  # a client that subscribes and unsubscribes often
         self.bounds = self.draw.choice(((), (), (), ("size",), ("qos",), ("retain",)))  # that the peer announces often
         self.is_kept = False  # there is a session that may be resumed
         self.is_alive = False  # as far as the log tells
@@ -377,6 +384,8 @@ class Honest:
     # -- what happens on a connection
 
     def _step(self) -> None:
+        if self.is_fickle and self.chance(0.4):
+            self._request()
         self.draw.choices(STEPS, cum_weights=SUMS)[0](self)
 
     def _hurry(self) -> None:
@@ -636,8 +645,10 @@ class Honest:
         free = [one for one in IDENTIFIERS if one not in taken]
         if not free:
             return
-        identifier, subscribes = self.draw.choice(free), self.chance(0.75)
+        identifier, subscribes = self.draw.choice(free), self.chance(0.5 if self.is_fickle else 0.75)
         known = [one for one in FILTERS if self.line.limits.wildcards or not {"+", "#"} & set(one)]
+        if not subscribes and self.state.filters and self.chance(0.6):
+            known = list(self.state.filters)
         filters = [(one, self.draw.randrange(3)) for one in self.draw.sample(known, min(len(known), self.draw.randint(1, 2)))]
         self.line.asked.add(identifier)
         self.line.is_filled = True
@@ -646,11 +657,15 @@ class Honest:
         is_numbered = subscribes and self.role == CLIENT and self.line.limits.identifiers and self.chance(0.2)
         properties = listed(b"\x0b\7" if is_numbered else b"")
         self._say(CLIENT, packet(0x82 if subscribes else 0xA2, number(identifier) + properties + body))
-        for one, qos in filters:
-            if subscribes:
-                self.state.filters[one] = qos
-            else:
-                self.state.filters.pop(one, None)
+        names = [one for one, _ in filters]
+        self.line.unwanted[identifier] = set(names) - set(self.state.wanted)
+        if subscribes:
+            self.state.filters |= dict(filters)
+            self.state.heard.update(names)
+            self.state.wanted |= dict.fromkeys(names, filters)
+        else:
+            self.state.filters = {one: qos for one, qos in self.state.filters.items() if one not in names}
+            self.state.wanted = {one: last for one, last in self.state.wanted.items() if one not in names}
         self._expect(SERVER, Type.SUBACK if subscribes else Type.UNSUBACK, identifier)
 
     def _asked(self, one: str, qos: int) -> bytes:
@@ -660,17 +675,27 @@ class Honest:
         return text(one) + bytes([qos | 4 * (self.role == CLIENT and self.chance(0.1))])
 
     def _reply(self, say, kind: Type, identifier: int) -> None:
-        """A SUBACK or UNSUBACK. It may grant less than was asked for."""
         self.line.asked.discard(identifier)
-        codes = []
-        for one, qos in self.line.requests[identifier]:
-            code = self.draw.choice((qos, qos, qos, self.draw.randint(0, qos), 0x87)) if kind == Type.SUBACK else 0
-            codes.append(code)
-            if code >= 0x80 or (kind == Type.SUBACK and one in self.state.filters):
-                self.state.filters.pop(one, None)
-            if kind == Type.SUBACK and code < 0x80:
-                self.state.filters[one] = code
-        say(packet(kind << 4, number(identifier) + b"\0" + bytes(codes)))
+        code_for = self._granted if kind == Type.SUBACK else self._unsubscribed
+        codes = bytes(code_for(identifier, *request) for request in self.line.requests[identifier])
+        say(packet(kind << 4, number(identifier) + b"\0" + codes))
+
+    def _granted(self, identifier: int, one: str, qos: int) -> int:
+        """What a SUBACK says of a filter. It may grant less than was asked for."""
+        code = self.draw.choice((qos, qos, qos, self.draw.randint(0, qos), 0x87))
+        if code >= 0x80:
+            self.state.filters.pop(one, None)
+            self.state.heard[one] -= 1
+        elif self.state.wanted.get(one) is self.line.requests[identifier]:
+            self.state.filters[one] = code
+        return code
+
+    def _unsubscribed(self, identifier: int, one: str, qos: int) -> int:
+        """What an UNSUBACK says of one: that it is deleted, that it never was or is no more, or that it isn't given up."""
+        if self.chance(0.05):
+            return 0x87
+        is_lacking = self.state.heard[one] <= 0 or (one in self.line.unwanted[identifier] and self.chance(0.5))
+        return 0x11 if is_lacking else 0
 
 
 # What happens on a connection, and how often.

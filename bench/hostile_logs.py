@@ -179,6 +179,14 @@ def change_will(draw: random.Random, parts: Parts) -> None:
         parts[at] = parts[at][:14] + bytes([parts[at][14] ^ draw.choice((0x08, 0x10, 0x18, 0x20, 0x20, 0x04))]) + parts[at][15:]
 
 
+def change_unsuback(draw: random.Random, parts: Parts) -> None:
+    """The last Reason Code of an UNSUBACK says otherwise whether there was a subscription."""
+    places = [n for n, part in enumerate(parts) if part[5:6] == b"\xb0" and part[-1] in (0x00, 0x11)]
+    if places:
+        at = draw.choice(places)
+        parts[at] = parts[at][:-1] + bytes([parts[at][-1] ^ 0x11])
+
+
 def break_off(draw: random.Random, parts: Parts) -> None:
     """A connection ends in the middle of a packet: one that is sent last, or one more."""
     ends = [n for n, part in enumerate(parts) if part[0] == CLOSE]
@@ -213,7 +221,7 @@ def cut(draw: random.Random, parts: Parts) -> None:
 GENTLE: tuple[Callable[[random.Random, Parts], None], ...] = (
     drop, drop, drop, double, double, move, swap, swap, swap_alike, swap_alike, put_mark, put_packet, put_packet, put_packet,
     put_disconnect, turn, cut_record, change_packet, change_packet, change_identifier, change_identifier, change_flags, change_session,
-    change_session, change_will, break_off,
+    change_session, change_will, change_unsuback, break_off,
 )
 ROUGH = (change_body, put_remaining_length, put_length, cut)
 

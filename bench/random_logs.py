@@ -168,6 +168,7 @@ class Session:
         self.is_left = False  # the connection, by the client
         self.has_will = False  # the last CONNECT
         self.bursts = False  # the peer, on this connection
+        self.is_fickle = False  # the client, on this connection
         self.shares = self.chance(0.1)
         self.retains = draw.choice((0.1, 0.1, 0.9))  # how often a PUBLISH has RETAIN 1
         self.tape = Tape(draw, self.role, self.has_releases)
@@ -193,6 +194,7 @@ class Session:
         self.tape.mark(OPEN)
         self.takes_all = self.is_early
         self.bursts = self.chance(0.1)
+        self.is_fickle = self.chance(0.3 if self.role == SERVER else 0.05)
         self._begin_again()
         is_clean = self.chance(0.8 if is_first else 0.25)
         if self.chance(0.95):
@@ -239,6 +241,8 @@ class Session:
                 self.tape.mark(REST)
             case _ if self.bursts:
                 self._burst()
+            case 4 | 5 | 6 if self.is_fickle:
+                self._subscribe_and_unsubscribe()
             case _:
                 for _ in range(self.draw.randint(0, 12)):
                     self._step()
@@ -251,6 +255,15 @@ class Session:
             self._say(self.role, self._answer(self.role) if self.owed[self.role] else self._news(self.role))
         self.tape.flush()
         self.tape.mark(REST)
+
+    def _subscribe_and_unsubscribe(self) -> None:
+        """The client asks for few filters, and gives them up, again and again. Mostly the server answers at once."""
+        self.owed[SERVER] = []
+        for _ in range(self.draw.randint(2, 10)):
+            kind = self.draw.choice((Type.SUBSCRIBE, Type.UNSUBSCRIBE))
+            self._say(CLIENT, self._packet(CLIENT, kind, self.draw.choice(IDENTIFIERS), self.draw.randint(1, 2)))
+            if self.owed[SERVER] and self.chance(0.9):
+                self._say(SERVER, self._answer(SERVER))
 
     def _close(self) -> None:
         if self.is_left:
@@ -436,11 +449,14 @@ class Session:
     def _request(self, end: int, kind: Type, identifier: int, amount: int) -> bytes:
         """A SUBSCRIBE or UNSUBSCRIBE."""
         self._owe(1 - end, Type.SUBACK if kind == Type.SUBSCRIBE else Type.UNSUBACK, identifier, amount)
-        filters = [self.draw.choice(SHARED if self.shares and self.chance(0.3) else FILTERS) for _ in range(amount)]
+        filters = [self.draw.choice(SHARED if self.shares and self.chance(0.3) else self._filters()) for _ in range(amount)]
         has_options = kind == Type.SUBSCRIBE
         body = b"".join(text(one) + (bytes([self._options()]) if has_options else b"") for one in filters)
         properties = self._properties(0.05, EXPLANATIONS[1], *([SUBSCRIPTION_IDENTIFIER] if has_options else []))
         return packet(kind << 4 | 2, number(identifier) + properties + body)
+
+    def _filters(self) -> tuple[str, ...]:
+        return FILTERS[:3] if self.is_fickle else FILTERS
 
     def _options(self) -> int:
         """Of a SUBSCRIBE: a Maximum QoS, and sometimes No Local."""
