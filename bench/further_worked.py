@@ -213,9 +213,9 @@ def made(count: int) -> Iterator[tuple[str, bytes]]:
 
 
 def wrong_honest(name: str, log: Log) -> Iterator[str]:
-    """Honest sessions have no faults. (Their moments aren't those of a Keep Alive.)"""
+    """Honest sessions have no faults."""
     excepted = NOT_HEEDED[log.role] if name.startswith("bench/honest_logs.py") else set()
-    for k, code, at in faults(log):
+    for k, code, at in faults(log, times=True):
         if code not in excepted:
             yield f"{name}: {code} fails at {k}, decided at {at}"
 

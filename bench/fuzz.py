@@ -215,7 +215,8 @@ def work(plan: Plan) -> Tally:
         tally.verdicts[verdict(report_of(made.log))] += 1
         if seldom:
             tally.tested.update(tested_further(made.log))
-        is_unpassed = made.kind == hostile_logs.HONEST and verdict(report_of(made.log, True)) != "pass"
+        is_honest = made.kind in (hostile_logs.HONEST, hostile_logs.AT_ANY_TIME)
+        is_unpassed = is_honest and verdict(report_of(made.log, True)) != "pass"
         if found or is_unpassed:
             with found_by_all:
                 found_by_all.value += 1

@@ -7,8 +7,9 @@ or closed without a CONNACK, which may have begun a session all the same. There 
 and PUBRELs that are sent again, at once or one after the other, PUBLISHes that a connection's end cuts off, or that a bound of the
 peer forbids, subscriptions, Topic Aliases, what the peer announces, Reason Codes that the end may send,
 Wills, which a server doesn't take if it can't, enhanced authentication, if the CONNECT names a method, packets before the CONNACK, also where that then says of the session what the client
-didn't expect, RELEASEs and RESTs; and packets are split over records anywhere. A judge must pass each log, also with `--all`:
-`bench/fuzz.py` looks at that, and at what it says of these logs when changed. A third of the logs are of version 2.
+didn't expect, RELEASEs and RESTs; and packets are split over records anywhere. A third of the logs are of version 2, at whose moments
+no client is silent for longer than it may be, or the server closes. A judge must pass each log, by all statements: `bench/fuzz.py`
+looks at that, and at what it says of these logs when changed.
 
 usage: bench/honest_logs.py SEED NUMBER > FILE
 """
@@ -20,9 +21,10 @@ from itertools import accumulate
 
 sys.dont_write_bytecode = True  # the repository stays as it is
 from make_log import CLOSE, OPEN, PINGREQ, PINGRESP, RECV, REST, SENT, record, varint
+from pacing import in_time
 from random_logs import EXPLANATIONS, Type, will_flags, write_one
 from session_logs import CLIENT, RELEASE, SERVER, number, packet, text
-from versions import in_some_version
+from versions import OFTEN_SECOND
 
 IDENTIFIERS = range(1, 6)
 TOPICS = ("a", "b", "a/b", "a/b/c", "$x/y")
@@ -33,6 +35,7 @@ LONGEST = 64  # no PUBLISH or SUBSCRIBE with a payload of one byte is larger: th
 PAYLOADS = (0, 1, 1, 1, 1, 1, 1, 300)
 EXPIRY_0, EXPIRY_60 = b"\x11\0\0\0\0", b"\x11\0\0\0\x3c"  # Session Expiry Interval, in seconds
 AUTHENTICATION_METHOD = b"\x15\0\1m"
+KEEP_ALIVES = (0, 2, 4, 10, 60, 60)  # in seconds
 LEAVING = ((0x00, 0x00, 0x00, 0x04, 0x80, 0x98), (0x00, 0x00, 0x00, 0x8B, 0x8E, 0x98))  # of a client's DISCONNECT, and of a server's
 ANSWERS = {1: Type.PUBACK, 2: Type.PUBREC}
 Answer = tuple[Type, int]
@@ -298,8 +301,8 @@ class Honest:
             flags, rest = flags | will_flags(qos, retain), b"\0" + text("will") + text("gone")
         if self.chance(0.1):
             flags, rest = flags | 0xC0, rest + text("user") + text("word")
-        name = text("me" if self.is_named else "")
-        self._say(CLIENT, packet(0x10, text("MQTT") + bytes([5, flags]) + number(60) + listed(properties) + name + rest))
+        name, keep_alive = text("me" if self.is_named else ""), number(self.draw.choice(KEEP_ALIVES))
+        self._say(CLIENT, packet(0x10, text("MQTT") + bytes([5, flags]) + keep_alive + listed(properties) + name + rest))
         self.is_kept = False
         return wants_information
 
@@ -341,6 +344,7 @@ class Honest:
         else:
             properties += self._announced()
         properties += self.line.method
+        properties += b"\x13" + number(self.draw.choice(KEEP_ALIVES)) if self.chance(0.15) else b""
         properties += b"\x1a" + text("i") if wants_information and self.chance(0.5) else b""
         self._say(SERVER, packet(0x20, bytes([resumes, 0]) + listed(properties)))
         self.line.is_early = False
@@ -751,7 +755,8 @@ def split(draw: random.Random, kind: int, body: bytes) -> bytes:
 def session(seed: int, which: int) -> bytes:
     """The log of this number among those of the seed."""
     draw = random.Random(f"honest {seed} {which}")
-    return in_some_version(draw, Honest(draw).log())
+    log = Honest(draw).log()
+    return in_time(draw, log) if draw.random() < OFTEN_SECOND else log
 
 
 if __name__ == "__main__":

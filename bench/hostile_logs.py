@@ -1,7 +1,7 @@
 """Makes logs of all kinds for `bench/fuzz.py`, by a seed: sessions in which the tested end does right, and others; the same, and
 worked logs, changed; and garbage, in records and in place of a header. A third of them are logs of version 2, with moments as
-recorders write them or with odd ones, and now and then cut or changed in a record's head. The same seed and number always give the
-same bytes.
+recorders write them, or with longer waits, or with odd ones, and now and then cut or changed in a record's head. Where the tested
+end does right, it does so by the moments too, unless these are any. The same seed and number always give the same bytes.
 """
 import random
 from collections.abc import Callable
@@ -12,12 +12,13 @@ import check_rows
 import showing
 from honest_logs import Honest
 from make_log import CLOSE, CONNACK, CONNECT, OPEN, RECV, REST, SENT, record
+from pacing import in_time
 from random_logs import EXAMPLES, TELLING, Session, change, crowded, first_version_streams
 from session_logs import CLIENT, RELEASE, number, packet
 from shortening import packets
-from versions import HEAD_SIZES, HEADER_SIZE, LENGTH_END, in_some_version, records, version_of
+from versions import HEAD_SIZES, HEADER_SIZE, LENGTH_END, OFTEN_SECOND, in_some_version, records, version_of
 
-HONEST = "honest"
+HONEST, AT_ANY_TIME = "honest", "honest, at any time"
 # What captures begin with, and what gzip compresses.
 MAGICS = (b"\xd4\xc3\xb2\xa1", b"\x4d\x3c\xb2\xa1", b"\x0a\x0d\x0d\x0a", b"\xa1\xb2\xc3\xd4", b"\x1f\x8b\x08")
 # (The longest bodies have 100000 bytes in version 1, and 1000000 in version 2, in hexadecimal digits.)
@@ -257,8 +258,10 @@ def cut_head(draw: random.Random, log: bytes) -> bytes:
 
 def with_version(draw: random.Random, kind: str, log: bytes) -> bytes:
     """The log, or a third of them in version 2. Then one that needn't pass may be cut or changed."""
+    if kind == HONEST:
+        return in_time(draw, log) if draw.random() < OFTEN_SECOND else log
     log = in_some_version(draw, log)
-    if version_of(log) == 1 or kind == HONEST:
+    if version_of(log) == 1 or kind == AT_ANY_TIME:
         return log
     if draw.random() < 0.1:
         log = cut_head(draw, log)
@@ -322,7 +325,8 @@ def long_packet(draw: random.Random) -> bytes:
 Maker = Callable[[random.Random], bytes]
 # How each kind is made, and how often.
 KINDS: dict[str, tuple[Maker, int]] = {
-    HONEST: (lambda draw: Honest(draw).log(), 20),
+    HONEST: (lambda draw: Honest(draw).log(), 17),
+    AT_ANY_TIME: (lambda draw: Honest(draw).log(), 3),
     "honest, changed": (lambda draw: changed(draw, Honest(draw).log()), 30),
     "random session": (lambda draw: Session(draw).log(), 16),
     "random session, changed": (lambda draw: changed(draw, Session(draw).log()), 8),

@@ -83,6 +83,7 @@ class Type(IntEnum):
 
 
 IDENTIFIERS = (1, 2, 3)
+KEEP_ALIVES = (0, 1, 2, 4, 10, 60, 60, 60)  # in seconds
 TOPICS = ("a", "a", "a/b", "b", "$x")
 FILTERS = ("a", "a", "a/b", "a/#", "+", "#", "b/+")
 # Shared ones; the name of some is invalid, or no filter follows it.
@@ -104,6 +105,7 @@ EXPLANATIONS = ((b"\x1f\0\1r",), (b"\x26\0\1k\0\1v",))  # Reason String, User Pr
 OF_CONNECT: Choices = ((b"\x17\0", b"\x17\1"), (b"\x19\0", b"\x19\1"), RECEIVE_MAXIMUM, TOPIC_ALIAS_MAXIMUM, MAXIMUM_PACKET_SIZE)
 MAXIMUM_QOS = (b"\x24\0", b"\x24\1")
 RETAIN_AVAILABLE = (b"\x25\0", b"\x25\0", b"\x25\1")
+SERVER_KEEP_ALIVE = (b"\x13\0\0", b"\x13\0\2", b"\x13\0\4")
 OF_CONNACK: Choices = ((b"\x12\0\1c",), (b"\x1a\0\1i",), RECEIVE_MAXIMUM, TOPIC_ALIAS_MAXIMUM)
 AUTHENTICATION_METHOD = (b"\x15\0\1m", b"\x15\0\1m", b"\x15\0\1n")
 # What a tested client's server hasn't got, besides: Wildcard Subscription, Subscription Identifier and Shared Subscription Available.
@@ -403,13 +405,13 @@ class Session:
         properties = self._chosen(0.8, SESSION_EXPIRY_INTERVAL) + self._chosen(0.15, *OF_CONNECT, AUTHENTICATION_METHOD)
         self.has_will = self.chance(0.4)
         will = (self.draw.randrange(3), self.chance(0.5)) if self.has_will else None
-        return connect(is_clean, properties, "c" if self.chance(0.9) else "", will)
+        return connect(is_clean, properties, "c" if self.chance(0.9) else "", will, self.draw.choice(KEEP_ALIVES))
 
     def _connack(self, session_present: bool) -> bytes:
         refusals = (0x87, 0x9A, 0x9B) if self.has_will else (0x87,)
         code = self.draw.choice(refusals) if self.chance(0.1) else 0x00
         others = OF_CONNACK[: 2 if self.bursts else None]
-        chosen = self._chosen(0.12, SESSION_EXPIRY_INTERVAL, *others, AUTHENTICATION_METHOD)
+        chosen = self._chosen(0.12, SESSION_EXPIRY_INTERVAL, SERVER_KEEP_ALIVE, *others, AUTHENTICATION_METHOD)
         chosen += self.draw.choice(RECEIVE_MAXIMUM) if self.bursts else b""
         if self.has_will and self.role == SERVER:
             chosen += self._chosen(0.5, MAXIMUM_QOS, RETAIN_AVAILABLE)
@@ -473,13 +475,13 @@ class Session:
         return packet(0xE0, b"" if self.chance(0.4) else code + self._properties(0.5, SESSION_EXPIRY_INTERVAL))
 
 
-def connect(is_clean: bool, properties: bytes, name: str = "c", will: tuple[int, bool] | None = None) -> bytes:
+def connect(is_clean: bool, properties: bytes, name: str = "c", will: tuple[int, bool] | None = None, keep_alive: int = 60) -> bytes:
     """A CONNECT. Of a Will are given its QoS and Will Retain."""
     flags, rest = 2 if is_clean else 0, b""
     if will is not None:
         qos, retain = will
         flags, rest = flags | will_flags(qos, retain), b"\0" + text("w") + text("x")
-    return packet(0x10, text("MQTT") + bytes([5, flags]) + number(60) + varint(len(properties)) + properties + text(name) + rest)
+    return packet(0x10, text("MQTT") + bytes([5, flags]) + number(keep_alive) + varint(len(properties)) + properties + text(name) + rest)
 
 
 def will_flags(qos: int, retain: bool) -> int:

@@ -12,6 +12,7 @@ LENGTH_END = 5  # bytes of a record up to the end of its length
 MOMENT_SIZE = 8
 HEAD_SIZES = {1: LENGTH_END, 2: LENGTH_END + MOMENT_SIZE}  # bytes of a record before its body, by version
 LARGEST_MOMENT = (1 << 8 * MOMENT_SIZE) - 1
+SECOND = 1_000_000  # in microseconds
 SOME_TIME = 1_764_176_601_000_000  # in November 2025, in microseconds since 1970
 OFTEN_SECOND = 1 / 3  # how often a log of those that are made by a seed is of version 2
 
@@ -98,6 +99,16 @@ def clock(draw: random.Random) -> Iterator[int]:
         yield now
 
 
+def waits(draw: random.Random) -> Iterator[int]:
+    """Times that go on now and then by what a small Keep Alive allows, or some microseconds more or less."""
+    now, seconds = SOME_TIME, draw.choice((1, 2, 4, 10, 60))
+    while True:
+        if draw.random() < 0.4:
+            parts, more = draw.choice(((1, 0), (2, 0), (4, 0), (5, 1), (5, 1), (6, 0), (6, 5), (8, 0), (8, 0)))
+            now += seconds * SECOND * parts // 4 * draw.choice((1, 1, 2)) + more * SECOND + draw.choice((0, 0, 1, -1, 1_000))
+        yield now
+
+
 def odd_moments(draw: random.Random) -> Iterator[int]:
     """Moments that no clock gives: equal, the largest, going back, or any."""
     match draw.randrange(5):
@@ -113,7 +124,7 @@ def odd_moments(draw: random.Random) -> Iterator[int]:
 
 
 def in_some_version(draw: random.Random, log: bytes) -> bytes:
-    """A log of version 1, or a third of them in version 2, with moments as recorders write them or with odd ones."""
+    """A log of version 1, or a third of them in version 2, with moments as recorders write them, or with longer waits, or with odd ones."""
     if draw.random() >= OFTEN_SECOND:
         return log
-    return in_version_2(log, clock(draw) if draw.random() < 0.5 else odd_moments(draw))
+    return in_version_2(log, draw.choice((clock, waits, odd_moments))(draw))
