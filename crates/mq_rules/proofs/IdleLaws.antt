@@ -16,7 +16,7 @@ use Rattle.mq_rules.specs.declared.packet_note.PacketFields.{PacketFields}
 use Rattle.mq_rules.specs.declared.packet_note.PacketFields.TheVariants.{Connect, Connack, Disconnect}
 use Rattle.mq_rules.specs.declared.connection_state.ConnectionState.{ConnectionState}
 use Rattle.mq_rules.specs.Words.{is_id, is_some_and}
-use Rattle.mq_rules.specs.Notes.{is_open, is_close, is_typed, fields_type, sent_item, sent_connack, sent_disconnect, connect_in, connack_in, disconnect_in, connect_of, connack_of, client_disconnect, fate_by, decides, refuses, sends_type, receives_type, is_session_packet, needs_session}
+use Rattle.mq_rules.specs.Notes.{is_open, is_close, is_rest, is_release, is_typed, fields_type, sent_item, sent_connack, sent_disconnect, connect_in, connack_in, disconnect_in, connect_of, connack_of, client_disconnect, fate_by, decides, refuses, sends_type, receives_type, is_session_packet, needs_session}
 use Rattle.mq_rules.specs.Pasts.{is_sent_disconnect, is_sent_refusal}
 use Rattle.mq_rules.specs.Keeping.{begun_if, followed, connection_after, is_ordinary_in, is_ordinary}
 use Rattle.mq_rules.proofs.BoolLaws.{both_true, or_false, or_left, option_or-none}
@@ -59,7 +59,7 @@ decides-none : (role : Role) (n : Note) → is_close n ≡ false → connack_of 
 decides-none role n close none = ap (λ b. cond b (Some Void) (option_map fate_by (connack_of role n))) close ∙ ap (λ (o : Option ConnackNote). option_map fate_by o) none
 
 -- an event that says nothing new
-settled : (role : Role) (s : ConnectionState) (n : Note) → s.has_sent ≡ true → is_open n ≡ false → is_close n ≡ false
+settled : (role : Role) (s : ConnectionState) (n : Note) → (s.has_sent || is_some_and is_typed (sent_item n)) ≡ s.has_sent → is_open n ≡ false → is_close n ≡ false
     → connect_of role n ≡ None → connack_of role n ≡ None → client_disconnect role n ≡ None
     → sends_type types.Connect n ≡ false → sends_type types.Connack n ≡ false → receives_type types.Connect n ≡ false
     → sent_disconnect n ≡ None → sent_connack n ≡ None → s ≡ connection_after role s n
@@ -72,7 +72,7 @@ settled role s n sent open_not close_not connect connack disconnect s_connect s_
       connect = keeps s.connect (connect_of role n) connect i;
       connack = keeps s.connack (connack_of role n) connack i;
       disconnect = keeps s.disconnect (client_disconnect role n) disconnect i;
-      has_sent = known s.has_sent (is_some_and is_typed (sent_item n)) sent i;
+      has_sent = sent i;
       has_sent_connect = stays s.has_sent_connect (sends_type types.Connect n) s_connect i;
       has_sent_connack = stays s.has_sent_connack (sends_type types.Connack n) s_connack i;
       has_received_connect = stays s.has_received_connect (receives_type types.Connect n) r_connect i;
@@ -83,19 +83,27 @@ settled role s n sent open_not close_not connect connack disconnect s_connect s_
 ordinary : (role : Role) (s : ConnectionState) (n : Note) → s.has_sent ≡ true → is_ordinary n ≡ true → s ≡ connection_after role s n
 ordinary Client s (notes.Sent (items.Packet p)) h t =
     let u : is_ordinary_in p.fields ≡ true = sym (or_false (is_ordinary_in p.fields)) ∙ t in
-    settled Client s (notes.Sent (items.Packet p)) h refl refl (no-connect p.fields u) refl (no-disconnect p.fields u)
+    settled Client s (notes.Sent (items.Packet p)) (known s.has_sent _ h) refl refl (no-connect p.fields u) refl (no-disconnect p.fields u)
     (not-connect p.fields u) (not-connack p.fields u) refl (no-disconnect p.fields u) (no-connack p.fields u)
 ordinary Server s (notes.Sent (items.Packet p)) h t =
     let u : is_ordinary_in p.fields ≡ true = sym (or_false (is_ordinary_in p.fields)) ∙ t in
-    settled Server s (notes.Sent (items.Packet p)) h refl refl refl (no-connack p.fields u) refl
+    settled Server s (notes.Sent (items.Packet p)) (known s.has_sent _ h) refl refl refl (no-connack p.fields u) refl
     (not-connect p.fields u) (not-connack p.fields u) refl (no-disconnect p.fields u) (no-connack p.fields u)
 ordinary Client s (notes.Recv (items.Packet p)) h t =
-    settled Client s (notes.Recv (items.Packet p)) h refl refl refl (no-connack p.fields t) refl
+    settled Client s (notes.Recv (items.Packet p)) (known s.has_sent _ h) refl refl refl (no-connack p.fields t) refl
     refl refl (not-connect p.fields t) refl refl
 ordinary Server s (notes.Recv (items.Packet p)) h t =
-    settled Server s (notes.Recv (items.Packet p)) h refl refl (no-connect p.fields t) refl (no-disconnect p.fields t)
+    settled Server s (notes.Recv (items.Packet p)) (known s.has_sent _ h) refl refl (no-connect p.fields t) refl (no-disconnect p.fields t)
     refl refl (not-connect p.fields t) refl refl
 ordinary role s _ h t = absurd (cc)
+
+-- neither does a REST or a RELEASE
+silent : (role : Role) (s : ConnectionState) (n : Note) → (is_rest n || is_release n) ≡ true → s ≡ connection_after role s n
+silent Client s notes.Rest t = settled Client s notes.Rest (or_false s.has_sent) refl refl refl refl refl refl refl refl refl refl
+silent Server s notes.Rest t = settled Server s notes.Rest (or_false s.has_sent) refl refl refl refl refl refl refl refl refl refl
+silent Client s (notes.Release i) t = settled Client s (notes.Release i) (or_false s.has_sent) refl refl refl refl refl refl refl refl refl refl
+silent Server s (notes.Release i) t = settled Server s (notes.Release i) (or_false s.has_sent) refl refl refl refl refl refl refl refl refl refl
+silent role s _ t = absurd (cc)
 
 -- an ordinary packet begins, ends and decides no connection
 pub record IsQuiet (role : Role) (n : Note) : Type 0 where
@@ -133,3 +141,11 @@ pub unchanged : (role : Role) (s : ConnectionState) (n : Note) → (s.has_sent &
 unchanged role s n t =
     let both : (s.has_sent ≡ true) × (is_ordinary n ≡ true) = both_true s.has_sent (is_ordinary n) t in
     ordinary role s n both.0 both.1
+
+-- a REST, a RELEASE, or such a packet
+pub untouched : (role : Role) (s : ConnectionState) (n : Note) → ((is_rest n || is_release n) || (s.has_sent && is_ordinary n)) ≡ true → s ≡ connection_after role s n
+untouched role s n t = go (is_rest n || is_release n) refl t
+  where
+    go : (b : Bool) → (is_rest n || is_release n) ≡ b → (b || (s.has_sent && is_ordinary n)) ≡ true → s ≡ connection_after role s n
+    go true e t = silent role s n e
+    go false e t = unchanged role s n t

@@ -1,9 +1,9 @@
 //! What is kept of the latest connection.
-ghost use Rattle.std.specs.Prelude.{◌≡◌, ◌&&◌, [], false, None, is_some, is_none};
+ghost use Rattle.std.specs.Prelude.{◌≡◌, ◌&&◌, ◌||◌, [], false, None, is_some, is_none};
 ghost use Rattle.mq_rules.specs.declared.role.Role.{Role as TheRole};
 ghost use Rattle.mq_rules.specs.Keeping.{kept, begun_if, followed, connection_after, is_ordinary as ordinary, is_ordinary_in, expiry, stays_alive as lives_on};
 ghost use Rattle.mq_rules.specs.Words.{is_some_and};
-ghost use Rattle.mq_rules.specs.Notes.{sent_fields, received_fields};
+ghost use Rattle.mq_rules.specs.Notes.{is_rest, is_release, sent_fields, received_fields};
 ghost use Rattle.mq_rules.specs.Pasts.{is_sent_refusal};
 
 use crate::fate::Fate;
@@ -83,12 +83,13 @@ impl ConnectionState {
     }
 
     // A quick test that the event changes nothing: most are ordinary packets, after the first one
-    // that is sent.
+    // that is sent. A REST and a RELEASE are no packets.
     #[inline]
     fn is_unchanged_by(&self, note: &Note) -> bool
-        ensures { result ≡ (self.now.has_sent && ordinary note.now) }
+        ensures { result ≡ ((is_rest note.now || is_release note.now) || (self.now.has_sent && ordinary note.now)) }
     {
-        self.has_sent && (sends_ordinary(note) || receives_ordinary(note))
+        (note.is_rest() || note.is_release())
+            || (self.has_sent && (sends_ordinary(note) || receives_ordinary(note)))
     }
 
     // At an OPEN a new connection begins.
