@@ -23,3 +23,5 @@ pub mod JudgedLaws
 pub mod WaitingLaws
 pub mod GrowthLaws
 pub mod PassedOverLaws
+pub mod OwedLaws
+pub mod FurtherLaws

@@ -1,4 +1,4 @@
--- Judging a statement that a later REST shows: the faults of the places that one REST shows, and what they are to the statement.
+-- Judging a statement that a later event shows: the faults of the places that one event shows, and what they are to the statement.
 use Rattle.std.proofs.Common.{◌≡◌, ℕ, zero, suc, ◌+◌, ◌<◌, ◌==◌, Bool, true, false, cond, ◌&&◌, ◌||◌, not, List, [], ◌∷◌, length, take, get_or, Option, Some, None, refl, ap, sym, ◌∙◌, subst, arith, ◌⊎◌, inl, inr}
 use Rattle.std.specs.Prelude.{option_map, is_some}
 use Rattle.std.specs.List.{list_any, AllByRecursion}
@@ -24,6 +24,7 @@ use Rattle.mq_rules.specs.Faults.{record_of, offset_of, reported}
 use Rattle.mq_rules.specs.Growing.{added, Gains, GainsWithin}
 use Rattle.mq_rules.proofs.Exports.{and_false, option_or-none, same_test, fault_at-with_fault, moment-stays}
 use Rattle.mq_plain.specs.Shown.{IsShown}
+use Rattle.mq_plain.proofs.JudgedLaws.{IsPlain}
 use Rattle.mq_plain.specs.Blames.{place_at, decided_by, Blames, BlamesWithin}
 
 -- ---- one place after another
@@ -94,31 +95,22 @@ blames-part rule decided places i old new h = record { each = λ k r. go (fault_
     go x o true None whole h later = inl (h ∙ option_or-none o)
     go x o true (Some p) whole h later = inr (h ∙ ap (λ q. option_or o (option_map (decided_by decided) q)) (sym (later p refl)))
 
--- ---- what a REST shows
+-- ---- what an event shows of those before it
 
--- the pairs of one statement that turn out to fail with an event, under a fate
-abbrev pub turns_of : Rule → Tested → Fate → Seen → List Seen → ℕ → Rule → Bool
-turns_of rule tested f e past k r = same_rule r rule && turns_with tested f e past k r
+-- of the pairs that turn out to fail with an event, those of one statement
+abbrev pub own_of : Rule → (ℕ → Rule → Bool) → ℕ → Rule → Bool
+own_of rule fails k r = same_rule r rule && fails k r
 
--- the fault of a position that the newest event shows, if it is a REST that binds
+-- the fault of a position that the newest event shows, if the statement is judged there
 shown_fault : Bool → (Moment → Bool) → List Seen → ℕ → ℕ → Option Fault
 shown_fault judged test past at k = cond (judged && is_some_and test (moment past k)) (Some (record { decided = at; record_no = record_of (moment past k); offset = None })) None
 
-and-last : (a b c : Bool) → (a && (b && c)) ≡ ((a && b) && c)
-and-last true b c = refl
-and-last false b c = refl
-
-added-rest : (tested : Tested) (rule : Rule) (shows_it : Moment → Moment → Bool) (f : Fate) (e : Seen) (past : List Seen) (at k : ℕ) (r : Rule) → statement tested.role rule ≡ at_rest shows_it
-    → added (turns_of rule tested f e past) tested (e ∷ past) at k r ≡ cond (same_rule r rule) (shown_fault (binds rule tested && is_binding tested.role (newest e past)) (shows_it (newest e past)) past at k) None
-unfolding turns_with shown_fault
-added-rest tested rule shows_it f e past at k r says = go (same_rule r rule) refl
+added-own : (tested : Tested) (rule : Rule) (fails : ℕ → Rule → Bool) (judged : Bool) (test : Moment → Bool) (e : Seen) (past : List Seen) (at k : ℕ) (r : Rule) → IsPlain tested rule
+    → ((n : ℕ) → fails n rule ≡ (judged && is_some_and test (moment past n)))
+    → added (own_of rule fails) tested (e ∷ past) at k r ≡ cond (same_rule r rule) (shown_fault judged test past at k) None
+unfolding shown_fault
+added-own tested rule fails judged test e past at k r plain fails_so = go (same_rule r rule) refl
   where
-    test : Moment → Bool
-    test = shows_it (newest e past)
-
-    judged : Bool
-    judged = binds rule tested && is_binding tested.role (newest e past)
-
     fault_shown : (o : Option Moment) → moment past k ≡ o → (b : Bool)
         → cond (b && is_some_and test o) (Some (record { decided = at; record_no = record_of (moment (e ∷ past) k); offset = None })) None
         ≡ cond {A = Option Fault} (b && is_some_and test o) (Some (record { decided = at; record_no = record_of o; offset = None })) None
@@ -127,23 +119,22 @@ added-rest tested rule shows_it f e past at k r says = go (same_rule r rule) ref
     fault_shown (Some m) found b = ap (λ x. cond {A = Option Fault} (b && test m) (Some (record { decided = at; record_no = record_of x; offset = None })) None) (moment-stays e past k m found)
 
     go : (s : Bool) → same_rule r rule ≡ s
-        → cond (s && turns_with tested f e past k r) (Some (reported tested.role (moment (e ∷ past) k) r at)) None ≡ cond s (shown_fault judged test past at k) None
+        → cond (s && fails k r) (Some (reported tested.role (moment (e ∷ past) k) r at)) None ≡ cond s (shown_fault judged test past at k) None
     go false is = refl
     go true is =
         let one : r ≡ rule = same_true the_type tt r rule is in
-        ap (λ q. cond {A = Option Fault} (turns_with tested f e past k q) (Some (reported tested.role (moment (e ∷ past) k) q at)) None) one
-        ∙ ap (λ s. cond {A = Option Fault} (binds rule tested && shows_with tested.role f s e past k) (Some (record { decided = at; record_no = record_of (moment (e ∷ past) k); offset = offset_of s (moment (e ∷ past) k) })) None) says
-        ∙ ap (λ t. cond {A = Option Fault} t (Some (record { decided = at; record_no = record_of (moment (e ∷ past) k); offset = None })) None)
-        (and-last (binds rule tested) (is_binding tested.role (newest e past)) (is_some_and test (moment past k)))
+        ap (λ q. cond {A = Option Fault} (fails k q) (Some (reported tested.role (moment (e ∷ past) k) q at)) None) one
+        ∙ ap (λ o. cond {A = Option Fault} (fails k rule) (Some (record { decided = at; record_no = record_of (moment (e ∷ past) k); offset = o })) None) (plain.offset (moment (e ∷ past) k))
+        ∙ ap (λ t. cond {A = Option Fault} t (Some (record { decided = at; record_no = record_of (moment (e ∷ past) k); offset = None })) None) (fails_so k)
         ∙ fault_shown (moment past k) refl judged
 
--- where it isn't judged, or the event is no REST that binds, nothing is added
-pub rest-none : (tested : Tested) (rule : Rule) (shows_it : Moment → Moment → Bool) (f : Fate) (e : Seen) (past : List Seen) (at : ℕ) (faults : FaultMap) → statement tested.role rule ≡ at_rest shows_it
-    → (binds rule tested && is_binding tested.role (newest e past)) ≡ false → Gains (turns_of rule tested f e past) tested (e ∷ past) at faults faults
+-- where it isn't judged, nothing is added
+pub shown-none : (tested : Tested) (rule : Rule) (fails : ℕ → Rule → Bool) (judged : Bool) (test : Moment → Bool) (e : Seen) (past : List Seen) (at : ℕ) (faults : FaultMap) → IsPlain tested rule
+    → ((n : ℕ) → fails n rule ≡ (judged && is_some_and test (moment past n))) → judged ≡ false → Gains (own_of rule fails) tested (e ∷ past) at faults faults
 unfolding shown_fault
-rest-none tested rule shows_it f e past at faults says none = record {
-  each = λ k r. sym (ap (option_or (fault_at faults k r)) (added-rest tested rule shows_it f e past at k r says
-      ∙ ap (λ b. cond (same_rule r rule) (shown_fault b (shows_it (newest e past)) past at k) None) none ∙ nothing (same_rule r rule)) ∙ option_or-none (fault_at faults k r));
+shown-none tested rule fails judged test e past at faults plain fails_so none = record {
+  each = λ k r. sym (ap (option_or (fault_at faults k r)) (added-own tested rule fails judged test e past at k r plain fails_so
+      ∙ ap (λ b. cond (same_rule r rule) (shown_fault b test past at k) None) none ∙ nothing (same_rule r rule)) ∙ option_or-none (fault_at faults k r));
 }
 
 same_turned : (a b : ℕ) → (a == b) ≡ (b == a)
@@ -167,7 +158,7 @@ found-place P k (x ∷ places) p h all = go (k == x.position) refl h (λ there. 
     go true at h rest = let same : x ≡ p = cc in subst (λ q. (q.position ≡ k) × P q) same (sym (eqb-true k x.position at), all.0)
     go false at h rest = rest h
 
--- the faults that the places give are those that the REST shows
+-- the faults that the places give are those that the event shows
 shown-places : (test : Moment → Bool) (past : List Seen) (places : List Place3) (decided k : ℕ) → IsShown test past places
     → option_map (decided_by decided) (place_at k places) ≡ shown_fault true test past decided k
 unfolding shown_fault
@@ -188,31 +179,47 @@ shown-places test past places decided k shown = go (place_at k places) refl (mom
         ap (λ q. Some (decided_by decided q)) (sym place)
         ∙ ap (λ b. cond {A = Option Fault} b (Some (record { decided = decided; record_no = m.event.place.record_no; offset = None })) None) same
 
-added-shown : (tested : Tested) (rule : Rule) (shows_it : Moment → Moment → Bool) (f : Fate) (e : Seen) (past : List Seen) (places : List Place3) (decided k : ℕ) (r : Rule) → statement tested.role rule ≡ at_rest shows_it
-    → (binds rule tested && is_binding tested.role (newest e past)) ≡ true → IsShown (shows_it (newest e past)) past places
-    → cond (same_rule r rule) (option_map (decided_by decided) (place_at k places)) None ≡ added (turns_of rule tested f e past) tested (e ∷ past) decided k r
-added-shown tested rule shows_it f e past places decided k r says judged shown =
-    ap (λ o. cond (same_rule r rule) o None) (shown-places (shows_it (newest e past)) past places decided k shown)
-    ∙ ap (λ b. cond (same_rule r rule) (shown_fault b (shows_it (newest e past)) past decided k) None) (sym judged)
-    ∙ sym (added-rest tested rule shows_it f e past decided k r says)
+added-shown : (tested : Tested) (rule : Rule) (fails : ℕ → Rule → Bool) (judged : Bool) (test : Moment → Bool) (e : Seen) (past : List Seen) (places : List Place3) (decided k : ℕ) (r : Rule) → IsPlain tested rule
+    → ((n : ℕ) → fails n rule ≡ (judged && is_some_and test (moment past n))) → judged ≡ true → IsShown test past places
+    → cond (same_rule r rule) (option_map (decided_by decided) (place_at k places)) None ≡ added (own_of rule fails) tested (e ∷ past) decided k r
+added-shown tested rule fails judged test e past places decided k r plain fails_so is_judged shown =
+    ap (λ o. cond (same_rule r rule) o None) (shown-places test past places decided k shown)
+    ∙ ap (λ b. cond (same_rule r rule) (shown_fault b test past decided k) None) (sym is_judged)
+    ∙ sym (added-own tested rule fails judged test e past decided k r plain fails_so)
 
--- so the faults grow by what the REST shows
-pub rest-shown : (tested : Tested) (rule : Rule) (shows_it : Moment → Moment → Bool) (f : Fate) (e : Seen) (past : List Seen) (places : List Place3) (decided : ℕ) (old new : FaultMap) → statement tested.role rule ≡ at_rest shows_it
-    → (binds rule tested && is_binding tested.role (newest e past)) ≡ true → IsShown (shows_it (newest e past)) past places
-    → Blames rule decided places old new → Gains (turns_of rule tested f e past) tested (e ∷ past) decided old new
-rest-shown tested rule shows_it f e past places decided old new says judged shown blames = record {
-  each = λ k r. blames.each k r ∙ ap (option_or (fault_at old k r)) (added-shown tested rule shows_it f e past places decided k r says judged shown);
+-- so the faults grow by what the event shows
+pub shown-gains : (tested : Tested) (rule : Rule) (fails : ℕ → Rule → Bool) (judged : Bool) (test : Moment → Bool) (e : Seen) (past : List Seen) (places : List Place3) (decided : ℕ) (old new : FaultMap) → IsPlain tested rule
+    → ((n : ℕ) → fails n rule ≡ (judged && is_some_and test (moment past n))) → judged ≡ true → IsShown test past places
+    → Blames rule decided places old new → Gains (own_of rule fails) tested (e ∷ past) decided old new
+shown-gains tested rule fails judged test e past places decided old new plain fails_so is_judged shown blames = record {
+  each = λ k r. blames.each k r ∙ ap (option_or (fault_at old k r)) (added-shown tested rule fails judged test e past places decided k r plain fails_so is_judged shown);
 }
 
-pub rest-within : (tested : Tested) (rule : Rule) (shows_it : Moment → Moment → Bool) (f : Fate) (e : Seen) (past : List Seen) (places : List Place3) (decided : ℕ) (old new : FaultMap) → statement tested.role rule ≡ at_rest shows_it
-    → (binds rule tested && is_binding tested.role (newest e past)) ≡ true → IsShown (shows_it (newest e past)) past places
-    → BlamesWithin rule decided places old new → GainsWithin (turns_of rule tested f e past) tested (e ∷ past) decided old new
-rest-within tested rule shows_it f e past places decided old new says judged shown blames = record { each = λ k r. go k r (blames.each k r) }
+pub shown-within : (tested : Tested) (rule : Rule) (fails : ℕ → Rule → Bool) (judged : Bool) (test : Moment → Bool) (e : Seen) (past : List Seen) (places : List Place3) (decided : ℕ) (old new : FaultMap) → IsPlain tested rule
+    → ((n : ℕ) → fails n rule ≡ (judged && is_some_and test (moment past n))) → judged ≡ true → IsShown test past places
+    → BlamesWithin rule decided places old new → GainsWithin (own_of rule fails) tested (e ∷ past) decided old new
+shown-within tested rule fails judged test e past places decided old new plain fails_so is_judged shown blames = record { each = λ k r. go k r (blames.each k r) }
   where
     go : (k : ℕ) (r : Rule) → (fault_at new k r ≡ fault_at old k r) ⊎ (fault_at new k r ≡ option_or (fault_at old k r) (cond (same_rule r rule) (option_map (decided_by decided) (place_at k places)) None))
-        → (fault_at new k r ≡ fault_at old k r) ⊎ (fault_at new k r ≡ option_or (fault_at old k r) (added (turns_of rule tested f e past) tested (e ∷ past) decided k r))
+        → (fault_at new k r ≡ fault_at old k r) ⊎ (fault_at new k r ≡ option_or (fault_at old k r) (added (own_of rule fails) tested (e ∷ past) decided k r))
     go k r (inl same) = inl same
-    go k r (inr more) = inr (more ∙ ap (option_or (fault_at old k r)) (added-shown tested rule shows_it f e past places decided k r says judged shown))
+    go k r (inr more) = inr (more ∙ ap (option_or (fault_at old k r)) (added-shown tested rule fails judged test e past places decided k r plain fails_so is_judged shown))
+
+-- ---- what a REST that binds shows
+
+pub rest-plain : (tested : Tested) (rule : Rule) (shows_it : Moment → Moment → Bool) → statement tested.role rule ≡ at_rest shows_it → IsPlain tested rule
+rest-plain tested rule shows_it says = record { offset = λ m. ap (λ s. offset_of s m) says }
+
+and-last : (a b c : Bool) → (a && (b && c)) ≡ ((a && b) && c)
+and-last true b c = refl
+and-last false b c = refl
+
+pub rest-at : (tested : Tested) (rule : Rule) (shows_it : Moment → Moment → Bool) (f : Fate) (e : Seen) (past : List Seen) → statement tested.role rule ≡ at_rest shows_it → (k : ℕ)
+    → turns_with tested f e past k rule ≡ ((binds rule tested && is_binding tested.role (newest e past)) && is_some_and (shows_it (newest e past)) (moment past k))
+unfolding turns_with
+rest-at tested rule shows_it f e past says k =
+    ap (λ s. binds rule tested && shows_with tested.role f s e past k) says
+    ∙ and-last (binds rule tested) (is_binding tested.role (newest e past)) (is_some_and (shows_it (newest e past)) (moment past k))
 
 -- ---- whether it is judged
 

@@ -57,8 +57,27 @@ shown-more test e past places placed passes shown = record {
     go k false at =
         ap (λ b. list_any (λ p. p.position == k) places || (b || false)) (turned k ∙ at) ∙ or_false (list_any (λ p. p.position == k) places) ∙ shown.each k
 
+-- the same, with its place before the others
+pub shown-front : (test : Moment → Bool) (e : Seen) (past : List Seen) (places : List Place3) → e.place.position ≡ length past + 1 → test (newest e past) ≡ true → IsShown test past places → IsShown test (e ∷ past) (e.place ∷ places)
+shown-front test e past places placed passes shown =
+    let more = shown-more test e past places placed passes shown in
+    record {
+      each = λ k. turned k ∙ more.each k;
+      own = All-cons (λ p. option_map (λ m. m.event.place) (moment (e ∷ past) p.position) ≡ Some p) e.place places (ap (option_map (λ m. m.event.place)) (moment-newest e past e.place.position placed))
+          (All-alike (λ p. option_map (λ m. m.event.place) (moment past p.position) ≡ Some p) (λ p. option_map (λ m. m.event.place) (moment (e ∷ past) p.position) ≡ Some p) (own-later e past) places shown.own);
+    }
+  where
+    last : (a b : Bool) → (a || b) ≡ (b || (a || false))
+    last true true = refl
+    last true false = refl
+    last false true = refl
+    last false false = refl
+
+    turned : (k : ℕ) → list_any (λ p. p.position == k) (e.place ∷ places) ≡ list_any (λ p. p.position == k) (places ++ e.place ∷ [])
+    turned k = last (e.place.position == k) (list_any (λ p. p.position == k) places) ∙ sym (list_any-append (λ p. p.position == k) places (e.place ∷ []))
+
 -- it doesn't
-shown-same : (test : Moment → Bool) (e : Seen) (past : List Seen) (places : List Place3) → test (newest e past) ≡ false → IsShown test past places → IsShown test (e ∷ past) places
+pub shown-same : (test : Moment → Bool) (e : Seen) (past : List Seen) (places : List Place3) → test (newest e past) ≡ false → IsShown test past places → IsShown test (e ∷ past) places
 shown-same test e past places fails shown = record {
   each = λ k. go k (k == length past + 1) refl;
   own = All-alike (λ p. option_map (λ m. m.event.place) (moment past p.position) ≡ Some p) (λ p. option_map (λ m. m.event.place) (moment (e ∷ past) p.position) ≡ Some p) (own-later e past) places shown.own;

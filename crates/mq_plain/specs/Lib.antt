@@ -13,3 +13,4 @@ pub mod Owing
 pub mod Deliveries
 pub mod Events
 pub mod Waiting
+pub mod Owed

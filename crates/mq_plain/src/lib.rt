@@ -1,5 +1,5 @@
-//! Plain evaluators of the statements on sessions: they look back over the whole list of events, as
-//! the definitions do.
+//! Plain evaluators of the statements on sessions, and of further statements: they look back over
+//! the whole list of events, as the definitions do.
 #![tactic(auto)]
 
 mod adding;
@@ -10,6 +10,7 @@ mod deliveries;
 mod earliest;
 mod evaluator;
 mod exchanges;
+mod further;
 mod handshake;
 mod identifiers;
 mod judging;
@@ -27,4 +28,5 @@ mod session;
 mod table;
 mod turn;
 
+pub use further::plain_further;
 pub use plain::{plain_lb, plain_se, plain_sessions};

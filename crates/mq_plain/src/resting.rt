@@ -74,12 +74,14 @@ pub fn judge_rest<T: RestStatement>(
     Ok(())
 }
 
-// Adds a fault of a statement at each of these places, decided at this position. A pair that
-// already has a fault keeps it.
-//
-// Errors: `Memory` if there is no memory for a fault. Some of the faults may then have been added,
-// but no others.
-fn blame(rule: Rule, decided: u32, places: &[Place3], faults: &mut Faults) -> Result<(), Memory>
+/// Adds a fault of a statement at each of these places, decided at this position. A pair that
+/// already has a fault keeps it.
+///
+/// # Errors
+///
+/// `Memory` if there is no memory for a fault. Some of the faults may then have been added, but no
+/// others.
+pub fn blame(rule: Rule, decided: u32, places: &[Place3], faults: &mut Faults) -> Result<(), Memory>
     ensures ok { OnOk result (Blames rule decided places.now faults.old faults.new) }
     ensures memory { OnErr result (BlamesWithin rule decided places.now faults.old faults.new) }
 {

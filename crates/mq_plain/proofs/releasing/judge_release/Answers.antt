@@ -1,4 +1,5 @@
 use Rattle.std.specs.Prelude.{reverse}
+use Rattle.mq_rules.specs.Under.{turns_with}
 use Rattle.mq_plain.proofs.JudgedLaws.{broken-gains, unbroken-gains, release-plain, release-at}
 use Rattle.mq_plain.proofs.releasing.judge_release.Goals as goal
 
@@ -10,7 +11,7 @@ returns-then-not-broken-clause-ok g c = λ binds_it comes.
     let says = g.met.T.ReleaseStatement.says turn.tested.role in
     let e = c.args.event.now in
     let past = reverse c.args.before.now in
-    unbroken-gains turn.tested rule turn.fate e past turn.decided c.is_fault_at-broken.result c.args.faults.now
+    unbroken-gains turn.tested rule (turns_with turn.tested turn.fate e past) e past turn.decided c.is_fault_at-broken.result c.args.faults.now
     (release-at turn rule breaks e past c.args.binds c.is_fault_at-broken.result says binds_it c.is_fault_at-broken.ensures) c.if-not-broken.true
 
 pub returns-clause-ok : goal.returns-clause-ok
@@ -21,6 +22,6 @@ returns-clause-ok g c = λ binds_it comes.
     let says = g.met.T.ReleaseStatement.says turn.tested.role in
     let e = c.args.event.now in
     let past = reverse c.args.before.now in
-    broken-gains turn.tested rule c.rule.result turn.fate e past turn.decided c.is_fault_at-broken.result c.args.faults.now c.add_fault.new.faults comes.is_placed.0
+    broken-gains turn.tested rule c.rule.result (turns_with turn.tested turn.fate e past) e past turn.decided c.is_fault_at-broken.result c.args.faults.now c.add_fault.new.faults comes.is_placed.0
     (release-plain turn.tested rule breaks says)
     (release-at turn rule breaks e past c.args.binds c.is_fault_at-broken.result says binds_it c.is_fault_at-broken.ensures) c.if-not-broken.false c.rule.ensures c.in_ok-add_fault.ensures.ok

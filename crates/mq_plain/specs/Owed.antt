@@ -1,0 +1,32 @@
+-- What a server comes to owe by what it receives, and whether a later REST of the connection shows that it still does (further statements).
+use Rattle.std.specs.Prelude.{ℕ, ◌≡◌, ◌==◌, Bool, ◌&&◌, not, refl}
+use Rattle.mq_rules.specs.Notes.{is_rest}
+use Rattle.mq_rules.specs.Moments.{Moment, note}
+use Rattle.mq_rules.specs.Connections.{number}
+use Rattle.mq_rules.specs.Pasts.{came_before}
+use Rattle.mq_rules.specs.FurtherRests.{says_goodbye, settles_connect, waits_for_auth, owes_C24, shows_C24, owes_D01, shows_D01, owes_D02, shows_D02}
+
+-- the moment is on the connection of this number, and something comes to be owed with it
+abbrev pub owed_on : (Moment → Bool) → ℕ → Moment → Bool
+owed_on owes c m = (c == number m) && owes m
+
+-- before the moment nothing on its connection has settled its CONNECT, and the server doesn't wait for an AUTH
+abbrev pub is_unsettled : Moment → Bool
+is_unsettled t = not (came_before settles_connect t) && not (waits_for_auth t)
+
+-- before the moment the server hasn't said that it closes the connection
+abbrev pub is_unclosed : Moment → Bool
+is_unclosed t = not (came_before says_goodbye t)
+
+-- Each statement is shown at a REST, by what is owed and what is still due.
+pub C24_parts : (t m : Moment) → shows_C24 t m ≡ (owes_C24 m && (is_rest (note t) && is_unsettled t))
+unfolding shows_C24
+C24_parts t m = refl
+
+pub D01_parts : (t m : Moment) → shows_D01 t m ≡ (owes_D01 m && (is_rest (note t) && is_unclosed t))
+unfolding shows_D01
+D01_parts t m = refl
+
+pub D02_parts : (t m : Moment) → shows_D02 t m ≡ (owes_D02 m && (is_rest (note t) && is_unclosed t))
+unfolding shows_D02
+D02_parts t m = refl

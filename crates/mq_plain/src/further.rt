@@ -1,0 +1,74 @@
+//! The plain evaluator of the further statements on connections. It judges each event at once,
+//! since no fate of its connection is needed.
+ghost use Rattle.std.specs.Prelude.{reverse, OnOk, OnErr};
+ghost use Rattle.mq_rules.specs.Moments.{IsPlaced};
+ghost use Rattle.mq_rules.specs.Faults.{Grows, GrowsWithin};
+ghost use Rattle.mq_plain.specs.Chosen.{is_plain_further};
+
+mod authentication;
+mod duties;
+mod evaluator;
+mod judging;
+mod limits;
+mod moments;
+mod packets;
+mod showing;
+
+use authentication::{AskedAuthentication, SameMethod, WaitsForConnack};
+use duties::{AnsweredConnect, ClosedMalformed, ClosedReconnect};
+use evaluator::{Also, OnLater, OnPasts, judge_events};
+use limits::{NoIdentifiers, NoShares, NoWildcards, RetainedNothing, WillQos, WillRetain};
+use mq_rules::{Faults, Memory, Seen, Tested};
+use packets::{LocalShares, NamedShares, OwnCodes};
+use std::alloc::Global;
+
+// F01 to F06.
+type Limits<Others> = Also<
+    OnPasts<RetainedNothing>,
+    Also<
+        OnPasts<NoWildcards>,
+        Also<
+            OnPasts<NoIdentifiers>,
+            Also<OnPasts<NoShares>, Also<OnPasts<WillQos>, Also<OnPasts<WillRetain>, Others>>>,
+        >,
+    >,
+>;
+
+// V03, V04 and V06.
+type Packets<Others> = Also<
+    OnPasts<NamedShares>,
+    Also<OnPasts<LocalShares>, Also<OnPasts<OwnCodes>, Others>>,
+>;
+
+// C24, D01 and D02.
+type Obligations<Others> = Also<
+    OnLater<AnsweredConnect>,
+    Also<OnLater<ClosedMalformed>, Also<OnLater<ClosedReconnect>, Others>>,
+>;
+
+// A01 to A03.
+type Authentication = Also<
+    OnPasts<WaitsForConnack>,
+    Also<OnPasts<AskedAuthentication>, OnPasts<SameMethod>>,
+>;
+
+/// Judges each event of a list, the oldest first, by the further statements on connections: on one
+/// packet and on what came before it (F01 to F06, V03, V04, V06, A01 to A03), and on what a server
+/// owes for what it received (C24, D01, D02). A pair that already has a fault keeps it. Where the
+/// further statements aren't asked for, none of them binds the tested end.
+///
+/// # Errors
+///
+/// `Memory` if there is no memory. Some of the faults of these statements may then have been added,
+/// but no others.
+pub fn plain_further(
+    alloc: Global,
+    tested: Tested,
+    seen: &[Seen],
+    faults: &mut Faults,
+) -> Result<(), Memory>
+    ensures ok { IsPlaced (reverse seen.now) → OnOk result (Grows is_plain_further tested (reverse seen.now) faults.old faults.new) }
+    ensures memory { IsPlaced (reverse seen.now) → OnErr result (GrowsWithin is_plain_further tested (reverse seen.now) faults.old faults.new) }
+{
+    judge_events::<Limits<Packets<Obligations<Authentication>>>>(alloc, tested, seen, faults)
+}

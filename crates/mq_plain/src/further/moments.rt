@@ -1,0 +1,44 @@
+//! Tests on an event with what comes before it, and looking back over a connection with them.
+ghost use Rattle.std.specs.Prelude.{◌≡◌, reverse};
+ghost use Rattle.mq_rules.specs.Moments.{newest, some};
+ghost use Rattle.mq_rules.specs.Connections.{connection};
+ghost use Rattle.mq_rules.specs.FurtherRests.{is_first_of};
+
+use mq_rules::Seen;
+
+/// A test on an event and on what comes before it.
+pub trait MomentTest {
+    ghost use Rattle.std.specs.Prelude.{◌≡◌, Bool, reverse};
+    ghost use Rattle.mq_rules.specs.Moments.{Moment, newest};
+
+    // The moments that pass.
+    ghost test: { Self → Moment → Bool };
+
+    /// Whether an event with these events before it passes.
+    fn passes(&self, event: &Seen, before: &[Seen]) -> bool
+        ensures { result ≡ test self.now (newest event.now (reverse before.now)) };
+}
+
+/// Whether an event passes the test, and none before it on its connection does.
+pub fn is_first<T: MomentTest>(test: &T, event: &Seen, before: &[Seen]) -> bool
+    ensures { result ≡ is_first_of (T.test test.now) (newest event.now (reverse before.now)) }
+{
+    test.passes(event, before) && !some_moment(test, before)
+}
+
+// Whether some event of the latest connection passes the test.
+fn some_moment<T: MomentTest>(test: &T, before: &[Seen]) -> bool
+    ensures { result ≡ some (T.test test.now) (connection (reverse before.now)) }
+{
+    let mut earlier = before;
+    while let Some((event, rest)) = earlier.split_last() {
+        if test.passes(event, rest) {
+            return true;
+        }
+        if event.note.is_open() {
+            return false;
+        }
+        earlier = rest;
+    }
+    false
+}
