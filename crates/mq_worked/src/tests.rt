@@ -1,6 +1,7 @@
 //! The judge on logs, each with its report, worked out by hand from the statements, and compared
 //! with evaluators that look back.
 
+mod further;
 mod hostile;
 mod memory;
 mod plain;

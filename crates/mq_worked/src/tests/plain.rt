@@ -2,8 +2,8 @@
 use mq_connections::{plain_c, plain_connections, plain_w};
 use mq_judge::{Judge, Options};
 use mq_log::{Event, Place3, Refusal};
-use mq_plain::{plain_lb, plain_se, plain_sessions};
-use mq_rules::{Faults, Memory, Note, Seen, Tested};
+use mq_plain::{plain_further, plain_lb, plain_se, plain_sessions};
+use mq_rules::{Fault, FaultKey, Faults, Memory, Note, Rule, Seen, Tested};
 use mq_trace::{Sink, Tracer};
 use mq_watchers::watch_sessions;
 use std::alloc::Global;
@@ -33,7 +33,7 @@ impl Sink for Notes {
     }
 }
 
-// The faults by the four plain evaluators.
+// The faults by the four plain evaluators of statements that are always judged.
 fn plain_faults(alloc: Global, tested: Tested, seen: &[Seen]) -> Result<Faults, Memory> {
     let mut faults = Faults::new(alloc);
     plain_w(alloc, tested, seen, &mut faults)?;
@@ -59,8 +59,9 @@ fn watched_faults(alloc: Global, tested: Tested, seen: &[Seen]) -> Result<Faults
     Ok(faults)
 }
 
-// The tested end and the events of a log; `None` if it is refused, or its header isn't whole.
-fn noted(alloc: Global, log: &[u8]) -> Result<Option<(Tested, Vec<Seen>)>, Memory> {
+// The tested end and the events of a log; `None` if it is refused, or its header isn't whole. The
+// further statements are asked for or not.
+fn noted(alloc: Global, log: &[u8], further: bool) -> Result<Option<(Tested, Vec<Seen>)>, Memory> {
     let mut tracer = Tracer::new(alloc, Options::default().limit);
     let mut notes = Notes {
         alloc,
@@ -68,7 +69,7 @@ fn noted(alloc: Global, log: &[u8]) -> Result<Option<(Tested, Vec<Seen>)>, Memor
     };
     match tracer.feed(log, &mut notes) {
         Ok(()) => match tracer.header() {
-            Some(header) => Ok(Some((Tested::of(header, false), notes.seen))),
+            Some(header) => Ok(Some((Tested::of(header, further), notes.seen))),
             None => Ok(None),
         },
         Err(Refusal::Memory(_)) => Err(Memory),
@@ -96,7 +97,7 @@ fn agreed_faults(alloc: Global, tested: Tested, seen: &[Seen]) -> Result<Option<
 ///
 /// `Memory` if there is none.
 pub fn plain_faults_in(alloc: Global, log: &[u8]) -> Result<Option<Faults>, Memory> {
-    match noted(alloc, log)? {
+    match noted(alloc, log, false)? {
         Some((tested, seen)) => agreed_faults(alloc, tested, seen.as_slice()),
         None => Ok(None),
     }
@@ -122,4 +123,57 @@ pub fn are_faults_alike(alloc: Global, log: &[u8]) -> Result<bool, Memory> {
         Some(faults) => Ok(judged.is_ok() && are_same(judge.known(), &faults)),
         None => Ok(judged.is_err() || judge.role().is_none()),
     }
+}
+
+/// The faults that the plain evaluators find in a log, those of the further statements too; `None`
+/// if it is refused, or its header isn't whole.
+///
+/// # Errors
+///
+/// `Memory` if there is none.
+pub fn plain_further_faults_in(alloc: Global, log: &[u8]) -> Result<Option<Faults>, Memory> {
+    match noted(alloc, log, true)? {
+        Some((tested, seen)) => {
+            let mut faults = plain_faults(alloc, tested, seen.as_slice())?;
+            plain_further(alloc, tested, seen.as_slice(), &mut faults)?;
+            Ok(Some(faults))
+        }
+        None => Ok(None),
+    }
+}
+
+// Whether no plain evaluator judges a statement.
+fn is_without_evaluator(rule: Rule) -> bool {
+    matches!(rule, Rule::B05 | Rule::D03 | Rule::D05)
+}
+
+// Whether a fault is among these, if a plain evaluator judges its statement.
+fn is_found(faults: &Faults, key: FaultKey, fault: Fault) -> bool {
+    is_without_evaluator(key.rule) || faults.get(key) == Some(fault)
+}
+
+/// Whether the judge and the plain evaluators find the same faults in a log if the further
+/// statements are asked for, but for those that have no plain evaluator; or both refuse it.
+///
+/// # Errors
+///
+/// `Memory` if there is none.
+pub fn are_further_faults_alike(alloc: Global, log: &[u8]) -> Result<bool, Memory> {
+    let options = Options {
+        further: true,
+        ..Options::default()
+    };
+    let mut judge = Judge::new(alloc, options);
+    let judged = judge.feed(log);
+    let Some(faults) = plain_further_faults_in(alloc, log)? else {
+        return Ok(judged.is_err() || judge.role().is_none());
+    };
+    let known = judge.known();
+    let are_all_known = faults
+        .iter()
+        .all(|(key, fault)| known.get(*key) == Some(*fault));
+    let are_all_found = known
+        .iter()
+        .all(|(key, fault)| is_found(&faults, *key, *fault));
+    Ok(judged.is_ok() && are_all_known && are_all_found)
 }

@@ -28,7 +28,7 @@ mod unseen;
 mod untold;
 mod worked;
 
-use super::plain::are_faults_alike;
+use super::plain::{are_faults_alike, are_further_faults_alike};
 use mq_harness::{FAULTY, PASSED, REFUSED, add_timed_record, is_reported, weight_of};
 use mq_judge::Outcome;
 use packets::PACKETS;
@@ -142,12 +142,13 @@ pub fn report_of(alloc: Global, lines: &'static str) -> Result<String, AllocErro
     Ok(report)
 }
 
-// Whether the judge and the plain evaluators find the same faults in the log of these words, and
-// the report on it is that of these lines.
+// Whether the judge and the plain evaluators find the same faults in the log of these words, also
+// if the further statements are asked for, and the report on it without them is that of these
+// lines.
 fn is_judged_so(alloc: Global, words: &'static str, lines: &'static str) -> Result<bool, Fail> {
     let log = log_of(alloc, &[], words)?;
     let report = report_of(alloc, lines)?;
-    let alike = are_faults_alike(alloc, &log)?;
+    let alike = are_faults_alike(alloc, &log)? && are_further_faults_alike(alloc, &log)?;
     Ok(alike && is_reported(alloc, &log, outcome_of(report.as_str()), report.as_str())?)
 }
 
