@@ -55,13 +55,31 @@ pub trait Fated {
         ensures bounded { (tested : Tested) (taken : Option TheFate) (past : List Seen) → agrees self.now tested taken past → result ≤ bound tested taken past };
 }
 
-/// Gives an event to a watcher in a call of its own, for one that few events concern. It is given
-/// the event's numbers, and not where they lie: else they would lie in memory on each way to it.
+// Gives an event to a watcher in a call of its own.
+#[inline(never)]
+fn call_fated<W: Fated, E: Taken>(
+    watcher: &mut W,
+    at: Place3,
+    decided: u32,
+    fate: Fate,
+    event: &E,
+    faults: &mut Faults,
+) -> Result<(), Memory>
+    ensures agrees { OnOk result ((tested : Tested) (past : List Seen) → IsUnder tested fate decided (seen at (E.note event.now)) past → W.agrees watcher.old tested (fate_before tested fate (seen at (E.note event.now)) past) past → W.agrees watcher.new tested (Some fate) (seen at (E.note event.now) ∷ past)) }
+    ensures grows { OnOk result ((tested : Tested) (past : List Seen) → IsUnder tested fate decided (seen at (E.note event.now)) past → W.agrees watcher.old tested (fate_before tested fate (seen at (E.note event.now)) past) past → Gains (λ k r. W.judges r && turns_with tested fate (seen at (E.note event.now)) past k r) tested (seen at (E.note event.now) ∷ past) decided faults.old faults.new) }
+    ensures memory { OnErr result ((tested : Tested) (past : List Seen) → IsUnder tested fate decided (seen at (E.note event.now)) past → W.agrees watcher.old tested (fate_before tested fate (seen at (E.note event.now)) past) past → GainsWithin (λ k r. W.judges r && turns_with tested fate (seen at (E.note event.now)) past k r) tested (seen at (E.note event.now) ∷ past) decided faults.old faults.new) }
+{
+    watcher.fated(at, decided, fate, event, faults)
+}
+
+/// Gives an event to a watcher in a call of its own, for one that few events concern: one for those
+/// of which a note was made, and one for bare packets, whose numbers lie in memory on the way to it
+/// alone.
 ///
 /// # Errors
 ///
 /// As in `fated`.
-#[inline(never)]
+#[inline(always)]
 pub fn fated_apart<W: Fated>(
     watcher: &mut W,
     at: Place3,
@@ -75,8 +93,8 @@ pub fn fated_apart<W: Fated>(
     ensures memory { OnErr result ((tested : Tested) (past : List Seen) → IsUnder tested fate decided (seen at (note_in event.entry)) past → W.agrees watcher.old tested (fate_before tested fate (seen at (note_in event.entry)) past) past → GainsWithin (λ k r. W.judges r && turns_with tested fate (seen at (note_in event.entry)) past k r) tested (seen at (note_in event.entry) ∷ past) decided faults.old faults.new) }
 {
     match event {
-        NoteRef::Kept(note) => watcher.fated(at, decided, fate, note, faults),
-        NoteRef::Bare(bare) => watcher.fated(at, decided, fate, &bare, faults),
+        NoteRef::Kept(note) => call_fated(watcher, at, decided, fate, note, faults),
+        NoteRef::Bare(bare) => call_fated(watcher, at, decided, fate, &bare, faults),
     }
 }
 
