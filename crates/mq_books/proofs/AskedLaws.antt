@@ -191,6 +191,24 @@ caused-new tested x packets i f e past ok starts = caused-next tested x packets 
     go true n = absurd (let none : x.cause e.note ≡ None = (packets.none e.note (ap (λ b. b || is_release e.note) n)).0 in let bad : is_id i (x.cause e.note) ≡ false = ap (is_id i) none in cc)
     go false n = ap (λ a. cond a (is_id i (x.cause e.note) || k) k) ok ∙ ap (λ c. c || k) starts
 
+-- an answer is taken in, and then an OPEN or a cause
+pub answered-then : (x : Exchange) → IsApart x → (f : Fate) (n : Note) (at i : ℕ) (old : Option ℕ)
+    → answered_next f n (x.cause n) None 0 i (cond (accepts f && is_id i (x.answer n)) (option_map (λ _. at) old) old) ≡ answered_next f n (x.cause n) (x.answer n) at i old
+answered-then x packets f n at i old = go (is_open n) refl
+  where
+    go : (b : Bool) → is_open n ≡ b
+        → cond b (cond (begins (Some f)) None (cond (accepts f && is_id i (x.answer n)) (option_map (λ _. at) old) old)) (cond (accepts f) (cond (is_id i (x.cause n)) (Some 0) (cond (accepts f && is_id i (x.answer n)) (option_map (λ _. at) old) old)) (cond (accepts f && is_id i (x.answer n)) (option_map (λ _. at) old) old))
+        ≡ cond b (cond (begins (Some f)) None old) (cond (accepts f) (cond (is_id i (x.cause n)) (Some 0) (cond (is_id i (x.answer n)) (option_map (λ _. at) old) old)) old)
+    go true opens =
+        let gives : x.answer n ≡ None = (packets.none n (ap (λ b. b || is_release n) opens)).1 in
+        ap (λ o. cond (begins (Some f)) None (cond (accepts f && is_id i o) (option_map (λ _. at) old) old)) gives ∙ ap (λ b. cond (begins (Some f)) None (cond b (option_map (λ _. at) old) old)) (and_false (accepts f))
+    go false opens = by (accepts f)
+      where
+        by : (a : Bool) → cond a (cond (is_id i (x.cause n)) (Some 0) (cond (a && is_id i (x.answer n)) (option_map (λ _. at) old) old)) (cond (a && is_id i (x.answer n)) (option_map (λ _. at) old) old)
+            ≡ cond a (cond (is_id i (x.cause n)) (Some 0) (cond (is_id i (x.answer n)) (option_map (λ _. at) old) old)) old
+        by true = refl
+        by false = refl
+
 pub asked-next : (tested : Tested) (x : Exchange) (f fate : Fate) (opened now : ℕ) (answered next : ℕ → Option ℕ) (e : Seen) (past : List Seen) → IsApart x → e.place.position ≡ length past + 1
     → IsAsked x fate opened answered tested (fate_before tested f e past) past → now ≡ cond (is_open e.note) e.place.position opened
     → ((i : ℕ) → next i ≡ answered_next f e.note (x.cause e.note) (x.answer e.note) e.place.position i (answered i))

@@ -1,5 +1,5 @@
 //! Each answer was asked for (MQTT 5.0, sections 3.8.4, 3.10.4 and 4.3).
-ghost use Rattle.std.specs.Prelude.{◌≡◌, ◌&&◌, ℕ, OnOk, cond, [], Some, is_some, refl};
+ghost use Rattle.std.specs.Prelude.{◌≡◌, ◌&&◌, ℕ, OnOk, cond, [], Some, None, is_some, not, option_map, refl};
 ghost use Rattle.mq_rules.specs.declared.fate.Fate.TheVariants.{Void};
 ghost use Rattle.mq_rules.specs.Connections.{accepts, surprises as surprising};
 ghost use Rattle.mq_rules.specs.Rules.{same_rule, binds as is_bound};
@@ -11,7 +11,8 @@ ghost use Rattle.mq_books.specs.Placings.{on_session};
 ghost use Rattle.mq_books.specs.Burden.{caused_ids};
 ghost use Rattle.mq_books.specs.Weights.{asked_weighs};
 ghost use Rattle.mq_books.specs.Askings as keeping;
-ghost use Rattle.mq_books.specs.Askings.{IsAsked, answered_by};
+ghost use Rattle.mq_books.specs.Askings.{IsAsked, answered_by, is_before};
+ghost use Rattle.mq_rules.specs.Words.{is_id};
 ghost use Rattle.mq_books.specs.Concerns.{concerns_asked};
 
 use crate::counting::Asks;
@@ -39,17 +40,58 @@ pub struct Asked<X: Exchange> {
     exchange: PhantomData<X>,
 }
 
-// Takes in an event of a connection that has this fate. What isn't accepted changes nothing.
+// Whether no cause is owed under an identifier, by what is kept under it.
 #[inline(always)]
-fn take_answered(
+fn is_unasked(latest: Option<u32>, opened: u32) -> bool
+    ensures { result ≡ not (is_before opened latest) }
+{
+    match latest {
+        Some(latest) => !(latest < opened),
+        None => true,
+    }
+}
+
+// Whether the statement is judged, and an answer has no cause that is owed.
+#[inline(always)]
+fn is_judged(binds: bool, unasked: bool) -> bool
+    ensures { result ≡ (binds && unasked) }
+{
+    binds && unasked
+}
+
+// Takes in an answer, and returns whether no cause of it is owed. What isn't accepted changes
+// nothing.
+#[inline(always)]
+fn take_answer(
     answered: &mut CountedByIdentifier<u32>,
     position: u32,
     fate: Fate,
+    opened: u32,
+    answer: Option<u16>,
+) -> bool
+    ensures unasked { result ≡ keeping.is_unasked fate opened answer (value_under answered.old) }
+    ensures answered { (i : ℕ) → value_under answered.new i ≡ cond (accepts fate && is_id i answer) (option_map (λ _. position) (value_under answered.old i)) (value_under answered.old i) }
+{
+    if !fate.accepts() {
+        return false;
+    }
+    let Some(i) = answer else {
+        return false;
+    };
+    let unasked = is_unasked(answered.get(i), opened);
+    answered.replace(i, position);
+    unasked
+}
+
+// Takes in that a connection begins, or a cause.
+#[inline(always)]
+fn take_cause(
+    answered: &mut CountedByIdentifier<u32>,
+    fate: Fate,
     opens: bool,
     cause: Option<u16>,
-    answer: Option<u16>,
 ) -> Result<(), Memory>
-    ensures { OnOk result ((i : ℕ) → value_under answered.new i ≡ answered_by fate opens cause answer position i (value_under answered.old i)) }
+    ensures { OnOk result ((i : ℕ) → value_under answered.new i ≡ answered_by fate opens cause None 0 i (value_under answered.old i)) }
 {
     if opens {
         if fate.begins() {
@@ -59,9 +101,6 @@ fn take_answered(
     }
     if !fate.accepts() {
         return Ok(());
-    }
-    if let Some(i) = answer {
-        answered.replace(i, position);
     }
     if let Some(i) = cause {
         answered.insert(i, 0)?;
@@ -74,28 +113,6 @@ pub fn opened_after(opened: u32, position: u32, opens: bool) -> u32
     ensures { result ≡ cond opens position opened }
 {
     if opens { position } else { opened }
-}
-
-// Whether the statement is judged, and an answer has no cause that is owed.
-#[inline(always)]
-fn is_unasked(
-    binds: bool,
-    fate: Fate,
-    opened: u32,
-    answer: Option<u16>,
-    answered: &CountedByIdentifier<u32>,
-) -> bool
-    ensures { result ≡ (binds && keeping.is_unasked fate opened answer (value_under answered.now)) }
-{
-    binds
-        && fate.accepts()
-        && match answer {
-            Some(i) => match answered.get(i) {
-                Some(latest) => !(latest < opened),
-                None => true,
-            },
-            None => false,
-        }
 }
 
 // Whether the end may be surprised by the fate of a connection on which it has sent an answer.
@@ -140,9 +157,10 @@ impl<X: Exchange> Fated for Asked<X> {
         let opens = event.is_open();
         let cause = X::cause(event);
         let answer = X::answer(event);
-        let unasked = is_unasked(self.binds, fate, self.opened, answer, &self.answered);
-        let broken = excuse(surprises::<X>(fate), decided == at.position, unasked);
-        take_answered(&mut self.answered, at.position, fate, opens, cause, answer)?;
+        let unasked = take_answer(&mut self.answered, at.position, fate, self.opened, answer);
+        let judged = is_judged(self.binds, unasked);
+        let broken = excuse(surprises::<X>(fate), decided == at.position, judged);
+        take_cause(&mut self.answered, fate, opens, cause)?;
         self.opened = opened_after(self.opened, at.position, opens);
         self.fate = fate;
         judge_by(X::asked_rule(), broken, at, decided, faults)?;
