@@ -34,7 +34,7 @@ use Rattle.mq_books.specs.Concerns.{Passes, concerns_count, concerns_asked, conc
 use Rattle.mq_books.specs.Answering.{IsApart}
 use Rattle.mq_books.specs.Askings.{IsAsked, answered_next, is_unasked}
 use Rattle.mq_books.specs.Owings.{due_next, IsOwing}
-use Rattle.mq_books.specs.Orderings.{looked_at, passes_over, queued_next, ordered_by}
+use Rattle.mq_books.specs.Orderings.{left_by, looked_at, passes_over, queued_next, ordered_by}
 use Rattle.mq_books.specs.Countings.{Counting, IsCounting, IsCounted, counted_next, differs}
 use Rattle.mq_books.specs.Pingings.{ends_by, counted, is_server, IsPings}
 use Rattle.mq_books.specs.Quotas.{announced, may_count, IsQuota}
@@ -152,15 +152,17 @@ owing-passes tested x apart settled ordered says_settled says_ordered binding or
     let o : IsOwing x settled ordered binding order_binding fate ended due queue tested (Some f) past =
     subst (λ (t : Option Fate). IsOwing x settled ordered binding order_binding fate ended due queue tested t past) (sym (closed-before tested f e past h1.0)) before in
     let next : IsOwing x settled ordered binding order_binding f ended due queue tested (Some f) (e ∷ past) =
-    owing-next tested x apart settled ordered binding order_binding f fate at ended ended due due queue queue queue queue e past under before
+    owing-next tested x apart settled ordered binding order_binding f fate at ended ended due due due queue queue queue queue e past under before
     (sym (ap (λ b. b || (not (is_open n) && ended)) h3.0 ∙ ap (λ b. not b && ended) h1.0))
+    (λ i. sym (ap (λ q. cond (accepts f && is_id i q) None (due i)) gives ∙ ap (λ b. cond b None (due i)) (and_false (accepts f))))
     (λ accepted i. sym (
-    ap (λ q. due_next n q (x.answer n) e.place i (due i)) asks
-    ∙ ap (λ q. due_next n None q e.place i (due i)) gives
+    ap (λ q. due_next n q None e.place i (due i)) asks
     ∙ ap (λ b. option_or (cond b None (due i)) None) h1.0
     ∙ option_or-none (due i)))
     (λ rejected i. refl)
-    (sym (ap (λ q. cond (order_binding && accepts f) (looked_at due q queue) queue) gives ∙ same_cond (order_binding && accepts f) queue))
+    (sym (ap (λ q. cond (accepts f) (cond order_binding (left_by due due q queue) queue) queue) gives
+    ∙ ap (λ q. cond (accepts f) q queue) (same_cond order_binding queue)
+    ∙ same_cond (accepts f) queue))
     (sym (ap (λ q. cond (is_some ordered && accepts f) (queued_next n q e.place.position due queue) queue) asks
     ∙ ap (λ b. cond (is_some ordered && accepts f) (cond b [] (queue ++ [])) queue) h1.0
     ∙ ap (λ q. cond (is_some ordered && accepts f) q queue) (append-nil queue)

@@ -23,26 +23,27 @@ use Rattle.mq_rules.specs.Growing.{Gains}
 use Rattle.mq_books.specs.Pingings.{ends_by}
 use Rattle.mq_books.specs.Answering.{IsApart}
 use Rattle.mq_books.specs.Owings.{due_next, blamed, binds_by, IsOwing}
-use Rattle.mq_books.specs.Orderings.{looked_at, passes_over, fallen, queued_next, ordered_by, IsQueue, IsTidied}
+use Rattle.mq_books.specs.Orderings.{looked_at, left_by, passes_over, fallen, queued_next, ordered_by, IsQueue, IsTidied}
 use Rattle.mq_rules.specs.IdentifierCounts.{ids_where}
 use Rattle.mq_books.specs.Burden.{caused_ids}
 use Rattle.mq_books.proofs.OwedLaws.{owed-next, owed-gains}
-use Rattle.mq_books.proofs.QueueLaws.{looked-queue, queue-next, tidied-queue}
+use Rattle.mq_books.proofs.QueueLaws.{answered-queue, still-queue, queue-next, tidied-queue}
 use Rattle.mq_books.proofs.OrderLaws.{order-gains}
 use Rattle.mq_books.proofs.AskedLaws.{caused-more, caused-new}
 use Rattle.mq_books.proofs.SizeLaws.{ids-more, caused-some}
-use Rattle.mq_books.proofs.QueueSizeLaws.{looked-length, tidied-length, joined-length, dropped-none, tidied-none}
+use Rattle.mq_books.proofs.QueueSizeLaws.{left-length, left-none, tidied-length, joined-length, tidied-none}
 
-pub owing-next : (tested : Tested) (x : Exchange) → IsApart x → (settled : Rule) (ordered : Option Rule) (binding order_binding : Bool) (f fate : Fate) (at : ℕ) (ended now : Bool) (due next : ℕ → Option Place3) (queue looked after tidied : List Debt) (e : Seen) (past : List Seen)
+pub owing-next : (tested : Tested) (x : Exchange) → IsApart x → (settled : Rule) (ordered : Option Rule) (binding order_binding : Bool) (f fate : Fate) (at : ℕ) (ended now : Bool) (due mid next : ℕ → Option Place3) (queue looked after tidied : List Debt) (e : Seen) (past : List Seen)
     → IsUnder tested f at e past → IsOwing x settled ordered binding order_binding fate ended due queue tested (fate_before tested f e past) past → now ≡ (ends_by e.note || (not (is_open e.note) && ended))
-    → (accepts f ≡ true → (i : ℕ) → next i ≡ due_next e.note (x.cause e.note) (x.answer e.note) e.place i (due i)) → (accepts f ≡ false → (i : ℕ) → next i ≡ due i)
-    → looked ≡ cond (order_binding && accepts f) (looked_at due (x.answer e.note) queue) queue
-    → after ≡ cond (is_some ordered && accepts f) (queued_next e.note (x.cause e.note) e.place.position due looked) looked
+    → ((i : ℕ) → mid i ≡ cond (accepts f && is_id i (x.answer e.note)) None (due i))
+    → (accepts f ≡ true → (i : ℕ) → next i ≡ due_next e.note (x.cause e.note) None e.place i (mid i)) → (accepts f ≡ false → (i : ℕ) → next i ≡ mid i)
+    → looked ≡ cond (accepts f) (cond order_binding (left_by due mid (x.answer e.note) queue) queue) queue
+    → after ≡ cond (is_some ordered && accepts f) (queued_next e.note (x.cause e.note) e.place.position mid looked) looked
     → IsTidied next after tidied
     → ((n : ℕ) (test : ℕ → Bool) → is_some (x.cause e.note) ≡ true → IsQueue next after n → ((i : ℕ) → is_some (next i) ≡ true → test i ≡ true) → length tidied ≤ 2 * ids_where test)
     → IsOwing x settled ordered binding order_binding f now next tidied tested (Some f) (e ∷ past)
 unfolding caused_ids
-owing-next tested x packets settled ordered binding order_binding f fate at ended now due next queue looked after tidied e past under o is grown same looks queues less short = record {
+owing-next tested x packets settled ordered binding order_binding f fate at ended now due mid next queue looked after tidied e past under o is answered begun stays looks queues less short = record {
   binds_are = o.binds_are;
   order_binds_are = o.order_binds_are;
   owed = owed-next tested x f fate at ended now due next e past packets under o.owed is grown;
@@ -55,19 +56,34 @@ owing-next tested x packets settled ordered binding order_binding f fate at ende
     grows : length past + 1 ≡ length (e ∷ past)
     grows = omega arith
 
-    either : (b : Bool) → IsQueue due queue (length past) → IsQueue due (cond b (looked_at due (x.answer e.note) queue) queue) (length past)
-    either true h = looked-queue due (x.answer e.note) queue (length past) h
-    either false h = h
+    -- what is due after the answer, and after the event
+    left : accepts f ≡ true → (i : ℕ) → mid i ≡ cond (is_id i (x.answer e.note)) None (due i)
+    left ok i = answered i ∙ ap (λ b. cond (b && is_id i (x.answer e.note)) None (due i)) ok
 
-    old : is_some ordered ≡ true → accepts f ≡ true → is_open e.note ≡ false → fate_before tested f e past ≡ Some fate → IsQueue due looked (length past)
-    old has ok n same =
-        let closed : Some f ≡ Some fate = ap (λ b. cond b (latest_fate tested.role past) (Some f)) (sym n) ∙ same in
+    grown : accepts f ≡ true → (i : ℕ) → next i ≡ due_next e.note (x.cause e.note) (x.answer e.note) e.place i (due i)
+    grown ok i = begun ok i ∙ ap (λ o. due_next e.note (x.cause e.note) None e.place i o) (left ok i) ∙ both (is_id i (x.answer e.note)) (is_open e.note)
+      where
+        both : (a b : Bool) → option_or (cond b None (cond a None (due i))) (cond (is_id i (x.cause e.note)) (Some e.place) None) ≡ option_or (cond a None (cond b None (due i))) (cond (is_id i (x.cause e.note)) (Some e.place) None)
+        both true true = refl
+        both true false = refl
+        both false b = refl
+
+    same : accepts f ≡ false → (i : ℕ) → next i ≡ due i
+    same never i = stays never i ∙ answered i ∙ ap (λ b. cond (b && is_id i (x.answer e.note)) None (due i)) never
+
+    either : (b : Bool) → accepts f ≡ true → IsQueue due queue (length past) → IsQueue mid (cond b (left_by due mid (x.answer e.note) queue) queue) (length past)
+    either true ok h = answered-queue due mid (x.answer e.note) queue (length past) (left ok) h
+    either false ok h = still-queue due mid (x.answer e.note) queue (length past) (left ok) h
+
+    old : is_some ordered ≡ true → accepts f ≡ true → is_open e.note ≡ false → fate_before tested f e past ≡ Some fate → IsQueue mid looked (length past)
+    old has ok n fates =
+        let closed : Some f ≡ Some fate = ap (λ b. cond b (latest_fate tested.role past) (Some f)) (sym n) ∙ fates in
         let one : f ≡ fate = cc in
-        subst (λ (q : List Debt). IsQueue due q (length past)) (sym looks) (either (order_binding && accepts f) (o.queued has (ap accepts (sym one) ∙ ok)))
+        subst (λ (q : List Debt). IsQueue mid q (length past)) (sym (looks ∙ ap (λ b. cond b (cond order_binding (left_by due mid (x.answer e.note) queue) queue) queue) ok)) (either order_binding ok (o.queued has (ap accepts (sym one) ∙ ok)))
 
     -- the queue before it is tidied
     put : List Debt
-    put = queued_next e.note (x.cause e.note) e.place.position due looked
+    put = queued_next e.note (x.cause e.note) e.place.position mid looked
 
     after-is : is_some ordered ≡ true → accepts f ≡ true → after ≡ put
     after-is has ok = queues ∙ ap (λ b. cond (b && accepts f) put looked) has ∙ ap (λ b. cond b put looked) ok
@@ -79,17 +95,18 @@ owing-next tested x packets settled ordered binding order_binding f fate at ende
     after-queue has ok =
         subst (λ (q : List Debt). IsQueue next q (length (e ∷ past))) (sym (after-is has ok))
         (subst (λ n. IsQueue next put n) grows
-        (queue-next due next looked (length past) e.note (x.cause e.note) (x.answer e.note) e.place under.follows.placed.0 no-cause (packets.apart e.note) (grown ok) (λ n. old has ok n o.owed.same_fate)))
+        (queue-next mid next looked (length past) e.note (x.cause e.note) None e.place under.follows.placed.0 no-cause (λ i h. refl) (begun ok) (λ n. old has ok n o.owed.same_fate)))
 
     -- without a statement on the order the queue is empty
     after-none : is_some ordered ≡ false → after ≡ []
     after-none none =
-        let stays : looked ≡ [] = looks ∙ (λ i. cond (order_binding && accepts f) (looked_at due (x.answer e.note) (o.unordered none i)) (o.unordered none i)) ∙ empty (order_binding && accepts f) in
-        queues ∙ ap (λ b. cond (b && accepts f) put looked) none ∙ stays
+        let nothing : looked ≡ [] = looks ∙ (λ i. cond (accepts f) (cond order_binding (left_by due mid (x.answer e.note) (o.unordered none i)) (o.unordered none i)) (o.unordered none i)) ∙ empty (accepts f) order_binding in
+        queues ∙ ap (λ b. cond (b && accepts f) put looked) none ∙ nothing
       where
-        empty : (b : Bool) → cond b (looked_at due (x.answer e.note) []) [] ≡ []
-        empty true = dropped-none due (x.answer e.note) [] refl
-        empty false = refl
+        empty : (a b : Bool) → cond a (cond b (left_by due mid (x.answer e.note) []) []) [] ≡ []
+        empty true true = left-none due mid (x.answer e.note)
+        empty true false = refl
+        empty false b = refl
 
     -- what is due has a cause in the session
     has_cause : ℕ → Bool
@@ -123,11 +140,12 @@ owing-next tested x packets settled ordered binding order_binding f fate at ende
 
     -- how long the queue is
     looked-least : length looked ≤ length queue
-    looked-least = let is : length looked ≡ length (cond (order_binding && accepts f) (looked_at due (x.answer e.note) queue) queue) = ap (length {A = Debt}) looks in let le = go (order_binding && accepts f) in omega (arith, is, le)
+    looked-least = let is : length looked ≡ length (cond (accepts f) (cond order_binding (left_by due mid (x.answer e.note) queue) queue) queue) = ap (length {A = Debt}) looks in let le = go (accepts f) order_binding in omega (arith, is, le)
       where
-        go : (b : Bool) → length (cond b (looked_at due (x.answer e.note) queue) queue) ≤ length queue
-        go true = looked-length due (x.answer e.note) queue
-        go false = omega arith
+        go : (a b : Bool) → length (cond a (cond b (left_by due mid (x.answer e.note) queue) queue) queue) ≤ length queue
+        go true true = left-length due mid (x.answer e.note) queue
+        go true false = omega arith
+        go false b = omega arith
 
     tidied-least : length tidied ≤ length after
     tidied-least = tidied-length next after tidied less
@@ -144,7 +162,7 @@ owing-next tested x packets settled ordered binding order_binding f fate at ende
         nothing : after ≡ [] → length tidied ≤ 2 * caused_ids x tested.role (Some f) (e ∷ past)
         nothing none = let is : length tidied ≡ 0 = ap (length {A = Debt}) (tidied-none next after tidied less none) in omega (arith, is)
 
-        by-cause : (c : Option ℕ) → x.cause e.note ≡ c → is_open e.note ≡ false → after ≡ looked ++ fallen due e.place.position c → is_some ordered ≡ true → length tidied ≤ 2 * caused_ids x tested.role (Some f) (e ∷ past)
+        by-cause : (c : Option ℕ) → x.cause e.note ≡ c → is_open e.note ≡ false → after ≡ looked ++ fallen mid e.place.position c → is_some ordered ≡ true → length tidied ≤ 2 * caused_ids x tested.role (Some f) (e ∷ past)
         by-cause None q opens is has =
             let long : length after ≡ length (looked ++ []) = ap (length {A = Debt}) is in
             let joined = joined-length looked [] in
@@ -152,8 +170,8 @@ owing-next tested x packets settled ordered binding order_binding f fate at ende
         by-cause (Some c) q opens is has = short (length (e ∷ past)) has_cause (ap is_some q) (after-queue has n) due-caused
 
         by-open : (a : Bool) → is_open e.note ≡ a → is_some ordered ≡ true → length tidied ≤ 2 * caused_ids x tested.role (Some f) (e ∷ past)
-        by-open true opens has = nothing (after-is has n ∙ ap (λ a. cond a [] (looked ++ fallen due e.place.position (x.cause e.note))) opens)
-        by-open false opens has = by-cause (x.cause e.note) refl opens (after-is has n ∙ ap (λ a. cond a [] (looked ++ fallen due e.place.position (x.cause e.note))) opens) has
+        by-open true opens has = nothing (after-is has n ∙ ap (λ a. cond a [] (looked ++ fallen mid e.place.position (x.cause e.note))) opens)
+        by-open false opens has = by-cause (x.cause e.note) refl opens (after-is has n ∙ ap (λ a. cond a [] (looked ++ fallen mid e.place.position (x.cause e.note))) opens) has
 
         by-order : (b : Bool) → is_some ordered ≡ b → length tidied ≤ 2 * caused_ids x tested.role (Some f) (e ∷ past)
         by-order false none = nothing (after-none none)

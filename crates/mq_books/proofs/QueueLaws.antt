@@ -1,5 +1,5 @@
 -- A queue of debts: its first debt that is still due is the earliest one.
-use Rattle.std.proofs.Common.{◌≡◌, ℕ, ◌+◌, ◌<◌, ◌≤◌, ◌==◌, arith, Bool, true, false, cond, ◌⊎◌, inl, inr, not, List, [], ◌∷◌, ◌++◌, filter, Option, Some, None, refl, ap, sym, ◌∙◌, subst}
+use Rattle.std.proofs.Common.{◌≡◌, ℕ, ◌+◌, ◌<◌, ◌≤◌, ◌==◌, arith, Bool, true, false, cond, ◌&&◌, ◌⊎◌, inl, inr, not, List, [], ◌∷◌, ◌++◌, filter, Option, Some, None, refl, ap, sym, ◌∙◌, subst}
 use Rattle.std.specs.Prelude.{is_some}
 use Rattle.std.specs.Option.{option_or}
 use Rattle.std.proofs.lemmas.Bool.{eq-eqb, eqb-true}
@@ -7,9 +7,10 @@ use Rattle.mq_log.specs.declared.place.Place3.{Place3}
 use Rattle.mq_rules.specs.declared.note.Note.{Note}
 use Rattle.mq_rules.specs.Words.{is_some_and, is_id}
 use Rattle.mq_rules.specs.Notes.{is_open}
+use Rattle.mq_rules.proofs.Exports.{and_false, both_true}
 use Rattle.mq_books.specs.declared.ordering.Debt.{Debt}
 use Rattle.mq_books.specs.Owings.{due_next}
-use Rattle.mq_books.specs.Orderings.{is_still_due, from_due, first_debt, looked_at, is_passed, fallen, queued_next, Queued, IsAscending, IsQueue, IsTidied}
+use Rattle.mq_books.specs.Orderings.{is_still_due, is_debt, from_due, from_settled, is_late, left_after, left_by, is_overtaken, is_overtaken_by, first_debt, looked_at, is_passed, passes_over, fallen, queued_by, queued_next, Queued, IsAscending, IsQueue, IsTidied}
 
 -- ---- the queue from its first debt on that is still due
 
@@ -54,10 +55,6 @@ dropped-queue due q n h = record {
   within = λ i at a. h.within i at (dropped-within due i at q a);
   each = λ i p is. due-stays due i p q is (h.each i p is);
 }
-
-pub looked-queue : (due : ℕ → Option Place3) (answer : Option ℕ) (q : List Debt) (n : ℕ) → IsQueue due q n → IsQueue due (looked_at due answer q) n
-looked-queue due None q n h = h
-looked-queue due (Some i) q n h = dropped-queue due q n h
 
 -- ---- the first debt that is still due
 
@@ -109,6 +106,112 @@ earlier-passed due q n i p h is other o due_other differs lt = go (from_due due 
         by : (b : Bool) → (d.identifier == i) ≡ b → not (d.identifier == i) ≡ true
         by false n = ap not n
         by true n = absurd (later n (subst (λ (x : List Debt). Queued other o.position x) e (k.each other o due_other)) (subst (λ (x : List Debt). IsAscending x) e k.ascending))
+
+-- ---- the queue after an answer
+
+-- what isn't due is found under no identifier
+left-stays : (due : ℕ → Option Place3) (i at j : ℕ) (p : Place3) (q : List Debt) → due i ≡ None → due j ≡ Some p → Queued j p.position q → Queued j p.position (from_settled due i at q)
+left-stays due i at j p [] none h a = a
+left-stays due i at j p (d ∷ ds) none h a = go (is_debt i at d) (is_still_due due d) refl refl a (left-stays due i at j p ds none h)
+  where
+    go : (own b : Bool) → is_debt i at d ≡ own → is_still_due due d ≡ b → ((d.identifier ≡ j) × (d.position ≡ p.position)) ⊎ Queued j p.position ds → (Queued j p.position ds → Queued j p.position (from_settled due i at ds))
+        → Queued j p.position (cond own ds (cond b (d ∷ ds) (from_settled due i at ds)))
+    go true b o n (inr a) rest = a
+    go true b o n (inl a) rest =
+        let same : d.identifier ≡ i = eqb-true d.identifier i (both_true (d.identifier == i) (at == d.position) o).0 in
+        absurd (let bad : None ≡ Some p = sym none ∙ ap due (sym same ∙ a.0) ∙ h in cc)
+    go false true o n a rest = a
+    go false false o n (inr a) rest = rest a
+    go false false o n (inl a) rest =
+        let is : is_still_due due d ≡ true = ap (is_some_and (λ (p : Place3). p.position == d.position)) (ap due a.0 ∙ h) ∙ eq-eqb p.position d.position (sym a.1) in
+        absurd (cc)
+
+left-within : (due : ℕ → Option Place3) (i at j spot : ℕ) (q : List Debt) → Queued j spot (from_settled due i at q) → Queued j spot q
+left-within due i at j spot [] a = a
+left-within due i at j spot (d ∷ ds) a = go (is_debt i at d) (is_still_due due d) a (left-within due i at j spot ds)
+  where
+    go : (own b : Bool) → Queued j spot (cond own ds (cond b (d ∷ ds) (from_settled due i at ds))) → (Queued j spot (from_settled due i at ds) → Queued j spot ds) → ((d.identifier ≡ j) × (d.position ≡ spot)) ⊎ Queued j spot ds
+    go true b a rest = inr a
+    go false true a rest = a
+    go false false a rest = inr (rest a)
+
+left-ascending : (due : ℕ → Option Place3) (i at : ℕ) (q : List Debt) → IsAscending q → IsAscending (from_settled due i at q)
+left-ascending due i at [] h = h
+left-ascending due i at (d ∷ ds) h = go (is_debt i at d) (is_still_due due d) (left-ascending due i at ds h.1)
+  where
+    go : (own b : Bool) → IsAscending (from_settled due i at ds) → IsAscending (cond own ds (cond b (d ∷ ds) (from_settled due i at ds)))
+    go true b rest = h.1
+    go false true rest = h
+    go false false rest = rest
+
+left-queue : (due : ℕ → Option Place3) (i at : ℕ) (q : List Debt) (n : ℕ) → due i ≡ None → IsQueue due q n → IsQueue due (from_settled due i at q) n
+left-queue due i at q n none h = record {
+  ascending = left-ascending due i at q h.ascending;
+  within = λ j spot a. h.within j spot (left-within due i at j spot q a);
+  each = λ j p is. left-stays due i at j p q none is (h.each j p is);
+}
+
+-- less is due
+pub still-queue : (due next : ℕ → Option Place3) (answer : Option ℕ) (q : List Debt) (n : ℕ) → ((i : ℕ) → next i ≡ cond (is_id i answer) None (due i)) → IsQueue due q n → IsQueue next q n
+still-queue due next answer q n are h = record { ascending = h.ascending; within = h.within; each = λ i p is. h.each i p (less i p is (is_id i answer) refl) }
+  where
+    less : (i : ℕ) (p : Place3) → next i ≡ Some p → (b : Bool) → is_id i answer ≡ b → due i ≡ Some p
+    less i p is true t = absurd (let bad : None ≡ Some p = sym (are i ∙ ap (λ b. cond b None (due i)) t) ∙ is in cc)
+    less i p is false t = sym (are i ∙ ap (λ b. cond b None (due i)) t) ∙ is
+
+pub answered-queue : (due next : ℕ → Option Place3) (answer : Option ℕ) (q : List Debt) (n : ℕ) → ((i : ℕ) → next i ≡ cond (is_id i answer) None (due i)) → IsQueue due q n → IsQueue next (left_by due next answer q) n
+answered-queue due next answer q n are h = go answer refl
+  where
+    go : (o : Option ℕ) → answer ≡ o → IsQueue next (left_by due next o q) n
+    go None e = still-queue due next answer q n are h
+    go (Some i) e = by (due i)
+      where
+        none : next i ≡ None
+        none = are i ∙ ap (λ o. cond (is_id i o) None (due i)) e ∙ ap (λ b. cond b None (due i)) (eq-eqb i i refl)
+
+        by : (o : Option Place3) → IsQueue next (left_after next i o q) n
+        by None = still-queue due next answer q n are h
+        by (Some p) = left-queue next i p.position q n none (still-queue due next answer q n are h)
+
+-- a debt before it is still due: the first one that was due before is another one
+late-passed : (due next : ℕ → Option Place3) (i : ℕ) (p : Place3) (q : List Debt) → due i ≡ Some p → ((j : ℕ) → next j ≡ cond (j == i) None (due j)) → is_late next i p.position q ≡ is_passed i (from_due due q)
+late-passed due next i p [] h are = refl
+late-passed due next i p (d ∷ ds) h are = go (d.identifier == i) refl (late-passed due next i p ds h are)
+  where
+    go : (b : Bool) → (d.identifier == i) ≡ b → is_late next i p.position ds ≡ is_passed i (from_due due ds)
+        → cond (b && (p.position == d.position)) false (cond (is_still_due next d) true (is_late next i p.position ds)) ≡ is_passed i (cond (is_still_due due d) (d ∷ ds) (from_due due ds))
+    go true e rest = own (p.position == d.position) refl
+      where
+        same : is_still_due due d ≡ (p.position == d.position)
+        same = ap (is_some_and (λ (o : Place3). o.position == d.position)) (ap due (eqb-true d.identifier i e) ∙ h)
+
+        gone : is_still_due next d ≡ false
+        gone = ap (is_some_and (λ (o : Place3). o.position == d.position)) (are d.identifier ∙ ap (λ b. cond b None (due d.identifier)) e)
+
+        own : (b : Bool) → (p.position == d.position) ≡ b → cond b false (cond (is_still_due next d) true (is_late next i p.position ds)) ≡ is_passed i (cond (is_still_due due d) (d ∷ ds) (from_due due ds))
+        own true s = sym (ap (λ b. is_passed i (cond b (d ∷ ds) (from_due due ds))) (same ∙ s) ∙ ap not e)
+        own false s = ap (λ b. cond b true (is_late next i p.position ds)) gone ∙ rest ∙ sym (ap (λ b. is_passed i (cond b (d ∷ ds) (from_due due ds))) (same ∙ s))
+    go false e rest = by (is_still_due due d) refl
+      where
+        same : is_still_due next d ≡ is_still_due due d
+        same = ap (is_some_and (λ (o : Place3). o.position == d.position)) (are d.identifier ∙ ap (λ b. cond b None (due d.identifier)) e)
+
+        by : (b : Bool) → is_still_due due d ≡ b → cond (is_still_due next d) true (is_late next i p.position ds) ≡ is_passed i (cond (is_still_due due d) (d ∷ ds) (from_due due ds))
+        by true s = ap (λ b. cond b true (is_late next i p.position ds)) (same ∙ s) ∙ sym (ap (λ b. is_passed i (cond b (d ∷ ds) (from_due due ds))) s ∙ ap not e)
+        by false s = ap (λ b. cond b true (is_late next i p.position ds)) (same ∙ s) ∙ rest ∙ sym (ap (λ b. is_passed i (cond b (d ∷ ds) (from_due due ds))) s)
+
+pub overtaken-passes : (due next : ℕ → Option Place3) (binds accepting : Bool) (answer : Option ℕ) (q : List Debt) → ((i : ℕ) → next i ≡ cond (accepting && is_id i answer) None (due i))
+    → (accepting && (binds && is_overtaken_by due next answer q)) ≡ (binds && (accepting && passes_over due answer (looked_at due answer q)))
+overtaken-passes due next binds false answer q are = sym (and_false binds)
+overtaken-passes due next binds true answer q are = ap (λ b. binds && b) (go answer refl)
+  where
+    go : (o : Option ℕ) → answer ≡ o → is_overtaken_by due next o q ≡ passes_over due o (looked_at due o q)
+    go None e = refl
+    go (Some i) e = by (due i) refl
+      where
+        by : (o : Option Place3) → due i ≡ o → is_overtaken next i o q ≡ (is_some o && is_passed i (from_due due q))
+        by None h = refl
+        by (Some p) h = late-passed due next i p q h (λ j. are j ∙ ap (λ o. cond (is_id j o) None (due j)) e)
 
 -- ---- the queue, with one event more
 

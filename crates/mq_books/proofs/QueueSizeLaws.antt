@@ -7,23 +7,28 @@ use Rattle.std.proofs.lemmas.Map.Keys.{IsDistinct-cons}
 use Rattle.mq_log.specs.declared.place.Place3.{Place3}
 use Rattle.mq_rules.specs.IdentifierCounts.{ids_where}
 use Rattle.mq_books.specs.declared.ordering.Debt.{Debt}
-use Rattle.mq_books.specs.Orderings.{is_still_due, from_due, looked_at, Queued, IsAscending, IsQueue, IsTidied}
+use Rattle.mq_books.specs.Orderings.{is_still_due, is_debt, from_settled, left_after, left_by, Queued, IsAscending, IsQueue, IsTidied}
 use Rattle.mq_books.proofs.QueueLaws.{still-due}
 use Rattle.mq_books.proofs.SizeLaws.{distinct-passing}
 
 -- ---- what is dropped only shortens it
 
-dropped-length : (due : ℕ → Option Place3) (q : List Debt) → length (from_due due q) ≤ length q
-dropped-length due [] = omega arith
-dropped-length due (d ∷ ds) = go (is_still_due due d) (dropped-length due ds)
+settled-length : (due : ℕ → Option Place3) (i at : ℕ) (q : List Debt) → length (from_settled due i at q) ≤ length q
+settled-length due i at [] = omega arith
+settled-length due i at (d ∷ ds) = go (is_debt i at d) (is_still_due due d) (settled-length due i at ds)
   where
-    go : (b : Bool) → length (from_due due ds) ≤ length ds → length (cond b (d ∷ ds) (from_due due ds)) ≤ length (d ∷ ds)
-    go true h = omega arith
-    go false h = omega (arith, h)
+    go : (own b : Bool) → length (from_settled due i at ds) ≤ length ds → length (cond own ds (cond b (d ∷ ds) (from_settled due i at ds))) ≤ length (d ∷ ds)
+    go true b h = omega arith
+    go false true h = omega arith
+    go false false h = omega (arith, h)
 
-pub looked-length : (due : ℕ → Option Place3) (answer : Option ℕ) (q : List Debt) → length (looked_at due answer q) ≤ length q
-looked-length due None q = omega arith
-looked-length due (Some i) q = dropped-length due q
+after-length : (due : ℕ → Option Place3) (i : ℕ) (was : Option Place3) (q : List Debt) → length (left_after due i was q) ≤ length q
+after-length due i None q = omega arith
+after-length due i (Some p) q = settled-length due i p.position q
+
+pub left-length : (due next : ℕ → Option Place3) (answer : Option ℕ) (q : List Debt) → length (left_by due next answer q) ≤ length q
+left-length due next None q = omega arith
+left-length due next (Some i) q = after-length next i (due i) q
 
 kept-length : (test : Debt → Bool) (q : List Debt) → length (filter test q) ≤ length q
 kept-length test [] = omega arith
@@ -44,9 +49,13 @@ pub joined-length : (q r : List Debt) → length (q ++ r) ≡ length q + length 
 joined-length [] r = omega arith
 joined-length (d ∷ ds) r = let rest = joined-length ds r in omega (arith, rest)
 
-pub dropped-none : (due : ℕ → Option Place3) (answer : Option ℕ) (q : List Debt) → q ≡ [] → looked_at due answer q ≡ []
-dropped-none due None q h = h
-dropped-none due (Some i) q h = ap (from_due due) h
+after-none : (due : ℕ → Option Place3) (i : ℕ) (was : Option Place3) → left_after due i was [] ≡ []
+after-none due i None = refl
+after-none due i (Some p) = refl
+
+pub left-none : (due next : ℕ → Option Place3) (answer : Option ℕ) → left_by due next answer [] ≡ []
+left-none due next None = refl
+left-none due next (Some i) = after-none next i (due i)
 
 pub tidied-none : (due : ℕ → Option Place3) (old new : List Debt) → IsTidied due old new → old ≡ [] → new ≡ []
 tidied-none due old new (inl same) h = same ∙ h

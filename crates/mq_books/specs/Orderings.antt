@@ -1,5 +1,5 @@
 -- A queue of what fell due on the latest connection, the earliest first.
-use Rattle.std.specs.Prelude.{ℕ, ◌≡◌, ◌<◌, ◌≤◌, ◌==◌, nat_eq, nat_lt, ◌⊎◌, Bool, ◌&&◌, not, cond, List, [], ◌∷◌, ◌++◌, filter, Option, Some, None, is_some}
+use Rattle.std.specs.Prelude.{ℕ, ◌≡◌, ◌<◌, ◌≤◌, ◌==◌, nat_eq, nat_lt, ◌⊎◌, Bool, true, false, ◌&&◌, not, cond, List, [], ◌∷◌, ◌++◌, filter, Option, Some, None, is_some}
 use Rattle.mq_log.specs.declared.place.Place3.{Place3}
 use Rattle.mq_rules.specs.declared.rule.Rule.{Rule}
 use Rattle.mq_rules.specs.declared.note.Note.{Note}
@@ -18,6 +18,38 @@ is_still_due due d = is_some_and (λ p. p.position == d.position) (due d.identif
 abbrev pub from_due : (ℕ → Option Place3) → List Debt → List Debt
 from_due due [] = []
 from_due due (d ∷ ds) = cond (is_still_due due d) (d ∷ ds) (from_due due ds)
+
+-- the debt fell due under this identifier, at this position
+abbrev pub is_debt : ℕ → ℕ → Debt → Bool
+is_debt i at d = (d.identifier == i) && (at == d.position)
+
+-- The queue once a debt is settled: up to it, or to the first debt before it that is still due, all is dropped.
+abbrev pub from_settled : (ℕ → Option Place3) → ℕ → ℕ → List Debt → List Debt
+from_settled due i at [] = []
+from_settled due i at (d ∷ ds) = cond (is_debt i at d) ds (cond (is_still_due due d) (d ∷ ds) (from_settled due i at ds))
+
+-- a debt before it is still due
+abbrev pub is_late : (ℕ → Option Place3) → ℕ → ℕ → List Debt → Bool
+is_late due i at [] = false
+is_late due i at (d ∷ ds) = cond (is_debt i at d) false (cond (is_still_due due d) true (is_late due i at ds))
+
+-- The same for what was due under an identifier: the function says what is due once it isn't any more.
+abbrev pub left_after : (ℕ → Option Place3) → ℕ → Option Place3 → List Debt → List Debt
+left_after due i None queue = queue
+left_after due i (Some p) queue = from_settled due i p.position queue
+
+abbrev pub is_overtaken : (ℕ → Option Place3) → ℕ → Option Place3 → List Debt → Bool
+is_overtaken due i None queue = false
+is_overtaken due i (Some p) queue = is_late due i p.position queue
+
+-- and for an answer, by what was due before it and what is due after it
+abbrev pub left_by : (due next : ℕ → Option Place3) → Option ℕ → List Debt → List Debt
+left_by due next None queue = queue
+left_by due next (Some i) queue = left_after next i (due i) queue
+
+abbrev pub is_overtaken_by : (due next : ℕ → Option Place3) → Option ℕ → List Debt → Bool
+is_overtaken_by due next None queue = false
+is_overtaken_by due next (Some i) queue = is_overtaken next i (due i) queue
 
 abbrev pub first_debt : List Debt → Option Debt
 first_debt [] = None
@@ -46,6 +78,14 @@ chooses due answer = is_some_and (λ i. is_some (due i) && is_other_due due i) a
 abbrev pub fallen : (ℕ → Option Place3) → ℕ → Option ℕ → List Debt
 fallen due at None = []
 fallen due at (Some i) = cond (is_some (due i)) [] (record { identifier = i; position = at } ∷ [])
+
+-- whether a cause falls due, and its debt if it does
+abbrev pub falls_due : (ℕ → Option Place3) → Option ℕ → Bool
+falls_due due cause = is_some_and (λ i. not (is_some (due i))) cause
+
+abbrev pub debts_of : Bool → ℕ → Option ℕ → List Debt
+debts_of fell at None = []
+debts_of fell at (Some i) = cond fell (record { identifier = i; position = at } ∷ []) []
 
 -- the queue after an event, which is an OPEN or not
 abbrev pub queued_by : Bool → Option ℕ → ℕ → (ℕ → Option Place3) → List Debt → List Debt

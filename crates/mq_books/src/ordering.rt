@@ -1,10 +1,10 @@
 //! The order of what is due: a queue, from which what is answered is dropped late.
-ghost use Rattle.std.specs.Prelude.{◌≡◌, ◌≤◌, ◌*◌, ◌&&◌, ℕ, Bool, true, OnOk, OnErr, cond, filter, is_some, length};
+ghost use Rattle.std.specs.Prelude.{◌≡◌, ◌≤◌, ◌*◌, ◌++◌, [], ℕ, Bool, true, OnOk, OnErr, cond, filter, is_some, length};
 ghost use Rattle.mq_rules.specs.KeptOrder.{value_under};
 ghost use Rattle.mq_rules.specs.Connections.{accepts};
 ghost use Rattle.mq_rules.specs.IdentifierCounts.{ids_where};
 ghost use Rattle.mq_books.specs.Orderings as keeping;
-ghost use Rattle.mq_books.specs.Orderings.{first_debt, from_due, queued_by, ordered_by, IsQueue, IsTidied};
+ghost use Rattle.mq_books.specs.Orderings.{debts_of, first_debt, from_settled, is_late, ordered_by, IsQueue, IsTidied};
 
 use crate::known::judge_by;
 use mq_log::Place3;
@@ -40,84 +40,63 @@ fn first_of(queue: &VecDeque<Debt>) -> Option<Debt>
     }
 }
 
-// Drops what is before the first debt that is still due. Each debt is dropped once.
+// Whether this debt fell due under this identifier, at this position.
 #[inline(always)]
-fn drop_settled(queue: &mut VecDeque<Debt>, due: &CountedByIdentifier<Place3>)
-    ensures { queue.new.items ≡ from_due (value_under due.now) queue.old.items }
+fn is_debt(debt: Debt, identifier: u16, position: u32) -> bool
+    ensures { result ≡ keeping.is_debt identifier position debt }
 {
-    while let Some(debt) = first_of(queue) {
-        if is_still_due(due, debt) {
-            return;
-        }
-        queue.pop_front();
-    }
+    debt.identifier == identifier && position == debt.position
 }
 
-/// Whether this identifier isn't the first one under which something is due, though something is
-/// due under it.
+/// Takes in that what fell due under an identifier at a position isn't due any more: returns
+/// whether something that fell due before it still is. Up to the first of the two all debts are
+/// dropped, each once, and so is its own.
 #[inline(always)]
 pub fn passes_over(
     queue: &mut VecDeque<Debt>,
     due: &CountedByIdentifier<Place3>,
-    answer: Option<u16>,
+    identifier: u16,
+    position: u32,
 ) -> bool
-    ensures queue { queue.new.items ≡ keeping.looked_at (value_under due.now) answer queue.old.items }
-    ensures passes { result ≡ keeping.passes_over (value_under due.now) answer queue.new.items }
+    ensures queue { queue.new.items ≡ from_settled (value_under due.now) identifier position queue.old.items }
+    ensures passes { result ≡ is_late (value_under due.now) identifier position queue.old.items }
 {
-    let Some(identifier) = answer else {
-        return false;
-    };
-    drop_settled(queue, due);
-    due.contains(identifier)
-        && match first_of(queue) {
-            Some(debt) => debt.identifier != identifier,
-            None => false,
+    while let Some(debt) = first_of(queue) {
+        if is_debt(debt, identifier, position) {
+            queue.pop_front();
+            return false;
         }
+        if is_still_due(due, debt) {
+            return true;
+        }
+        queue.pop_front();
+    }
+    false
 }
 
-/// Takes in a cause: it falls due, if nothing is due under its identifier.
+/// Takes in that a connection begins, or a cause, which fell due or didn't.
 #[inline(always)]
 pub fn enqueue(
     queue: &mut VecDeque<Debt>,
-    due: &CountedByIdentifier<Place3>,
     at: Place3,
     opens: bool,
     cause: Option<u16>,
+    fell: bool,
 ) -> Result<(), Memory>
-    ensures { OnOk result (queue.new.items ≡ queued_by opens cause at.position (value_under due.now) queue.old.items) }
+    ensures { OnOk result (queue.new.items ≡ cond opens [] (queue.old.items ++ debts_of fell at.position cause)) }
 {
     if opens {
         queue.clear();
         return Ok(());
     }
     if let Some(identifier) = cause {
-        if !due.contains(identifier) {
+        if fell {
             queue.push_back(Debt {
                 identifier,
                 position: at.position,
             })?;
         }
     }
-    Ok(())
-}
-
-/// Takes in a cause of a connection that has this fate, if there is a statement on the order.
-#[inline(always)]
-pub fn take_queue(
-    queue: &mut VecDeque<Debt>,
-    due: &CountedByIdentifier<Place3>,
-    rule: Option<Rule>,
-    at: Place3,
-    fate: Fate,
-    opens: bool,
-    cause: Option<u16>,
-) -> Result<(), Memory>
-    ensures { OnOk result (queue.new.items ≡ cond (is_some rule && accepts fate) (queued_by opens cause at.position (value_under due.now) queue.old.items) queue.old.items) }
-{
-    if !(rule.is_some() && fate.accepts()) {
-        return Ok(());
-    }
-    enqueue(queue, due, at, opens, cause)?;
     Ok(())
 }
 

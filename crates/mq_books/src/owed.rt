@@ -1,6 +1,6 @@
 //! Each cause is answered before a REST, and answers are sent in the order of their causes (MQTT
 //! 5.0, sections 3.8.4, 3.10.4, 4.3 and 4.6).
-ghost use Rattle.std.specs.Prelude.{◌≡◌, ◌*◌, ◌+◌, ◌<◌, ◌==◌, ℕ, ◌||◌, ◌&&◌, not, is_some, true, false, OnOk, OnErr, [], Some, cond, refl};
+ghost use Rattle.std.specs.Prelude.{◌≡◌, ◌*◌, ◌+◌, ◌<◌, ◌==◌, ℕ, ◌||◌, ◌&&◌, not, nat_eq, is_some, true, false, IfOk, OnOk, OnErr, [], Some, None, cond, refl};
 ghost use Rattle.mq_rules.specs.declared.note.Note.{Note as TheNote};
 ghost use Rattle.mq_rules.specs.declared.rule.Rule.{Rule as TheRule};
 ghost use Rattle.mq_rules.specs.Exchanges.{applies_O, applies_R};
@@ -8,7 +8,7 @@ ghost use Rattle.mq_rules.specs.Occasions.{places_under};
 ghost use Rattle.mq_books.specs.Placings.{on_any, on_either, on_rest, is_on_sessions};
 ghost use Rattle.mq_rules.specs.Occasions.{occasion};
 ghost use Rattle.mq_rules.specs.declared.fate.Fate.TheVariants.{Void};
-ghost use Rattle.mq_rules.specs.Words.{is_some_and};
+ghost use Rattle.mq_rules.specs.Words.{is_id, is_some_and};
 ghost use Rattle.mq_rules.specs.Notes.{is_rest};
 ghost use Rattle.mq_rules.specs.Connections.{accepts};
 ghost use Rattle.mq_rules.specs.KeptOrder.{value_under, values_of};
@@ -17,14 +17,13 @@ ghost use Rattle.mq_rules.specs.Under.{IsKnown, turns_known};
 ghost use Rattle.mq_books.specs.Burden.{caused_ids};
 ghost use Rattle.mq_books.specs.Weights.{owed_weighs};
 ghost use Rattle.mq_books.specs.Owings.{IsOwing, IsSettling, due_by, blamed, Keeps, binds_by};
-ghost use Rattle.mq_books.specs.Orderings as passing;
-ghost use Rattle.mq_books.specs.Orderings.{looked_at, chooses};
+ghost use Rattle.mq_books.specs.Orderings.{chooses, falls_due, is_overtaken, is_overtaken_by, left_after, left_by, queued_by};
 ghost use Rattle.mq_books.specs.Concerns.{concerns_owed};
 
 use crate::counting::{Asks, pick};
 use crate::exchange::Exchange;
 use crate::fated::Fated;
-use crate::ordering::{Debt, judge_order, passes_over, take_queue, tidy};
+use crate::ordering::{Debt, enqueue, judge_order, passes_over, tidy};
 use crate::pings::ended_after;
 use crate::selective::{Discerning, Selective};
 use crate::taken::Taken;
@@ -36,50 +35,31 @@ use std::alloc::Global;
 use std::collections::VecDeque;
 use std::marker::PhantomData;
 
-// Takes in an event: an answer settles what is due under its identifier, and a cause falls due
-// where nothing is.
+// Takes in that a connection begins, or a cause: it falls due, where nothing is. Returns whether it
+// does.
 #[inline(always)]
 fn fall_due(
     due: &mut CountedByIdentifier<Place3>,
     at: Place3,
     opens: bool,
     cause: Option<u16>,
-    answer: Option<u16>,
-) -> Result<(), Memory>
-    ensures due { OnOk result ((i : ℕ) → value_under due.new i ≡ due_by opens cause answer at i (value_under due.old i)) }
+) -> Result<bool, Memory>
+    ensures due { OnOk result ((i : ℕ) → value_under due.new i ≡ due_by opens cause None at i (value_under due.old i)) }
+    ensures fell { IfOk result (λ fell. opens ≡ false → fell ≡ falls_due (value_under due.old) cause) }
 {
     if opens {
         due.clear();
     }
-    if let Some(i) = answer {
-        due.remove(i);
-    }
-    if let Some(i) = cause {
-        if !due.contains(i) {
+    match cause {
+        Some(i) => {
+            if due.contains(i) {
+                return Ok(false);
+            }
             due.insert(i, at)?;
+            Ok(true)
         }
+        None => Ok(false),
     }
-    Ok(())
-}
-
-// Takes in an event of a connection that has this fate. What isn't accepted changes nothing.
-#[inline(always)]
-fn take_due(
-    due: &mut CountedByIdentifier<Place3>,
-    at: Place3,
-    fate: Fate,
-    opens: bool,
-    cause: Option<u16>,
-    answer: Option<u16>,
-) -> Result<(), Memory>
-    ensures due { accepts fate ≡ true → OnOk result ((i : ℕ) → value_under due.new i ≡ due_by opens cause answer at i (value_under due.old i)) }
-    ensures same { accepts fate ≡ false → OnOk result ((i : ℕ) → value_under due.new i ≡ value_under due.old i) }
-{
-    if !fate.accepts() {
-        return Ok(());
-    }
-    fall_due(due, at, opens, cause, answer)?;
-    Ok(())
 }
 
 // Adds the faults of what is due.
@@ -173,19 +153,72 @@ fn is_any_judged(rule: Option<Rule>, tested: Tested) -> bool
     }
 }
 
-// Whether the statement on the order is judged, and an answer passes over what is due.
+// Takes in an answer under an identifier: nothing is due there any more. Returns whether the
+// statement on the order is judged, and something that fell due before is still due.
 #[inline(always)]
-fn is_out_of_order(
+fn settle_due(
+    queue: &mut VecDeque<Debt>,
+    due: &mut CountedByIdentifier<Place3>,
+    binds: bool,
+    i: u16,
+) -> bool
+    ensures due { (j : ℕ) → value_under due.new j ≡ cond (nat_eq i j) None (value_under due.old j) }
+    ensures queue { queue.new.items ≡ cond binds (left_after (value_under due.new) i (value_under due.old i) queue.old.items) queue.old.items }
+    ensures broken { result ≡ (binds && is_overtaken (value_under due.new) i (value_under due.old i) queue.old.items) }
+{
+    match due.remove(i) {
+        Some(place) => binds && passes_over(queue, due, i, place.position),
+        None => false,
+    }
+}
+
+// Takes in an answer on a connection that has this fate. What isn't accepted changes nothing.
+#[inline(always)]
+fn take_answer(
+    queue: &mut VecDeque<Debt>,
+    due: &mut CountedByIdentifier<Place3>,
     binds: bool,
     fate: Fate,
-    queue: &mut VecDeque<Debt>,
-    due: &CountedByIdentifier<Place3>,
     answer: Option<u16>,
 ) -> bool
-    ensures queue { queue.new.items ≡ cond (binds && accepts fate) (looked_at (value_under due.now) answer queue.old.items) queue.old.items }
-    ensures broken { result ≡ (binds && (accepts fate && passing.passes_over (value_under due.now) answer (looked_at (value_under due.now) answer queue.old.items))) }
+    ensures due { (j : ℕ) → value_under due.new j ≡ cond (accepts fate && is_id j answer) None (value_under due.old j) }
+    ensures queue { queue.new.items ≡ cond (accepts fate) (cond binds (left_by (value_under due.old) (value_under due.new) answer queue.old.items) queue.old.items) queue.old.items }
+    ensures broken { result ≡ (accepts fate && (binds && is_overtaken_by (value_under due.old) (value_under due.new) answer queue.old.items)) }
 {
-    binds && (fate.accepts() && passes_over(queue, due, answer))
+    if !fate.accepts() {
+        return false;
+    }
+    let Some(i) = answer else {
+        return false;
+    };
+    settle_due(queue, due, binds, i)
+}
+
+// Takes in that a connection begins, or a cause, on a connection that has this fate. What isn't
+// accepted changes nothing.
+#[inline(always)]
+fn take_cause(
+    queue: &mut VecDeque<Debt>,
+    due: &mut CountedByIdentifier<Place3>,
+    rule: Option<Rule>,
+    at: Place3,
+    fate: Fate,
+    opens: bool,
+    cause: Option<u16>,
+) -> Result<(), Memory>
+    ensures due { accepts fate ≡ true → OnOk result ((i : ℕ) → value_under due.new i ≡ due_by opens cause None at i (value_under due.old i)) }
+    ensures same { accepts fate ≡ false → OnOk result ((i : ℕ) → value_under due.new i ≡ value_under due.old i) }
+    ensures queue { OnOk result (queue.new.items ≡ cond (is_some rule && accepts fate) (queued_by opens cause at.position (value_under due.old) queue.old.items) queue.old.items) }
+{
+    if !fate.accepts() {
+        return Ok(());
+    }
+    let fell = fall_due(due, at, opens, cause)?;
+    let Some(_) = rule else {
+        return Ok(());
+    };
+    enqueue(queue, at, opens, cause, fell)?;
+    Ok(())
 }
 
 impl<X: Exchange> Owed<X> {
@@ -233,10 +266,23 @@ impl<X: Exchange> Fated for Owed<X> {
             self.ended,
             event.is_rest(),
         );
-        let broken = is_out_of_order(self.order_binds, fate, &mut self.queue, &self.due, answer);
         settle(rests, &self.due, X::settled_rule(), decided, faults)?;
-        take_queue(&mut self.queue, &self.due, ordered, at, fate, opens, cause)?;
-        take_due(&mut self.due, at, fate, opens, cause, answer)?;
+        let broken = take_answer(
+            &mut self.queue,
+            &mut self.due,
+            self.order_binds,
+            fate,
+            answer,
+        );
+        take_cause(
+            &mut self.queue,
+            &mut self.due,
+            ordered,
+            at,
+            fate,
+            opens,
+            cause,
+        )?;
         tidy(&mut self.queue, &self.due, cause);
         self.ended = ended_after(self.ended, event);
         self.fate = fate;
