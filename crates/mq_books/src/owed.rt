@@ -98,7 +98,6 @@ fn blame(
 
 // Adds the faults of what is due, if a REST binds.
 #[inline(always)]
-#[inline(always)]
 #[tactic(auto, using(crate::proofs::BlameLaws::keeps_same))]
 fn settle(
     rests: bool,
