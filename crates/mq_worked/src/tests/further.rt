@@ -2,7 +2,7 @@
 //! faults in each, with all statements chosen.
 use super::plain::{are_further_faults_alike, plain_further_faults_in};
 use super::statements::log_of;
-use mq_rules::{FaultKey, Rule};
+use mq_rules::{FaultKey, Faults, Rule};
 use std::alloc::Global;
 use std::test::Fail;
 
@@ -178,6 +178,11 @@ fn is_found_broken(
     Ok(fault.decided == decided && are_further_faults_alike(alloc, &log)?)
 }
 
+// Whether none of these faults is of a further statement.
+fn has_no_further(faults: &Faults) -> bool {
+    faults.iter().all(|(key, _)| !key.rule.is_further())
+}
+
 // Whether the judge and the plain evaluators find the same faults in the log of these words, and
 // none of a further statement.
 fn is_found_kept(alloc: Global, words: &'static str) -> Result<bool, Fail> {
@@ -185,8 +190,7 @@ fn is_found_kept(alloc: Global, words: &'static str) -> Result<bool, Fail> {
     let Some(faults) = plain_further_faults_in(alloc, &log)? else {
         return Ok(false);
     };
-    let has_none = faults.iter().all(|(key, _)| !key.rule.is_further());
-    Ok(has_none && are_further_faults_alike(alloc, &log)?)
+    Ok(has_no_further(&faults) && are_further_faults_alike(alloc, &log)?)
 }
 
 #[test]

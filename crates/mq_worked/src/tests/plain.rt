@@ -152,6 +152,13 @@ fn is_found(faults: &Faults, key: FaultKey, fault: Fault) -> bool {
     is_without_evaluator(key.rule) || faults.get(key) == Some(fault)
 }
 
+// Whether all of these faults are among those, but for statements that no plain evaluator judges.
+fn are_all_found(these: &Faults, those: &Faults) -> bool {
+    these
+        .iter()
+        .all(|(key, fault)| is_found(those, *key, *fault))
+}
+
 /// Whether the judge and the plain evaluators find the same faults in a log if the further
 /// statements are asked for, but for those that have no plain evaluator; or both refuse it.
 ///
@@ -165,15 +172,12 @@ pub fn are_further_faults_alike(alloc: Global, log: &[u8]) -> Result<bool, Memor
     };
     let mut judge = Judge::new(alloc, options);
     let judged = judge.feed(log);
-    let Some(faults) = plain_further_faults_in(alloc, log)? else {
-        return Ok(judged.is_err() || judge.role().is_none());
-    };
-    let known = judge.known();
-    let are_all_known = faults
-        .iter()
-        .all(|(key, fault)| known.get(*key) == Some(*fault));
-    let are_all_found = known
-        .iter()
-        .all(|(key, fault)| is_found(&faults, *key, *fault));
-    Ok(judged.is_ok() && are_all_known && are_all_found)
+    match plain_further_faults_in(alloc, log)? {
+        Some(faults) => Ok(
+            judged.is_ok()
+                && are_all_found(judge.known(), &faults)
+                && are_all_found(&faults, judge.known()),
+        ),
+        None => Ok(judged.is_err() || judge.role().is_none()),
+    }
 }
