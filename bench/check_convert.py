@@ -25,7 +25,8 @@ from converting import LONGEST_BODY, Conversion, converted
 from honest_logs import session
 from judges import BUILT
 from make_log import CLOSE, OPEN, RECV, REST, SENT, record
-from program import CAPTURE_HINT, GZIP_HINT, SECONDS, WRITE_FAILED, directory, missing, there
+from program import SECONDS
+from program_runs import CAPTURE_HINT, GZIP_HINT, WRITE_FAILED, directory, missing, there
 from session_logs import RELEASE, number
 from shortening import words
 from versions import in_version_1

@@ -1,4 +1,6 @@
-"""What the program prints of its command line: help, the version, and what is wrong with words. program.py compares it with that."""
+"""What the program prints of its command line: help, the version, and what is wrong with words. program_runs.py has
+the runs that print it.
+"""
 HELP = """\
 Judges the log of one end of an MQTT 5.0 session
 

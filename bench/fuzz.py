@@ -48,7 +48,7 @@ from asking import Answer, Memory, Runner, Server
 from further_table import JUDGED
 from hostile_logs import Made
 from judges import BUILT, STATUSES
-from program import CAPTURE_HINT, GZIP_HINT
+from program_runs import CAPTURE_HINT, GZIP_HINT
 from reading import Recording
 from run import build_baseline
 from shortening import shortest, shortest_packet, words

@@ -29,7 +29,8 @@ from pathlib import Path
 sys.dont_write_bytecode = True  # the repository stays as it is
 import kinds
 from judges import BUILT
-from program import CHECKS, FAULTY, GOOD, HEADER, MANY, MANY_2, NESTED, TIMED, Tally, unread
+from program import CHECKS, Tally
+from program_runs import FAULTY, GOOD, HEADER, MANY, MANY_2, NESTED, TIMED, unread
 
 HERE = Path(__file__).resolve().parent
 COMPILER = "cc"
