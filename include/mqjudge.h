@@ -125,10 +125,11 @@ uint32_t mqjudge_free(mqjudge *judge);
 
 /* Chooses the statements whose faults are told, by a list, before the judge is told anything: before mqjudge_begin, or
  * before the first byte of a log. A list is words with a comma between two, from left to right: a statement's code, the
- * letter of a family, `default` or `all`; a word after a hyphen takes its statements away, and a list that begins with
- * a hyphen takes them from `default`. docs/COMMANDS.md says more of it. So "default,F,-W13" adds the further statements
- * of the family F, and takes W13 away. Without this call it is `default`. A later list takes the place of an earlier one.
- * It is `length` bytes here; the macro of this name takes a text that ends with a zero byte, and no length:
+ * letter of a family, `default`, `all` or `times`; a word after a hyphen takes its statements away, and a list that
+ * begins with a hyphen takes them from `default`. docs/COMMANDS.md says more of it. So "default,F,-W13" adds the further
+ * statements of the family F, and takes W13 away. Without this call it is `default`. A later list takes the place of an
+ * earlier one. K01 and K02 look at the moments of a log of version 2 that is fed: of what is told without a log nothing
+ * is late. It is `length` bytes here; the macro of this name takes a text that ends with a zero byte, and no length:
  *
  *     mqjudge_choose(&judge, "default,F,-W13");
  *

@@ -80,7 +80,7 @@ ungranted _ p h = refl
 -- a PUBLISH that is sent begins or ends no connection, and is no SUBSCRIBE or SUBACK
 publish-alone : (n : Note) (p : PublishNote) → sent_publish n ≡ Some p → (is_boundary n ≡ false) × (received_subscription n ≡ None) × (sent_grant n ≡ None)
 publish-alone (notes.Sent (items.Packet packet)) p h = (refl, refl, ungranted packet.fields p h)
-publish-alone (notes.Sent (items.Bad first rule at)) p h = absurd (cc)
+publish-alone (notes.Sent (items.Bad first rule at large)) p h = absurd (cc)
 publish-alone (notes.Sent items.Lost) p h = absurd (cc)
 publish-alone _ p h = absurd (cc)
 

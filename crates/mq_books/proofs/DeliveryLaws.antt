@@ -5,6 +5,7 @@ use Rattle.std.specs.List.{list_any}
 use Rattle.mq_topic.specs.Matching.{matches}
 use Rattle.mq_rules.specs.declared.role.Role.{Role}
 use Rattle.mq_rules.specs.declared.role.Role.TheVariants.{Client, Server}
+use Rattle.mq_rules.specs.declared.role.Further.{Further}
 use Rattle.mq_rules.specs.declared.role.Tested.{Tested}
 use Rattle.mq_rules.specs.declared.fate.Fate.{Fate}
 use Rattle.mq_rules.specs.declared.rule.Rule.TheVariants.{B01, B02}
@@ -29,7 +30,7 @@ use Rattle.mq_books.specs.Standings.{Waits, IsStanding, any_kept, topic_kept, ju
 use Rattle.mq_books.proofs.JudgeLaws.{session-turns_with, gains_judged}
 use Rattle.mq_books.proofs.StandingLaws.{standing-kept, standing-named}
 
-pub binds-B02 : (role : Role) (releases further : Bool) → binds B02 (record { role = role; releases = releases; further = further }) ≡ binds B01 (record { role = role; releases = releases; further = further })
+pub binds-B02 : (role : Role) (releases : Bool) (further : Further) → binds B02 (record { role = role; releases = releases; further = further }) ≡ binds B01 (record { role = role; releases = releases; further = further })
 unfolding line_of found_line lines
 binds-B02 Client releases further = refl
 binds-B02 Server releases further = refl

@@ -31,14 +31,14 @@ and-true false = refl
 
 open-uncut : (n : Note) → is_open n ≡ true → is_cutting n ≡ false
 open-uncut notes.Open h = refl
-open-uncut (notes.Close cuts) h = absurd (cc)
+open-uncut (notes.Close cuts part) h = absurd (cc)
 open-uncut _ h = refl
 
 -- a CLOSE is no RELEASE
 cut-inside : (n : Note) (a x : Bool) → ((a || (is_release n && x)) && is_cutting n) ≡ (is_cutting n && a)
 cut-inside notes.Open a x = and_false (a || false)
-cut-inside (notes.Close cuts) true x = sym (and-true cuts)
-cut-inside (notes.Close cuts) false x = sym (and_false cuts)
+cut-inside (notes.Close cuts part) true x = sym (and-true cuts)
+cut-inside (notes.Close cuts part) false x = sym (and_false cuts)
 cut-inside notes.Rest a x = and_false (a || false)
 cut-inside (notes.Release identifier) a x = and_false (a || x)
 cut-inside (notes.Sent item) a x = and_false (a || false)
@@ -512,7 +512,7 @@ earlier-stays s role before f known n closed uncut silent = record {
     go i Client false b old h = ap (λ d. (b && d) || old) h ∙ ap (λ d. d || old) (and_false b)
 
 pub inside-uncut : (n : Note) → is_boundary n ≡ false → is_cutting n ≡ false
-inside-uncut (notes.Close cuts) h = absurd (cc)
+inside-uncut (notes.Close cuts part) h = absurd (cc)
 inside-uncut _ h = refl
 
 -- ---- what S02 reads

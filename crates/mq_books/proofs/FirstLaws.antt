@@ -28,7 +28,7 @@ found-passes starts ends (m ∷ ms) j h = go (ends m) (earliest_since starts end
 -- what is neither sent nor received has no packet
 none-received : (n : Note) → has_item n ≡ false → received_fields n ≡ None
 none-received notes.Open h = refl
-none-received (notes.Close cuts) h = refl
+none-received (notes.Close cuts part) h = refl
 none-received notes.Rest h = refl
 none-received (notes.Release identifier) h = refl
 none-received (notes.Sent item) h = absurd (cc)
@@ -36,7 +36,7 @@ none-received (notes.Recv item) h = absurd (cc)
 
 pub none-sent : (n : Note) → needs_connection n ≡ false → sent_fields n ≡ None
 none-sent notes.Open h = refl
-none-sent (notes.Close cuts) h = absurd (cc)
+none-sent (notes.Close cuts part) h = absurd (cc)
 none-sent notes.Rest h = absurd (cc)
 none-sent (notes.Release identifier) h = refl
 none-sent (notes.Sent item) h = absurd (cc)

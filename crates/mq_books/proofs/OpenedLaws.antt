@@ -33,7 +33,7 @@ idle bounded i notes.Open None e h = refl
 idle bounded i notes.Open (Some o) e h = refl
 idle bounded i (notes.Release identifier) None e h = refl
 idle bounded i (notes.Release identifier) (Some o) e h = refl
-idle bounded i (notes.Close cuts) old e h = absurd (cc)
+idle bounded i (notes.Close cuts part) old e h = absurd (cc)
 idle bounded i notes.Rest old e h = absurd (cc)
 idle bounded i (notes.Sent item) old e h = absurd (cc)
 idle bounded i (notes.Recv item) old e h = absurd (cc)
@@ -45,11 +45,11 @@ only-is i false o h = absurd (cc)
 -- an opener is a PUBLISH
 pub opener-delivers : (i : ℕ) (n : Note) → is_id i (opener_of n) ≡ true → is_id i (delivery_of n) ≡ true
 opener-delivers i notes.Open h = absurd (cc)
-opener-delivers i (notes.Close cuts) h = absurd (cc)
+opener-delivers i (notes.Close cuts part) h = absurd (cc)
 opener-delivers i notes.Rest h = absurd (cc)
 opener-delivers i (notes.Release identifier) h = absurd (cc)
 opener-delivers i (notes.Recv item) h = absurd (cc)
-opener-delivers i (notes.Sent (items.Bad first rule at)) h = absurd (cc)
+opener-delivers i (notes.Sent (items.Bad first rule at large)) h = absurd (cc)
 opener-delivers i (notes.Sent items.Lost) h = absurd (cc)
 opener-delivers i (notes.Sent (items.Packet p)) h = go (publish_in p.fields) h
   where
@@ -60,11 +60,11 @@ opener-delivers i (notes.Sent (items.Packet p)) h = go (publish_in p.fields) h
 -- and no PUBREL
 opener-releases : (i : ℕ) (n : Note) → is_id i (opener_of n) ≡ true → is_id i (sent_as pubrel_in n) ≡ false
 opener-releases i notes.Open h = refl
-opener-releases i (notes.Close cuts) h = refl
+opener-releases i (notes.Close cuts part) h = refl
 opener-releases i notes.Rest h = refl
 opener-releases i (notes.Release identifier) h = refl
 opener-releases i (notes.Recv item) h = refl
-opener-releases i (notes.Sent (items.Bad first rule at)) h = refl
+opener-releases i (notes.Sent (items.Bad first rule at large)) h = refl
 opener-releases i (notes.Sent items.Lost) h = refl
 opener-releases i (notes.Sent (items.Packet p)) h = go p.fields h
   where

@@ -4,6 +4,7 @@ use Rattle.std.proofs.lemmas.Bool.{eq-eqb}
 use Rattle.std.specs.Option.{option_or}
 use Rattle.mq_rules.specs.declared.role.Role.{Role}
 use Rattle.mq_rules.specs.declared.role.Role.TheVariants.{Client, Server}
+use Rattle.mq_rules.specs.declared.role.Further.{Further}
 use Rattle.mq_rules.specs.declared.role.Tested.{Tested}
 use Rattle.mq_rules.specs.declared.fate.Fate.{Fate}
 use Rattle.mq_rules.specs.declared.rule.Rule.TheVariants.{E7R}
@@ -50,7 +51,7 @@ binding-under tested f at e past under = go (is_rest e.note) refl
         ap (λ b. b && not (some ends_binding (connection past))) (decided (latest_fate tested.role past) refl now)
         ∙ and-last (at == e.place.position) (accepts f) (not (some ends_binding (connection past)))
 
-pub binds-E7R : (role : Role) (releases further : Bool) → binds E7R (record { role = role; releases = releases; further = further }) ≡ is_server role
+pub binds-E7R : (role : Role) (releases : Bool) (further : Further) → binds E7R (record { role = role; releases = releases; further = further }) ≡ is_server role
 unfolding line_of found_line lines
 binds-E7R Client releases further = refl
 binds-E7R Server releases further = refl

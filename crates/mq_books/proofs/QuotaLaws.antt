@@ -4,6 +4,7 @@ use Rattle.std.specs.Prelude.{is_some, option_map, unwrap_or}
 use Rattle.std.specs.Option.{option_or, option_and_then}
 use Rattle.mq_rules.specs.declared.role.Role.{Role}
 use Rattle.mq_rules.specs.declared.role.Role.TheVariants.{Client, Server}
+use Rattle.mq_rules.specs.declared.role.Further.{Further}
 use Rattle.mq_rules.specs.declared.role.Tested.{Tested}
 use Rattle.mq_rules.specs.declared.fate.Fate.{Fate}
 use Rattle.mq_rules.specs.declared.rule.Rule.TheVariants.{S07}
@@ -35,7 +36,7 @@ use Rattle.mq_rules.specs.Growing.{Gains}
 use Rattle.mq_books.specs.Quotas.{connect_room, connack_room, announced, peer_room, may_count, flown, exceeds, judged_by, quota_after, IsQuota}
 use Rattle.mq_books.proofs.JudgeLaws.{session-turns_with, gains_judged}
 
-pub binds-S07 : (role : Role) (releases further : Bool) → binds S07 (record { role = role; releases = releases; further = further }) ≡ true
+pub binds-S07 : (role : Role) (releases : Bool) (further : Further) → binds S07 (record { role = role; releases = releases; further = further }) ≡ true
 unfolding line_of found_line lines
 binds-S07 Client releases further = refl
 binds-S07 Server releases further = refl

@@ -5,6 +5,7 @@ use Rattle.std.specs.Option.{option_or}
 use Rattle.std.proofs.lemmas.Bool.{eqb-true, eq-eqb}
 use Rattle.mq_rules.specs.declared.role.Role.{Role}
 use Rattle.mq_rules.specs.declared.role.Role.TheVariants.{Client, Server}
+use Rattle.mq_rules.specs.declared.role.Further.{Further}
 use Rattle.mq_rules.specs.declared.role.Tested.{Tested}
 use Rattle.mq_rules.specs.declared.fate.Fate.{Fate}
 use Rattle.mq_rules.specs.declared.rule.Rule.TheVariants.{L1, L2, L3}
@@ -32,17 +33,17 @@ use Rattle.mq_books.proofs.JudgeLaws.{session-turns_with, release-turns_with, ga
 
 -- ---- the statements
 
-pub binds-L1 : (role : Role) (releases further : Bool) → binds L1 (record { role = role; releases = releases; further = further }) ≡ releases
+pub binds-L1 : (role : Role) (releases : Bool) (further : Further) → binds L1 (record { role = role; releases = releases; further = further }) ≡ releases
 unfolding line_of found_line lines
 binds-L1 Client releases further = refl
 binds-L1 Server releases further = refl
 
-pub binds-L2 : (role : Role) (releases further : Bool) → binds L2 (record { role = role; releases = releases; further = further }) ≡ releases
+pub binds-L2 : (role : Role) (releases : Bool) (further : Further) → binds L2 (record { role = role; releases = releases; further = further }) ≡ releases
 unfolding line_of found_line lines
 binds-L2 Client releases further = refl
 binds-L2 Server releases further = refl
 
-pub binds-L3 : (role : Role) (releases further : Bool) → binds L3 (record { role = role; releases = releases; further = further }) ≡ releases
+pub binds-L3 : (role : Role) (releases : Bool) (further : Further) → binds L3 (record { role = role; releases = releases; further = further }) ≡ releases
 unfolding line_of found_line lines
 binds-L3 Client releases further = refl
 binds-L3 Server releases further = refl
@@ -61,7 +62,7 @@ no_offset-L3 tested m = refl
 -- an OPEN is none of what is looked at
 pub open-unseen : (n : Note) → is_open n ≡ true → (received_exactly_once n ≡ None) × (released_id n ≡ None) × (sent_as success_pubcomp_in n ≡ None) × (is_release n ≡ false)
 open-unseen notes.Open h = (refl, refl, refl, refl)
-open-unseen (notes.Close cuts) h = absurd (cc)
+open-unseen (notes.Close cuts part) h = absurd (cc)
 open-unseen notes.Rest h = absurd (cc)
 open-unseen (notes.Release identifier) h = absurd (cc)
 open-unseen (notes.Sent item) h = absurd (cc)
@@ -70,7 +71,7 @@ open-unseen (notes.Recv item) h = absurd (cc)
 -- what brings a message doesn't end an exchange
 brought-on : (i : ℕ) (n : Note) → is_id i (received_exactly_once n) ≡ true → is_id i (sent_as ended_in n) ≡ false
 brought-on i notes.Open h = refl
-brought-on i (notes.Close cuts) h = refl
+brought-on i (notes.Close cuts part) h = refl
 brought-on i notes.Rest h = refl
 brought-on i (notes.Release identifier) h = refl
 brought-on i (notes.Sent item) h = absurd (cc)

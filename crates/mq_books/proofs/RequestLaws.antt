@@ -2,6 +2,7 @@
 use Rattle.std.proofs.Common.{◌≡◌, ℕ, Bool, true, false, cond, ◌&&◌, ◌+◌, List, [], ◌∷◌, Option, Some, None, refl, ap, sym, ◌∙◌}
 use Rattle.mq_rules.specs.declared.role.Role.{Role}
 use Rattle.mq_rules.specs.declared.role.Role.TheVariants.{Client, Server}
+use Rattle.mq_rules.specs.declared.role.Further.{Further}
 use Rattle.mq_rules.specs.declared.role.Tested.{Tested}
 use Rattle.mq_rules.specs.declared.fate.Fate.{Fate}
 use Rattle.mq_rules.specs.declared.fate.Fate.TheVariants.{Void}
@@ -21,7 +22,7 @@ use Rattle.mq_rules.proofs.Exports.{and_false, gains_nothing, places-under-start
 use Rattle.mq_books.specs.Grouping.{of_requests, by_requests, requests_add}
 use Rattle.mq_books.specs.Requesting.{binds_requests, CountsIfBound}
 
-unbound : (role : Role) (releases further : Bool) (r : Rule) → binds_requests role ≡ false → (of_requests r && binds r (record { role = role; releases = releases; further = further })) ≡ false
+unbound : (role : Role) (releases : Bool) (further : Further) (r : Rule) → binds_requests role ≡ false → (of_requests r && binds r (record { role = role; releases = releases; further = further })) ≡ false
 unfolding line_of found_line lines
 unbound Client releases further W01 h = refl
 unbound Client releases further _ h = refl

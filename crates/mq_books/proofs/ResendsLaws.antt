@@ -9,6 +9,7 @@ use Rattle.indexmap.specs.IndexSet.{contains, index_set_len}
 use Rattle.mq_log.specs.declared.place.Place3.{Place3}
 use Rattle.mq_rules.specs.declared.role.Role.{Role}
 use Rattle.mq_rules.specs.declared.role.Role.TheVariants.{Client, Server}
+use Rattle.mq_rules.specs.declared.role.Further.{Further}
 use Rattle.mq_rules.specs.declared.role.Tested.{Tested}
 use Rattle.mq_rules.specs.declared.fate.Fate.{Fate}
 use Rattle.mq_rules.specs.declared.rule.Rule.TheVariants.{S06}
@@ -47,7 +48,7 @@ use Rattle.mq_books.proofs.PassingLaws.{over-is, resumed-accepts}
 use Rattle.mq_books.proofs.DueLaws.{owes, due-owes, owes-due}
 use Rattle.mq_books.proofs.PlacesLaws.{IsDueAt, value-due, key-due, blamed_due-is}
 
-pub binds-S06 : (role : Role) (releases further : Bool) → binds S06 (record { role = role; releases = releases; further = further }) ≡ true
+pub binds-S06 : (role : Role) (releases : Bool) (further : Further) → binds S06 (record { role = role; releases = releases; further = further }) ≡ true
 unfolding line_of found_line lines
 binds-S06 Client releases further = refl
 binds-S06 Server releases further = refl

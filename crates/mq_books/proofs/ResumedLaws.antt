@@ -63,7 +63,7 @@ second-none i (Some j) = or_false (i == j)
 moves-moved : (i : ℕ) (n : Note) → (is_id i (opener_of n) || is_id i (closer_of n)) ≡ is_id i (moved n)
 moves-moved i (notes.Sent item) = second-none i (opener_of (notes.Sent item))
 moves-moved i notes.Open = refl
-moves-moved i (notes.Close cuts) = refl
+moves-moved i (notes.Close cuts part) = refl
 moves-moved i notes.Rest = refl
 moves-moved i (notes.Release identifier) = refl
 moves-moved i (notes.Recv item) = refl

@@ -5,6 +5,7 @@ use Rattle.mq_packet.specs.declared.packet.Qos.{Qos}
 use Rattle.mq_packet.specs.declared.packet.Qos.TheVariants as quality
 use Rattle.mq_rules.specs.declared.role.Role.{Role}
 use Rattle.mq_rules.specs.declared.role.Role.TheVariants as roles
+use Rattle.mq_rules.specs.declared.role.Further.{Further}
 use Rattle.mq_rules.specs.declared.role.Tested.{Tested}
 use Rattle.mq_rules.specs.declared.rule.Rule.TheVariants.{B01, B05}
 use Rattle.mq_rules.specs.declared.note.Note.{Note}
@@ -85,14 +86,14 @@ messages-received size a b (Auth method) h = refl
 
 pub messages-unconcerned : (n : Note) → may_concern_messages n ≡ false → ((exchange_concerns publish_puback n || exchange_concerns publish_pubrec n) || (exchange_concerns pubrec_pubrel n || exchange_concerns pubrel_pubcomp n)) ≡ false
 messages-unconcerned notes.Open h = absurd (cc)
-messages-unconcerned (notes.Close cuts) h = refl
+messages-unconcerned (notes.Close cuts part) h = refl
 messages-unconcerned notes.Rest h = absurd (cc)
 messages-unconcerned (notes.Release i) h = refl
 messages-unconcerned (notes.Sent (items.Packet p)) h = messages-sent p.size p.has_reason_string p.has_user_property p.fields h
-messages-unconcerned (notes.Sent (items.Bad first rule at)) h = absurd (cc)
+messages-unconcerned (notes.Sent (items.Bad first rule at large)) h = absurd (cc)
 messages-unconcerned (notes.Sent items.Lost) h = absurd (cc)
 messages-unconcerned (notes.Recv (items.Packet p)) h = messages-received p.size p.has_reason_string p.has_user_property p.fields h
-messages-unconcerned (notes.Recv (items.Bad first rule at)) h = absurd (cc)
+messages-unconcerned (notes.Recv (items.Bad first rule at large)) h = absurd (cc)
 messages-unconcerned (notes.Recv items.Lost) h = absurd (cc)
 
 -- ---- requests
@@ -133,14 +134,14 @@ requests-received size a b (Auth method) h = refl
 
 pub requests-unconcerned : (n : Note) → may_concern_requests n ≡ false → (exchange_concerns subscribe_suback n || exchange_concerns unsubscribe_unsuback n) ≡ false
 requests-unconcerned notes.Open h = absurd (cc)
-requests-unconcerned (notes.Close cuts) h = refl
+requests-unconcerned (notes.Close cuts part) h = refl
 requests-unconcerned notes.Rest h = absurd (cc)
 requests-unconcerned (notes.Release i) h = refl
 requests-unconcerned (notes.Sent (items.Packet p)) h = requests-sent p.size p.has_reason_string p.has_user_property p.fields h
-requests-unconcerned (notes.Sent (items.Bad first rule at)) h = absurd (cc)
+requests-unconcerned (notes.Sent (items.Bad first rule at large)) h = absurd (cc)
 requests-unconcerned (notes.Sent items.Lost) h = absurd (cc)
 requests-unconcerned (notes.Recv (items.Packet p)) h = requests-received p.size p.has_reason_string p.has_user_property p.fields h
-requests-unconcerned (notes.Recv (items.Bad first rule at)) h = absurd (cc)
+requests-unconcerned (notes.Recv (items.Bad first rule at large)) h = absurd (cc)
 requests-unconcerned (notes.Recv items.Lost) h = absurd (cc)
 
 -- a bare packet is no request, and answers none
@@ -207,14 +208,14 @@ releases-received size a b (Auth method) h = refl
 
 pub releases-unconcerned : (n : Note) → may_concern_releases n ≡ false → concerns_releases n ≡ false
 releases-unconcerned notes.Open h = absurd (cc)
-releases-unconcerned (notes.Close cuts) h = refl
+releases-unconcerned (notes.Close cuts part) h = refl
 releases-unconcerned notes.Rest h = refl
 releases-unconcerned (notes.Release i) h = absurd (cc)
 releases-unconcerned (notes.Sent (items.Packet p)) h = releases-sent p.size p.has_reason_string p.has_user_property p.fields h
-releases-unconcerned (notes.Sent (items.Bad first rule at)) h = refl
+releases-unconcerned (notes.Sent (items.Bad first rule at large)) h = refl
 releases-unconcerned (notes.Sent items.Lost) h = refl
 releases-unconcerned (notes.Recv (items.Packet p)) h = releases-received p.size p.has_reason_string p.has_user_property p.fields h
-releases-unconcerned (notes.Recv (items.Bad first rule at)) h = refl
+releases-unconcerned (notes.Recv (items.Bad first rule at large)) h = refl
 releases-unconcerned (notes.Recv items.Lost) h = refl
 
 -- ---- pings
@@ -255,25 +256,25 @@ pings-received size a b (Auth method) h = refl
 
 pub pings-unconcerned : (n : Note) → may_concern_pings n ≡ false → concerns_pings n ≡ false
 pings-unconcerned notes.Open h = absurd (cc)
-pings-unconcerned (notes.Close cuts) h = refl
+pings-unconcerned (notes.Close cuts part) h = refl
 pings-unconcerned notes.Rest h = absurd (cc)
 pings-unconcerned (notes.Release i) h = refl
 pings-unconcerned (notes.Sent (items.Packet p)) h = pings-sent p.size p.has_reason_string p.has_user_property p.fields h
-pings-unconcerned (notes.Sent (items.Bad first rule at)) h = absurd (cc)
+pings-unconcerned (notes.Sent (items.Bad first rule at large)) h = absurd (cc)
 pings-unconcerned (notes.Sent items.Lost) h = absurd (cc)
 pings-unconcerned (notes.Recv (items.Packet p)) h = pings-received p.size p.has_reason_string p.has_user_property p.fields h
-pings-unconcerned (notes.Recv (items.Bad first rule at)) h = absurd (cc)
+pings-unconcerned (notes.Recv (items.Bad first rule at large)) h = absurd (cc)
 pings-unconcerned (notes.Recv items.Lost) h = absurd (cc)
 
 -- ---- the send quota, for each role
 
-quota-sent-publish : (role : Role) (releases further : Bool) (size : ℕ) (a b : Bool) (p : PublishNote) (q : Qos) → is_acknowledged q ≡ false → concerns_quota (record { role = role; releases = releases; further = further }) (sent size a b (at_qos p q)) ≡ false
+quota-sent-publish : (role : Role) (releases : Bool) (further : Further) (size : ℕ) (a b : Bool) (p : PublishNote) (q : Qos) → is_acknowledged q ≡ false → concerns_quota (record { role = role; releases = releases; further = further }) (sent size a b (at_qos p q)) ≡ false
 quota-sent-publish roles.Client releases further size a b p quality.AtMostOnce h = refl
 quota-sent-publish roles.Server releases further size a b p quality.AtMostOnce h = refl
 quota-sent-publish role releases further size a b p quality.AtLeastOnce h = absurd (cc)
 quota-sent-publish role releases further size a b p quality.ExactlyOnce h = absurd (cc)
 
-quota-sent : (role : Role) (releases further : Bool) (size : ℕ) (a b : Bool) (fields : PacketFields) → takes_quota fields ≡ false → concerns_quota (record { role = role; releases = releases; further = further }) (sent size a b fields) ≡ false
+quota-sent : (role : Role) (releases : Bool) (further : Further) (size : ℕ) (a b : Bool) (fields : PacketFields) → takes_quota fields ≡ false → concerns_quota (record { role = role; releases = releases; further = further }) (sent size a b fields) ≡ false
 quota-sent roles.Client releases further size a b (Connect note method) h = refl
 quota-sent roles.Server releases further size a b (Connect note method) h = refl
 quota-sent roles.Client releases further size a b (Connack note method) h = refl
@@ -304,7 +305,7 @@ quota-sent roles.Server releases further size a b (Disconnect note) h = refl
 quota-sent roles.Client releases further size a b (Auth method) h = refl
 quota-sent roles.Server releases further size a b (Auth method) h = refl
 
-quota-received : (role : Role) (releases further : Bool) (size : ℕ) (a b : Bool) (fields : PacketFields) → gives_quota fields ≡ false → concerns_quota (record { role = role; releases = releases; further = further }) (received size a b fields) ≡ false
+quota-received : (role : Role) (releases : Bool) (further : Further) (size : ℕ) (a b : Bool) (fields : PacketFields) → gives_quota fields ≡ false → concerns_quota (record { role = role; releases = releases; further = further }) (received size a b fields) ≡ false
 quota-received role releases further size a b (Connect note method) h = absurd (cc)
 quota-received role releases further size a b (Connack note method) h = absurd (cc)
 quota-received roles.Client releases further size a b (Publish p) h = refl
@@ -331,22 +332,22 @@ quota-received roles.Server releases further size a b (Disconnect note) h = refl
 quota-received roles.Client releases further size a b (Auth method) h = refl
 quota-received roles.Server releases further size a b (Auth method) h = refl
 
-pub quota-unconcerned : (role : Role) (releases further : Bool) (n : Note) → may_concern_quota n ≡ false → concerns_quota (record { role = role; releases = releases; further = further }) n ≡ false
+pub quota-unconcerned : (role : Role) (releases : Bool) (further : Further) (n : Note) → may_concern_quota n ≡ false → concerns_quota (record { role = role; releases = releases; further = further }) n ≡ false
 quota-unconcerned role releases further notes.Open h = absurd (cc)
-quota-unconcerned roles.Client releases further (notes.Close cuts) h = refl
-quota-unconcerned roles.Server releases further (notes.Close cuts) h = refl
+quota-unconcerned roles.Client releases further (notes.Close cuts part) h = refl
+quota-unconcerned roles.Server releases further (notes.Close cuts part) h = refl
 quota-unconcerned roles.Client releases further notes.Rest h = refl
 quota-unconcerned roles.Server releases further notes.Rest h = refl
 quota-unconcerned roles.Client releases further (notes.Release i) h = refl
 quota-unconcerned roles.Server releases further (notes.Release i) h = refl
 quota-unconcerned role releases further (notes.Sent (items.Packet p)) h = quota-sent role releases further p.size p.has_reason_string p.has_user_property p.fields h
-quota-unconcerned roles.Client releases further (notes.Sent (items.Bad first rule at)) h = refl
-quota-unconcerned roles.Server releases further (notes.Sent (items.Bad first rule at)) h = refl
+quota-unconcerned roles.Client releases further (notes.Sent (items.Bad first rule at large)) h = refl
+quota-unconcerned roles.Server releases further (notes.Sent (items.Bad first rule at large)) h = refl
 quota-unconcerned roles.Client releases further (notes.Sent items.Lost) h = refl
 quota-unconcerned roles.Server releases further (notes.Sent items.Lost) h = refl
 quota-unconcerned role releases further (notes.Recv (items.Packet p)) h = quota-received role releases further p.size p.has_reason_string p.has_user_property p.fields h
-quota-unconcerned roles.Client releases further (notes.Recv (items.Bad first rule at)) h = refl
-quota-unconcerned roles.Server releases further (notes.Recv (items.Bad first rule at)) h = refl
+quota-unconcerned roles.Client releases further (notes.Recv (items.Bad first rule at large)) h = refl
+quota-unconcerned roles.Server releases further (notes.Recv (items.Bad first rule at large)) h = refl
 quota-unconcerned roles.Client releases further (notes.Recv items.Lost) h = refl
 quota-unconcerned roles.Server releases further (notes.Recv items.Lost) h = refl
 
@@ -357,13 +358,13 @@ unnamed : (d : Bool) → (is_some (only {A = ℕ} (not d) None) || is_some (only
 unnamed true = refl
 unnamed false = refl
 
-identifiers-sent-publish : (role : Role) (releases further : Bool) (size : ℕ) (a b : Bool) (p : PublishNote) (q : Qos) → is_acknowledged q ≡ false → concerns_flight (record { role = role; releases = releases; further = further }) (sent size a b (at_qos p q)) ≡ false
+identifiers-sent-publish : (role : Role) (releases : Bool) (further : Further) (size : ℕ) (a b : Bool) (p : PublishNote) (q : Qos) → is_acknowledged q ≡ false → concerns_flight (record { role = role; releases = releases; further = further }) (sent size a b (at_qos p q)) ≡ false
 identifiers-sent-publish roles.Client releases further size a b p quality.AtMostOnce h = ap (λ t. (t || false) || false) (unnamed p.duplicate)
 identifiers-sent-publish roles.Server releases further size a b p quality.AtMostOnce h = ap (λ t. (t || false) || false) (unnamed p.duplicate)
 identifiers-sent-publish role releases further size a b p quality.AtLeastOnce h = absurd (cc)
 identifiers-sent-publish role releases further size a b p quality.ExactlyOnce h = absurd (cc)
 
-identifiers-sent : (role : Role) (releases further : Bool) (size : ℕ) (a b : Bool) (fields : PacketFields) → uses_identifier fields ≡ false → concerns_flight (record { role = role; releases = releases; further = further }) (sent size a b fields) ≡ false
+identifiers-sent : (role : Role) (releases : Bool) (further : Further) (size : ℕ) (a b : Bool) (fields : PacketFields) → uses_identifier fields ≡ false → concerns_flight (record { role = role; releases = releases; further = further }) (sent size a b fields) ≡ false
 identifiers-sent roles.Client releases further size a b (Connect note method) h = refl
 identifiers-sent roles.Server releases further size a b (Connect note method) h = refl
 identifiers-sent roles.Client releases further size a b (Connack note method) h = refl
@@ -390,7 +391,7 @@ identifiers-sent role releases further size a b (Disconnect note) h = absurd (cc
 identifiers-sent roles.Client releases further size a b (Auth method) h = refl
 identifiers-sent roles.Server releases further size a b (Auth method) h = refl
 
-identifiers-received : (role : Role) (releases further : Bool) (size : ℕ) (a b : Bool) (fields : PacketFields) → frees_identifier fields ≡ false → concerns_flight (record { role = role; releases = releases; further = further }) (received size a b fields) ≡ false
+identifiers-received : (role : Role) (releases : Bool) (further : Further) (size : ℕ) (a b : Bool) (fields : PacketFields) → frees_identifier fields ≡ false → concerns_flight (record { role = role; releases = releases; further = further }) (received size a b fields) ≡ false
 identifiers-received role releases further size a b (Connect note method) h = absurd (cc)
 identifiers-received role releases further size a b (Connack note method) h = absurd (cc)
 identifiers-received roles.Client releases further size a b (Publish p) h = refl
@@ -414,17 +415,17 @@ identifiers-received role releases further size a b (Disconnect note) h = absurd
 identifiers-received roles.Client releases further size a b (Auth method) h = refl
 identifiers-received roles.Server releases further size a b (Auth method) h = refl
 
-pub identifiers-unconcerned : (role : Role) (releases further : Bool) (n : Note) → may_concern_identifiers n ≡ false → concerns_flight (record { role = role; releases = releases; further = further }) n ≡ false
+pub identifiers-unconcerned : (role : Role) (releases : Bool) (further : Further) (n : Note) → may_concern_identifiers n ≡ false → concerns_flight (record { role = role; releases = releases; further = further }) n ≡ false
 identifiers-unconcerned role releases further notes.Open h = absurd (cc)
-identifiers-unconcerned role releases further (notes.Close cuts) h = absurd (cc)
+identifiers-unconcerned role releases further (notes.Close cuts part) h = absurd (cc)
 identifiers-unconcerned role releases further notes.Rest h = absurd (cc)
 identifiers-unconcerned roles.Client releases further (notes.Release i) h = refl
 identifiers-unconcerned roles.Server releases further (notes.Release i) h = refl
 identifiers-unconcerned role releases further (notes.Sent (items.Packet p)) h = identifiers-sent role releases further p.size p.has_reason_string p.has_user_property p.fields h
-identifiers-unconcerned role releases further (notes.Sent (items.Bad first rule at)) h = absurd (cc)
+identifiers-unconcerned role releases further (notes.Sent (items.Bad first rule at large)) h = absurd (cc)
 identifiers-unconcerned role releases further (notes.Sent items.Lost) h = absurd (cc)
 identifiers-unconcerned role releases further (notes.Recv (items.Packet p)) h = identifiers-received role releases further p.size p.has_reason_string p.has_user_property p.fields h
-identifiers-unconcerned role releases further (notes.Recv (items.Bad first rule at)) h = absurd (cc)
+identifiers-unconcerned role releases further (notes.Recv (items.Bad first rule at large)) h = absurd (cc)
 identifiers-unconcerned role releases further (notes.Recv items.Lost) h = absurd (cc)
 
 -- ---- subscriptions
@@ -472,14 +473,14 @@ subscriptions-received tested bound is size a b (Auth method) h = refl
 
 answers-unconcerned : (tested : Tested) (bound : Bool) → bound ≡ binds B01 tested → (n : Note) → may_concern_subscriptions bound n ≡ false → (concerns_deliveries tested n || (concerns_count subscribes n || concerns_count unsubscribes n)) ≡ false
 answers-unconcerned tested bound is notes.Open h = absurd (cc)
-answers-unconcerned tested bound is (notes.Close cuts) h = absurd (cc)
+answers-unconcerned tested bound is (notes.Close cuts part) h = absurd (cc)
 answers-unconcerned tested bound is notes.Rest h = refl
 answers-unconcerned tested bound is (notes.Release i) h = refl
 answers-unconcerned tested bound is (notes.Sent (items.Packet p)) h = subscriptions-sent tested bound is p.size p.has_reason_string p.has_user_property p.fields h
-answers-unconcerned tested bound is (notes.Sent (items.Bad first rule at)) h = refl
+answers-unconcerned tested bound is (notes.Sent (items.Bad first rule at large)) h = refl
 answers-unconcerned tested bound is (notes.Sent items.Lost) h = refl
 answers-unconcerned tested bound is (notes.Recv (items.Packet p)) h = subscriptions-received tested bound is p.size p.has_reason_string p.has_user_property p.fields h
-answers-unconcerned tested bound is (notes.Recv (items.Bad first rule at)) h = refl
+answers-unconcerned tested bound is (notes.Recv (items.Bad first rule at large)) h = refl
 answers-unconcerned tested bound is (notes.Recv items.Lost) h = refl
 
 pub subscriptions-unconcerned : (tested : Tested) (bound : Bool) → bound ≡ binds B01 tested → (n : Note) → may_concern_subscriptions bound n ≡ false

@@ -237,7 +237,7 @@ unsubscribed _ h = refl
 
 boundary-none : (n : Note) → is_boundary n ≡ true → (received_subscription n ≡ None) × (sent_grant n ≡ None)
 boundary-none notes.Open h = (refl, refl)
-boundary-none (notes.Close cuts) h = (refl, refl)
+boundary-none (notes.Close cuts part) h = (refl, refl)
 boundary-none _ h = absurd (cc)
 
 -- ---- the connection that is open

@@ -45,7 +45,7 @@ boundary-opens n h = ap (λ b. is_open n || b) h ∙ or_false (is_open n)
 -- what is sent isn't received
 apart : (n : Note) (i : ℕ) → is_id i (delivery_of n) ≡ true → is_id i (closer_of n) ≡ false
 apart notes.Open i h = absurd (cc)
-apart (notes.Close cuts) i h = absurd (cc)
+apart (notes.Close cuts part) i h = absurd (cc)
 apart notes.Rest i h = absurd (cc)
 apart (notes.Release j) i h = absurd (cc)
 apart (notes.Sent item) i h = refl
@@ -140,7 +140,7 @@ delivering-next f g n bounded place opened entry new stray listed past at le is 
 pub listed-connected : (f : Fate) (n : Note) (entry : ℕ → Option Entry) (i : ℕ) (old connected : Bool) → (needs_connection n ≡ true → connected ≡ true) → (old ≡ true → connected ≡ true) → stray_next f n entry i old ≡ true
     → (is_open n || (not (is_close n) && connected)) ≡ true
 listed-connected f notes.Open entry i old connected on was h = refl
-listed-connected f (notes.Close cuts) entry i old connected on was h = absurd (cc)
+listed-connected f (notes.Close cuts part) entry i old connected on was h = absurd (cc)
 listed-connected f notes.Rest entry i old connected on was h = on refl
 listed-connected f (notes.Release identifier) entry i old connected on was h = was h
 listed-connected f (notes.Sent item) entry i old connected on was h = on refl

@@ -7,6 +7,7 @@ use Rattle.mq_rules.specs.KeptOrder.{value_under}
 use Rattle.indexmap.specs.IndexSet.{contains}
 use Rattle.mq_rules.specs.declared.role.Role.{Role}
 use Rattle.mq_rules.specs.declared.role.Role.TheVariants.{Client, Server}
+use Rattle.mq_rules.specs.declared.role.Further.{Further}
 use Rattle.mq_rules.specs.declared.role.Tested.{Tested}
 use Rattle.mq_rules.specs.declared.fate.Fate.{Fate}
 use Rattle.mq_rules.specs.declared.rule.Rule.{Rule}
@@ -46,22 +47,22 @@ use Rattle.mq_books.specs.Knowing.{excused, all_excused}
 
 -- ---- whom the statements bind
 
-pub binds-S01 : (role : Role) (releases further : Bool) → binds S01 (record { role = role; releases = releases; further = further }) ≡ true
+pub binds-S01 : (role : Role) (releases : Bool) (further : Further) → binds S01 (record { role = role; releases = releases; further = further }) ≡ true
 unfolding line_of found_line lines
 binds-S01 Client releases further = refl
 binds-S01 Server releases further = refl
 
-pub binds-S02 : (role : Role) (releases further : Bool) → binds S02 (record { role = role; releases = releases; further = further }) ≡ true
+pub binds-S02 : (role : Role) (releases : Bool) (further : Further) → binds S02 (record { role = role; releases = releases; further = further }) ≡ true
 unfolding line_of found_line lines
 binds-S02 Client releases further = refl
 binds-S02 Server releases further = refl
 
-pub binds-S03 : (role : Role) (releases further : Bool) → binds S03 (record { role = role; releases = releases; further = further }) ≡ true
+pub binds-S03 : (role : Role) (releases : Bool) (further : Further) → binds S03 (record { role = role; releases = releases; further = further }) ≡ true
 unfolding line_of found_line lines
 binds-S03 Client releases further = refl
 binds-S03 Server releases further = refl
 
-pub binds-S04 : (role : Role) (releases further : Bool) → binds S04 (record { role = role; releases = releases; further = further }) ≡ true
+pub binds-S04 : (role : Role) (releases : Bool) (further : Further) → binds S04 (record { role = role; releases = releases; further = further }) ≡ true
 unfolding line_of found_line lines
 binds-S04 Client releases further = refl
 binds-S04 Server releases further = refl
@@ -71,8 +72,8 @@ binds-S04 Server releases further = refl
 pub taken-none : (role : Role) (n : Note) → has_item n ≡ false → taken_by role n ≡ None
 taken-none Client notes.Open h = refl
 taken-none Server notes.Open h = refl
-taken-none Client (notes.Close cuts) h = refl
-taken-none Server (notes.Close cuts) h = refl
+taken-none Client (notes.Close cuts part) h = refl
+taken-none Server (notes.Close cuts part) h = refl
 taken-none Client notes.Rest h = refl
 taken-none Server notes.Rest h = refl
 taken-none Client (notes.Release identifier) h = refl
@@ -82,7 +83,7 @@ taken-none role (notes.Recv item) h = absurd (cc)
 
 pub resend-none : (n : Note) → has_item n ≡ false → resend_of n ≡ None
 resend-none notes.Open h = refl
-resend-none (notes.Close cuts) h = refl
+resend-none (notes.Close cuts part) h = refl
 resend-none notes.Rest h = refl
 resend-none (notes.Release identifier) h = refl
 resend-none (notes.Sent item) h = absurd (cc)
@@ -90,7 +91,7 @@ resend-none (notes.Recv item) h = absurd (cc)
 
 pub sent-none : (found : PacketFields → Option ℕ) (n : Note) → has_item n ≡ false → sent_as found n ≡ None
 sent-none found notes.Open h = refl
-sent-none found (notes.Close cuts) h = refl
+sent-none found (notes.Close cuts part) h = refl
 sent-none found notes.Rest h = refl
 sent-none found (notes.Release identifier) h = refl
 sent-none found (notes.Sent item) h = absurd (cc)
@@ -98,7 +99,7 @@ sent-none found (notes.Recv item) h = absurd (cc)
 
 delivery-none : (n : Note) → has_item n ≡ false → delivery_of n ≡ None
 delivery-none notes.Open h = refl
-delivery-none (notes.Close cuts) h = refl
+delivery-none (notes.Close cuts part) h = refl
 delivery-none notes.Rest h = refl
 delivery-none (notes.Release identifier) h = refl
 delivery-none (notes.Sent item) h = absurd (cc)
@@ -416,7 +417,7 @@ under-none n h = ap (λ o. option_or o (sent_as pubrel_in n)) (delivery-none n h
 
 boundary-itemless : (n : Note) → is_boundary n ≡ true → has_item n ≡ false
 boundary-itemless notes.Open h = refl
-boundary-itemless (notes.Close cuts) h = refl
+boundary-itemless (notes.Close cuts part) h = refl
 boundary-itemless _ h = absurd (cc)
 
 inside-closed : (n : Note) → is_boundary n ≡ false → is_open n ≡ false
@@ -449,7 +450,7 @@ unanswered-under f g now i e past old on is same was =
 -- a connection is open after an event: it began with it, or it didn't end with it
 goes-on : (n : Note) (connected : Bool) → (is_open n || (not (is_close n) && connected)) ≡ true → (is_close n ≡ false) × (is_open n ≡ false → connected ≡ true)
 goes-on notes.Open connected h = (refl, λ closed. absurd (cc))
-goes-on (notes.Close cuts) connected h = absurd (cc)
+goes-on (notes.Close cuts part) connected h = absurd (cc)
 goes-on notes.Rest connected h = (refl, λ closed. h)
 goes-on (notes.Release identifier) connected h = (refl, λ closed. h)
 goes-on (notes.Sent item) connected h = (refl, λ closed. h)

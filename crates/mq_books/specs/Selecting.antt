@@ -11,7 +11,7 @@ use Rattle.mq_rules.specs.Notes.{is_acknowledged}
 -- An event, by a test of the packets that are sent, one of those that are received, and whether a CLOSE, a REST, a RELEASE, and bytes that are no packet, may concern.
 abbrev pub selects : (PacketFields → Bool) → (PacketFields → Bool) → Bool → Bool → Bool → Bool → Note → Bool
 selects sent received close rest release broken notes.Open = true
-selects sent received close rest release broken (notes.Close cuts) = close
+selects sent received close rest release broken (notes.Close cuts part) = close
 selects sent received close rest release broken notes.Rest = rest
 selects sent received close rest release broken (notes.Release identifier) = release
 selects sent received close rest release broken (notes.Sent (items.Packet p)) = sent p.fields

@@ -2,13 +2,14 @@
 use Rattle.std.specs.Prelude.{◌≡◌, ℕ, Bool, true, false, not, ◌&&◌, ◌||◌, cond, List, Result, Ok, Err, slice_index_or}
 use Rattle.std.specs.List.{list_any}
 use denote.Enum.Declared.{tag_of}
+use Rattle.mq_rules.specs.declared.role.Further.{Further}
 use Rattle.mq_rules.specs.declared.role.Tested.{Tested}
 use Rattle.mq_rules.specs.declared.note.Seen.{Seen}
 use Rattle.mq_rules.specs.declared.rule.Rule.{Rule}
 use Rattle.mq_rules.specs.declared.fault.Fault.{Fault}
 use Rattle.mq_rules.specs.declared.faults.FaultKey.{FaultKey}
 use Rattle.mq_rules.specs.contracts.rule.Rule.{the_type}
-use Rattle.mq_rules.specs.Rules.{all_rules, is_further}
+use Rattle.mq_rules.specs.Rules.{all_further, all_rules, is_further, is_on_times, none_further, without_times}
 use Rattle.mq_rules.specs.Notes.{tested_by, seen_in}
 use Rattle.mq_rules.specs.Faults.{chosen_fault, fault_in, listed_faults}
 use Rattle.mq_rules.specs.FaultKeys.{FaultMap, fault_at}
@@ -19,9 +20,13 @@ use Rattle.mq_choice.specs.Lists.{read_list, refused_as}
 
 -- ---- choices
 
--- those that are chosen without a list: all, if the further ones are asked for, else all others
-abbrev pub unlisted : (further : Bool) → Rule → Bool
-unlisted further rule = further || not (is_further rule)
+-- a further statement is asked for: those on times are asked for beside all others
+abbrev pub is_asked : Further → Rule → Bool
+is_asked further rule = further.with_times || (further.on_request && not (is_on_times rule))
+
+-- those that are chosen without a list: of the further ones those that are asked for, and all others
+abbrev pub unlisted : Further → Rule → Bool
+unlisted further rule = cond (is_further rule) (is_asked further rule) true
 
 -- the number of a statement in the order of reports, counted from 0
 abbrev pub number_of : Rule → ℕ
@@ -33,19 +38,24 @@ is_flagged flags rule = slice_index_or flags (number_of rule) false
 
 -- the statement is chosen
 abbrev pub in_choice : Choice → Rule → Bool
-in_choice choices.Usual rule = unlisted false rule
-in_choice choices.All rule = unlisted true rule
+in_choice choices.Usual rule = unlisted none_further rule
+in_choice choices.All rule = unlisted without_times rule
+in_choice choices.Timed rule = unlisted all_further rule
 in_choice (choices.Listed flags) rule = is_flagged flags rule
 
 -- statements may be judged that aren't chosen, since there is a list
 abbrev pub is_listed : Choice → Bool
 is_listed choices.Usual = false
 is_listed choices.All = false
+is_listed choices.Timed = false
 is_listed (choices.Listed flags) = true
 
--- a further statement is among those that are chosen
-unfoldable pub wants_further : (chosen : Rule → Bool) → Bool
-wants_further chosen = list_any (λ rule. is_further rule && chosen rule) all_rules
+-- which further statements are among those that are chosen: some that need no times, and some on times
+unfoldable pub wants_further : (chosen : Rule → Bool) → Further
+wants_further chosen = record {
+  on_request = list_any (λ rule. (is_further rule && not (is_on_times rule)) && chosen rule) all_rules;
+  with_times = list_any (λ rule. is_on_times rule && chosen rule) all_rules;
+}
 
 -- What reading a list returns: a choice of the statements that it chooses, or why it is none.
 abbrev pub ReadsAs : List ℕ → Result Choice Unchosen → Type 0
@@ -54,7 +64,7 @@ ReadsAs list (Err why) = read_list list ≡ Err (refused_as why)
 
 -- ---- faults
 
--- the end that a log's header names, judged by the further statements too if one of them is chosen
+-- the end that a log's header names, judged by the further statements too that are wanted for what is chosen
 abbrev pub tested_for : (chosen : Rule → Bool) → List ℕ → Tested
 tested_for chosen log = tested_by (wants_further chosen) log
 

@@ -3,7 +3,7 @@ use Rattle.std.specs.Prelude.{◌≡◌, ℕ, ◌==◌, ◌||◌, ◌&&◌, not,
 use Rattle.std.specs.List.{find, list_any, slice_split}
 use Rattle.std.specs.Str.{bytes_eq}
 use Rattle.mq_rules.specs.declared.rule.Rule.{Rule}
-use Rattle.mq_rules.specs.Rules.{all_rules, code_of, is_further}
+use Rattle.mq_rules.specs.Rules.{all_rules, code_of, is_further, is_on_times}
 use Rattle.mq_choice.specs.declared.list.Unchosen.{Unchosen}
 use Rattle.mq_choice.specs.declared.list.Unchosen.TheVariants.{Unknown, Empty}
 
@@ -20,9 +20,11 @@ has_hyphen (first ∷ rest) = first == 45
 abbrev pub name_in : List ℕ → List ℕ
 name_in word = cond (has_hyphen word) (drop 1 word) word
 
--- The name stands for the statement: it is its code, or the first letter of its code, which its family has; or `all`; or `default`, and the statement isn't a further one.
+-- The name stands for the statement: it is its code, or the first letter of its code, which its family has; or `times`; or `all`, and the statement isn't on times; or `default`,
+-- and it isn't a further one.
 abbrev pub names : List ℕ → Rule → Bool
-names name rule = bytes_eq name (code_of rule) || (bytes_eq name (take 1 (code_of rule)) || (bytes_eq name (codes "all") || (bytes_eq name (codes "default") && not (is_further rule))))
+names name rule = bytes_eq name (code_of rule) || (bytes_eq name (take 1 (code_of rule)) || (bytes_eq name (codes "times")
+    || ((bytes_eq name (codes "all") && not (is_on_times rule)) || (bytes_eq name (codes "default") && not (is_further rule)))))
 
 -- the word names a statement
 abbrev pub is_known : List ℕ → Bool

@@ -1,7 +1,7 @@
 //! Reading a list of statements.
-ghost use Rattle.std.specs.Prelude.{◌≡◌, ◌&&◌, ◌<◌, ◌≤◌, ℕ, false, length, option_map, slice_index_or, take};
+ghost use Rattle.std.specs.Prelude.{◌≡◌, ◌&&◌, ◌<◌, ◌≤◌, ℕ, false, not, length, option_map, slice_index_or, take};
 ghost use Rattle.std.specs.List.{list_any};
-ghost use Rattle.mq_rules.specs.Rules.{all_rules, is_further};
+ghost use Rattle.mq_rules.specs.Rules.{all_rules, is_further, is_on_times};
 ghost use Rattle.mq_rules.specs.declared.rule.Rule.{Rule as TheRule};
 ghost use Rattle.mq_rules.specs.declared.rule.Rule.TheVariants.{W01};
 ghost use Rattle.mq_choice.specs.Choices.{is_flagged as flagged};
@@ -12,7 +12,7 @@ use mq_rules::Rule;
 /// Why a list of statements is no choice.
 #[derive(Clone, Copy, Debug)]
 pub enum Unchosen<'a> {
-    /// The word names nothing: no statement, no family, neither `default` nor `all`.
+    /// The word names nothing: no statement, no family, none of `default`, `all` and `times`.
     Unknown(&'a str),
     /// No statement is left.
     Empty,
@@ -58,13 +58,21 @@ pub fn has_any(flags: &[bool; 128]) -> bool
     Rule::all().iter().any(|rule| is_flagged(flags, *rule))
 }
 
-/// Whether the flag of any further statement is set.
-pub fn has_any_further(flags: &[bool; 128]) -> bool
-    ensures { result ≡ list_any (λ rule. is_further rule && flagged flags.now rule) all_rules }
+/// Whether the flag of any further statement is set that needs no times.
+pub fn has_any_on_request(flags: &[bool; 128]) -> bool
+    ensures { result ≡ list_any (λ rule. (is_further rule && not (is_on_times rule)) && flagged flags.now rule) all_rules }
+{
+    Rule::all().iter().any(|rule| (rule.is_further() && !rule.is_on_times())
+        && is_flagged(flags, *rule))
+}
+
+/// Whether the flag of any statement on times is set.
+pub fn has_any_on_times(flags: &[bool; 128]) -> bool
+    ensures { result ≡ list_any (λ rule. is_on_times rule && flagged flags.now rule) all_rules }
 {
     Rule::all()
         .iter()
-        .any(|rule| rule.is_further() && is_flagged(flags, *rule))
+        .any(|rule| rule.is_on_times() && is_flagged(flags, *rule))
 }
 
 // Whether the list chooses a statement.
@@ -123,7 +131,9 @@ fn stands_for(name: &[u8], rule: Rule) -> bool
     let code = rule.code().as_bytes();
     name == code
         || (name == family_in(code)
-            || (name == b"all".as_slice() || (name == b"default".as_slice() && !rule.is_further())))
+            || (name == b"times".as_slice()
+                || ((name == b"all".as_slice() && !rule.is_on_times())
+                    || (name == b"default".as_slice() && !rule.is_further()))))
 }
 
 // The letter that the code of each statement of a family begins with.

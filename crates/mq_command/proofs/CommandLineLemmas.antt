@@ -19,12 +19,14 @@ use Rattle.clap.specs.declared.error.kind.ErrorKind.{ErrorKind}
 use Rattle.clap.specs.declared.error.kind.ErrorKind.TheVariants.{OutOfMemory}
 use Rattle.mq_command.specs.declared.command_line.Form.{Form}
 use Rattle.mq_command.specs.declared.command_line.Form.TheVariants as forms
+use Rattle.mq_command.specs.declared.scope.Scope.{Scope}
+use Rattle.mq_command.specs.declared.scope.Scope.TheVariants as scopes
 use Rattle.mq_command.specs.declared.command_line.EarlyExit.{EarlyExit}
 use Rattle.mq_command.specs.declared.command_line.EarlyExit.TheVariants.{Help, Memory, Usage}
 use Rattle.clap.specs.Kinds.{FailsBy, HasKind, IsAmong, Kinds, or_else}
 use Rattle.clap.specs.Faults.{defaults_fault, turn_fault, walk_fault, word_fault, step_fault, entered_fault, settle_fault, check_fault, other_fault}
 use Rattle.clap.specs.declared.builder.range.ValueRange.{ValueRange}
-use Rattle.mq_command.specs.CommandLine.{several, IsHelpOrVersion, StopsFor, check_request, convert_request, explain_request, form_in, word_faults, is_true, mqjudge, packet_request, request_in, request_of, rules_request, show_request}
+use Rattle.mq_command.specs.CommandLine.{several, IsHelpOrVersion, StopsFor, check_request, convert_request, explain_request, form_in, scope_in, word_faults, is_true, mqjudge, packet_request, request_in, request_of, rules_request, show_request}
 
 -- ---- lists of kinds
 
@@ -252,46 +254,58 @@ pub form_with_neither : (check : ArgMatches) → is_true (first_value (found_of 
     → forms.Text ≡ form_in (rows_of (found_of check))
 form_with_neither check j s = rw (sym (first_value-rows (found_of check) (codes "json")), j, sym (first_value-rows (found_of check) (codes "summary")), s) refl
 
-pub same_check : {file file' : Option Text} {form form' : Form} {coverage coverage' why why' further further' : Bool} {list list' : Option Text} → file ≡ file' → form ≡ form' → coverage ≡ coverage'
-    → why ≡ why' → further ≡ further' → list ≡ list' → Some (check_request file form coverage why further list) ≡ Some (check_request file' form' coverage' why' further' list')
-same_check {file} {file'} {form} {form'} {coverage} {coverage'} {why} {why'} {further} {further'} {list} {list'} f r v w m l =
-    ap (λ (x : Option Text). Some (check_request x form coverage why further list)) f
-    ∙ ap (λ (x : Form). Some (check_request file' x coverage why further list)) r ∙ ap (λ (x : Bool). Some (check_request file' form' x why further list)) v
-    ∙ ap (λ (x : Bool). Some (check_request file' form' coverage' x further list)) w ∙ ap (λ (x : Bool). Some (check_request file' form' coverage' why' x list)) m
-    ∙ ap (λ (x : Option Text). Some (check_request file' form' coverage' why' further' x)) l
+-- the statements that the flags' values ask for
+pub scope_with_times : (found : ArgMatches) → is_true (first_value (found_of found) (codes "times")) ≡ true → scopes.Timed ≡ scope_in (rows_of (found_of found))
+scope_with_times found t = rw (sym (first_value-rows (found_of found) (codes "times")), t) refl
 
-pub same_show : {file file' : Option Text} {long long' faults faults' : Bool} {around around' : Option Text} {further further' : Bool} → file ≡ file' → long ≡ long'
-    → faults ≡ faults' → around ≡ around' → further ≡ further'
-    → Some (show_request file long faults around further) ≡ Some (show_request file' long' faults' around' further')
-same_show {file} {file'} {long} {long'} {faults} {faults'} {around} {around'} {further} {further'} f l a n m =
-    ap (λ (x : Option Text). Some (show_request x long faults around further)) f
-    ∙ ap (λ (x : Bool). Some (show_request file' x faults around further)) l ∙ ap (λ (x : Bool). Some (show_request file' long' x around further)) a
-    ∙ ap (λ (x : Option Text). Some (show_request file' long' faults' x further)) n ∙ ap (λ (x : Bool). Some (show_request file' long' faults' around' x)) m
+pub scope_with_all : (found : ArgMatches) → is_true (first_value (found_of found) (codes "times")) ≡ false → is_true (first_value (found_of found) (codes "all")) ≡ true
+    → scopes.All ≡ scope_in (rows_of (found_of found))
+scope_with_all found t a = rw (sym (first_value-rows (found_of found) (codes "times")), t, sym (first_value-rows (found_of found) (codes "all")), a) refl
 
-pub same_rules : {role role' : Option Text} {further further' : Bool} {list list' : Option Text} → role ≡ role' → further ≡ further' → list ≡ list'
-    → Some (rules_request role further list) ≡ Some (rules_request role' further' list')
-same_rules {role} {role'} {further} {further'} {list} {list'} r m l =
-    ap (λ (x : Option Text). Some (rules_request x further list)) r ∙ ap (λ (x : Bool). Some (rules_request role' x list)) m ∙ ap (λ (x : Option Text). Some (rules_request role' further' x)) l
+pub scope_with_neither : (found : ArgMatches) → is_true (first_value (found_of found) (codes "times")) ≡ false → is_true (first_value (found_of found) (codes "all")) ≡ false
+    → scopes.Usual ≡ scope_in (rows_of (found_of found))
+scope_with_neither found t a = rw (sym (first_value-rows (found_of found) (codes "times")), t, sym (first_value-rows (found_of found) (codes "all")), a) refl
+
+pub same_check : {file file' : Option Text} {form form' : Form} {coverage coverage' why why' : Bool} {scope scope' : Scope} {list list' : Option Text} → file ≡ file' → form ≡ form' → coverage ≡ coverage'
+    → why ≡ why' → scope ≡ scope' → list ≡ list' → Some (check_request file form coverage why scope list) ≡ Some (check_request file' form' coverage' why' scope' list')
+same_check {file} {file'} {form} {form'} {coverage} {coverage'} {why} {why'} {scope} {scope'} {list} {list'} f r v w m l =
+    ap (λ (x : Option Text). Some (check_request x form coverage why scope list)) f
+    ∙ ap (λ (x : Form). Some (check_request file' x coverage why scope list)) r ∙ ap (λ (x : Bool). Some (check_request file' form' x why scope list)) v
+    ∙ ap (λ (x : Bool). Some (check_request file' form' coverage' x scope list)) w ∙ ap (λ (x : Scope). Some (check_request file' form' coverage' why' x list)) m
+    ∙ ap (λ (x : Option Text). Some (check_request file' form' coverage' why' scope' x)) l
+
+pub same_show : {file file' : Option Text} {long long' faults faults' : Bool} {around around' : Option Text} {scope scope' : Scope} → file ≡ file' → long ≡ long'
+    → faults ≡ faults' → around ≡ around' → scope ≡ scope'
+    → Some (show_request file long faults around scope) ≡ Some (show_request file' long' faults' around' scope')
+same_show {file} {file'} {long} {long'} {faults} {faults'} {around} {around'} {scope} {scope'} f l a n m =
+    ap (λ (x : Option Text). Some (show_request x long faults around scope)) f
+    ∙ ap (λ (x : Bool). Some (show_request file' x faults around scope)) l ∙ ap (λ (x : Bool). Some (show_request file' long' x around scope)) a
+    ∙ ap (λ (x : Option Text). Some (show_request file' long' faults' x scope)) n ∙ ap (λ (x : Scope). Some (show_request file' long' faults' around' x)) m
+
+pub same_rules : {role role' : Option Text} {scope scope' : Scope} {list list' : Option Text} → role ≡ role' → scope ≡ scope' → list ≡ list'
+    → Some (rules_request role scope list) ≡ Some (rules_request role' scope' list')
+same_rules {role} {role'} {scope} {scope'} {list} {list'} r m l =
+    ap (λ (x : Option Text). Some (rules_request x scope list)) r ∙ ap (λ (x : Scope). Some (rules_request role' x list)) m ∙ ap (λ (x : Option Text). Some (rules_request role' scope' x)) l
 
 pub request_is_check : (words : List Text) (m check : ArgMatches) → subcommand_rows_of m ≡ subcommand_of mqjudge words → subcommand_name_of m ≡ Some (codes "check")
     → option_map (λ p. p.1) (subcommand_rows_of m) ≡ Some (rows_of (found_of check)) → request_of words ≡ Some (check_request (first_value (found_of check) (codes "FILE"))
     (form_in (rows_of (found_of check))) (is_true (first_value (found_of check) (codes "coverage"))) (is_true (first_value (found_of check) (codes "why")))
-    (is_true (first_value (found_of check) (codes "all"))) (first_value (found_of check) (codes "LIST")))
+    (scope_in (rows_of (found_of check))) (first_value (found_of check) (codes "LIST")))
 request_is_check words m check same named rows =
     ap (option_map request_in) (met_by words m check (codes "check") same named rows)
     ∙ same_check (sym (first_value-rows (found_of check) (codes "FILE"))) refl (ap is_true (sym (first_value-rows (found_of check) (codes "coverage"))))
-    (ap is_true (sym (first_value-rows (found_of check) (codes "why")))) (ap is_true (sym (first_value-rows (found_of check) (codes "all"))))
+    (ap is_true (sym (first_value-rows (found_of check) (codes "why")))) refl
     (sym (first_value-rows (found_of check) (codes "LIST")))
 
 pub request_is_show : (words : List Text) (m shown : ArgMatches) → subcommand_rows_of m ≡ subcommand_of mqjudge words → subcommand_name_of m ≡ Some (codes "show")
     → option_map (λ p. p.1) (subcommand_rows_of m) ≡ Some (rows_of (found_of shown)) → request_of words ≡ Some (show_request (first_value (found_of shown) (codes "FILE"))
     (is_true (first_value (found_of shown) (codes "long"))) (is_true (first_value (found_of shown) (codes "faults"))) (first_value (found_of shown) (codes "N"))
-    (is_true (first_value (found_of shown) (codes "all"))))
+    (scope_in (rows_of (found_of shown))))
 request_is_show words m shown same named rows =
     ap (option_map request_in) (met_by words m shown (codes "show") same named rows)
     ∙ same_show (sym (first_value-rows (found_of shown) (codes "FILE"))) (ap is_true (sym (first_value-rows (found_of shown) (codes "long"))))
     (ap is_true (sym (first_value-rows (found_of shown) (codes "faults")))) (sym (first_value-rows (found_of shown) (codes "N")))
-    (ap is_true (sym (first_value-rows (found_of shown) (codes "all"))))
+    refl
 
 pub same_packet : {words words' : Option (List Text)} {long long' : Bool} → words ≡ words' → long ≡ long' → Some (packet_request words long) ≡ Some (packet_request words' long')
 same_packet {words} {words'} {long} {long'} w l = ap (λ (x : Option (List Text)). Some (packet_request x long)) w ∙ ap (λ (x : Bool). Some (packet_request words' x)) l
@@ -305,10 +319,10 @@ request_is_packet words m packet same named rows =
 
 pub request_is_rules : (words : List Text) (m listed : ArgMatches) → subcommand_rows_of m ≡ subcommand_of mqjudge words → subcommand_name_of m ≡ Some (codes "rules")
     → option_map (λ p. p.1) (subcommand_rows_of m) ≡ Some (rows_of (found_of listed)) → request_of words ≡ Some (rules_request (first_value (found_of listed) (codes "role"))
-    (is_true (first_value (found_of listed) (codes "all"))) (first_value (found_of listed) (codes "LIST")))
+    (scope_in (rows_of (found_of listed))) (first_value (found_of listed) (codes "LIST")))
 request_is_rules words m listed same named rows =
     ap (option_map request_in) (met_by words m listed (codes "rules") same named rows)
-    ∙ same_rules (sym (first_value-rows (found_of listed) (codes "role"))) (ap is_true (sym (first_value-rows (found_of listed) (codes "all"))))
+    ∙ same_rules (sym (first_value-rows (found_of listed) (codes "role"))) refl
     (sym (first_value-rows (found_of listed) (codes "LIST")))
 
 pub request_is_explain : (words : List Text) (m explained : ArgMatches) → subcommand_rows_of m ≡ subcommand_of mqjudge words → subcommand_name_of m ≡ Some (codes "explain")

@@ -14,6 +14,8 @@ use Rattle.mq_command.specs.Digits.{is_dash, spaced}
 use Rattle.mq_command.specs.Operands.{EndsWith, many_logs_line, names_many_logs}
 use Rattle.mq_command.specs.declared.command_line.Form.{Form}
 use Rattle.mq_command.specs.declared.command_line.Form.TheVariants as forms
+use Rattle.mq_command.specs.declared.scope.Scope.{Scope}
+use Rattle.mq_command.specs.declared.scope.Scope.TheVariants as scopes
 use Rattle.mq_command.specs.declared.command_line.Work.{Work}
 use Rattle.mq_command.specs.declared.command_line.Work.TheVariants.{Once, Again, Why, Convert}
 use Rattle.mq_command.specs.declared.command_line.Task.{Task}
@@ -29,19 +31,19 @@ flag name = record (new_rule name) { long = Some name; action = Some SetTrue }
 abbrev pub statements_option : Rule
 statements_option = record (new_rule (codes "LIST")) { long = Some (codes "statements") }
 
--- `check [--json] [--summary] [--coverage] [--why] [--all] [--statements LIST] [FILE]`
+-- `check [--json] [--summary] [--coverage] [--why] [--all] [--times] [--statements LIST] [FILE]`
 abbrev pub check_command : App
-check_command = with_rule (with_rule (with_rule (with_rule (with_rule (with_rule (with_rule (new_app (codes "check")) (new_rule (codes "FILE"))) (flag (codes "json"))) (flag (codes "summary")))
-    (flag (codes "coverage"))) (flag (codes "why"))) (flag (codes "all"))) statements_option
+check_command = with_rule (with_rule (with_rule (with_rule (with_rule (with_rule (with_rule (with_rule (new_app (codes "check")) (new_rule (codes "FILE"))) (flag (codes "json")))
+    (flag (codes "summary"))) (flag (codes "coverage"))) (flag (codes "why"))) (flag (codes "all"))) (flag (codes "times"))) statements_option
 
 -- `--around N`
 abbrev pub around_option : Rule
 around_option = record (new_rule (codes "N")) { long = Some (codes "around") }
 
--- `show [--long] [--faults] [--around N] [--all] [FILE]`
+-- `show [--long] [--faults] [--around N] [--all] [--times] [FILE]`
 abbrev pub show_command : App
-show_command = with_rule (with_rule (with_rule (with_rule (with_rule (new_app (codes "show")) (new_rule (codes "FILE"))) (flag (codes "long"))) (flag (codes "faults")))
-    around_option) (flag (codes "all"))
+show_command = with_rule (with_rule (with_rule (with_rule (with_rule (with_rule (new_app (codes "show")) (new_rule (codes "FILE"))) (flag (codes "long"))) (flag (codes "faults")))
+    around_option) (flag (codes "all"))) (flag (codes "times"))
 
 -- one value or more
 abbrev pub several : ValueRange
@@ -51,9 +53,10 @@ several = record { start_inclusive = 1; end_inclusive = usize_max }
 abbrev pub packet_command : App
 packet_command = with_rule (with_rule (new_app (codes "packet")) (record (new_rule (codes "HEX")) { range = Some several; required = true })) (flag (codes "long"))
 
--- `rules [--role ROLE] [--all] [--statements LIST]`
+-- `rules [--role ROLE] [--all] [--times] [--statements LIST]`
 abbrev pub rules_command : App
-rules_command = with_rule (with_rule (with_rule (new_app (codes "rules")) (record (new_rule (codes "role")) { long = Some (codes "role") })) (flag (codes "all"))) statements_option
+rules_command = with_rule (with_rule (with_rule (with_rule (new_app (codes "rules")) (record (new_rule (codes "role")) { long = Some (codes "role") })) (flag (codes "all")))
+    (flag (codes "times"))) statements_option
 
 -- an operand of this name that has to be given
 abbrev pub required_operand : Text → Rule
@@ -84,7 +87,7 @@ mqjudge = with_subcommand
     convert_command.top
 
 -- what a command line asks for: a subcommand, its operand, the form of the report, its other flags, the number after `--around`,
--- whether the further statements are meant too, the list of those that are meant, the end that it is for, the file that it makes, and whether one that is there may be emptied
+-- which statements are meant without a list, the list of those that are meant, the end that it is for, the file that it makes, and whether one that is there may be emptied
 pub record Request : Type 0 where
   pub subcommand : Text
   pub operand : Option Text
@@ -94,7 +97,7 @@ pub record Request : Type 0 where
   pub long : Bool
   pub faults : Bool
   pub around : Option Text
-  pub further : Bool
+  pub scope : Scope
   pub statements : Option Text
   pub role : Option Text
   pub made : Option Text
@@ -112,22 +115,21 @@ plain_request subcommand operand =
       long = false;
       faults = false;
       around = None;
-      further = false;
+      scope = scopes.Usual;
       statements = None;
       role = None;
       made = None;
       force = false;
     }
 
--- `check` on this file, with a report in this form, with coverage or without, with what the faults conflict with or without, with the further statements or without, and by
--- those of this list
-abbrev pub check_request : Option Text → Form → (coverage why further : Bool) → (statements : Option Text) → Request
-check_request file form coverage why further statements =
-    record (plain_request (codes "check") file) { form = form; coverage = coverage; why = why; further = further; statements = statements }
+-- `check` on this file, with a report in this form, with coverage or without, with what the faults conflict with or without, and by these statements or those of this list
+abbrev pub check_request : Option Text → Form → (coverage why : Bool) → Scope → (statements : Option Text) → Request
+check_request file form coverage why scope statements =
+    record (plain_request (codes "check") file) { form = form; coverage = coverage; why = why; scope = scope; statements = statements }
 
--- `show` of this file, with these flags and this number, and with the further statements or without
-abbrev pub show_request : Option Text → (long faults : Bool) → (around : Option Text) → (further : Bool) → Request
-show_request file long faults around further = record (plain_request (codes "show") file) { long = long; faults = faults; around = around; further = further }
+-- `show` of this file, with these flags and this number, and by these statements
+abbrev pub show_request : Option Text → (long faults : Bool) → (around : Option Text) → Scope → Request
+show_request file long faults around scope = record (plain_request (codes "show") file) { long = long; faults = faults; around = around; scope = scope }
 
 -- `packet` on these digits, with this flag
 abbrev pub digits_request : Text → (long : Bool) → Request
@@ -137,9 +139,9 @@ digits_request hex long = record (plain_request (codes "packet") (Some hex)) { l
 abbrev pub packet_request : Option (List Text) → (long : Bool) → Request
 packet_request words long = digits_request (spaced (unwrap_or words [])) long
 
--- `rules` for the end that this word names, with the further statements or without, and of this list
-abbrev pub rules_request : Option Text → (further : Bool) → (statements : Option Text) → Request
-rules_request role further statements = record (plain_request (codes "rules") None) { role = role; further = further; statements = statements }
+-- `rules` for the end that this word names, of these statements or of this list
+abbrev pub rules_request : Option Text → Scope → (statements : Option Text) → Request
+rules_request role scope statements = record (plain_request (codes "rules") None) { role = role; scope = scope; statements = statements }
 
 -- `explain` of this code or citation; the operand is required
 abbrev pub explain_request : Option Text → Request
@@ -159,14 +161,25 @@ abbrev pub form_in : List Row → Form
 form_in rows = if is_true (first_of (codes "json") rows) then forms.Json
     else (if is_true (first_of (codes "summary") rows) then forms.Summary else forms.Text)
 
+-- the statements that matches of `check`, `show` or `rules` ask for: `--times` asks for all, whether `--all` is there or not
+abbrev pub scope_in : List Row → Scope
+scope_in rows = if is_true (first_of (codes "times") rows) then scopes.Timed
+    else (if is_true (first_of (codes "all") rows) then scopes.All else scopes.Usual)
+
+-- further statements are asked for
+abbrev pub has_further : Scope → Bool
+has_further scopes.Usual = false
+has_further scopes.All = true
+has_further scopes.Timed = true
+
 -- the request in a subcommand's name and matches
 abbrev pub request_in : Text × List Row → Request
 request_in met = if bytes_eq met.0 (codes "check") then check_request (first_of (codes "FILE") met.1) (form_in met.1) (is_true (first_of (codes "coverage") met.1))
-    (is_true (first_of (codes "why") met.1)) (is_true (first_of (codes "all") met.1)) (first_of (codes "LIST") met.1)
+    (is_true (first_of (codes "why") met.1)) (scope_in met.1) (first_of (codes "LIST") met.1)
     else (if bytes_eq met.0 (codes "show") then show_request (first_of (codes "FILE") met.1) (is_true (first_of (codes "long") met.1))
-    (is_true (first_of (codes "faults") met.1)) (first_of (codes "N") met.1) (is_true (first_of (codes "all") met.1))
+    (is_true (first_of (codes "faults") met.1)) (first_of (codes "N") met.1) (scope_in met.1)
     else (if bytes_eq met.0 (codes "packet") then packet_request (all_of (codes "HEX") met.1) (is_true (first_of (codes "long") met.1))
-    else (if bytes_eq met.0 (codes "rules") then rules_request (first_of (codes "role") met.1) (is_true (first_of (codes "all") met.1)) (first_of (codes "LIST") met.1)
+    else (if bytes_eq met.0 (codes "rules") then rules_request (first_of (codes "role") met.1) (scope_in met.1) (first_of (codes "LIST") met.1)
     else (if bytes_eq met.0 (codes "explain") then explain_request (first_of (codes "CODE") met.1)
     else convert_request (first_of (codes "IN") met.1) (first_of (codes "OUT") met.1) (is_true (first_of (codes "force") met.1))))))
 
@@ -180,19 +193,19 @@ word_faults words = fault_of mqjudge words
 
 -- the request that corresponds to some work
 abbrev pub request_by : Work → Request
-request_by (Once (Check file form coverage further statements)) = check_request (option_map string_bytes file) form coverage false further (option_map string_bytes statements)
-request_by (Once (Show file long)) = show_request (option_map string_bytes file) long false None false
+request_by (Once (Check file form coverage scope statements)) = check_request (option_map string_bytes file) form coverage false scope (option_map string_bytes statements)
+request_by (Once (Show file long)) = show_request (option_map string_bytes file) long false None scopes.Usual
 request_by (Once (Packet hex long)) = digits_request (string_bytes hex) long
-request_by (Once (Rules role further statements)) = rules_request (option_map string_bytes role) further (option_map string_bytes statements)
+request_by (Once (Rules role scope statements)) = rules_request (option_map string_bytes role) scope (option_map string_bytes statements)
 request_by (Once (Explain code)) = explain_request (Some (string_bytes code))
-request_by (Again review) = show_request (option_map string_bytes review.file) review.long review.faults (option_map string_bytes review.around) review.further
-request_by (Why inquiry) = check_request (option_map string_bytes inquiry.file) inquiry.form inquiry.coverage true inquiry.further (option_map string_bytes inquiry.statements)
+request_by (Again review) = show_request (option_map string_bytes review.file) review.long review.faults (option_map string_bytes review.around) review.scope
+request_by (Why inquiry) = check_request (option_map string_bytes inquiry.file) inquiry.form inquiry.coverage true inquiry.scope (option_map string_bytes inquiry.statements)
 request_by (Convert conversion) = convert_request (Some (string_bytes conversion.input)) (Some (string_bytes conversion.output)) conversion.force
 
--- what shows a log and reads it again is asked for by `--faults`, by a number of positions or by `--all`; without them the log is read once
+-- what shows a log and reads it again is asked for by `--faults`, by a number of positions, or by `--all` or `--times`; without them the log is read once
 abbrev pub ReadsAsAsked : Work → Type 0
 ReadsAsAsked (Once task) = ⊤
-ReadsAsAsked (Again review) = (review.faults ≡ true) ⊎ (IsSome review.around ⊎ (review.further ≡ true))
+ReadsAsAsked (Again review) = (review.faults ≡ true) ⊎ (IsSome review.around ⊎ (has_further review.scope ≡ true))
 ReadsAsAsked (Why inquiry) = ⊤
 ReadsAsAsked (Convert conversion) = ⊤
 
@@ -227,16 +240,16 @@ path_named (Some operand) = if bytes_eq operand (codes "-") then None else Some 
 
 -- the path of the log that a task reads: none if it reads standard input, or nothing
 abbrev pub path_of : Task → Option Text
-path_of (Check file form coverage further statements) = path_named (option_map string_bytes file)
+path_of (Check file form coverage scope statements) = path_named (option_map string_bytes file)
 path_of (Show file long) = path_named (option_map string_bytes file)
 path_of (Packet hex long) = None
-path_of (Rules role further statements) = None
+path_of (Rules role scope statements) = None
 path_of (Explain code) = None
 
 -- a task reads its input: a log, or the digits of a packet if the operand is `-`. Others need no input.
 abbrev pub reads_input : Task → Bool
-reads_input (Check file form coverage further statements) = true
+reads_input (Check file form coverage scope statements) = true
 reads_input (Show file long) = true
 reads_input (Packet hex long) = is_dash (string_bytes hex)
-reads_input (Rules role further statements) = false
+reads_input (Rules role scope statements) = false
 reads_input (Explain code) = false

@@ -4,12 +4,13 @@ ghost use Rattle.clap.specs.Words.{HasKind, Kinds, Text, app_of, found_of, new_r
 ghost use Rattle.clap.specs.declared.builder.command.Command.TheViews.{out-Command};
 ghost use Rattle.mq_command.specs.CommandLine.{ReadsAsAsked, StopsFor, around_option, check_command, check_request, convert_command, convert_request, explain_command};
 ghost use Rattle.mq_command.specs.CommandLine.{explain_request, word_faults, flag, form_in, is_true, mqjudge, packet_command, packet_request};
-ghost use Rattle.mq_command.specs.CommandLine.{path_named, path_of, reads_input, request_by, request_of, required_operand, rules_command, statements_option};
+ghost use Rattle.mq_command.specs.CommandLine.{path_named, path_of, reads_input, request_by, request_of, required_operand, rules_command, scope_in, statements_option};
 ghost use Rattle.mq_command.specs.CommandLine.{IsUsage, TellsOfMany, rules_request, show_command, show_request};
 ghost use Rattle.mq_command.specs.Operands.{names_many_logs};
 
 use crate::digits::{is_dash, spaced};
 use crate::operands::names_many_logs;
+use crate::scope::Scope;
 use clap::error::ErrorKind;
 use clap::{Arg, ArgAction, ArgMatches, Command, Error};
 use std::alloc::{AllocError, Global};
@@ -90,8 +91,8 @@ pub struct Review {
     pub around: Option<String>,
     /// Say what else each packet says.
     pub long: bool,
-    /// Judge the further statements too. Without faults nothing is judged.
-    pub further: bool,
+    /// Which statements are judged. Without faults nothing is judged.
+    pub scope: Scope,
 }
 
 /// Judge a log and say what each fault conflicts with: one reading finds the faults, and another
@@ -105,8 +106,8 @@ pub struct Inquiry {
     /// Whether it is also asked for how often each statement was put to the test. No report says
     /// both.
     pub coverage: bool,
-    /// Judge the further statements too.
-    pub further: bool,
+    /// Which statements are judged, if there is no list.
+    pub scope: Scope,
     /// The list of the statements whose faults are reported, if there is one.
     pub statements: Option<String>,
 }
@@ -133,8 +134,8 @@ pub enum Task {
         form: Form,
         /// Report how often each statement was put to the test too.
         coverage: bool,
-        /// Judge the further statements too.
-        further: bool,
+        /// Which statements are judged, if there is no list.
+        scope: Scope,
         /// The list of the statements whose faults are reported, if there is one.
         statements: Option<String>,
     },
@@ -157,8 +158,8 @@ pub enum Task {
     Rules {
         /// `client` or `server`.
         role: Option<String>,
-        /// List the further statements too.
-        further: bool,
+        /// Which statements are listed, if there is no list of them.
+        scope: Scope,
         /// The list of the statements that are listed, if there is one.
         statements: Option<String>,
     },
@@ -217,11 +218,11 @@ pub enum EarlyExit {
 }
 
 /// Reads the words of a command line, `mqjudge check [--json] [--summary] [--coverage] [--why]
-/// [--all] [--statements LIST] [FILE]`, `mqjudge show [--long] [--faults] [--around N] [--all]
-/// [FILE]`, `mqjudge packet [--long] HEX..`, `mqjudge rules [--role ROLE] [--all] [--statements
-/// LIST]`, `mqjudge explain CODE` or `mqjudge convert [--force] IN OUT`, of which the first is the
-/// program's name. A request for help or the version is returned as a `EarlyExit`, and so are words
-/// that aren't such a command line.
+/// [--all] [--times] [--statements LIST] [FILE]`, `mqjudge show [--long] [--faults] [--around N]
+/// [--all] [--times] [FILE]`, `mqjudge packet [--long] HEX..`, `mqjudge rules [--role ROLE] [--all]
+/// [--times] [--statements LIST]`, `mqjudge explain CODE` or `mqjudge convert [--force] IN OUT`, of
+/// which the first is the program's name. A request for help or the version is returned as a
+/// `EarlyExit`, and so are words that aren't such a command line.
 pub fn parse<S: AsStr>(alloc: Global, words: &[S]) -> Result<Work, EarlyExit>
     ensures taken { IfOk result (λ _. word_faults (map S.text words.now) ≡ []) }
     ensures work { IfOk result (λ work.
@@ -238,7 +239,7 @@ pub fn parse<S: AsStr>(alloc: Global, words: &[S]) -> Result<Work, EarlyExit>
                 form_in(check),
                 is_true(check.get_str("coverage")),
                 is_true(check.get_str("why")),
-                is_true(check.get_str("all")),
+                scope_in(check),
                 check.get_str("LIST"),
             ),
             None => match matches.subcommand_matches("show") {
@@ -248,7 +249,7 @@ pub fn parse<S: AsStr>(alloc: Global, words: &[S]) -> Result<Work, EarlyExit>
                     is_true(show.get_str("long")),
                     is_true(show.get_str("faults")),
                     show.get_str("N"),
-                    is_true(show.get_str("all")),
+                    scope_in(show),
                 ),
                 None => match matches.subcommand_matches("packet") {
                     Some(packet) => packet_task(
@@ -260,7 +261,7 @@ pub fn parse<S: AsStr>(alloc: Global, words: &[S]) -> Result<Work, EarlyExit>
                         Some(rules) => rules_task(
                             alloc,
                             rules.get_str("role"),
-                            is_true(rules.get_str("all")),
+                            scope_in(rules),
                             rules.get_str("LIST"),
                         ),
                         None => match matches.subcommand_matches("explain") {
@@ -395,6 +396,11 @@ fn check_command<'a>(alloc: Global) -> Result<Command<'a>, AllocError>
             "Say what each fault conflicts with; reads FILE twice if it has faults",
         ))?
         .arg(flag(alloc, "all", "Judge the further statements too"))?
+        .arg(flag(
+            alloc,
+            "times",
+            "Judge those on times too: moments are microseconds",
+        ))?
         .arg(statements_option(
             alloc,
             "Report the faults of these statements, such as default,F,-W13",
@@ -433,6 +439,11 @@ fn show_command<'a>(alloc: Global) -> Result<Command<'a>, AllocError>
             alloc,
             "all",
             "With --faults: judge the further statements too",
+        ))?
+        .arg(flag(
+            alloc,
+            "times",
+            "With --faults: as --all, and by those on times",
         ))
 }
 
@@ -498,6 +509,7 @@ fn rules_command<'a>(alloc: Global) -> Result<Command<'a>, AllocError>
         .after_help(RULES_HELP)
         .arg(role)?
         .arg(flag(alloc, "all", "List the further statements too"))?
+        .arg(flag(alloc, "times", "List those on times too"))?
         .arg(statements_option(alloc, "List these statements, such as default,F,-W13"))
 }
 
@@ -568,20 +580,34 @@ fn form_in(check: &ArgMatches<'_>) -> Form
     }
 }
 
+// Which statements the matches of `check`, `show` or `rules` ask for: `--times` asks for all,
+// whether `--all` is there or not.
+fn scope_in(found: &ArgMatches<'_>) -> Scope
+    ensures { result ≡ scope_in (rows_of (found_of found.now)) }
+{
+    if is_true(found.get_str("times")) {
+        return Scope::Timed;
+    }
+    if is_true(found.get_str("all")) {
+        Scope::All
+    } else {
+        Scope::Usual
+    }
+}
+
 // The work of `check` on this operand, with a report in this form, with coverage or without, with
-// what the faults conflict with or without, with the further statements or without, and by those of
-// this list.
+// what the faults conflict with or without, and by these statements or those of this list.
 fn check_task(
     alloc: Global,
     file: Option<&str>,
     form: Form,
     coverage: bool,
     why: bool,
-    further: bool,
+    scope: Scope,
     statements: Option<&str>,
 ) -> Result<Work, EarlyExit>
     ensures work { IfOk result (λ work.
-        request_by work ≡ check_request (option_map (λ path. path.now) file.entry) form coverage why further
+        request_by work ≡ check_request (option_map (λ path. path.now) file.entry) form coverage why scope
         (option_map (λ list. list.now) statements.entry)) }
     ensures readings { IfOk result ReadsAsAsked }
     ensures stop { IfErr result (λ stop. stop ≡ EarlyExit.Memory) }
@@ -593,7 +619,7 @@ fn check_task(
             file,
             form,
             coverage,
-            further,
+            scope,
             statements,
         }));
     }
@@ -601,30 +627,29 @@ fn check_task(
         file,
         form,
         coverage,
-        further,
+        scope,
         statements,
     }))
 }
 
-// The work of `show` on this operand, with these flags and this number, and with the further
-// statements or without.
+// The work of `show` on this operand, with these flags and this number, and by these statements.
 fn show_task(
     alloc: Global,
     file: Option<&str>,
     long: bool,
     faults: bool,
     around: Option<&str>,
-    further: bool,
+    scope: Scope,
 ) -> Result<Work, EarlyExit>
     ensures work { IfOk result (λ work.
         request_by work ≡ show_request (option_map (λ path. path.now) file.entry) long faults
-        (option_map (λ number. number.now) around.entry) further) }
+        (option_map (λ number. number.now) around.entry) scope) }
     ensures readings { IfOk result ReadsAsAsked }
     ensures stop { IfErr result (λ stop. stop ≡ EarlyExit.Memory) }
 {
     let file = copy_word(alloc, file)?;
     let around = copy_word(alloc, around)?;
-    if !faults && around.is_none() && !further {
+    if !faults && around.is_none() && !scope.has_further() {
         return Ok(Work::Once(Task::Show { file, long }));
     }
     Ok(Work::Again(Review {
@@ -632,7 +657,7 @@ fn show_task(
         faults,
         around,
         long,
-        further,
+        scope,
     }))
 }
 
@@ -649,15 +674,15 @@ fn packet_task(alloc: Global, words: Option<&[&str]>, long: bool) -> Result<Work
     }
 }
 
-// The task of `rules` for this end, with the further statements or without, and of this list.
+// The task of `rules` for this end, of these statements or of this list.
 fn rules_task(
     alloc: Global,
     role: Option<&str>,
-    further: bool,
+    scope: Scope,
     statements: Option<&str>,
 ) -> Result<Work, EarlyExit>
     ensures work { IfOk result (λ work.
-        request_by work ≡ rules_request (option_map (λ word. word.now) role.entry) further
+        request_by work ≡ rules_request (option_map (λ word. word.now) role.entry) scope
         (option_map (λ list. list.now) statements.entry)) }
     ensures readings { IfOk result ReadsAsAsked }
     ensures stop { IfErr result (λ stop. stop ≡ EarlyExit.Memory) }
@@ -666,7 +691,7 @@ fn rules_task(
     let statements = copy_word(alloc, statements)?;
     Ok(Work::Once(Task::Rules {
         role,
-        further,
+        scope,
         statements,
     }))
 }

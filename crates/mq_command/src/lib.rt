@@ -6,9 +6,11 @@ mod command_line;
 mod digits;
 mod oddity;
 mod operands;
+mod scope;
 
 pub use command_line::{
     Conversion, EarlyExit, Form, Inquiry, Review, Task, Work, parse, path_named,
 };
 pub use digits::{is_dash, packed};
 pub use oddity::{Oddity, first_oddity};
+pub use scope::Scope;

@@ -9,6 +9,7 @@ use Rattle.mq_packet.specs.contracts.rule.PacketRule.{the_type as packet_rules}
 use Rattle.mq_packet.specs.declared.fault.BodyFault.{BodyFault}
 use Rattle.mq_rules.specs.contracts.rule.Rule.{the_type}
 use Rattle.mq_rules.specs.declared.role.Role.{Role}
+use Rattle.mq_rules.specs.declared.role.Further.{Further}
 use Rattle.mq_rules.specs.declared.role.Role.TheVariants.{Client, Server}
 use Rattle.mq_rules.specs.declared.role.Tested.{Tested}
 use Rattle.mq_rules.specs.declared.rule.Rule.{Rule}
@@ -78,7 +79,7 @@ is_bound (at_release breaks) b = true
 is_bound (at_rest test) b = true
 is_bound (by_later test) b = true
 
-bound_for : (role : Role) (releases further : Bool) (rule : Rule) → is_bound (statement role rule) (binds rule (record { role = role; releases = releases; further = further })) ≡ true
+bound_for : (role : Role) (releases : Bool) (further : Further) (rule : Rule) → is_bound (statement role rule) (binds rule (record { role = role; releases = releases; further = further })) ≡ true
 unfolding is_bound found_line lines line_of
 bound_for Client releases further W01 = refl
 bound_for Client releases further _ = refl

@@ -46,7 +46,7 @@ use Rattle.mq_connections.proofs.UnfinishedLaws.{excess-known, none-unfinished, 
 
 receives-closed : (n : Note) → receives_type types.Connect n ≡ true → is_open n ≡ false
 receives-closed notes.Open h = absurd (cc)
-receives-closed (notes.Close cuts) h = refl
+receives-closed (notes.Close cuts part) h = refl
 receives-closed notes.Rest h = refl
 receives-closed (notes.Release i) h = refl
 receives-closed (notes.Sent item) h = refl
@@ -54,7 +54,7 @@ receives-closed (notes.Recv item) h = refl
 
 malformed-closed : (n : Note) → receives_malformed n ≡ true → is_open n ≡ false
 malformed-closed notes.Open h = absurd (cc)
-malformed-closed (notes.Close cuts) h = refl
+malformed-closed (notes.Close cuts part) h = refl
 malformed-closed notes.Rest h = refl
 malformed-closed (notes.Release i) h = refl
 malformed-closed (notes.Sent item) h = refl
@@ -62,7 +62,7 @@ malformed-closed (notes.Recv item) h = refl
 
 outcome-closed : (n : Note) → shows_outcome n ≡ true → is_open n ≡ false
 outcome-closed notes.Open h = absurd (cc)
-outcome-closed (notes.Close cuts) h = refl
+outcome-closed (notes.Close cuts part) h = refl
 outcome-closed notes.Rest h = refl
 outcome-closed (notes.Release i) h = refl
 outcome-closed (notes.Sent item) h = refl
@@ -70,7 +70,7 @@ outcome-closed (notes.Recv item) h = refl
 
 answer-closed : (t : Talk) (n : Note) → tries_answer t n ≡ true → is_open n ≡ false
 answer-closed t notes.Open h = absurd (cc)
-answer-closed t (notes.Close cuts) h = refl
+answer-closed t (notes.Close cuts part) h = refl
 answer-closed t notes.Rest h = refl
 answer-closed t (notes.Release i) h = refl
 answer-closed t (notes.Sent item) h = refl

@@ -5,6 +5,7 @@ use Rattle.std.specs.Ordering.{nat_cmp}
 use Rattle.std.specs.Option.{option_or}
 use Rattle.mq_log.specs.declared.place.Place3.{Place3}
 use Rattle.mq_rules.specs.declared.role.Role.{Role}
+use Rattle.mq_rules.specs.declared.role.Further.{Further}
 use Rattle.mq_rules.specs.declared.role.Role.TheVariants.{Client, Server}
 use Rattle.mq_rules.specs.declared.role.Tested.{Tested}
 use Rattle.mq_rules.specs.declared.rule.Rule.{Rule}
@@ -78,10 +79,10 @@ past_says (at_release breaks) m = false
 past_says (at_rest test) m = false
 past_says (by_later test) m = false
 
-abbrev pub client : Bool → Bool → Tested
+abbrev pub client : Bool → Further → Tested
 client releases further = record { role = Client; releases = releases; further = further }
 
-abbrev pub server : Bool → Bool → Tested
+abbrev pub server : Bool → Further → Tested
 server releases further = record { role = Server; releases = releases; further = further }
 
 last : (b : Bool) → ((b || false) || false) ≡ (b && true)
@@ -99,7 +100,7 @@ some-or p q (m ∷ ms) = go (p m) (q m) (some p ms) (some q ms) ∙ ap (λ b. (p
     go false false c d = refl
 
 -- for a client, statement by statement; of those that aren't listed both sides are false
-client-finds : (releases further : Bool) (e : Seen) (past : List Seen) (rule : Rule)
+client-finds : (releases : Bool) (further : Further) (e : Seen) (past : List Seen) (rule : Rule)
     → found_by Client (kept Client past) (is_alias_set past) e.note rule ≡ ((not (is_further rule) && past_says (statement Client rule) (newest e past)) && binds rule (client releases further))
 unfolding found_by picked pick past_says kept is_alias_set found_line lines line_of breaks_C01 breaks_C02 breaks_C03 breaks_C11 breaks_C13 breaks_C14 breaks_C15 breaks_C16 breaks_C17 breaks_C18 breaks_C20 breaks_C23 breaks_C04 breaks_C05 breaks_C06 breaks_C07 breaks_C08 breaks_C09 breaks_C10 breaks_C12 breaks_C19 breaks_C21 breaks_C22
 client-finds releases further e past C01 = last (breaks_C01 Client (newest e past))
@@ -127,7 +128,7 @@ client-finds releases further e past C22 = sym (and_false (breaks_C22 (newest e 
 client-finds releases further e past C23 = last (breaks_C23 Client (newest e past))
 client-finds releases further e past _ = refl
 
-server-finds : (releases further : Bool) (e : Seen) (past : List Seen) (rule : Rule)
+server-finds : (releases : Bool) (further : Further) (e : Seen) (past : List Seen) (rule : Rule)
     → found_by Server (kept Server past) (is_alias_set past) e.note rule ≡ ((not (is_further rule) && past_says (statement Server rule) (newest e past)) && binds rule (server releases further))
 unfolding found_by picked pick past_says kept is_alias_set found_line lines line_of breaks_C01 breaks_C02 breaks_C03 breaks_C11 breaks_C13 breaks_C14 breaks_C15 breaks_C16 breaks_C17 breaks_C18 breaks_C20 breaks_C23 breaks_C04 breaks_C05 breaks_C06 breaks_C07 breaks_C08 breaks_C09 breaks_C10 breaks_C12 breaks_C19 breaks_C21 breaks_C22
 server-finds releases further e past C01 = last (breaks_C01 Server (newest e past))
@@ -190,7 +191,7 @@ finds : (tested : Tested) (e : Seen) (past : List Seen) (rule : Rule)
     → is_found tested.role (kept tested.role past) (is_alias_set past) e.note rule ≡ ((not (is_further rule) && past_says (statement tested.role rule) (newest e past)) && binds rule tested)
 finds tested e past rule = found-found_by tested.role (kept tested.role past) (is_alias_set past) e.note rule ∙ go tested.role tested.releases tested.further
   where
-    go : (role : Role) (releases further : Bool) → found_by role (kept role past) (is_alias_set past) e.note rule ≡ ((not (is_further rule) && past_says (statement role rule) (newest e past)) && binds rule (record { role = role; releases = releases; further = further }))
+    go : (role : Role) (releases : Bool) (further : Further) → found_by role (kept role past) (is_alias_set past) e.note rule ≡ ((not (is_further rule) && past_says (statement role rule) (newest e past)) && binds rule (record { role = role; releases = releases; further = further }))
     go Client releases further = client-finds releases further e past rule
     go Server releases further = server-finds releases further e past rule
 

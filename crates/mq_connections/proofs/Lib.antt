@@ -1,6 +1,7 @@
 pub mod AtPlaceLaws
 pub mod ByteFaultLaws
 pub mod ByteTallyLaws
+mod ClocksLaws
 mod DutiesLaws
 mod DutyLaws
 pub mod FindLaws

@@ -32,7 +32,7 @@ alias-next e past alias = some-next (λ m. is_id alias (alias_received (note m))
 set_then : (n : Note) (alias : ℕ) (k t : Bool) → (needs_connection n ≡ true → k ≡ true)
     → ((not (is_boundary n) && (k && t)) || is_id alias (alias_received n)) ≡ ((is_open n || (not (is_close n) && k)) && (is_id alias (alias_received n) || (not (is_open n) && t)))
 set_then notes.Open alias k t on = refl
-set_then (notes.Close cuts) alias k t on = refl
+set_then (notes.Close cuts part) alias k t on = refl
 set_then notes.Rest alias k t on = or_false (k && t)
 set_then (notes.Release identifier) alias k t on = or_false (k && t)
 set_then (notes.Sent item) alias k t on = or_false (k && t)
@@ -50,7 +50,7 @@ many_then : (n : Note) (old was : ℕ → Bool) (k : Bool) (many : ℕ) → (nee
     → cond (is_another (λ alias. not (is_boundary n) && old alias) (alias_received n)) 1 0 + cond (is_boundary n) 0 (cond k many 0)
     ≡ cond (is_open n || (not (is_close n) && k)) (cond (is_another was (alias_received n)) 1 0 + cond (is_open n) 0 many) 0
 many_then notes.Open old was k many on same = refl
-many_then (notes.Close cuts) old was k many on same = refl
+many_then (notes.Close cuts part) old was k many on same = refl
 many_then notes.Rest old was k many on same = no_more k many
 many_then (notes.Release identifier) old was k many on same = no_more k many
 many_then (notes.Sent item) old was k many on same = no_more k many
@@ -108,7 +108,7 @@ none-received = refl
 -- only what is received can be one
 pub error-closed : (n : Note) (test : PacketNote → Bool) → is_some_and test (received_packet n) ≡ true → is_open n ≡ false
 error-closed notes.Open test h = absurd (cc)
-error-closed (notes.Close cuts) test h = refl
+error-closed (notes.Close cuts part) test h = refl
 error-closed notes.Rest test h = refl
 error-closed (notes.Release i) test h = refl
 error-closed (notes.Sent item) test h = refl

@@ -97,7 +97,7 @@ unfinished-many u past here = ids-same (has_identifier u) (is_unfinished (on_ope
 -- only what is sent or received brings an identifier, or finishes one
 idle : (n : Note) (i : ℕ) (b : Bool) → has_item n ≡ false → (is_id i (received_exactly_once n) || (not (finishes_id i n) && b)) ≡ b
 idle notes.Open i b h = refl
-idle (notes.Close cuts) i b h = refl
+idle (notes.Close cuts part) i b h = refl
 idle notes.Rest i b h = refl
 idle (notes.Release identifier) i b h = refl
 idle (notes.Sent item) i b h = absurd (cc)
@@ -141,7 +141,7 @@ none-unfinished = refl
 -- it is received, and finishes nothing
 received-closed : (n : Note) → is_some (received_exactly_once n) ≡ true → is_open n ≡ false
 received-closed notes.Open h = absurd (cc)
-received-closed (notes.Close cuts) h = refl
+received-closed (notes.Close cuts part) h = refl
 received-closed notes.Rest h = refl
 received-closed (notes.Release i) h = refl
 received-closed (notes.Sent item) h = refl
@@ -149,7 +149,7 @@ received-closed (notes.Recv item) h = refl
 
 received-connected : (n : Note) (j : ℕ) → received_exactly_once n ≡ Some j → needs_connection n ≡ true
 received-connected notes.Open j h = absurd (cc)
-received-connected (notes.Close cuts) j h = absurd (cc)
+received-connected (notes.Close cuts part) j h = absurd (cc)
 received-connected notes.Rest j h = absurd (cc)
 received-connected (notes.Release i) j h = absurd (cc)
 received-connected (notes.Sent item) j h = absurd (cc)
@@ -161,12 +161,12 @@ fields-finish _ i j h = absurd (cc)
 
 received-finishes : (n : Note) (i j : ℕ) → received_exactly_once n ≡ Some j → finishes_id i n ≡ false
 received-finishes notes.Open i j h = absurd (cc)
-received-finishes (notes.Close cuts) i j h = absurd (cc)
+received-finishes (notes.Close cuts part) i j h = absurd (cc)
 received-finishes notes.Rest i j h = absurd (cc)
 received-finishes (notes.Release k) i j h = absurd (cc)
 received-finishes (notes.Sent item) i j h = absurd (cc)
 received-finishes (notes.Recv (items.Packet p)) i j h = ap (λ b. b || false) (fields-finish p.fields i j h)
-received-finishes (notes.Recv (items.Bad first rule at)) i j h = absurd (cc)
+received-finishes (notes.Recv (items.Bad first rule at large)) i j h = absurd (cc)
 received-finishes (notes.Recv items.Lost) i j h = absurd (cc)
 
 pub open-no_excess : (e : Seen) (past : List Seen) → exceeds_maximum (newest e past) ≡ true → is_open e.note ≡ false

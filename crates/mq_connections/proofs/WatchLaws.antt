@@ -41,7 +41,7 @@ agrees-start conn tested here = record { same_role = here.same_role; same_state 
 aliases_then : (n : Note) (alias : ℕ) (k t : Bool) → (needs_connection n ≡ true → k ≡ true)
     → (not (is_close n) && ((not (is_open n) && (k && t)) || is_id alias (set_alias n))) ≡ ((is_open n || (not (is_close n) && k)) && (is_id alias (set_alias n) || (not (is_open n) && t)))
 aliases_then notes.Open alias k t on = refl
-aliases_then (notes.Close cuts) alias k t on = refl
+aliases_then (notes.Close cuts part) alias k t on = refl
 aliases_then notes.Rest alias k t on = or_false (k && t)
 aliases_then (notes.Release identifier) alias k t on = or_false (k && t)
 aliases_then (notes.Recv item) alias k t on = or_false (k && t)
@@ -59,7 +59,7 @@ as_many_then : (n : Note) (old was : ℕ → Bool) (k : Bool) (many : ℕ) → (
     → cond (is_close n) 0 (cond (is_another (λ alias. not (is_open n) && old alias) (set_alias n)) 1 0 + cond (is_open n) 0 (cond k many 0))
     ≡ cond (is_open n || (not (is_close n) && k)) (cond (is_another was (set_alias n)) 1 0 + cond (is_open n) 0 many) 0
 as_many_then notes.Open old was k many on same = refl
-as_many_then (notes.Close cuts) old was k many on same = refl
+as_many_then (notes.Close cuts part) old was k many on same = refl
 as_many_then notes.Rest old was k many on same = no_more k many
 as_many_then (notes.Release identifier) old was k many on same = no_more k many
 as_many_then (notes.Recv item) old was k many on same = no_more k many

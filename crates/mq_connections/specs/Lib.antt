@@ -7,3 +7,4 @@ pub mod Manners
 pub mod Terms
 pub mod Unfinished
 pub mod Duties
+pub mod Clocks

@@ -49,7 +49,7 @@ manners_weigh m = cond (is_some (option_and_then (λ method. method) m.method)) 
 -- heard there, if the further statements are asked for.
 pub record IsManners (m : Manners) (tested : Tested) (taken : Option Fate) (past : List Seen) : Type 0 where
   pub same_role : m.role ≡ tested.role
-  pub same_further : m.further ≡ tested.further
+  pub same_further : m.further ≡ tested.further.on_request
   pub same_connect : m.further ≡ true → m.connect ≡ first_connect tested.role (connection past)
   pub same_connack : m.further ≡ true → m.connack ≡ first_connack tested.role (connection past)
   pub same_heard : m.further ≡ true → m.has_heard_connack ≡ some (λ j. hears_connack (note j)) (connection past)

@@ -4,6 +4,7 @@ use Rattle.std.proofs.Common.{ap, ◌∙◌}
 use Rattle.std.specs.Option.{option_and_then}
 use Rattle.mq_packet.specs.declared.packet.PacketType.TheVariants as types
 use Rattle.mq_rules.specs.declared.role.Role.{Role}
+use Rattle.mq_rules.specs.declared.role.Further.{Further}
 use Rattle.mq_rules.specs.declared.role.Role.TheVariants.{Client, Server}
 use Rattle.mq_rules.specs.declared.role.Tested.{Tested}
 use Rattle.mq_rules.specs.declared.rule.Rule.{Rule}
@@ -195,7 +196,7 @@ IsTally others harmless tested past = (rule : Rule) → is_tallied rule ≡ true
 
 -- The statement binds the end and is put to the test at the next event just where what is kept says so.
 abbrev pub Tries : Rule → (Role → Moment → Bool) → (Role → ConnectionState → Note → Bool) → Type 0
-Tries rule test found = (role : Role) (releases further : Bool) (e : Seen) (past : List Seen) → (binds rule (record { role = role; releases = releases; further = further }) && test role (newest e past)) ≡ found role (kept role past) e.note
+Tries rule test found = (role : Role) (releases : Bool) (further : Further) (e : Seen) (past : List Seen) → (binds rule (record { role = role; releases = releases; further = further }) && test role (newest e past)) ≡ found role (kept role past) e.note
 
 pub C01_tried : Tries C01 (λ role. applies_C01) (λ role s n. tries_C01 n)
 unfolding kept applies_C01 line_of found_line lines

@@ -78,7 +78,7 @@ impl Manners {
         Manners {
             alloc,
             role: tested.role,
-            further: tested.further,
+            further: tested.further.on_request,
             connect: None,
             connack: None,
             has_heard_connack: false,

@@ -7,7 +7,7 @@ use Rattle.mq_rules.specs.declared.role.Role.TheVariants.{Client, Server}
 use Rattle.mq_rules.specs.declared.role.Tested.{Tested}
 use Rattle.mq_rules.specs.declared.fate.Fate.{Fate}
 use Rattle.mq_rules.specs.declared.rule.Rule.{Rule}
-use Rattle.mq_rules.specs.declared.rule.Rule.TheVariants.{C03, C06, C07, C08, C10, C11, C12, C13, C14, C15, C16, C17, C20, C21, C22, C23, F01, F02, F03, F04, F05, F06, A01, A02, A03}
+use Rattle.mq_rules.specs.declared.rule.Rule.TheVariants.{C03, C06, C07, C08, C10, C11, C12, C13, C14, C15, C16, C17, C20, C21, C22, C23, F01, F02, F03, F04, F05, F06, A01, A02, A03, K01, K02}
 use Rattle.mq_rules.specs.declared.note.Seen.{Seen}
 use Rattle.mq_rules.specs.Moments.{Moment, moment}
 use Rattle.mq_rules.specs.Connections.{number, fate}
@@ -33,6 +33,7 @@ client-past F04 h f t k = refl
 client-past A01 h f t k = refl
 client-past A02 h f t k = refl
 client-past A03 h f t k = refl
+client-past K01 h f t k = refl
 client-past _ h f t k = absurd (cc)
 
 server-past : (r : Rule) → is_of_server r ≡ true → (f : Option Fate) (t : Option Moment) (k : Moment) → found (reason Server r) f t k ≡ found (reason Server r) None None k
@@ -52,6 +53,7 @@ server-past F05 h f t k = refl
 server-past F06 h f t k = refl
 server-past A02 h f t k = refl
 server-past A03 h f t k = refl
+server-past K02 h f t k = refl
 server-past _ h f t k = absurd (cc)
 
 past-alone : (role : Role) (r : Rule) → is_on_connection role r ≡ true → (f : Option Fate) (t : Option Moment) (k : Moment) → found (reason role r) f t k ≡ found (reason role r) None None k

@@ -9,6 +9,7 @@ pub mod KeptLaws
 pub mod ReasonLaws
 pub mod HandshakeLaws
 pub mod AcceptedLaws
+pub mod HearingLaws
 pub mod CounterLaws
 pub mod WholeLaws
 pub mod Exports

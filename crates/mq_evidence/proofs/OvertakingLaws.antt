@@ -103,7 +103,7 @@ rising-new xs ys b p o is holds same up = subst (IsNonDecreasingBy (λ (r : Rese
 -- an OPEN sends nothing
 open-resends : (n : Note) → is_open n ≡ true → resend_of n ≡ None
 open-resends notes.Open h = refl
-open-resends (notes.Close cuts) h = absurd (cc)
+open-resends (notes.Close cuts part) h = absurd (cc)
 open-resends notes.Rest h = absurd (cc)
 open-resends (notes.Release identifier) h = absurd (cc)
 open-resends (notes.Sent item) h = absurd (cc)

@@ -147,13 +147,13 @@ not-connack _ h = refl
 
 amid-sent : {A : Type 0} (word : PacketFields → Option A) → ((f : PacketFields) → not (greets f) ≡ true → word f ≡ None) → (n : Note) → is_amid n ≡ true → option_and_then word (sent_fields n) ≡ None
 amid-sent word none (notes.Sent (items.Packet p)) h = none p.fields h
-amid-sent word none (notes.Sent (items.Bad first rule at)) h = refl
+amid-sent word none (notes.Sent (items.Bad first rule at large)) h = refl
 amid-sent word none (notes.Sent items.Lost) h = refl
 amid-sent word none _ h = refl
 
 amid-received : {A : Type 0} (word : PacketFields → Option A) → ((f : PacketFields) → not (greets f) ≡ true → word f ≡ None) → (n : Note) → is_amid n ≡ true → option_and_then word (received_fields n) ≡ None
 amid-received word none (notes.Recv (items.Packet p)) h = none p.fields h
-amid-received word none (notes.Recv (items.Bad first rule at)) h = refl
+amid-received word none (notes.Recv (items.Bad first rule at large)) h = refl
 amid-received word none (notes.Recv items.Lost) h = refl
 amid-received word none _ h = refl
 
@@ -167,13 +167,13 @@ amid-connack Server n h = amid-sent connack_in ungreeting-connack n h
 
 amid-sends_connect : (n : Note) → is_amid n ≡ true → sends_type types.Connect n ≡ false
 amid-sends_connect (notes.Sent (items.Packet p)) h = not-connect p.fields h
-amid-sends_connect (notes.Sent (items.Bad first rule at)) h = absurd (cc)
+amid-sends_connect (notes.Sent (items.Bad first rule at large)) h = absurd (cc)
 amid-sends_connect (notes.Sent items.Lost) h = refl
 amid-sends_connect _ h = refl
 
 amid-sends_connack : (n : Note) → is_amid n ≡ true → sends_type types.Connack n ≡ false
 amid-sends_connack (notes.Sent (items.Packet p)) h = not-connack p.fields h
-amid-sends_connack (notes.Sent (items.Bad first rule at)) h = absurd (cc)
+amid-sends_connack (notes.Sent (items.Bad first rule at large)) h = absurd (cc)
 amid-sends_connack (notes.Sent items.Lost) h = refl
 amid-sends_connack _ h = refl
 
@@ -190,25 +190,25 @@ amid-last Server n h = ap (λ b. b || is_sent_refusal n) (amid-disconnects n h) 
 -- what is found in a packet that was sent, or received
 sent-none : (word : PacketFields → Option ℕ) → ((f : PacketFields) → not (answers f) ≡ true → word f ≡ None) → (n : Note) → is_unasked n ≡ true → sent_as word n ≡ None
 sent-none word none (notes.Sent (items.Packet p)) h = none p.fields h
-sent-none word none (notes.Sent (items.Bad first rule at)) h = refl
+sent-none word none (notes.Sent (items.Bad first rule at large)) h = refl
 sent-none word none (notes.Sent items.Lost) h = refl
 sent-none word none _ h = refl
 
 received-none : (word : PacketFields → Option ℕ) → ((f : PacketFields) → not (asks f) ≡ true → word f ≡ None) → (n : Note) → is_unasked n ≡ true → received_as word n ≡ None
 received-none word none (notes.Recv (items.Packet p)) h = none p.fields h
-received-none word none (notes.Recv (items.Bad first rule at)) h = refl
+received-none word none (notes.Recv (items.Bad first rule at large)) h = refl
 received-none word none (notes.Recv items.Lost) h = refl
 received-none word none _ h = refl
 
 asking-none : (word : PacketFields → Option ℕ) → ((f : PacketFields) → not (asks f) ≡ true → word f ≡ None) → (n : Note) → is_unasking n ≡ true → sent_as word n ≡ None
 asking-none word none (notes.Sent (items.Packet p)) h = none p.fields h
-asking-none word none (notes.Sent (items.Bad first rule at)) h = refl
+asking-none word none (notes.Sent (items.Bad first rule at large)) h = refl
 asking-none word none (notes.Sent items.Lost) h = refl
 asking-none word none _ h = refl
 
 answered-none : (word : PacketFields → Option ℕ) → ((f : PacketFields) → not (answers f) ≡ true → word f ≡ None) → (n : Note) → is_unasking n ≡ true → received_as word n ≡ None
 answered-none word none (notes.Recv (items.Packet p)) h = none p.fields h
-answered-none word none (notes.Recv (items.Bad first rule at)) h = refl
+answered-none word none (notes.Recv (items.Bad first rule at large)) h = refl
 answered-none word none (notes.Recv items.Lost) h = refl
 answered-none word none _ h = refl
 
@@ -218,7 +218,7 @@ unasking-once _ h = refl
 
 unasked-once : (n : Note) → is_unasked n ≡ true → received_once_acknowledged n ≡ None
 unasked-once (notes.Recv (items.Packet p)) h = unasking-once p.fields h
-unasked-once (notes.Recv (items.Bad first rule at)) h = refl
+unasked-once (notes.Recv (items.Bad first rule at large)) h = refl
 unasked-once (notes.Recv items.Lost) h = refl
 unasked-once _ h = refl
 
@@ -228,7 +228,7 @@ unasking-twice _ h = refl
 
 unasked-twice : (n : Note) → is_unasked n ≡ true → received_exactly_once n ≡ None
 unasked-twice (notes.Recv (items.Packet p)) h = unasking-twice p.fields h
-unasked-twice (notes.Recv (items.Bad first rule at)) h = refl
+unasked-twice (notes.Recv (items.Bad first rule at large)) h = refl
 unasked-twice (notes.Recv items.Lost) h = refl
 unasked-twice _ h = refl
 
@@ -238,7 +238,7 @@ unasking-new _ h = refl
 
 unasking-opener : (n : Note) → is_unasking n ≡ true → opener_of n ≡ None
 unasking-opener (notes.Sent (items.Packet p)) h = unasking-new p.fields h
-unasking-opener (notes.Sent (items.Bad first rule at)) h = refl
+unasking-opener (notes.Sent (items.Bad first rule at large)) h = refl
 unasking-opener (notes.Sent items.Lost) h = refl
 unasking-opener _ h = refl
 
@@ -248,7 +248,7 @@ unasking-any _ h = refl
 
 unasking-delivery : (n : Note) → is_unasking n ≡ true → delivery_of n ≡ None
 unasking-delivery (notes.Sent (items.Packet p)) h = unasking-any p.fields h
-unasking-delivery (notes.Sent (items.Bad first rule at)) h = refl
+unasking-delivery (notes.Sent (items.Bad first rule at large)) h = refl
 unasking-delivery (notes.Sent items.Lost) h = refl
 unasking-delivery _ h = refl
 

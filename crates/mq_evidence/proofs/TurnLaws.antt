@@ -21,7 +21,7 @@ use Rattle.mq_evidence.specs.Turning.{turn_of, evidence_under}
 -- an OPEN is no RELEASE
 open-unreleased : (n : Note) → is_open n ≡ true → is_release n ≡ false
 open-unreleased notes.Open h = refl
-open-unreleased (notes.Close cuts) h = absurd (cc)
+open-unreleased (notes.Close cuts part) h = absurd (cc)
 open-unreleased notes.Rest h = absurd (cc)
 open-unreleased (notes.Release identifier) h = absurd (cc)
 open-unreleased (notes.Sent item) h = absurd (cc)

@@ -135,7 +135,7 @@ direct role _ h = absurd (cc)
 
 opened : (n : Note) → is_open n ≡ true → n ≡ notes.Open
 opened notes.Open h = refl
-opened (notes.Close cuts) h = absurd (cc)
+opened (notes.Close cuts part) h = absurd (cc)
 opened notes.Rest h = absurd (cc)
 opened (notes.Release identifier) h = absurd (cc)
 opened (notes.Sent item) h = absurd (cc)

@@ -4,7 +4,7 @@ use Rattle.mq_rules.specs.declared.role.Role.{Role}
 use Rattle.mq_rules.specs.declared.role.Role.TheVariants.{Client, Server}
 use Rattle.mq_rules.specs.declared.role.Tested.{Tested}
 use Rattle.mq_rules.specs.declared.rule.Rule.{Rule}
-use Rattle.mq_rules.specs.declared.rule.Rule.TheVariants.{C03, C06, C07, C08, C10, C11, C12, C13, C14, C15, C16, C17, C20, C21, C22, C23, F01, F02, F03, F04, F05, F06, A01, A02, A03}
+use Rattle.mq_rules.specs.declared.rule.Rule.TheVariants.{C03, C06, C07, C08, C10, C11, C12, C13, C14, C15, C16, C17, C20, C21, C22, C23, F01, F02, F03, F04, F05, F06, A01, A02, A03, K01, K02}
 use Rattle.mq_rules.specs.declared.note.Note.{Note}
 use Rattle.mq_rules.specs.declared.note.Seen.{Seen}
 use Rattle.mq_rules.specs.FaultKeys.{FaultMap, fault_at}
@@ -21,6 +21,7 @@ use Rattle.mq_evidence.specs.Trailing.{IsNext}
 use Rattle.mq_evidence.specs.Stretches.{Stretches}
 use Rattle.mq_evidence.specs.Handshakes.{IsHandshake}
 use Rattle.mq_evidence.specs.Accepted.{IsAccepted}
+use Rattle.mq_evidence.specs.Hearing.{IsHearing}
 
 -- ---- the statements
 
@@ -42,6 +43,7 @@ is_of_client F04 = true
 is_of_client A01 = true
 is_of_client A02 = true
 is_of_client A03 = true
+is_of_client K01 = true
 is_of_client _ = false
 
 -- those that bind a server
@@ -62,6 +64,7 @@ is_of_server F05 = true
 is_of_server F06 = true
 is_of_server A02 = true
 is_of_server A03 = true
+is_of_server K02 = true
 is_of_server _ = false
 
 abbrev pub is_on_connection : Role → Rule → Bool
@@ -83,6 +86,7 @@ pub record IsConnectionTrail (t : ConnectionTrail) (tested : Tested) (past : Lis
   pub same_role : t.role ≡ tested.role
   pub handshake_is : IsHandshake t.handshake tested.role (latest_connection past)
   pub accepted_is : IsAccepted t.accepted tested.role past
+  pub hearing_is : IsHearing t.hearing tested.role past
 
 -- ---- what was found
 

@@ -13,6 +13,7 @@ pub mod Answering
 pub mod Handshakes
 pub mod Begun
 pub mod Accepted
+pub mod Hearing
 pub mod Counters
 pub mod Rests
 pub mod Overtaking

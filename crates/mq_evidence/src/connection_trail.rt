@@ -3,7 +3,6 @@
 ghost use Rattle.std.specs.Prelude.{◌≡◌, ◌∷◌, ◌+◌, ℕ, [], List, length, Some, None, OnOk, option_map};
 ghost use Rattle.std.specs.Option.{option_or};
 ghost use Rattle.std.specs.FinMap as map;
-ghost use Rattle.mq_log.specs.declared.place.Place3.{Place3 as ThePlace};
 ghost use Rattle.mq_rules.specs.declared.role.Role.TheVariants.{Client, Server};
 ghost use Rattle.mq_rules.specs.declared.role.Tested.{Tested as TheTested};
 ghost use Rattle.mq_rules.specs.declared.rule.Rule.{Rule as TheRule};
@@ -16,6 +15,7 @@ ghost use Rattle.mq_evidence.specs.Findings.{found_at};
 ghost use Rattle.mq_evidence.specs.Trailing.{explained_at};
 ghost use Rattle.mq_evidence.specs.Handshakes.{IsHandshake};
 ghost use Rattle.mq_evidence.specs.Accepted.{IsAccepted};
+ghost use Rattle.mq_evidence.specs.Hearing.{IsHearing};
 ghost use Rattle.mq_rules.specs.Connections.{connection};
 ghost use Rattle.mq_evidence.specs.Evidence.{earliest, is_connack};
 ghost use Rattle.mq_evidence.specs.ConnectionTrails.{IsConnectionTrail, connection_turn, latest_connection, is_of_client, is_of_server, is_on_connection};
@@ -24,17 +24,19 @@ use crate::accepted::Accepted;
 use crate::evidence::Evidence;
 use crate::findings::Findings;
 use crate::handshake::Handshake;
+use crate::hearing::Hearing;
 use crate::turn::Turn;
 use mq_log::Place3;
 use mq_rules::{Faults, Memory, Note, Role, Rule, Tested};
 
-/// What came on the connection, as far as the evidence of a later fault may need it, and where
-/// connections were accepted.
+/// What came on the connection, as far as the evidence of a later fault may need it, where
+/// connections were accepted, and when the client was last heard.
 #[derive(Drop)]
 pub struct ConnectionTrail {
     role: Role,
     handshake: Handshake,
     accepted: Accepted,
+    hearing: Hearing,
 }
 
 // How the next event lies on its connection, whatever its session is.
@@ -58,6 +60,7 @@ impl ConnectionTrail {
             role: tested.role,
             handshake: Handshake::new(tested.role),
             accepted: Accepted::new(tested.role),
+            hearing: Hearing::new(tested.role),
         }
     }
 
@@ -68,11 +71,12 @@ impl ConnectionTrail {
         let turn = turn_at(at, note);
         self.handshake.take(turn, note);
         self.accepted.take(turn, note);
+        self.hearing.take(at, note);
     }
 
     // The evidence of a statement on a client.
-    fn of_client(&self, rule: Rule, note: &Note) -> Option<Evidence>
-        ensures { (at : ThePlace) (past : List Seen) → IsHandshake self.now.handshake Client (latest_connection past) → result ≡ only (is_of_client rule) (Some (found (reason Client rule) None None (newest (seen at note.now) past))) }
+    fn of_client(&self, rule: Rule, at: Place3, note: &Note) -> Option<Evidence>
+        ensures { (past : List Seen) → IsHandshake self.now.handshake Client (latest_connection past) → IsHearing self.now.hearing Client past → result ≡ only (is_of_client rule) (Some (found (reason Client rule) None None (newest (seen at note.now) past))) }
     {
         let handshake = &self.handshake;
         match rule {
@@ -92,13 +96,14 @@ impl ConnectionTrail {
             Rule::A01 => Some(handshake.connect()),
             Rule::A02 => Some(handshake.connect()),
             Rule::A03 => Some(handshake.connect()),
+            Rule::K01 => Some(self.hearing.of_client(at)),
             _ => None,
         }
     }
 
     // That of a statement on a server.
-    fn of_server(&self, rule: Rule, note: &Note) -> Option<Evidence>
-        ensures { (at : ThePlace) (past : List Seen) → IsHandshake self.now.handshake Server (latest_connection past) → IsAccepted self.now.accepted Server past → result ≡ only (is_of_server rule) (Some (found (reason Server rule) None None (newest (seen at note.now) past))) }
+    fn of_server(&self, rule: Rule, at: Place3, note: &Note) -> Option<Evidence>
+        ensures { (past : List Seen) → IsHandshake self.now.handshake Server (latest_connection past) → IsAccepted self.now.accepted Server past → IsHearing self.now.hearing Server past → result ≡ only (is_of_server rule) (Some (found (reason Server rule) None None (newest (seen at note.now) past))) }
     {
         let handshake = &self.handshake;
         match rule {
@@ -118,6 +123,7 @@ impl ConnectionTrail {
             Rule::F06 => Some(handshake.connect()),
             Rule::A02 => Some(handshake.connect()),
             Rule::A03 => Some(handshake.connect()),
+            Rule::K02 => Some(self.hearing.of_server(at)),
             _ => None,
         }
     }
@@ -131,12 +137,12 @@ impl ConnectionTrail {
 
     /// What a fault of this statement at an event conflicts with, if it is one of those that it
     /// finds. It is asked before the event is taken in.
-    pub fn find(&self, rule: Rule, note: &Note) -> Option<Evidence>
-        ensures { (tested : TheTested) (at : ThePlace) (past : List Seen) → IsConnectionTrail self.now tested past → result ≡ only (is_on_connection tested.role rule) (Some (found (reason tested.role rule) None None (newest (seen at note.now) past))) }
+    pub fn find(&self, rule: Rule, at: Place3, note: &Note) -> Option<Evidence>
+        ensures { (tested : TheTested) (past : List Seen) → IsConnectionTrail self.now tested past → result ≡ only (is_on_connection tested.role rule) (Some (found (reason tested.role rule) None None (newest (seen at note.now) past))) }
     {
         match self.role {
-            Role::Client => self.of_client(rule, note),
-            Role::Server => self.of_server(rule, note),
+            Role::Client => self.of_client(rule, at, note),
+            Role::Server => self.of_server(rule, at, note),
         }
     }
 
@@ -157,7 +163,7 @@ impl ConnectionTrail {
             → found_at findings.new k r ≡ option_or (explained_at (is_on_connection tested.role) (map.entries wanted.now) at.position k r (found (reason tested.role r) None None (newest (seen at note.now) past))) (found_at findings.old k r)) }
     {
         for (key, _) in wanted.at(at.position) {
-            if let Some(evidence) = self.find(key.rule, note) {
+            if let Some(evidence) = self.find(key.rule, at, note) {
                 findings.add(*key, evidence)?;
             }
         }

@@ -113,6 +113,8 @@ pub fn explanation(rule: Rule) -> &'static str
         Rule::A01 => further::A01,
         Rule::A02 => further::A02,
         Rule::A03 => further::A03,
+        Rule::K01 => further::K01,
+        Rule::K02 => further::K02,
     }
 }
 

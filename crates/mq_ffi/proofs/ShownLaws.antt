@@ -14,6 +14,7 @@ use Rattle.mq_log.specs.Context.{context, placed_for, put}
 use Rattle.mq_log.specs.Events.{Placed, events}
 use Rattle.mq_log.proofs.Exports.{events-kept}
 use Rattle.mq_rules.specs.declared.note.Seen.{Seen}
+use Rattle.mq_rules.specs.declared.role.Further.{Further}
 use Rattle.mq_rules.specs.declared.role.Tested.{Tested}
 use Rattle.mq_rules.specs.declared.rule.Rule.{Rule}
 use Rattle.mq_rules.specs.declared.fault.Fault.{Fault}
@@ -160,12 +161,12 @@ counted : (log : List ℕ) → length (seen_in log) ≡ length (events log)
 unfolding seen_in
 counted log = length-map (events log) seen
 
-pub none_yet : (further : Bool) (log : List ℕ) (known : FaultMap) → AreFaultsOf further log known → (event : ℕ) → length (events log) < event → shown_by event (entries known) ≡ []
+pub none_yet : (further : Further) (log : List ℕ) (known : FaultMap) → AreFaultsOf further log known → (event : ℕ) → length (events log) < event → shown_by event (entries known) ≡ []
 none_yet further log known are event later =
     none_shown event known (λ k rule. ap (shown event) (are k rule) ∙ none-in event (tested_by further log) (seen_in log) k rule (subst (λ n. n < event) (sym (counted log)) later))
 
 -- the end that a header names makes no difference before there is an event
-same-tested : (further : Bool) (log more : List ℕ) (event k : ℕ) (rule : Rule)
+same-tested : (further : Further) (log more : List ℕ) (event k : ℕ) (rule : Rule)
     → shown event (fault_in (tested_by further (log ++ more)) (seen_in log) k rule) ≡ shown event (fault_in (tested_by further log) (seen_in log) k rule)
 same-tested further log more event k rule = go (nat_lt (length log) 8) refl where
   go : (b : Bool) → nat_lt (length log) 8 ≡ b → shown event (fault_in (tested_by further (log ++ more)) (seen_in log) k rule) ≡ shown event (fault_in (tested_by further log) (seen_in log) k rule)
@@ -177,7 +178,7 @@ same-tested further log more event k rule = go (nat_lt (length log) 8) refl wher
       ∙ ap (λ s. shown event (fault_in (tested_by further log) s k rule)) (sym none)
   go false is = ap (λ t. shown event (fault_in t (seen_in log) k rule)) (tested-stays further log more (ltb-false (length log) 8 is))
 
-pub shown_stays : (further : Bool) (log more : List ℕ) (known later : FaultMap) → AreFaultsOf further log known → AreFaultsOf further (log ++ more) later → (event : ℕ) → event ≤ length (events log)
+pub shown_stays : (further : Further) (log more : List ℕ) (known later : FaultMap) → AreFaultsOf further log known → AreFaultsOf further (log ++ more) later → (event : ℕ) → event ≤ length (events log)
     → shown_by event (entries later) ≡ shown_by event (entries known)
 shown_stays further log more known later are are_later event within =
     same_shown event later known (λ k rule.

@@ -69,7 +69,7 @@ impl Live {
         ensures turn { result.turn ≡ record { event = 0; given = 0 } }
         ensures choice { result.choice ≡ choice }
     {
-        let further = choice.has_further();
+        let further = choice.further();
         Live {
             judge: Judge::counting(alloc, Options { limit, further }),
             choice,

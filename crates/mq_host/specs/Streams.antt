@@ -64,7 +64,7 @@ no_faults_line = codes "mqjudge: --around needs --faults" ++ 10 ∷ []
 
 -- the line on the further statements where no faults are asked for
 abbrev pub no_faults_for_all_line : List ℕ
-no_faults_for_all_line = codes "mqjudge: --all needs --faults" ++ 10 ∷ []
+no_faults_for_all_line = codes "mqjudge: --all and --times need --faults" ++ 10 ∷ []
 
 abbrev pub no_file_line : List ℕ
 no_file_line = codes "mqjudge: --faults reads the log more than once, so it needs a FILE, not standard input" ++ 10 ∷ []
@@ -81,9 +81,9 @@ two_reports_line = codes "mqjudge: --why and --coverage are two reports: ask for
 
 -- the end of a line on a list of statements, and then what a list may have
 abbrev pub choices_line : List ℕ
-choices_line = 10 ∷ codes "mqjudge: there are default, all," ++ (all_codes ++ (codes ", and a family for each letter that codes begin with: see mqjudge rules --all" ++ 10 ∷ []))
+choices_line = 10 ∷ codes "mqjudge: there are default, all, times," ++ (all_codes ++ (codes ", and a family for each letter that codes begin with: see mqjudge rules --times" ++ 10 ∷ []))
 
--- for a word of a list that names no statement, for a list that leaves none, and for one beside `--all`
+-- for a word of a list that names no statement, for a list that leaves none, and for one beside `--all` or `--times`
 abbrev pub no_statements_line : List ℕ → List ℕ
 no_statements_line word = codes "mqjudge: no statements " ++ (word ++ choices_line)
 
@@ -91,7 +91,7 @@ abbrev pub no_choice_line : List ℕ
 no_choice_line = codes "mqjudge: --statements leaves no statement" ++ choices_line
 
 abbrev pub two_choices_line : List ℕ
-two_choices_line = codes "mqjudge: --all and --statements both choose statements: give one of them" ++ 10 ∷ []
+two_choices_line = codes "mqjudge: --all, --times and --statements choose statements: give one of them" ++ 10 ∷ []
 
 -- for a log that is to be converted into itself
 abbrev pub same_file_line : List ℕ

@@ -69,7 +69,10 @@ impl Misuse<'_> {
             ),
             Misuse::NoStatement(word) => refuse_statement(alloc, word, error),
             Misuse::NoFaults => write_misuse("mqjudge: --around needs --faults\n", error),
-            Misuse::NoFaultsForAll => write_misuse("mqjudge: --all needs --faults\n", error),
+            Misuse::NoFaultsForAll => write_misuse(
+                "mqjudge: --all and --times need --faults\n",
+                error,
+            ),
             Misuse::NoFile => write_misuse(
                 "mqjudge: --faults reads the log more than once, so it needs a FILE, not standard input\n",
                 error,
@@ -96,7 +99,7 @@ impl Misuse<'_> {
                 error,
             ),
             Misuse::TwoChoices => write_misuse(
-                "mqjudge: --all and --statements both choose statements: give one of them\n",
+                "mqjudge: --all, --times and --statements choose statements: give one of them\n",
                 error,
             ),
             Misuse::SameFile => write_misuse(
@@ -202,10 +205,10 @@ fn choices_text(alloc: Global) -> Result<String, AllocError>
     ensures { IfOk result (λ text. 10 ∷ string_bytes text ≡ choices_line) }
 {
     let mut text = String::new(alloc);
-    text.push_str("mqjudge: there are default, all,")?;
+    text.push_str("mqjudge: there are default, all, times,")?;
     add_all_codes(&mut text)?;
     text.push_str(
-        ", and a family for each letter that codes begin with: see mqjudge rules --all\n",
+        ", and a family for each letter that codes begin with: see mqjudge rules --times\n",
     )?;
     Ok(text)
 }

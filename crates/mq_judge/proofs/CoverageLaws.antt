@@ -10,6 +10,7 @@ use Rattle.mq_log.proofs.Exports.{events-header}
 use Rattle.mq_rules.proofs.Exports.{places-most}
 use Rattle.mq_rules.specs.declared.rule.Rule.{Rule}
 use Rattle.mq_rules.specs.declared.rule.Rule.TheVariants.{W01}
+use Rattle.mq_rules.specs.declared.role.Further.{Further}
 use Rattle.mq_rules.specs.declared.role.Tested.{Tested}
 use Rattle.mq_rules.specs.Rules.{all_rules}
 use Rattle.mq_rules.specs.Notes.{tested_by, seen}
@@ -77,7 +78,7 @@ none-among tested rule = go (is_on_bytes tested rule)
     go false = none
 
 -- what is counted for the end that a log's header names is what its statements have
-pub named-places : (further : Bool) (tested : Tested) (log : List ℕ) (rule : Rule) → (8 ≤ length log → tested ≡ tested_by further log) → places_among tested (events log) rule ≡ places_in further log rule
+pub named-places : (further : Further) (tested : Tested) (log : List ℕ) (rule : Rule) → (8 ≤ length log → tested ≡ tested_by further log) → places_among tested (events log) rule ≡ places_in further log rule
 unfolding places_in
 named-places further tested log rule named = go (nat_lt (length log) 8) refl
   where

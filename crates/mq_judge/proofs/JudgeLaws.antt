@@ -15,6 +15,7 @@ use Rattle.mq_trace.specs.Tracing.{Traced, IsTracedTo, KeepsHeader, TracesPiece,
 use Rattle.mq_log.proofs.Exports.{events-header}
 use Rattle.mq_trace.proofs.Exports.{keeps_header}
 use Rattle.mq_rules.specs.declared.note.Seen.{Seen}
+use Rattle.mq_rules.specs.declared.role.Further.{Further}
 use Rattle.mq_rules.specs.declared.role.Tested.{Tested}
 use Rattle.mq_rules.specs.declared.rule.Rule.{Rule}
 use Rattle.mq_rules.specs.FaultKeys.{fault_at}
@@ -51,13 +52,13 @@ unfolding seen_in
 unseen log h = ap (map seen) (events-header log h)
 
 -- the end that a whole header names
-pub tested-stays : (further : Bool) (log more : List ℕ) → 8 ≤ length log → tested_by further (log ++ more) ≡ tested_by further log
+pub tested-stays : (further : Further) (log more : List ℕ) → 8 ≤ length log → tested_by further (log ++ more) ≡ tested_by further log
 tested-stays further log more long = ap (tested_as further) (header-stays log more long)
 
 -- ---- what is known
 
 -- the faults that are found are those of the log
-faults-found : (further : Bool) (w : Watching) (log : List ℕ) → (8 ≤ length log → w.tested ≡ tested_by further log) → IsFound w (seen_in log) → AreFaultsOf further log w.faults
+faults-found : (further : Further) (w : Watching) (log : List ℕ) → (8 ≤ length log → w.tested ≡ tested_by further log) → IsFound w (seen_in log) → AreFaultsOf further log w.faults
 faults-found further w log named found k rule = go (nat_lt (length log) 8) refl
   where
     none : nat_lt (length log) 8 ≡ true → seen_in log ≡ []
@@ -76,11 +77,11 @@ events-counted : (w : Watching) (log : List ℕ) → IsFound w (seen_in log) →
 unfolding seen_in
 events-counted w log found = found.count ∙ length-map (events log) seen
 
-pub knows-found : (further : Bool) (tracer : Traced) (w : Watching) (log : List ℕ) → KeepsHeader tracer.reading log → (8 ≤ length log → w.tested ≡ tested_by further log) → IsFound w (seen_in log)
+pub knows-found : (further : Further) (tracer : Traced) (w : Watching) (log : List ℕ) → KeepsHeader tracer.reading log → (8 ≤ length log → w.tested ≡ tested_by further log) → IsFound w (seen_in log)
     → KnowsBy further tracer.reading w log
 knows-found further tracer w log header named found = record { header = header; faults = faults-found further w log named found; events = events-counted w log found }
 
-pub follows-nothing : (limit : ℕ) (further : Bool) (tracer : Traced) (w : Watching) → IsTracedTo tracer [] → tracer.reading.limit ≡ limit → IsWatching w [] → IsTallying w [] → FollowsBy limit further tracer w []
+pub follows-nothing : (limit : ℕ) (further : Further) (tracer : Traced) (w : Watching) → IsTracedTo tracer [] → tracer.reading.limit ≡ limit → IsWatching w [] → IsTallying w [] → FollowsBy limit further tracer w []
 follows-nothing limit further tracer w traced within watches tallies =
     let here : IsWatching w (seen_in []) = subst (IsWatching w) (sym seen-nothing) watches in
     record {
@@ -93,7 +94,7 @@ follows-nothing limit further tracer w traced within watches tallies =
     }
 
 -- nothing is refused in a log that a judge follows
-pub unrefused : (limit : ℕ) (further : Bool) (tracer : Traced) (w : Watching) (log : List ℕ) → FollowsBy limit further tracer w log → refused limit log ≡ None
+pub unrefused : (limit : ℕ) (further : Further) (tracer : Traced) (w : Watching) (log : List ℕ) → FollowsBy limit further tracer w log → refused limit log ≡ None
 unrefused limit further tracer w log f = subst (λ l. refused l log ≡ None) f.within f.traced.keeps.unrefused
 
 -- ---- a piece that is taken in by a tracer, whose sink judges the events
@@ -130,7 +131,7 @@ fed-events watching tested counting limit next log piece old new (Err r) whom wa
 -- ---- the tested end, once the header is whole
 
 -- what is kept of the events, after what belongs to the header
-pub record Begun (further : Bool) (w : Watching) (log : List ℕ) : Type 0 where
+pub record Begun (further : Further) (w : Watching) (log : List ℕ) : Type 0 where
   pub named : 8 ≤ length log → w.tested ≡ tested_by further log
   pub watches : IsWatching w (seen_in log)
   pub tallies : IsTallying w (events log)
@@ -139,7 +140,7 @@ no-events : (log : List ℕ) (count : ℕ) → count ≡ length (seen_in log) �
 no-events log count is none = nil_from_length (seen_in log) (sym is ∙ none)
 
 -- no event is complete in the header, so its end is taken up by watchers that have taken in none
-pub begun : (limit : ℕ) (further : Bool) (first mid : Traced) (w v : Watching) (log piece rest : List ℕ) (header : Option Header) → FollowsBy limit further first w log → (b : Begins mid log piece rest)
+pub begun : (limit : ℕ) (further : Further) (first mid : Traced) (w v : Watching) (log piece rest : List ℕ) (header : Option Header) → FollowsBy limit further first w log → (b : Begins mid log piece rest)
     → header ≡ (if nat_lt (length (log ++ b.taken)) 8 then None else Some (header_by (log ++ b.taken)))
     → (w.events ≡ 0 → IfSome header (λ named. (v.tested ≡ tested_as further named) × IsWatching v [] × IsTallying v [])) → (header ≡ None → v ≡ w) → ((w.events ≡ 0 → ⊥) → v ≡ w)
     → Begun further v (log ++ b.taken)
@@ -200,14 +201,14 @@ begun limit further first mid w v log piece rest header f b is anew unnamed late
 -- ---- a piece of a log
 
 -- the end that a longer log names, where its header is whole or nothing was added
-named-on : (further : Bool) (v : Watching) (log more : List ℕ) → Begun further v log → (8 ≤ length log) ⊎ (more ≡ []) → 8 ≤ length (log ++ more) → v.tested ≡ tested_by further (log ++ more)
+named-on : (further : Further) (v : Watching) (log more : List ℕ) → Begun further v log → (8 ≤ length log) ⊎ (more ≡ []) → 8 ≤ length (log ++ more) → v.tested ≡ tested_by further (log ++ more)
 named-on further v log more b (inl whole) long = b.named whole ∙ sym (tested-stays further log more whole)
 named-on further v log more b (inr none) long =
     let same : log ++ more ≡ log = ap (λ (l : List ℕ). log ++ l) none ∙ append-nil log in
     b.named (subst (λ (l : List ℕ). 8 ≤ length l) same long) ∙ ap (tested_by further) (sym same)
 
 -- the bytes after the header are taken in, or one of them isn't
-pub consumed : (limit : ℕ) (further : Bool) (first mid next : Traced) (w v x : Watching) (log piece rest : List ℕ) (result : Result (Unit {0}) Refusal) → FollowsBy limit further first w log → (b : Begins mid log piece rest)
+pub consumed : (limit : ℕ) (further : Further) (first mid next : Traced) (w v x : Watching) (log piece rest : List ℕ) (result : Result (Unit {0}) Refusal) → FollowsBy limit further first w log → (b : Begins mid log piece rest)
     → mid.reading.limit ≡ first.reading.limit → Begun further v (log ++ b.taken) → IfErr result (λ r. next.refusal ≡ Some r)
     → TakesEvents mid.reading.limit v.tested (counts v.watchers) (log ++ b.taken) rest next x result → JudgesPieceBy limit further next x log piece result
 unfolding seen_in
@@ -252,7 +253,7 @@ counting-stays limit tested counting before log piece next x (Ok done) same t = 
 counting-stays limit tested counting before log piece next x (Err r) same t = tt
 
 -- a byte of the header isn't taken in
-pub refused-first : (limit : ℕ) (further : Bool) (first next : Traced) (w : Watching) (log piece : List ℕ) (r : Refusal) → FollowsBy limit further first w log → next.refusal ≡ Some r
+pub refused-first : (limit : ℕ) (further : Further) (first next : Traced) (w : Watching) (log piece : List ℕ) (r : Refusal) → FollowsBy limit further first w log → next.refusal ≡ Some r
     → StopsInHeader first.reading.limit log piece next.reading r → JudgesPieceBy limit further next w log piece (Err r)
 refused-first limit further first next w log piece r f given t =
     let s = t.0.0 in

@@ -10,6 +10,7 @@ use Rattle.mq_report.specs.declared.report.Outcome.TheVariants.{Pass, Fail}
 use Rattle.mq_report.specs.declared.report.RunFault.{RunFault}
 use Rattle.mq_report.specs.declared.report.RunFault.TheVariants as run_faults
 use Rattle.mq_rules.specs.declared.role.Role.{Role}
+use Rattle.mq_rules.specs.declared.role.Further.{Further}
 use Rattle.mq_judge.specs.declared.judge.Judge.{Judge}
 use Rattle.mq_judge.specs.Judging.{Finishes, Follows, RefusesIn, AreFaultsOf}
 use Rattle.mq_log.specs.Refusals.{refused, is_cut_short}
@@ -37,7 +38,7 @@ unrefused-yet : {judge : Judge} (log : List ℕ) → judge.limit ≡ default_lim
 unrefused-yet {judge} log e follows = subst (λ l. refused l log ≡ None) e (unrefused judge.limit judge.further judge.tracer judge.judging.watching log follows)
 
 -- what a verdict says of its log
-abbrev pub SaysOf : Bool → List ℕ → ℕ → FaultMap → Type 0
+abbrev pub SaysOf : Further → List ℕ → ℕ → FaultMap → Type 0
 SaysOf further log count faults = (is_cut_short log ≡ false) × (count ≡ length (events log)) × AreFaultsOf further log faults
 
 -- what is found of a log that was fed whole, with the role of the end that was judged
@@ -68,13 +69,13 @@ run-refused-at-end {S} {first} {x} {y} refusal took default why =
     })
 
 -- what finishing a judge gives that was fed a whole log
-pub judge-finishes : {V : Type 0} (further : Bool) (count_in : V → ℕ) (faults_in : V → FaultMap) {S : Type 0} {first : ℕ} {x y : Option (List ℕ)} {judge : Judge} {sink : S} (result : Result (V × Role) Refusal)
+pub judge-finishes : {V : Type 0} (further : Further) (count_in : V → ℕ) (faults_in : V → FaultMap) {S : Type 0} {first : ℕ} {x y : Option (List ℕ)} {judge : Judge} {sink : S} (result : Result (V × Role) Refusal)
     → FedAll (λ j. j.limit) (λ j (_ : S). Follows j) first x y judge sink → first ≡ default_limit → judge.further ≡ further
     → ((log : List ℕ) → Follows judge log → Finishes judge.further (λ (answer : V × Role). count_in answer.0) (λ (answer : V × Role). faults_in answer.0) log result)
     → ((log : List ℕ) → Follows judge log → IfOk result (λ answer. answer.1 ≡ (tested_by judge.further log).role))
     → IfSome x (λ log. FindsOver further count_in faults_in log y result)
 judge-finishes further count_in faults_in {S} {first} {x} (Ok answer) took default same finished named =
-    subst (λ (b : Bool). IfSome x (λ log. IsFoundOf b log answer.1 (count_in answer.0) (faults_in answer.0))) same
+    subst (λ (b : Further). IfSome x (λ log. IsFoundOf b log answer.1 (count_in answer.0) (faults_in answer.0))) same
     (judge-ends (count_in answer.0) (faults_in answer.0) answer.1 took default finished named)
 judge-finishes further count_in faults_in (Err refusal) took default same finished named = run-refused-at-end refusal took default finished
 

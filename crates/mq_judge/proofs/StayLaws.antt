@@ -6,6 +6,7 @@ use Rattle.mq_log.specs.Context.{context, placed_for, put}
 use Rattle.mq_log.specs.Events.{Placed, events}
 use Rattle.mq_log.proofs.Exports.{events-kept}
 use Rattle.mq_rules.specs.declared.note.Seen.{Seen}
+use Rattle.mq_rules.specs.declared.role.Further.{Further}
 use Rattle.mq_rules.specs.declared.role.Tested.{Tested}
 use Rattle.mq_rules.specs.declared.rule.Rule.{Rule}
 use Rattle.mq_rules.specs.declared.fault.Fault.{Fault}
@@ -46,7 +47,7 @@ seen-more log (byte ∷ more) =
       ap seen_in (sym (append_assoc log (byte ∷ []) more)) ∙ later.1 ∙ ap (λ s. later.0 ++ s) here.1 ∙ sym (append_assoc later.0 here.0 (seen_in log)),
     )
 
-pub known-stays : (further : Bool) (log more : List ℕ) (known later : FaultMap) → AreFaultsOf further log known → AreFaultsOf further (log ++ more) later
+pub known-stays : (further : Further) (log more : List ℕ) (known later : FaultMap) → AreFaultsOf further log known → AreFaultsOf further (log ++ more) later
     → (k : ℕ) (rule : Rule) (fault : Fault) → fault_at known k rule ≡ Some fault → fault_at later k rule ≡ Some fault
 known-stays further log more known later are are_later k rule fault h = go (nat_lt (length log) 8) refl
   where

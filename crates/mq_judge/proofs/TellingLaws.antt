@@ -5,6 +5,7 @@ use Rattle.std.specs.Prelude.{IfSome}
 use Rattle.mq_log.specs.declared.refusal.Refusal.{Refusal}
 use Rattle.mq_trace.specs.Feeding.{FedAll}
 use Rattle.mq_trace.proofs.Exports.{some-taken, whole-taken}
+use Rattle.mq_rules.specs.declared.role.Further.{Further}
 use Rattle.mq_rules.specs.FaultKeys.{FaultMap}
 use Rattle.mq_rules.specs.Notes.{tested_by, seen_in}
 use Rattle.mq_rules.proofs.Exports.{entries-listed}
@@ -19,15 +20,15 @@ use Rattle.mq_report.specs.Stopping.{FedBefore}
 use Rattle.mq_judge.specs.Telling.{Said, advanced, ended, SaidSoFar, IsTold, IsToldOf, IsToldOfRun, AreFirst, IsJudgedFor}
 
 -- of nothing nothing is said
-pub told-nothing : (further : Bool) (old new : SaidSoFar) → ((before : List Said) → old before → new before) → IsTold further old new []
+pub told-nothing : (further : Further) (old new : SaidSoFar) → ((before : List Said) → old before → new before) → IsTold further old new []
 told-nothing further old new same = record { said = []; of_them = refl; told = same }
 
 -- the number of the faults that a judge knows of a log
-pub faults-known : (further : Bool) (log : List ℕ) (faults : FaultMap) → AreFaultsOf further log faults → map.len faults ≡ length (found_in further log)
+pub faults-known : (further : Further) (log : List ℕ) (faults : FaultMap) → AreFaultsOf further log faults → map.len faults ≡ length (found_in further log)
 faults-known further log faults are = map.len-entries faults ∙ ap (length {A = _}) (entries-listed (is_judged (tested_by further log)) (tested_by further log) (seen_in log) faults are)
 
 -- one piece more was told
-pub told-piece : (further : Bool) (old mid new : SaidSoFar) (log piece : List ℕ) (bytes count : ℕ) → IsTold further old mid log → bytes ≡ length piece → count ≡ length (found_in further (log ++ piece))
+pub told-piece : (further : Further) (old mid new : SaidSoFar) (log piece : List ℕ) (bytes count : ℕ) → IsTold further old mid log → bytes ≡ length piece → count ≡ length (found_in further (log ++ piece))
     → ((before : List Said) → mid before → new (advanced bytes count ∷ before)) → IsTold further old new (log ++ piece)
 told-piece further old mid new log piece bytes count h long many more = record {
   said = advanced bytes count ∷ h.said;
@@ -35,7 +36,7 @@ told-piece further old mid new log piece bytes count h long many more = record {
   told = λ before was. more (h.said ++ before) (h.told before was);
 }
 
-module _ {W S : Type 0} (judge_of : W → Judge) (further : Bool) (old : SaidSoFar) (counting : Bool) (words : S → SaidSoFar) where
+module _ {W S : Type 0} (judge_of : W → Judge) (further : Further) (old : SaidSoFar) (counting : Bool) (words : S → SaidSoFar) where
   -- a judge that tells has followed a log, and told all of it
   abbrev pub FollowsTelling : W → S → List ℕ → Type 0
   FollowsTelling w s log = Follows (judge_of w) log × IsTold further old (words s) log × (is_counting (judge_of w) ≡ counting) × ((judge_of w).further ≡ further)
@@ -53,7 +54,7 @@ module _ {W S : Type 0} (judge_of : W → Judge) (further : Bool) (old : SaidSoF
   pub counting-all : {first : ℕ} {x y : Option (List ℕ)} {w : W} {s : S} → FedAll (λ v. (judge_of v).limit) FollowsTelling first x y w s → is_counting (judge_of w) ≡ counting
   counting-all took = took.followed.2
 
-  -- it judges the further statements too, or not, as it did at first
+  -- it judges the further statements too that it judged at first
   pub further-all : {first : ℕ} {x y : Option (List ℕ)} {w : W} {s : S} → FedAll (λ v. (judge_of v).limit) FollowsTelling first x y w s → (judge_of w).further ≡ further
   further-all took = took.followed.3
 
@@ -89,7 +90,7 @@ module _ {W S : Type 0} (judge_of : W → Judge) (further : Bool) (old : SaidSoF
   }
 
 -- what a run told, once it has said that no more is judged
-pub told-ends : (further : Bool) (how_much whole : (log judged : List ℕ) → Type 0) (remaining : Option (List ℕ)) (old mid new : SaidSoFar)
+pub told-ends : (further : Further) (how_much whole : (log judged : List ℕ) → Type 0) (remaining : Option (List ℕ)) (old mid new : SaidSoFar)
     → ((log judged : List ℕ) → how_much log judged → whole log judged) → ((before : List Said) → mid before → new (ended ∷ before))
     → IsToldOf further how_much remaining old mid → IsToldOf further whole remaining old (λ said. new (ended ∷ said))
 told-ends further how_much whole remaining old mid new means ends h = record {
@@ -103,7 +104,7 @@ told-ends further how_much whole remaining old mid new means ends h = record {
     known (Some log) some = means log h.judged some
 
 -- a run that came to a verdict has judged all of the log, whether or not its report is written
-pub told-verdict : (further : Bool) (result : Result Outcome RunFault) (remaining : Option (List ℕ)) (old mid new : SaidSoFar)
+pub told-verdict : (further : Further) (result : Result Outcome RunFault) (remaining : Option (List ℕ)) (old mid new : SaidSoFar)
     → ((before : List Said) → mid before → new (ended ∷ before)) → IsToldOf further (λ log judged. log ≡ judged) remaining old mid → IsToldOfRun further result remaining old new
 told-verdict further (Ok outcome) remaining old mid new ends h = told-ends further _ _ remaining old mid new (λ log judged all. all) ends h
 told-verdict further (Err run_faults.Write) remaining old mid new ends h = told-ends further _ _ remaining old mid new (λ log judged all. all) ends h
@@ -112,6 +113,6 @@ told-verdict further (Err (run_faults.Refused refusal)) remaining old mid new en
     told-ends further _ _ remaining old mid new (λ log judged all. ([], all ∙ sym (append-nil judged))) ends h
 
 -- and one whose log is refused some first bytes of it
-pub told-refusal : (further : Bool) (remaining : Option (List ℕ)) (old mid new : SaidSoFar) → ((before : List Said) → mid before → new (ended ∷ before)) → IsToldOf further AreFirst remaining old mid
+pub told-refusal : (further : Further) (remaining : Option (List ℕ)) (old mid new : SaidSoFar) → ((before : List Said) → mid before → new (ended ∷ before)) → IsToldOf further AreFirst remaining old mid
     → IsToldOf further AreFirst remaining old (λ said. new (ended ∷ said))
 told-refusal further remaining old mid new ends h = told-ends further _ _ remaining old mid new (λ log judged first. first) ends h

@@ -17,6 +17,7 @@ use Rattle.mq_rules.specs.Moments.{moment, IsPlaced}
 use Rattle.mq_rules.specs.Connections.{AreOnConnections}
 use Rattle.mq_rules.specs.Steps.{turns}
 use Rattle.mq_rules.specs.FaultKeys.{FaultMap, fault_at, key_cmp, decided_elsewhere}
+use Rattle.mq_rules.specs.Rules.{none_further}
 use Rattle.mq_rules.specs.Faults.{fault_in}
 use Rattle.mq_rules.specs.Growing.{added, Gains, GainsWithin}
 use Rattle.mq_rules.specs.Under.{IsInTurn, seen as seen_at}
@@ -81,7 +82,7 @@ found-still tested p earlier old new n is are was same step =
 
 -- the place of the next event
 pub next-place : (p : Placed) (earlier : List Placed) → AreEvents (p ∷ earlier) → p.place.position ≡ length earlier + 1
-next-place p earlier are = (may-come (record { role = Client; releases = false; further = false }) p earlier are).follows.placed.0 ∙ ap (λ n. n + 1) (length-map earlier seen)
+next-place p earlier are = (may-come (record { role = Client; releases = false; further = none_further }) p earlier are).follows.placed.0 ∙ ap (λ n. n + 1) (length-map earlier seen)
 
 -- where places aren't counted, there is nothing to count
 pub still-uncounted : (old new : Watching) (received : List Placed) → is_counting old.watchers ≡ false → is_counting new.watchers ≡ is_counting old.watchers → IsTallying new received

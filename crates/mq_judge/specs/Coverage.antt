@@ -4,6 +4,7 @@ use Rattle.std.specs.List.{flat_map}
 use Rattle.mq_log.specs.Events.{Placed, events}
 use Rattle.mq_rules.specs.declared.role.Role.{Role}
 use Rattle.mq_rules.specs.declared.role.Role.TheVariants.{Client, Server}
+use Rattle.mq_rules.specs.declared.role.Further.{Further}
 use Rattle.mq_rules.specs.declared.role.Tested.{Tested}
 use Rattle.mq_rules.specs.declared.rule.Rule.{Rule}
 use Rattle.mq_rules.specs.declared.rule.Rule.TheVariants.{W15, W16, W17, W18, W19, W20}
@@ -19,8 +20,8 @@ use Rattle.mq_choice.specs.Choices.{tested_for}
 abbrev pub places_among : Tested → List Placed → Rule → ℕ
 places_among tested received rule = cond (is_on_bytes tested rule) (places_bytes tested received rule) (places tested (map seen received) rule)
 
--- how many it has in a log that is judged by the further statements too, or not
-unfoldable pub places_in : Bool → List ℕ → Rule → ℕ
+-- how many it has in a log that is judged by these further statements too
+unfoldable pub places_in : Further → List ℕ → Rule → ℕ
 places_in further log rule = places_among (tested_by further log) (events log) rule
 
 -- The statement is about packets that only the other end sends: SUBSCRIBE, UNSUBSCRIBE and CONNECT (W15 to W19), or CONNACK (W20).

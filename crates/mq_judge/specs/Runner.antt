@@ -10,6 +10,7 @@ use Rattle.mq_report.specs.declared.report.RunFault.TheVariants as run_faults
 use Rattle.mq_report.specs.declared.report.Verdict.{Verdict}
 use Rattle.std.specs.FinMap as map
 use Rattle.mq_rules.specs.declared.role.Role.{Role}
+use Rattle.mq_rules.specs.declared.role.Further.{Further}
 use Rattle.mq_rules.specs.declared.fault.Fault.{Fault}
 use Rattle.mq_rules.specs.declared.faults.FaultKey.{FaultKey}
 use Rattle.mq_rules.specs.FaultKeys.{FaultMap}
@@ -42,18 +43,18 @@ abbrev pub outcome_of : (chosen : Rule → Bool) → List ℕ → Outcome
 outcome_of chosen log = if length (chosen_in chosen log) == 0 then Pass else Fail
 
 -- the faults of all statements that are judged, in ascending order
-abbrev pub found_in : Bool → List ℕ → List (FaultKey × Fault)
+abbrev pub found_in : Further → List ℕ → List (FaultKey × Fault)
 found_in further log = listed_faults (is_judged (tested_by further log)) (tested_by further log) (seen_in log)
 
 -- The log can be judged, and this is what is found of it: the end that was judged, how many events there are, and the faults of all statements that are judged.
-pub record IsFoundOf (further : Bool) (log : List ℕ) (role : Role) (count : ℕ) (faults : FaultMap) : Type 0 where
+pub record IsFoundOf (further : Further) (log : List ℕ) (role : Role) (count : ℕ) (faults : FaultMap) : Type 0 where
   pub judged : IsJudged log
   pub role_is : role ≡ (tested_by further log).role
   pub count_is : count ≡ length (events log)
   pub faults_are : AreFaultsOf further log faults
 
 -- The result of judging this log, and what the reader has left: what is found and the end that was judged, or why the log is refused.
-abbrev pub FindsOver : {V : Type 0} → Bool → (V → ℕ) → (V → FaultMap) → List ℕ → Option (List ℕ) → Result (V × Role) Refusal → Type 0
+abbrev pub FindsOver : {V : Type 0} → Further → (V → ℕ) → (V → FaultMap) → List ℕ → Option (List ℕ) → Result (V × Role) Refusal → Type 0
 FindsOver further count_in faults_in log left (Ok answer) = IsFoundOf further log answer.1 (count_in answer.0) (faults_in answer.0)
 FindsOver further count_in faults_in log left (Err refusal) = IsRefusedAt default_limit log left refusal
 

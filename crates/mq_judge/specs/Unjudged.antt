@@ -15,6 +15,7 @@ use Rattle.mq_rules.specs.declared.note.Note.TheVariants as notes
 use Rattle.mq_rules.specs.declared.note.Seen.{Seen}
 use Rattle.mq_rules.specs.declared.role.Role.{Role}
 use Rattle.mq_rules.specs.declared.role.Role.TheVariants.{Client, Server}
+use Rattle.mq_rules.specs.declared.role.Further.{Further}
 use Rattle.mq_rules.specs.declared.role.Tested.{Tested}
 use Rattle.mq_rules.specs.Words.{only, is_some_and}
 use Rattle.mq_rules.specs.Notes.{is_open, tested_by, seen}
@@ -130,5 +131,5 @@ unjudged_among tested received left =
     with_whole (with_unfinished (shown_in tested.role (map seen received) ++ dropped_in received) None left) tested (map seen received)
 
 -- what isn't judged of a log
-unfoldable pub unjudged_of : Bool → List ℕ → List Gap
+unfoldable pub unjudged_of : Further → List ℕ → List Gap
 unjudged_of further log = unjudged_among (tested_by further log) (events log) (left_at_end log)

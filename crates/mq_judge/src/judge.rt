@@ -17,7 +17,7 @@ use super::watching::{End, Judging, Watching};
 use mq_choice::Choice;
 use mq_log::Refusal;
 use mq_report::{Covered, DEFAULT_LIMIT, Gap, Verdict};
-use mq_rules::{Faults, Memory, Role, Rule, Tested};
+use mq_rules::{Faults, Further, Memory, Role, Rule, Tested};
 use mq_trace::Tracer;
 use std::alloc::Global;
 use std::marker::Brand;
@@ -27,20 +27,20 @@ use std::marker::Brand;
 pub struct Options {
     /// The largest packet that is read, in bytes: 5 to 268,435,460.
     pub limit: u32,
-    /// Judge the further statements too, beside those that always are.
-    pub further: bool,
+    /// Which of the further statements are judged too, beside those that always are.
+    pub further: Further,
 }
 
 impl Default for Options {
-    ghost use Rattle.std.specs.Prelude.{false};
+    ghost use Rattle.mq_rules.specs.Rules.{none_further};
     ghost use Rattle.mq_report.specs.Stopping.{default_limit};
 
-    ghost is_default = { λ options. (options.limit ≡ default_limit) × (options.further ≡ false) };
+    ghost is_default = { λ options. (options.limit ≡ default_limit) × (options.further ≡ none_further) };
 
     fn default() -> Self {
         Options {
             limit: DEFAULT_LIMIT,
-            further: false,
+            further: Further::NONE,
         }
     }
 }
@@ -71,7 +71,7 @@ pub(crate) struct CoveredVerdict {
 #[derive(Drop)]
 pub struct Judge {
     limit: u32,
-    further: bool,
+    further: Further,
     tracer: Tracer,
     judging: Judging<Brand>,
 }
@@ -310,9 +310,9 @@ impl Judge {
 }
 
 // Takes in a piece of a log: first what belongs to its header, which names the end that is judged,
-// by the further statements too or not, and then the rest, in which events are complete.
+// by these further statements too, and then the rest, in which events are complete.
 fn consume(
-    further: bool,
+    further: Further,
     tracer: &mut Tracer,
     judging: &mut Judging<Brand>,
     piece: &[u8],

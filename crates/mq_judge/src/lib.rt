@@ -23,7 +23,7 @@ pub use mq_report::{
     worked_times, write_json, write_long_packet, write_packet, write_refused, write_summary,
     write_text,
 };
-pub use mq_rules::{Fault, FaultKey, Faults, Memory, Role, Rule, Tested};
+pub use mq_rules::{Fault, FaultKey, Faults, Further, Memory, Role, Rule, Tested};
 pub use mq_trace::{ConvertFault, convert};
 pub use progress::Progress;
 pub use runner::{judge_reader, run, run_bounded, run_covered, run_watched};

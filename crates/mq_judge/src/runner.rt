@@ -20,7 +20,7 @@ use mq_log::Refusal;
 use mq_report::{
     DEFAULT_LIMIT, Form, Outcome, RunFault, Verdict, feed_log, write_covered_report, write_report,
 };
-use mq_rules::{Memory, Role};
+use mq_rules::{Further, Memory, Role};
 use std::alloc::Global;
 use std::io::{Read, Write};
 use std::marker::Brand;
@@ -201,7 +201,7 @@ fn judge_telling<R: Read, P: Progress, K: Before>(
     ensures told { IsToldOf K.further (IsJudgedFor result) (R.remaining reader.old) K.told (P.told progress.new) }
     ensures few { TakesAtMost (8192 * turns) (R.remaining reader.old) (R.remaining reader.new) }
 {
-    let judge = Judge::new(alloc, options(choice.has_further()));
+    let judge = Judge::new(alloc, options(choice.further()));
     let mut telling = Telling::<K>::new(judge);
     let mut buffer = [0; 8192];
     feed_log(&mut telling, progress, reader, &mut buffer, turns)?;
@@ -277,7 +277,7 @@ fn cover_telling<R: Read, P: Progress, K: Before>(
     ensures gaps { IfSome (R.remaining reader.old) (λ log. IfOk result (λ answer. IfSome answer.0.gaps (λ gaps. gaps.items ≡ unjudged_of (wants_further (in_choice choice)) log))) }
     ensures told { IsToldOf K.further (IsJudgedFor result) (R.remaining reader.old) K.told (P.told progress.new) }
 {
-    let judge = Judge::counting(alloc, options(choice.has_further()));
+    let judge = Judge::counting(alloc, options(choice.further()));
     let mut telling = Telling::<K>::new(judge);
     let mut buffer = [0; 8192];
     feed_log(&mut telling, progress, reader, &mut buffer, u32::MAX)?;
@@ -285,8 +285,8 @@ fn cover_telling<R: Read, P: Progress, K: Before>(
     judge.finish_covered(alloc, choice)
 }
 
-// The options of a run: the default ones, but for whether the further statements are judged too.
-fn options(further: bool) -> Options
+// The options of a run: the default ones, but for which further statements are judged too.
+fn options(further: Further) -> Options
     ensures limit { result.limit ≡ default_limit }
     ensures further { result.further ≡ further }
 {

@@ -7,11 +7,11 @@ use mq_log::Refusal;
 use mq_trace::Feed;
 use std::marker::{Brand, PhantomData};
 
-/// What had been told before, whether places are counted, and whether the further statements are
-/// judged too. Each call of `judge_telling` or of
-/// `cover_telling` picks it.
+/// What had been told before, whether places are counted, and which further statements are judged
+/// too. Each call of `judge_telling` or of `cover_telling` picks it.
 pub trait Before {
     ghost use Rattle.std.specs.Prelude.{Bool};
+    ghost use Rattle.mq_rules.specs.declared.role.Further.{Further};
     ghost use Rattle.mq_judge.specs.Telling.{SaidSoFar};
 
     ghost told: { SaidSoFar };
@@ -19,18 +19,19 @@ pub trait Before {
     // Whether the judge counts places.
     ghost counting: { Bool };
 
-    // Whether it judges the further statements too.
-    ghost further: { Bool };
+    // Which further statements it judges too.
+    ghost further: { Further };
 }
 
 impl Before for Brand {
     ghost use Rattle.std.specs.Prelude.{⊤, false};
+    ghost use Rattle.mq_rules.specs.Rules.{none_further};
 
     ghost told = { λ _. ⊤ };
 
     ghost counting = { false };
 
-    ghost further = { false };
+    ghost further = { none_further };
 }
 
 /// A judge that tells after each piece of its log how far it is.

@@ -28,7 +28,9 @@ use super::unjudged::Unjudged;
 use mq_log::{Direction, Event, Header, Item, Place3, Refusal, UnfinishedPackets, item_event};
 use mq_packet::{Packet, Publish};
 use mq_report::Gap;
-use mq_rules::{Bare, BareFields, Brisk, Fate, Faults, Memory, Note, Rule, Tested, Watch, is_bare};
+use mq_rules::{
+    Bare, BareFields, Brisk, Fate, Faults, Further, Memory, Note, Rule, Tested, Watch, is_bare,
+};
 use mq_trace::Sink;
 use mq_watchers::Watchers;
 use std::alloc::Global;
@@ -115,8 +117,8 @@ impl Watching {
     }
 
     /// Judges the end that the log's header names, once the header is whole, and before any event:
-    /// by the further statements too or not.
-    pub fn begin(&mut self, header: Option<Header>, further: bool)
+    /// by these further statements too.
+    pub fn begin(&mut self, header: Option<Header>, further: Further)
         ensures first { self.old.events ≡ 0 → IfSome header (λ named. (self.new.tested ≡ tested_as further named) × IsWatching self.new [] × IsTallying self.new []) }
         ensures kind { counts self.new.watchers ≡ counts self.old.watchers }
         ensures unnamed { header ≡ None → self.new ≡ self.old }
@@ -495,8 +497,9 @@ pub trait End {
 impl End for Brand {
     ghost use Rattle.std.specs.Prelude.{false};
     ghost use Rattle.mq_rules.specs.declared.role.Role.TheVariants.{Client};
+    ghost use Rattle.mq_rules.specs.Rules.{none_further};
 
-    ghost tested = { record { role = Client; releases = false; further = false } };
+    ghost tested = { record { role = Client; releases = false; further = none_further } };
 
     ghost counting = { false };
 }

@@ -49,7 +49,7 @@ asked_on starts ends role f g e past begun starting ending s t none at over befo
 release-asks : (cause : Note → Option ℕ) → IsReceived cause → (n : Note) → is_release n ≡ true → is_some (cause n) ≡ false
 release-asks cause received (notes.Release identifier) h = received (notes.Release identifier)
 release-asks cause received notes.Open h = absurd (cc)
-release-asks cause received (notes.Close cuts) h = absurd (cc)
+release-asks cause received (notes.Close cuts part) h = absurd (cc)
 release-asks cause received notes.Rest h = absurd (cc)
 release-asks cause received (notes.Sent item) h = absurd (cc)
 release-asks cause received (notes.Recv item) h = absurd (cc)
@@ -57,7 +57,7 @@ release-asks cause received (notes.Recv item) h = absurd (cc)
 release-answers : (answer : Note → Option ℕ) → IsSent answer → (n : Note) → is_release n ≡ true → is_some (answer n) ≡ false
 release-answers answer sent (notes.Release identifier) h = sent (notes.Release identifier)
 release-answers answer sent notes.Open h = absurd (cc)
-release-answers answer sent (notes.Close cuts) h = absurd (cc)
+release-answers answer sent (notes.Close cuts part) h = absurd (cc)
 release-answers answer sent notes.Rest h = absurd (cc)
 release-answers answer sent (notes.Sent item) h = absurd (cc)
 release-answers answer sent (notes.Recv item) h = absurd (cc)

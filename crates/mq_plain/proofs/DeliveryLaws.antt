@@ -69,7 +69,7 @@ some_back test role f g e past here over idle is_here is_over before =
 -- a RELEASE asks for no shared subscription
 unshared : (n : Note) → is_release n ≡ true → is_some_and (λ s. list_any is_shared s.filters) (received_subscription n) ≡ false
 unshared notes.Open h = refl
-unshared (notes.Close cuts) h = refl
+unshared (notes.Close cuts part) h = refl
 unshared notes.Rest h = refl
 unshared (notes.Release identifier) h = refl
 unshared (notes.Sent item) h = refl
@@ -214,7 +214,7 @@ stands-here topic least e past later = go (received_subscription e.note)
 -- a RELEASE makes no filter stand
 release_idle : (n : Note) (test : Standing → Bool) (makes : Subscription → List Standing) → is_release n ≡ true → list_any test (unwrap_or (option_map makes (received_subscription n)) []) ≡ false
 release_idle notes.Open test makes h = refl
-release_idle (notes.Close cuts) test makes h = refl
+release_idle (notes.Close cuts part) test makes h = refl
 release_idle notes.Rest test makes h = refl
 release_idle (notes.Release identifier) test makes h = refl
 release_idle (notes.Sent item) test makes h = refl

@@ -34,7 +34,7 @@ apart cause answer received sent i n is = go n (received n) (sent n) is
         → (is_id i (answer n) ≡ false) × (is_open n ≡ false)
     go (notes.Recv item) r s is = (absent i (answer (notes.Recv item)) s, refl)
     go notes.Open r s is = absurd (never notes.Open r is)
-    go (notes.Close cuts) r s is = absurd (never (notes.Close cuts) r is)
+    go (notes.Close cuts part) r s is = absurd (never (notes.Close cuts part) r is)
     go notes.Rest r s is = absurd (never notes.Rest r is)
     go (notes.Release identifier) r s is = absurd (never (notes.Release identifier) r is)
     go (notes.Sent item) r s is = absurd (never (notes.Sent item) r is)

@@ -91,7 +91,7 @@ in_known role f any e past is = ap (λ b. accepted f || (is_release e.note && (v
         ≡ (accepted f || (is_release n && (voided f && any_accepted role f past)))
     go (notes.Release i) = refl
     go notes.Open = refl
-    go (notes.Close cuts) = refl
+    go (notes.Close cuts part) = refl
     go notes.Rest = refl
     go (notes.Sent item) = refl
     go (notes.Recv item) = refl

@@ -27,7 +27,7 @@ use Rattle.mq_plain.proofs.PlacesLaws.{IsGiven, moment-zero, given-start, given-
 
 release-moves : (i : ℕ) (n : Note) → is_release n ≡ true → moves i n ≡ false
 release-moves i notes.Open h = absurd (cc)
-release-moves i (notes.Close cuts) h = absurd (cc)
+release-moves i (notes.Close cuts part) h = absurd (cc)
 release-moves i notes.Rest h = absurd (cc)
 release-moves i (notes.Release identifier) h = refl
 release-moves i (notes.Sent item) h = absurd (cc)
@@ -35,7 +35,7 @@ release-moves i (notes.Recv item) h = absurd (cc)
 
 release-confirms : (i : ℕ) (n : Note) → is_release n ≡ true → confirms i n ≡ false
 release-confirms i notes.Open h = absurd (cc)
-release-confirms i (notes.Close cuts) h = absurd (cc)
+release-confirms i (notes.Close cuts part) h = absurd (cc)
 release-confirms i notes.Rest h = absurd (cc)
 release-confirms i (notes.Release identifier) h = refl
 release-confirms i (notes.Sent item) h = absurd (cc)
@@ -43,7 +43,7 @@ release-confirms i (notes.Recv item) h = absurd (cc)
 
 opener-release : (i : ℕ) (n : Note) → opener_of n ≡ Some i → is_release n ≡ false
 opener-release i notes.Open h = refl
-opener-release i (notes.Close cuts) h = refl
+opener-release i (notes.Close cuts part) h = refl
 opener-release i notes.Rest h = refl
 opener-release i (notes.Release identifier) h = absurd (cc)
 opener-release i (notes.Sent item) h = refl

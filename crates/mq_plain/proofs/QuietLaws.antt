@@ -5,6 +5,7 @@ use Rattle.std.specs.Option.{option_and_then, option_or}
 use Rattle.std.proofs.lemmas.Bool.Decides.{nat_tests}
 use Rattle.mq_rules.specs.declared.role.Role.{Role}
 use Rattle.mq_rules.specs.declared.role.Role.TheVariants.{Client, Server}
+use Rattle.mq_rules.specs.declared.role.Further.{Further}
 use Rattle.mq_rules.specs.declared.role.Tested.{Tested}
 use Rattle.mq_rules.specs.declared.fate.Fate.{Fate}
 use Rattle.mq_rules.specs.declared.rule.Rule.{Rule}
@@ -192,12 +193,12 @@ unasking (notes.Sent (items.Packet p)) h =
 unasking (notes.Recv (items.Packet p)) h =
     let u = unasked p.fields h in
     record { once = u.once; exactly = u.exactly; pubrec = u.pubrec; pubrel = u.pubrel; subscribe = u.subscribe; unsubscribe = u.unsubscribe; opener = refl; ping = u.ping }
-unasking (notes.Sent (items.Bad first rule at)) h = unasking-neither _ refl refl
+unasking (notes.Sent (items.Bad first rule at large)) h = unasking-neither _ refl refl
 unasking (notes.Sent items.Lost) h = unasking-neither _ refl refl
-unasking (notes.Recv (items.Bad first rule at)) h = unasking-neither _ refl refl
+unasking (notes.Recv (items.Bad first rule at large)) h = unasking-neither _ refl refl
 unasking (notes.Recv items.Lost) h = unasking-neither _ refl refl
 unasking notes.Open h = unasking-neither _ refl refl
-unasking (notes.Close cuts) h = unasking-neither _ refl refl
+unasking (notes.Close cuts part) h = unasking-neither _ refl refl
 unasking notes.Rest h = unasking-neither _ refl refl
 unasking (notes.Release identifier) h = unasking-neither _ refl refl
 
@@ -235,17 +236,17 @@ untaken Client n u = u.taken
 untaken Server n u = u.opener
 
 -- of a PUBLISH of QoS 0 only a server is asked
-only-servers-B01 : (role : Role) (releases further : Bool) → binds B01 (record { role = role; releases = releases; further = further }) ≡ true → is_client role ≡ false
+only-servers-B01 : (role : Role) (releases : Bool) (further : Further) → binds B01 (record { role = role; releases = releases; further = further }) ≡ true → is_client role ≡ false
 unfolding found_line lines line_of
 only-servers-B01 Client releases further h = absurd (cc)
 only-servers-B01 Server releases further h = refl
 
-only-servers-B02 : (role : Role) (releases further : Bool) → binds B02 (record { role = role; releases = releases; further = further }) ≡ true → is_client role ≡ false
+only-servers-B02 : (role : Role) (releases : Bool) (further : Further) → binds B02 (record { role = role; releases = releases; further = further }) ≡ true → is_client role ≡ false
 unfolding found_line lines line_of
 only-servers-B02 Client releases further h = absurd (cc)
 only-servers-B02 Server releases further h = refl
 
-never : (role : Role) (releases further : Bool) (rule : Rule) (e : Seen) (past : List Seen) → is_plain_rule rule ≡ true → IsIdle role e past
+never : (role : Role) (releases : Bool) (further : Further) (rule : Rule) (e : Seen) (past : List Seen) → is_plain_rule rule ≡ true → IsIdle role e past
     → IsNever (binds rule (record { role = role; releases = releases; further = further })) (statement role rule) (newest e past)
 unfolding breaks_S01 breaks_S02 breaks_S03 breaks_S04 breaks_S05 breaks_S07 breaks_A breaks_O breaks_L1 breaks_L2 breaks_L3 breaks_B01 breaks_B02 breaks_B03 breaks_B04 shows_R shows_S06
 never role releases further S01 e past chosen idle = λ bound f. and-first _ _ (none-passes _ _ (untaken role e.note idle.unspoken))

@@ -37,7 +37,7 @@ none_over a = le-ltb a 0 (omega arith)
 -- what is sent is not received
 apart : (n : Note) → is_some (delivery_of n) ≡ true → is_some (closer_of n) ≡ false
 apart notes.Open h = refl
-apart (notes.Close cuts) h = refl
+apart (notes.Close cuts part) h = refl
 apart notes.Rest h = refl
 apart (notes.Release identifier) h = refl
 apart (notes.Sent item) h = refl
@@ -45,7 +45,7 @@ apart (notes.Recv item) h = absurd (cc)
 
 open-delivery : (n : Note) → is_open n ≡ true → is_some (delivery_of n) ≡ false
 open-delivery notes.Open h = refl
-open-delivery (notes.Close cuts) h = absurd (cc)
+open-delivery (notes.Close cuts part) h = absurd (cc)
 open-delivery notes.Rest h = absurd (cc)
 open-delivery (notes.Release identifier) h = absurd (cc)
 open-delivery (notes.Sent item) h = absurd (cc)
@@ -159,7 +159,7 @@ at_same role e past opens = counted-next role e past
 
 unopened : (n : Note) → is_some (delivery_of n) ≡ true → is_open n ≡ false
 unopened notes.Open h = absurd (cc)
-unopened (notes.Close cuts) h = refl
+unopened (notes.Close cuts part) h = refl
 unopened notes.Rest h = refl
 unopened (notes.Release identifier) h = refl
 unopened (notes.Sent item) h = refl

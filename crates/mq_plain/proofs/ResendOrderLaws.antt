@@ -34,7 +34,7 @@ opener_in : (n : Note) (a v : Bool) (o : ℕ) → ((a || (is_release n && v)) &&
 opener_in n true v o = refl
 opener_in (notes.Release identifier) false v o = and_false v
 opener_in notes.Open false v o = refl
-opener_in (notes.Close cuts) false v o = refl
+opener_in (notes.Close cuts part) false v o = refl
 opener_in notes.Rest false v o = refl
 opener_in (notes.Sent item) false v o = refl
 opener_in (notes.Recv item) false v o = refl
@@ -43,7 +43,7 @@ closer_in : (n : Note) (a v : Bool) (o : ℕ) → ((a || (is_release n && v)) &&
 closer_in n true v o = refl
 closer_in (notes.Release identifier) false v o = and_false v
 closer_in notes.Open false v o = refl
-closer_in (notes.Close cuts) false v o = refl
+closer_in (notes.Close cuts part) false v o = refl
 closer_in notes.Rest false v o = refl
 closer_in (notes.Sent item) false v o = refl
 closer_in (notes.Recv item) false v o = refl
@@ -51,7 +51,7 @@ closer_in (notes.Recv item) false v o = refl
 -- no OPEN is sent again
 open_resends : (n : Note) (o : ℕ) → is_open n ≡ true → is_id o (resend_of n) ≡ false
 open_resends notes.Open o h = refl
-open_resends (notes.Close cuts) o h = absurd (cc)
+open_resends (notes.Close cuts part) o h = absurd (cc)
 open_resends notes.Rest o h = absurd (cc)
 open_resends (notes.Release identifier) o h = absurd (cc)
 open_resends (notes.Sent item) o h = absurd (cc)

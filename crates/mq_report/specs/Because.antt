@@ -1,7 +1,7 @@
 -- The words on what a fault conflicts with, on its line under its event: by its statement, whether an event is to blame, and the numbers that the statement compares.
 use Rattle.std.specs.Prelude.{ℕ, List, [], ◌++◌, codes, decimal, Option, Some, None}
 use Rattle.mq_rules.specs.declared.rule.Rule.{Rule}
-use Rattle.mq_rules.specs.declared.rule.Rule.TheVariants.{W01, W02, W03, W04, W05, W06, W07, W08, W09, W10, W11, W12, W13, W14, W15, W16, W17, W18, W19, W20, W21, C01, C02, C03, C04, C05, C06, C07, C08, C09, C10, C11, C12, C13, C14, C15, C16, C17, C18, C19, C20, C21, C22, C23, S01, S02, S03, S04, S05, S06, S07, E1A, E1R, E1O, E2A, E2R, E2O, E3A, E3R, E3O, E4A, E4R, E5A, E5R, E6A, E6R, E7R, L1, L2, L3, B01, B02, B03, B04, B05, F01, F02, F03, F04, F05, F06, V03, V04, V06, C24, D01, D02, D03, D05, A01, A02, A03}
+use Rattle.mq_rules.specs.declared.rule.Rule.TheVariants.{W01, W02, W03, W04, W05, W06, W07, W08, W09, W10, W11, W12, W13, W14, W15, W16, W17, W18, W19, W20, W21, C01, C02, C03, C04, C05, C06, C07, C08, C09, C10, C11, C12, C13, C14, C15, C16, C17, C18, C19, C20, C21, C22, C23, S01, S02, S03, S04, S05, S06, S07, E1A, E1R, E1O, E2A, E2R, E2O, E3A, E3R, E3O, E4A, E4R, E5A, E5R, E6A, E6R, E7R, L1, L2, L3, B01, B02, B03, B04, B05, F01, F02, F03, F04, F05, F06, V03, V04, V06, C24, D01, D02, D03, D05, A01, A02, A03, K01, K02}
 use Rattle.mq_evidence.specs.declared.evidence.Evidence.{Evidence}
 use Rattle.mq_evidence.specs.declared.evidence.Numbers.{Numbers}
 use Rattle.mq_evidence.specs.declared.evidence.Numbers.TheVariants.{Nothing, One, Two}
@@ -102,6 +102,8 @@ event_words D05 = codes ": the REST, and the connection was still open"
 event_words A01 = codes ": the CONNECT, with an Authentication Method, and no CONNACK before"
 event_words A02 = codes ": the CONNECT, without an Authentication Method"
 event_words A03 = codes ": the CONNECT, whose Authentication Method it must have"
+event_words K01 = []
+event_words K02 = []
 
 -- with one number: the Session Expiry Interval in the DISCONNECT (MQTT 5.0, section 3.14.2.2.2)
 abbrev pub event_words_on_one : Rule → ℕ → List ℕ
@@ -119,6 +121,8 @@ event_words_on_two E7R asked answered = codes ": " ++ (decimal asked ++ (codes "
 event_words_on_two B02 qos most = codes ": QoS " ++ (decimal qos ++ (codes ", at most " ++ (decimal most ++ codes " granted")))
 event_words_on_two B03 filters reasons = codes ": " ++ (decimal filters ++ (codes " filters, " ++ (decimal reasons ++ codes " Reason Codes")))
 event_words_on_two B04 filters reasons = codes ": " ++ (decimal filters ++ (codes " filters, " ++ (decimal reasons ++ codes " Reason Codes")))
+event_words_on_two K01 silence limit = codes ": nothing came from the client for " ++ (decimal silence ++ (codes " microseconds, and the limit is " ++ decimal limit))
+event_words_on_two K02 silence limit = codes ": nothing came from the client for " ++ (decimal silence ++ (codes " microseconds, and the limit is " ++ decimal limit))
 event_words_on_two _ first second = []
 
 -- by the numbers that there are
@@ -223,6 +227,8 @@ lone_words D05 = []
 lone_words A01 = []
 lone_words A02 = []
 lone_words A03 = []
+lone_words K01 = []
+lone_words K02 = []
 
 -- with one number: the Topic Alias; how many Topic Filters stand
 abbrev pub lone_words_on_one : Rule → ℕ → List ℕ

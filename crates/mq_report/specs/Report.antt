@@ -13,6 +13,7 @@ use Rattle.mq_log.specs.Refusing.{spaced, number_of, name_of, refusal_offset, re
 use Rattle.mq_log.specs.Events.{events}
 use Rattle.mq_trace.specs.Writing.{AppendsBeginning}
 use Rattle.mq_rules.specs.declared.role.Role as roles
+use Rattle.mq_rules.specs.declared.role.Further.{Further}
 use Rattle.mq_rules.specs.declared.rule.Rule.{Rule}
 use Rattle.mq_rules.specs.declared.fault.Fault.{Fault}
 use Rattle.mq_rules.specs.declared.faults.FaultKey.{FaultKey}
@@ -114,8 +115,8 @@ report_on forms.Text role faults events = text_report role faults events
 report_on forms.Json role faults events = json_report role faults events
 report_on forms.Summary role faults events = summary_report role faults events
 
--- the report on a log, on the further statements too or not
-unfoldable pub report : Bool → Form → List ℕ → List ℕ
+-- the report on a log, on these further statements too
+unfoldable pub report : Further → Form → List ℕ → List ℕ
 report further form log =
     report_on form (tested_by further log).role (listed_faults (is_judged (tested_by further log)) (tested_by further log) (seen_in log)) (length (events log))
 

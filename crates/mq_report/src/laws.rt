@@ -1,8 +1,9 @@
 //! Laws of what is reported, each proved as the contract of a function that does nothing.
-ghost use Rattle.std.specs.Prelude.{◌≡◌, ◌<◌, ◌∷◌, [], ℕ, Bool, List, None, codes, false, slice_index};
+ghost use Rattle.std.specs.Prelude.{◌≡◌, ◌<◌, ◌∷◌, [], ℕ, List, None, codes, false, slice_index};
 ghost use Rattle.mq_trace.specs.Converting.{converted};
 ghost use Rattle.mq_log.specs.Refusals.{refused, is_cut_short};
 ghost use Rattle.mq_rules.specs.declared.role.Role.{Role};
+ghost use Rattle.mq_rules.specs.declared.role.Further.{Further};
 ghost use Rattle.mq_rules.specs.declared.fault.Fault.{Fault};
 ghost use Rattle.mq_rules.specs.declared.faults.FaultKey.{FaultKey};
 ghost use Rattle.mq_evidence.specs.declared.evidence.Evidence.{Evidence};
@@ -17,7 +18,7 @@ ghost use Rattle.mq_report.specs.Reasons.{reasoned_text_report, without_reasons}
 /// A log of version 1 that isn't refused, and isn't cut short, has the same report once it is
 /// converted into version 2.
 pub fn converted_logs_have_the_same_report()
-    ensures { (limit : ℕ) (further : Bool) (log : List ℕ) (form : Form) → slice_index log 4 ≡ 1 → refused limit log ≡ None → is_cut_short log ≡ false → report further form (converted log) ≡ report further form log }
+    ensures { (limit : ℕ) (further : Further) (log : List ℕ) (form : Form) → slice_index log 4 ≡ 1 → refused limit log ≡ None → is_cut_short log ≡ false → report further form (converted log) ≡ report further form log }
 {}
 
 /// The text that says what each fault conflicts with is the report with further lines: without them

@@ -35,7 +35,7 @@ implied false q f = refl
 -- what is sent is not received
 pub apart : (n : Note) → is_some (delivery_of n) ≡ true → is_some (closer_of n) ≡ false
 apart notes.Open h = refl
-apart (notes.Close cuts) h = refl
+apart (notes.Close cuts part) h = refl
 apart notes.Rest h = refl
 apart (notes.Release identifier) h = refl
 apart (notes.Sent item) h = refl

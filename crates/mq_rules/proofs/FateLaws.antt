@@ -95,7 +95,7 @@ fate-none role c log h =
 pub open-decides : (role : Role) (note : Note) → is_open note ≡ true → decides role note ≡ None
 open-decides Client notes.Open h = refl
 open-decides Server notes.Open h = refl
-open-decides role (notes.Close cuts) h = absurd (cc)
+open-decides role (notes.Close cuts part) h = absurd (cc)
 open-decides role notes.Rest h = absurd (cc)
 open-decides role (notes.Release identifier) h = absurd (cc)
 open-decides role (notes.Sent item) h = absurd (cc)

@@ -9,7 +9,7 @@ use Rattle.std.specs.Prelude.{option_map}
 use Rattle.std.specs.List.{AllByRecursion, filter, find as find_by}
 use Rattle.std.specs.BTreeMap.Range.{range_contains, entries_between}
 use Rattle.std.specs.declared.ops.Bound.TheVariants.{Included, Unbounded}
-use Rattle.mq_rules.specs.declared.rule.Rule.TheVariants.{W01, A03}
+use Rattle.mq_rules.specs.declared.rule.Rule.TheVariants.{W01, K02}
 use Rattle.std.specs.List.Sorted.{IsStrictlySortedBy}
 use Rattle.std.specs.Map.{keys_of, lookup}
 use Rattle.std.specs.BTreeMap.{is_at}
@@ -171,8 +171,8 @@ not_below_first : (r : Rule) → is_le (rule_cmp W01 r) ≡ true
 not_below_first W01 = refl
 not_below_first _ = refl
 
--- A03 is the last one
-not_above_last : (r : Rule) → is_lt (rule_cmp A03 r) ≡ false
+-- K02 is the last one
+not_above_last : (r : Rule) → is_lt (rule_cmp K02 r) ≡ false
 not_above_last W01 = refl
 not_above_last _ = refl
 
@@ -198,17 +198,17 @@ from_key position q = le_then (nat_lt position q.position) (position == q.positi
 
 -- it lies between the first and the last one at a position where it has that position
 pub at_key : (position : ℕ) (q : FaultKey)
-    → range_contains key_cmp (Included (record { position = position; rule = W01 })) (Included (record { position = position; rule = A03 })) q ≡ (q.position == position)
+    → range_contains key_cmp (Included (record { position = position; rule = W01 })) (Included (record { position = position; rule = K02 })) q ≡ (q.position == position)
 at_key position q =
     ap₂ (λ a b. a && not b) (le_then (nat_lt position q.position) (position == q.position) (rule_cmp W01 q.rule) (not_below_first q.rule))
-    (lt_then (nat_lt position q.position) (position == q.position) (rule_cmp A03 q.rule) (not_above_last q.rule)) ∙ le_both position q.position
+    (lt_then (nat_lt position q.position) (position == q.position) (rule_cmp K02 q.rule) (not_above_last q.rule)) ∙ le_both position q.position
 
 filter_alike : {A : Type 0} (p q : A → Bool) → ((x : A) → p x ≡ q x) → (xs : List A) → filter p xs ≡ filter q xs
 filter_alike p q same [] = refl
 filter_alike p q same (x ∷ xs) = ap₂ (λ b ys. cond b (x ∷ ys) ys) (same x) (filter_alike p q same xs)
 
 pub at_entries : (position : ℕ) (es : List (FaultKey × Fault)) (first last : FaultKey)
-    → first ≡ record { position = position; rule = W01 } → last ≡ record { position = position; rule = A03 }
+    → first ≡ record { position = position; rule = W01 } → last ≡ record { position = position; rule = K02 }
     → entries_between key_cmp (Included first) (Included last) es ≡ faults_at position es
 at_entries position es first last is_first is_last =
     ap₂ (λ a b. entries_between key_cmp (Included a) (Included b) es) is_first is_last

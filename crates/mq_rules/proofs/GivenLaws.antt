@@ -23,7 +23,7 @@ use Rattle.mq_rules.proofs.FateLaws.{open-gives}
 -- no OPEN needs a session
 pub open-sessionless : (n : Note) → is_open n ≡ true → needs_session n ≡ false
 open-sessionless notes.Open h = refl
-open-sessionless (notes.Close cuts) h = absurd (cc)
+open-sessionless (notes.Close cuts part) h = absurd (cc)
 open-sessionless notes.Rest h = absurd (cc)
 open-sessionless (notes.Release i) h = absurd (cc)
 open-sessionless (notes.Sent item) h = absurd (cc)
@@ -34,7 +34,7 @@ pub rest-undecided : (role : Role) (n : Note) → is_rest n ≡ true → decides
 rest-undecided Client notes.Rest h = refl
 rest-undecided Server notes.Rest h = refl
 rest-undecided role notes.Open h = absurd (cc)
-rest-undecided role (notes.Close cuts) h = absurd (cc)
+rest-undecided role (notes.Close cuts part) h = absurd (cc)
 rest-undecided role (notes.Release i) h = absurd (cc)
 rest-undecided role (notes.Sent item) h = absurd (cc)
 rest-undecided role (notes.Recv item) h = absurd (cc)
@@ -42,7 +42,7 @@ rest-undecided role (notes.Recv item) h = absurd (cc)
 pub rest-opens-nothing : (n : Note) → is_rest n ≡ true → is_open n ≡ false
 rest-opens-nothing notes.Rest h = refl
 rest-opens-nothing notes.Open h = absurd (cc)
-rest-opens-nothing (notes.Close cuts) h = refl
+rest-opens-nothing (notes.Close cuts part) h = refl
 rest-opens-nothing (notes.Release i) h = refl
 rest-opens-nothing (notes.Sent item) h = refl
 rest-opens-nothing (notes.Recv item) h = refl

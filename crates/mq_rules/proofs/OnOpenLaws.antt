@@ -16,14 +16,14 @@ has_item _ = false
 
 item-connected : (n : Note) → needs_connection n ≡ false → has_item n ≡ false
 item-connected notes.Open h = refl
-item-connected (notes.Close cuts) h = absurd (cc)
+item-connected (notes.Close cuts part) h = absurd (cc)
 item-connected notes.Rest h = absurd (cc)
 item-connected (notes.Release identifier) h = refl
 item-connected (notes.Sent item) h = absurd (cc)
 item-connected (notes.Recv item) h = absurd (cc)
 
 close-itemless : (n : Note) → is_close n ≡ true → has_item n ≡ false
-close-itemless (notes.Close cuts) h = refl
+close-itemless (notes.Close cuts part) h = refl
 close-itemless notes.Open h = absurd (cc)
 close-itemless notes.Rest h = absurd (cc)
 close-itemless (notes.Release identifier) h = absurd (cc)
@@ -32,7 +32,7 @@ close-itemless (notes.Recv item) h = absurd (cc)
 
 open-no_close : (n : Note) → is_open n ≡ true → is_close n ≡ false
 open-no_close notes.Open h = refl
-open-no_close (notes.Close cuts) h = absurd (cc)
+open-no_close (notes.Close cuts part) h = absurd (cc)
 open-no_close notes.Rest h = absurd (cc)
 open-no_close (notes.Release identifier) h = absurd (cc)
 open-no_close (notes.Sent item) h = absurd (cc)

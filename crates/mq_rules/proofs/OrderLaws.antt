@@ -27,6 +27,7 @@ use Rattle.mq_rules.specs.declared.packet_note.PacketFields.{PacketFields}
 use Rattle.mq_rules.specs.declared.packet_note.PacketFields.TheVariants.{Connack}
 use Rattle.mq_rules.specs.declared.packet_note.ConnackNote.{ConnackNote}
 use Rattle.mq_rules.specs.Notes.{tested_as, tested_by, note_of, seen, seen_in, packet_fields, fields_type, connack_in, connack_of, is_open, is_close, fate_by, decides}
+use Rattle.mq_rules.specs.Rules.{none_further}
 use Rattle.mq_rules.specs.Moments.{Moment, newest, note, moments, since, IsPlaced}
 use Rattle.mq_rules.specs.Connections.{connection, latest_fate, gives_fate, is_connected}
 use Rattle.mq_rules.proofs.BoolLaws.{option_or-there, option_or-other}
@@ -57,7 +58,7 @@ connack-typed _ = refl
 
 -- the role of the end that a header names
 abbrev pub role_of : Header → Role
-role_of header = (tested_as false header).role
+role_of header = (tested_as none_further header).role
 
 -- a CONNACK from the server
 answer-noted : (version : ℕ) (server releases : Bool) (e : Event) → is_answer server e ≡ is_some (connack_of (role_of (record { version = version; server = server; releases = releases })) (note_of e))
@@ -178,7 +179,7 @@ is_one_too_many connected connack_seen count ends answers = (connected && (not c
 
 -- the event that the next byte completes doesn't come too early
 unrefused-event : (limit : ℕ) (log : List ℕ) (byte : ℕ) (event : Event) → 8 ≤ length log → refusal_at limit log byte ≡ None → event_for (context log) byte ≡ Some event
-    → is_one_too_many (is_connected (seen_in log)) (is_connack_seen (tested_by false log).role (seen_in log)) (length (connection (seen_in log))) (is_close (note_of event)) (is_some (connack_of (tested_by false log).role (note_of event))) ≡ false
+    → is_one_too_many (is_connected (seen_in log)) (is_connack_seen (tested_by none_further log).role (seen_in log)) (length (connection (seen_in log))) (is_close (note_of event)) (is_some (connack_of (tested_by none_further log).role (note_of event))) ≡ false
 unfolding refusal_at event_at situation seen_in
 unrefused-event limit log byte event long unrefused is =
     let header = header_by log in
@@ -276,32 +277,32 @@ few-next role e past in_time none =
         omega arith
 
 orderly_put : (limit : ℕ) (log : List ℕ) (byte moment : ℕ) (o : Option Event) → 8 ≤ length log → refusal_at limit log byte ≡ None → event_for (context log) byte ≡ o
-    → IsOrderly (tested_by false log).role (seen_in log) → IsOrderly (tested_by false log).role (seen_with (context log) moment o (seen_in log))
+    → IsOrderly (tested_by none_further log).role (seen_in log) → IsOrderly (tested_by none_further log).role (seen_with (context log) moment o (seen_in log))
 orderly_put limit log byte moment None long unrefused is before = before
 orderly_put limit log byte moment (Some event) long unrefused is before = record {
   placed = (ap (λ n. n + 1) (events_context log), before.placed);
-  few = few-next (tested_by false log).role (record { place = record { position = (context log).events + 1; record_no = (context log).records + 1; moment = moment }; note = note_of event }) (seen_in log)
+  few = few-next (tested_by none_further log).role (record { place = record { position = (context log).events + 1; record_no = (context log).records + 1; moment = moment }; note = note_of event }) (seen_in log)
       (unrefused-event limit log byte event long unrefused is);
 }
 
 orderly_step : (limit : ℕ) (log : List ℕ) (byte : ℕ) (b : Bool) → nat_lt (length log) 8 ≡ b → refusal_at limit log byte ≡ None
-    → IsOrderly (tested_by false log).role (seen_in log) → IsOrderly (tested_by false (log ++ byte ∷ [])).role (seen_in (log ++ byte ∷ []))
+    → IsOrderly (tested_by none_further log).role (seen_in log) → IsOrderly (tested_by none_further (log ++ byte ∷ [])).role (seen_in (log ++ byte ∷ []))
 orderly_step limit log byte true is unrefused before =
     let l = length-append log (byte ∷ []) in
     let short = ltb-true (length log) 8 is in
-    orderly_nothing (tested_by false (log ++ byte ∷ [])).role (seen_in (log ++ byte ∷ [])) (seen-header (log ++ byte ∷ []) (omega arith))
+    orderly_nothing (tested_by none_further (log ++ byte ∷ [])).role (seen_in (log ++ byte ∷ [])) (seen-header (log ++ byte ∷ []) (omega arith))
 orderly_step limit log byte false is unrefused before =
     let long = ltb-false (length log) 8 is in
     let P : Header → Type 0 = λ header. IsOrderly (role_of header) (seen_in (log ++ byte ∷ [])) in
     subst P (sym (header-unchanged log byte long))
-    (subst (IsOrderly (tested_by false log).role) (sym (seen-kept log byte))
+    (subst (IsOrderly (tested_by none_further log).role) (sym (seen-kept log byte))
     (orderly_put limit log byte (moment_so log byte) (event_for (context log) byte) long unrefused refl before))
 
 -- a log that isn't refused is like this
-pub orderly : (limit : ℕ) (bytes : List ℕ) → refused limit bytes ≡ None → IsOrderly (tested_by false bytes).role (seen_in bytes)
+pub orderly : (limit : ℕ) (bytes : List ℕ) → refused limit bytes ≡ None → IsOrderly (tested_by none_further bytes).role (seen_in bytes)
 orderly limit bytes =
-    along (λ log. refused limit log ≡ None → IsOrderly (tested_by false log).role (seen_in log))
-    (λ unrefused. orderly_nothing (tested_by false []).role (seen_in []) (seen-header [] (omega arith)))
+    along (λ log. refused limit log ≡ None → IsOrderly (tested_by none_further log).role (seen_in log))
+    (λ unrefused. orderly_nothing (tested_by none_further []).role (seen_in []) (seen-header [] (omega arith)))
     (λ log byte before unrefused.
     let parts = unrefused-grow limit log byte unrefused in
     orderly_step limit log byte (nat_lt (length log) 8) refl parts.1 (before parts.0))

@@ -204,7 +204,7 @@ with_first-later false m n ms h = h
 release-open : (n : Note) → is_release n ≡ true → is_open n ≡ false
 release-open (notes.Release identifier) h = refl
 release-open notes.Open h = absurd (cc)
-release-open (notes.Close cuts) h = absurd (cc)
+release-open (notes.Close cuts part) h = absurd (cc)
 release-open notes.Rest h = absurd (cc)
 release-open (notes.Sent item) h = absurd (cc)
 release-open (notes.Recv item) h = absurd (cc)

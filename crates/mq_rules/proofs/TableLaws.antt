@@ -1,5 +1,5 @@
 -- The table of statements: a row that is found in the source's table is found in its view; each statement has its row; and the rows ascend.
-use Rattle.std.proofs.Common.{◌≡◌, ℕ, Bool, true, false, ◌&&◌, cond, List, [], ◌∷◌, Option, Some, Bor, refl}
+use Rattle.std.proofs.Common.{◌≡◌, ℕ, Bool, true, false, ◌&&◌, ◌||◌, cond, List, [], ◌∷◌, Option, Some, Bor, refl}
 use Rattle.std.specs.Prelude.{T, ◌==◌, not, length, IsSomeAnd, Contains}
 use Rattle.std.specs.declared.cmp.Ordering.{Ordering}
 use Rattle.std.specs.declared.cmp.Ordering.TheVariants.{Less, Equal, Greater}
@@ -16,9 +16,9 @@ use Rattle.mq_rules.specs.declared.rule.Rule.{Rule}
 use Rattle.mq_rules.specs.declared.table.Ends.{Ends}
 use Rattle.mq_rules.specs.declared.table.Judged.{Judged}
 use Rattle.mq_rules.specs.declared.rule.Rule.TheVariants.{W01}
-use Rattle.mq_rules.specs.Bindings.{is_among, on_releases, on_request, only_client, only_server}
+use Rattle.mq_rules.specs.Bindings.{is_among, on_releases, on_request, on_times, only_client, only_server}
 use Rattle.mq_rules.specs.Naming.{citation_of}
-use Rattle.mq_rules.specs.Rules.{StatementLine, line_view, lines_of, lines, line_of, found_line, binds_end, cites, all_rules, is_further, needs_releases, rule_cmp, same_rule}
+use Rattle.mq_rules.specs.Rules.{StatementLine, line_view, lines_of, lines, line_of, found_line, binds_end, cites, all_rules, is_further, is_on_times, needs_releases, rule_cmp, same_rule}
 
 cond-map : {A B : Type 0} (view : A → B) (b : Bool) (x : A) (o : Option A) (q : Option B) → option_map view o ≡ q → option_map view (cond b (Some x) o) ≡ cond b (Some (view x)) q
 cond-map view true x o q h = refl
@@ -131,7 +131,12 @@ unfolding line_of found_line lines
 releases_needed W01 = refl
 releases_needed _ = refl
 
-pub further_on_request : (rule : Rule) → is_further rule ≡ is_among rule on_request
+pub further_on_request : (rule : Rule) → is_further rule ≡ (is_among rule on_request || is_among rule on_times)
 unfolding line_of found_line lines
 further_on_request W01 = refl
 further_on_request _ = refl
+
+pub timed_on_times : (rule : Rule) → is_on_times rule ≡ is_among rule on_times
+unfolding line_of found_line lines
+timed_on_times W01 = refl
+timed_on_times _ = refl

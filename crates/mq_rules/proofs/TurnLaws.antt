@@ -18,6 +18,7 @@ use Rattle.mq_log.proofs.Exports.{records-header}
 use Rattle.mq_rules.specs.declared.role.Role.{Role}
 use Rattle.mq_rules.specs.declared.note.Seen.{Seen}
 use Rattle.mq_rules.specs.Notes.{tested_by, note_of, seen_in, is_open}
+use Rattle.mq_rules.specs.Rules.{none_further}
 use Rattle.mq_rules.proofs.FateLaws.{closed-decided}
 use Rattle.mq_rules.proofs.OrderLaws.{along, none_applies, connected_context, seen_with, moment_so, seen-kept, seen-header, unrefused-grow, role_of}
 use Rattle.mq_rules.specs.Under.{IsInTurn}
@@ -202,5 +203,5 @@ turned_for role limit bytes unrefused = (along (λ log. refused limit log ≡ No
     nothing : IsFree fresh
     nothing opens lt = refl
 
-pub turned : (limit : ℕ) (bytes : List ℕ) → refused limit bytes ≡ None → IsInTurn (tested_by false bytes).role (seen_in bytes)
-turned limit bytes = turned_for (tested_by false bytes).role limit bytes
+pub turned : (limit : ℕ) (bytes : List ℕ) → refused limit bytes ≡ None → IsInTurn (tested_by none_further bytes).role (seen_in bytes)
+turned limit bytes = turned_for (tested_by none_further bytes).role limit bytes

@@ -317,7 +317,7 @@ IsInOrder role (e ∷ past) = (needs_session e.note ≡ true → is_some (latest
 -- what happens only on an open connection: the tested end sends or receives something, or is at rest, or the connection closes
 abbrev pub needs_connection : Note → Bool
 needs_connection notes.Open = false
-needs_connection (notes.Close cuts) = true
+needs_connection (notes.Close cuts part) = true
 needs_connection notes.Rest = true
 needs_connection (notes.Release identifier) = false
 needs_connection (notes.Sent item) = true

@@ -90,7 +90,7 @@ is_of_format _ = true
 -- bytes that break such a rule; or bytes that can't be cut into packets
 abbrev pub is_malformed : ItemNote → Bool
 is_malformed (items.Packet p) = false
-is_malformed (items.Bad first rule at) = is_of_format rule
+is_malformed (items.Bad first rule at large) = is_of_format rule
 is_malformed items.Lost = true
 
 abbrev pub receives_malformed : Note → Bool

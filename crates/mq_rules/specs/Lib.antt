@@ -10,6 +10,7 @@ pub mod FurtherPasts
 pub mod ProtocolErrors
 pub mod ReceiveMaximum
 pub mod FurtherRests
+pub mod KeepAlive
 pub mod Identifiers
 pub mod Passing
 pub mod Exchanges

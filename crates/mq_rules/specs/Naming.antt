@@ -5,7 +5,7 @@ use Rattle.std.specs.Str.{str_eq_ignore_ascii_case}
 use Rattle.mq_rules.specs.declared.role.Role.{Role}
 use Rattle.mq_rules.specs.declared.role.Role.TheVariants.{Client, Server}
 use Rattle.mq_rules.specs.declared.rule.Rule.{Rule}
-use Rattle.mq_rules.specs.declared.rule.Rule.TheVariants.{W01, W02, W03, W04, W05, W06, W07, W08, W09, W10, W11, W12, W13, W14, W15, W16, W17, W18, W19, W20, W21, C01, C02, C03, C04, C05, C06, C07, C08, C09, C10, C11, C12, C13, C14, C15, C16, C17, C18, C19, C20, C21, C22, C23, S01, S02, S03, S04, S05, S06, S07, E1A, E1R, E1O, E2A, E2R, E2O, E3A, E3R, E3O, E4A, E4R, E5A, E5R, E6A, E6R, E7R, L1, L2, L3, B01, B02, B03, B04, B05, F01, F02, F03, F04, F05, F06, V03, V04, V06, C24, D01, D02, D03, D05, A01, A02, A03}
+use Rattle.mq_rules.specs.declared.rule.Rule.TheVariants.{W01, W02, W03, W04, W05, W06, W07, W08, W09, W10, W11, W12, W13, W14, W15, W16, W17, W18, W19, W20, W21, C01, C02, C03, C04, C05, C06, C07, C08, C09, C10, C11, C12, C13, C14, C15, C16, C17, C18, C19, C20, C21, C22, C23, S01, S02, S03, S04, S05, S06, S07, E1A, E1R, E1O, E2A, E2R, E2O, E3A, E3R, E3O, E4A, E4R, E5A, E5R, E6A, E6R, E7R, L1, L2, L3, B01, B02, B03, B04, B05, F01, F02, F03, F04, F05, F06, V03, V04, V06, C24, D01, D02, D03, D05, A01, A02, A03, K01, K02}
 use Rattle.mq_rules.specs.Rules.{StatementLine, lines}
 
 -- what a statement says of the tested end
@@ -102,6 +102,8 @@ sentence_of D05 = codes "After more QoS 2 PUBLISHes than its Receive Maximum the
 sentence_of A01 = codes "A client that uses an Authentication Method sends only AUTH and DISCONNECT before a CONNACK was received."
 sentence_of A02 = codes "Without an Authentication Method in CONNECT there is no enhanced authentication."
 sentence_of A03 = codes "AUTH and an accepting CONNACK have the Authentication Method of the CONNECT."
+sentence_of K01 = codes "A client isn't silent for longer than the Keep Alive."
+sentence_of K02 = codes "A server closes the connection of a client that is silent."
 
 -- ---- where MQTT 5.0 has each statement: its citation for each end
 
@@ -218,6 +220,8 @@ citation_of D05 = for_server (codes "sec-3.3.4")
 citation_of A01 = for_client (codes "MQTT-3.1.2-30")
 citation_of A02 = for_each (codes "MQTT-4.12.0-7") (codes "MQTT-4.12.0-6")
 citation_of A03 = for_each (codes "MQTT-4.12.0-5,MQTT-4.12.1-1") (codes "MQTT-4.12.0-5")
+citation_of K01 = for_client (codes "MQTT-3.1.2-20,MQTT-3.2.2-21")
+citation_of K02 = for_server (codes "MQTT-3.1.2-22,MQTT-3.2.2-22")
 
 -- ---- the statement that a code names
 

@@ -1,5 +1,5 @@
 -- What the statements look at in one event, and what one event is to them.
-use Rattle.std.specs.Prelude.{ℕ, ◌/◌, ◌%◌, ◌==◌, nat_le, Bool, true, false, ◌&&◌, ◌||◌, not, cond, if◌then◌else◌, List, [], ◌∷◌, length, map, slice_index, Option, Some, None, is_some, unwrap_or, option_map}
+use Rattle.std.specs.Prelude.{ℕ, ◌/◌, ◌%◌, ◌==◌, nat_le, nat_lt, Bool, true, false, ◌&&◌, ◌||◌, not, cond, if◌then◌else◌, List, [], ◌∷◌, length, map, slice_index, Option, Some, None, is_some, unwrap_or, option_map}
 use Rattle.std.specs.Option.{option_and_then}
 use Rattle.mq_props.specs.Values.{Property}
 use Rattle.mq_props.specs.First.{first_byte, first_two_bytes, first_four_bytes, first_varint, first_text, first_pair}
@@ -23,6 +23,7 @@ use Rattle.mq_log.specs.Connections.{is_session_type}
 use Rattle.mq_log.specs.Events.{Item, Event, Placed, packet, bad, lost, opened, closed, rested, released, sent, received, events}
 use Rattle.mq_rules.specs.declared.role.Role.{Role}
 use Rattle.mq_rules.specs.declared.role.Role.TheVariants.{Client, Server}
+use Rattle.mq_rules.specs.declared.role.Further.{Further}
 use Rattle.mq_rules.specs.declared.role.Tested.{Tested}
 use Rattle.mq_rules.specs.declared.fate.Fate.{Fate}
 use Rattle.mq_rules.specs.declared.fate.Fate.TheVariants.{Void, New, Resumed}
@@ -51,11 +52,11 @@ use Rattle.mq_rules.specs.Wishes.{wishes_of}
 
 -- ---- the end that a log's header names
 
--- the flag says whether the further statements are judged too
-abbrev pub tested_as : Bool → Header → Tested
+-- what is asked for says which further statements are judged too
+abbrev pub tested_as : Further → Header → Tested
 tested_as further header = record { role = if header.server then Server else Client; releases = header.releases; further = further }
 
-abbrev pub tested_by : Bool → List ℕ → Tested
+abbrev pub tested_by : Further → List ℕ → Tested
 tested_by further log = tested_as further (header_by log)
 
 -- ---- the note of an event
@@ -90,6 +91,7 @@ connect_note c = record {
   receive_maximum = first_two_bytes 33 c.properties.items;
   topic_alias_maximum = first_two_bytes 34 c.properties.items;
   maximum_packet_size = first_four_bytes 39 c.properties.items;
+  keep_alive = c.keep_alive;
   will = option_map will_note c.will;
   has_authentication_method = is_some (first_text 21 c.properties.items);
 }
@@ -108,6 +110,7 @@ connack_note session_present code properties = record {
   subscription_identifier_available = first_byte 41 properties;
   shared_subscription_available = first_byte 42 properties;
   maximum_packet_size = first_four_bytes 39 properties;
+  server_keep_alive = first_two_bytes 19 properties;
   has_assigned_identifier = is_some (first_text 18 properties);
   has_response_information = is_some (first_text 26 properties);
   has_authentication_method = is_some (first_text 21 properties);
@@ -205,10 +208,14 @@ packet_note direction size entry = record {
   fields = packet_fields direction entry;
 }
 
+-- A packet that is so large takes its time: it has more than 65,536 bytes.
+abbrev pub is_large : ℕ → Bool
+is_large size = nat_lt 65536 size
+
 -- of an item that went this way
 abbrev pub item_note : Direction → Item → ItemNote
 item_note direction (packet size entry) = items.Packet (packet_note direction size entry)
-item_note direction (bad bytes rule at) = items.Bad (slice_index bytes 0) rule at
+item_note direction (bad bytes rule at) = items.Bad (slice_index bytes 0) rule at (is_large (length bytes))
 item_note direction lost = items.Lost
 
 -- A packet with this first byte is a PUBLISH of QoS 1 or 2: its type, the high four bits, is 3, and its QoS, bits 2 and 1, is 1 or 2 (MQTT 5.0, sections 2.1.2 and 3.3.1.2).
@@ -223,7 +230,7 @@ cuts_acknowledged (first ∷ rest) = begins_acknowledged first
 -- of an event
 abbrev pub note_of : Event → Note
 note_of opened = notes.Open
-note_of (closed unfinished) = notes.Close (cuts_acknowledged unfinished.sent)
+note_of (closed unfinished) = notes.Close (cuts_acknowledged unfinished.sent) (not (length unfinished.sent == 0))
 note_of rested = notes.Rest
 note_of (released identifier) = notes.Release identifier
 note_of (sent item) = notes.Sent (item_note directions.Sent item)
@@ -284,12 +291,12 @@ is_open notes.Open = true
 is_open _ = false
 
 abbrev pub is_close : Note → Bool
-is_close (notes.Close cuts) = true
+is_close (notes.Close cuts part) = true
 is_close _ = false
 
 -- a CLOSE that cut off a PUBLISH of QoS 1 or 2, which the tested end had begun to send
 abbrev pub is_cutting : Note → Bool
-is_cutting (notes.Close cuts) = cuts
+is_cutting (notes.Close cuts part) = cuts
 is_cutting _ = false
 
 -- a network connection begins or ends
@@ -377,7 +384,7 @@ fields_type (Auth method) = types.Auth
 -- The number of an item's type, which is the high four bits of its first byte: bytes that break a rule have one too.
 abbrev pub type_number_in : ItemNote → Option ℕ
 type_number_in (items.Packet p) = Some (type_number (fields_type p.fields))
-type_number_in (items.Bad first rule at) = Some (first / 16)
+type_number_in (items.Bad first rule at large) = Some (first / 16)
 type_number_in items.Lost = None
 
 abbrev pub is_of_type : PacketType → ItemNote → Bool
@@ -716,7 +723,7 @@ note_keeps_text note = is_some_and item_keeps_text (sent_item note) || is_some_a
 -- packet's second byte.
 abbrev pub broken_in : ItemNote → Option BodyFault
 broken_in (items.Packet p) = None
-broken_in (items.Bad first rule at) = Some (record { at = at; rule = rule })
+broken_in (items.Bad first rule at large) = Some (record { at = at; rule = rule })
 broken_in items.Lost = Some (record { at = 1; rule = packet_rules.W03 })
 
 abbrev pub sent_fault : Note → Option BodyFault

@@ -4,7 +4,7 @@ use Rattle.mq_rules.specs.declared.role.Role.{Role}
 use Rattle.mq_rules.specs.declared.role.Tested.{Tested}
 use Rattle.mq_rules.specs.declared.fate.Fate.{Fate}
 use Rattle.mq_rules.specs.declared.rule.Rule.{Rule}
-use Rattle.mq_rules.specs.declared.rule.Rule.TheVariants.{W01, W02, W03, W04, W05, W06, W07, W08, W09, W10, W11, W12, W13, W14, W15, W16, W17, W18, W19, W20, W21, C01, C02, C03, C04, C05, C06, C07, C08, C09, C10, C11, C12, C13, C14, C15, C16, C17, C18, C19, C20, C21, C22, C23, S01, S02, S03, S04, S05, S06, S07, E1A, E1R, E1O, E2A, E2R, E2O, E3A, E3R, E3O, E4A, E4R, E5A, E5R, E6A, E6R, E7R, L1, L2, L3, B01, B02, B03, B04, B05, F01, F02, F03, F04, F05, F06, V03, V04, V06, C24, D01, D02, D03, D05, A01, A02, A03}
+use Rattle.mq_rules.specs.declared.rule.Rule.TheVariants.{W01, W02, W03, W04, W05, W06, W07, W08, W09, W10, W11, W12, W13, W14, W15, W16, W17, W18, W19, W20, W21, C01, C02, C03, C04, C05, C06, C07, C08, C09, C10, C11, C12, C13, C14, C15, C16, C17, C18, C19, C20, C21, C22, C23, S01, S02, S03, S04, S05, S06, S07, E1A, E1R, E1O, E2A, E2R, E2O, E3A, E3R, E3O, E4A, E4R, E5A, E5R, E6A, E6R, E7R, L1, L2, L3, B01, B02, B03, B04, B05, F01, F02, F03, F04, F05, F06, V03, V04, V06, C24, D01, D02, D03, D05, A01, A02, A03, K01, K02}
 use Rattle.mq_rules.specs.declared.note.Seen.{Seen}
 use Rattle.mq_rules.specs.Words.{is_some_and}
 use Rattle.mq_rules.specs.Moments.{Moment, position, note, moments, moment, is_same, some, count}
@@ -12,6 +12,7 @@ use Rattle.mq_rules.specs.Connections.{fate, fate_under, connection}
 use Rattle.mq_rules.specs.Pasts.{applies_C01, applies_C02, applies_C03, applies_C04, applies_C05, applies_C06, applies_C07, applies_C08, applies_C09, applies_C10, applies_C11, applies_C12, applies_C13, applies_C14, applies_C15, applies_C16, applies_C17, applies_C18, applies_C19, applies_C20, applies_C21, applies_C22, applies_C23}
 use Rattle.mq_rules.specs.FurtherPasts.{applies_F01, applies_F02, applies_F03, applies_F04, applies_F05, applies_F06, applies_V03, applies_V04, applies_V06, applies_A01, applies_A02, applies_A03}
 use Rattle.mq_rules.specs.FurtherRests.{applies_C24, applies_D01, applies_D02, applies_D03, applies_D05}
+use Rattle.mq_rules.specs.KeepAlive.{applies_K01, applies_K02}
 use Rattle.mq_rules.specs.Identifiers.{applies_S01, applies_S02, applies_S03, applies_S04, applies_S05, applies_S06, applies_S07}
 use Rattle.mq_rules.specs.Exchanges.{Exchange, first_unanswered, publish_puback, publish_pubrec, pubrec_pubrel, pubrel_pubcomp, subscribe_suback, unsubscribe_unsuback, applies_A, applies_O, applies_R, applies_E7R}
 use Rattle.mq_rules.specs.Releases.{applies_L1, applies_L2, applies_L3}
@@ -116,6 +117,8 @@ occasion role D05 = Some (by_later applies_D05)
 occasion role A01 = Some (on_past applies_A01)
 occasion role A02 = Some (on_past (applies_A02 role))
 occasion role A03 = Some (on_past (applies_A03 role))
+occasion role K01 = Some (on_past applies_K01)
+occasion role K02 = Some (on_past applies_K02)
 
 -- what an occasion says is so at position k of the log, if connections have these fates
 abbrev pub occurs : Role → (ℕ → Option Fate) → Option Statement → List Seen → ℕ → Bool

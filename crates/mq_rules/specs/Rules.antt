@@ -6,6 +6,7 @@ use Rattle.std.specs.List.{find}
 use denote.Enum.Bare.{sameb}
 use Rattle.mq_rules.specs.declared.role.Role.{Role}
 use Rattle.mq_rules.specs.declared.role.Role.TheVariants.{Client, Server}
+use Rattle.mq_rules.specs.declared.role.Further.{Further}
 use Rattle.mq_rules.specs.declared.role.Tested.{Tested}
 use Rattle.mq_rules.specs.declared.rule.Rule.{Rule}
 use Rattle.mq_rules.specs.contracts.rule.Rule.{the_type}
@@ -13,7 +14,7 @@ use Rattle.mq_rules.specs.contracts.rule.RuleOrd.TheImpl as rule_ord
 use Rattle.mq_rules.specs.declared.table.Ends.{Ends}
 use Rattle.mq_rules.specs.declared.table.Ends.TheVariants.{OnlyClient, OnlyServer, Both}
 use Rattle.mq_rules.specs.declared.table.Judged.{Judged}
-use Rattle.mq_rules.specs.declared.table.Judged.TheVariants.{Always, WithReleases, OnRequest}
+use Rattle.mq_rules.specs.declared.table.Judged.TheVariants.{Always, WithReleases, OnRequest, OnTimes}
 use Rattle.mq_rules.specs.declared.table.TheConstants.{TABLE}
 
 -- A line of the table: a statement, its code, the ends that it binds, its citation for a client and for a server, and when it is judged. A citation is empty for an end
@@ -77,11 +78,23 @@ includes Both role = true
 abbrev pub binds_end : Rule → Role → Bool
 binds_end rule role = includes (line_of rule).ends role
 
--- Whether a statement that is judged so is judged of this end: always; if the log records releases; or if the further statements are asked for.
+-- no further statements are asked for; those that need no times; and all
+abbrev pub none_further : Further
+none_further = record { on_request = false; with_times = false }
+
+abbrev pub without_times : Further
+without_times = record { on_request = true; with_times = false }
+
+abbrev pub all_further : Further
+all_further = record { on_request = true; with_times = true }
+
+-- Whether a statement that is judged so is judged of this end: always; if the log records releases; if the further statements are asked for; or if those of them are that are on
+-- times.
 abbrev pub is_met : Judged → Tested → Bool
 is_met Always tested = true
 is_met WithReleases tested = tested.releases
-is_met OnRequest tested = tested.further
+is_met OnRequest tested = tested.further.on_request
+is_met OnTimes tested = tested.further.with_times
 
 -- Whether a statement is judged for the tested end: it binds that end, and what it is judged for is met.
 abbrev pub binds : Rule → Tested → Bool
@@ -95,10 +108,18 @@ is_with_releases _ = false
 abbrev pub needs_releases : Rule → Bool
 needs_releases rule = is_with_releases (line_of rule).judged
 
--- a statement is a further one, which is judged only if it is asked for
-abbrev pub is_on_request : Judged → Bool
-is_on_request OnRequest = true
-is_on_request _ = false
+-- a statement is a further one, which is judged only if it is asked for: one that needs no times, or one on times
+abbrev pub is_asked_for : Judged → Bool
+is_asked_for OnRequest = true
+is_asked_for OnTimes = true
+is_asked_for _ = false
 
 abbrev pub is_further : Rule → Bool
-is_further rule = is_on_request (line_of rule).judged
+is_further rule = is_asked_for (line_of rule).judged
+
+abbrev pub is_timed : Judged → Bool
+is_timed OnTimes = true
+is_timed _ = false
+
+abbrev pub is_on_times : Rule → Bool
+is_on_times rule = is_timed (line_of rule).judged

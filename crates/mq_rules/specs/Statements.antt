@@ -8,7 +8,7 @@ use Rattle.mq_rules.specs.declared.role.Role.{Role}
 use Rattle.mq_rules.specs.declared.role.Tested.{Tested}
 use Rattle.mq_rules.specs.declared.fate.Fate.{Fate}
 use Rattle.mq_rules.specs.declared.rule.Rule.{Rule}
-use Rattle.mq_rules.specs.declared.rule.Rule.TheVariants.{W01, W02, W03, W04, W05, W06, W07, W08, W09, W10, W11, W12, W13, W14, W15, W16, W17, W18, W19, W20, W21, C01, C02, C03, C04, C05, C06, C07, C08, C09, C10, C11, C12, C13, C14, C15, C16, C17, C18, C19, C20, C21, C22, C23, S01, S02, S03, S04, S05, S06, S07, E1A, E1R, E1O, E2A, E2R, E2O, E3A, E3R, E3O, E4A, E4R, E5A, E5R, E6A, E6R, E7R, L1, L2, L3, B01, B02, B03, B04, B05, F01, F02, F03, F04, F05, F06, V03, V04, V06, C24, D01, D02, D03, D05, A01, A02, A03}
+use Rattle.mq_rules.specs.declared.rule.Rule.TheVariants.{W01, W02, W03, W04, W05, W06, W07, W08, W09, W10, W11, W12, W13, W14, W15, W16, W17, W18, W19, W20, W21, C01, C02, C03, C04, C05, C06, C07, C08, C09, C10, C11, C12, C13, C14, C15, C16, C17, C18, C19, C20, C21, C22, C23, S01, S02, S03, S04, S05, S06, S07, E1A, E1R, E1O, E2A, E2R, E2O, E3A, E3R, E3O, E4A, E4R, E5A, E5R, E6A, E6R, E7R, L1, L2, L3, B01, B02, B03, B04, B05, F01, F02, F03, F04, F05, F06, V03, V04, V06, C24, D01, D02, D03, D05, A01, A02, A03, K01, K02}
 use Rattle.mq_rules.specs.declared.note.Seen.{Seen}
 use Rattle.mq_rules.specs.Words.{is_some_and}
 use Rattle.mq_rules.specs.Notes.{sent_fault}
@@ -17,11 +17,12 @@ use Rattle.mq_rules.specs.Connections.{number, fate, fate_under, accepts, is_bes
 use Rattle.mq_rules.specs.Pasts.{breaks_C01, breaks_C02, breaks_C03, breaks_C04, breaks_C05, breaks_C06, breaks_C07, breaks_C08, breaks_C09, breaks_C10, breaks_C11, breaks_C12, breaks_C13, breaks_C14, breaks_C15, breaks_C16, breaks_C17, breaks_C18, breaks_C19, breaks_C20, breaks_C21, breaks_C22, breaks_C23}
 use Rattle.mq_rules.specs.FurtherPasts.{breaks_F01, breaks_F02, breaks_F03, breaks_F04, breaks_F05, breaks_F06, breaks_V03, breaks_V04, breaks_V06, breaks_A01, breaks_A02, breaks_A03}
 use Rattle.mq_rules.specs.FurtherRests.{shows_C24, shows_D01, shows_D02, shows_D03, shows_D05}
+use Rattle.mq_rules.specs.KeepAlive.{breaks_K01, breaks_K02}
 use Rattle.mq_rules.specs.Identifiers.{breaks_S01, breaks_S02, breaks_S03, breaks_S04, breaks_S05, shows_S06, breaks_S07}
 use Rattle.mq_rules.specs.Exchanges.{publish_puback, publish_pubrec, pubrec_pubrel, pubrel_pubcomp, subscribe_suback, unsubscribe_unsuback, breaks_A, breaks_O, shows_R, breaks_E7R}
 use Rattle.mq_rules.specs.Releases.{breaks_L1, breaks_L2, breaks_L3}
 use Rattle.mq_rules.specs.Subscriptions.{breaks_B01, breaks_B02, breaks_B03, breaks_B04, breaks_B05}
-use Rattle.mq_rules.specs.Rules.{binds, is_further}
+use Rattle.mq_rules.specs.Rules.{binds, is_further, is_on_times}
 
 -- the bytes that the tested end sent break this packet rule
 unfoldable pub breaks_bytes : PacketRule → Moment → Bool
@@ -151,6 +152,8 @@ statement role D05 = by_later shows_D05
 statement role A01 = on_past breaks_A01
 statement role A02 = on_past (breaks_A02 role)
 statement role A03 = on_past (breaks_A03 role)
+statement role K01 = on_past breaks_K01
+statement role K02 = on_past breaks_K02
 
 -- a statement on a packet's bytes, and one on the past of a connection
 abbrev pub is_by_bytes : Statement → Bool
@@ -181,12 +184,15 @@ is_by_later (by_later shows) = true
 abbrev pub is_on_bytes : Tested → Rule → Bool
 is_on_bytes tested rule = is_by_bytes (statement tested.role rule)
 
--- one on the past of a connection that is always judged, and a further one
+-- one on the past of a connection that is always judged; a further one that needs no times; and one on times
 abbrev pub is_on_past : Tested → Rule → Bool
 is_on_past tested rule = is_by_past (statement tested.role rule) && not (is_further rule)
 
 abbrev pub is_on_further : Tested → Rule → Bool
-is_on_further tested rule = is_by_past (statement tested.role rule) && is_further rule
+is_on_further tested rule = is_by_past (statement tested.role rule) && (is_further rule && not (is_on_times rule))
+
+abbrev pub is_on_clock : Tested → Rule → Bool
+is_on_clock tested rule = is_by_past (statement tested.role rule) && is_on_times rule
 
 abbrev pub is_on_later : Tested → Rule → Bool
 is_on_later tested rule = is_by_later (statement tested.role rule)

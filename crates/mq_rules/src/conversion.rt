@@ -29,6 +29,9 @@ use mq_packet::{Answer, Codes, Connack, Connect, Packet, Publish, ReasonPacket, 
 use mq_props::Props;
 use std::alloc::Global;
 
+/// The most bytes of a packet that isn't large: one of more takes its time.
+const LARGE: usize = 65_536;
+
 // Whether there is a text.
 #[inline]
 fn is_text(text: Option<&str>) -> bool
@@ -167,6 +170,7 @@ impl ConnectNote {
             receive_maximum: properties.get_receive_maximum(),
             topic_alias_maximum: properties.get_topic_alias_maximum(),
             maximum_packet_size: properties.get_maximum_packet_size(),
+            keep_alive: connect.keep_alive,
             will: WillNote::of(connect.will.as_ref()),
             has_authentication_method: is_text(properties.get_authentication_method()),
         }
@@ -191,6 +195,7 @@ impl ConnackNote {
             subscription_identifier_available: properties.get_subscription_identifier_available(),
             shared_subscription_available: properties.get_shared_subscription_available(),
             maximum_packet_size: properties.get_maximum_packet_size(),
+            server_keep_alive: properties.get_server_keep_alive(),
             has_assigned_identifier: is_text(properties.get_assigned_client_identifier()),
             has_response_information: is_text(properties.get_response_information()),
             has_authentication_method: is_text(properties.get_authentication_method()),
@@ -538,6 +543,7 @@ impl ItemNote {
                 first: first_of(bytes),
                 rule: *rule,
                 at: *at,
+                is_large: bytes.len() > LARGE,
             }),
             Item::Lost => Ok(ItemNote::Lost),
         }
@@ -592,6 +598,7 @@ impl Note {
             Event::Open => Ok(Note::Open),
             Event::Close { unfinished } => Ok(Note::Close {
                 cuts_publish: is_publish_cut(unfinished.sent),
+                cuts_packet: !unfinished.sent.is_empty(),
             }),
             Event::Rest => Ok(Note::Rest),
             Event::Release(identifier) => Ok(Note::Release(*identifier)),

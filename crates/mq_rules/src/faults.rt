@@ -156,7 +156,7 @@ impl Faults {
         };
         let last = FaultKey {
             position,
-            rule: Rule::A03,
+            rule: Rule::K02,
         };
         self.found.range(first..=last)
     }

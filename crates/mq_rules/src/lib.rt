@@ -55,7 +55,7 @@ pub use packet_note::{
 pub use parts::{Parts, is_at_most_once};
 pub use places::places_after;
 pub use qos::qos_number;
-pub use role::{Role, Tested};
+pub use role::{Further, Role, Tested};
 pub use rule::Rule;
 pub use table_laws::{each_statement_binds_its_ends, each_statement_has_its_row, rows_ascend};
 pub use text::{CodeList, FilterList, NotedFilter, Text};

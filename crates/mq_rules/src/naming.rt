@@ -145,6 +145,8 @@ impl Rule {
                 "Without an Authentication Method in CONNECT there is no enhanced authentication.",
             Rule::A03 =>
                 "AUTH and an accepting CONNACK have the Authentication Method of the CONNECT.",
+            Rule::K01 => "A client isn't silent for longer than the Keep Alive.",
+            Rule::K02 => "A server closes the connection of a client that is silent.",
         }
     }
 

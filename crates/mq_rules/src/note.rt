@@ -28,6 +28,8 @@ pub enum ItemNote {
         rule: PacketRule,
         /// The offset in the packet of the field that breaks it.
         at: u32,
+        /// Whether it has more than 65,536 bytes.
+        is_large: bool,
     },
     /// The direction can't be cut into packets from here on.
     Lost,
@@ -42,6 +44,8 @@ pub enum Note {
     Close {
         /// Whether the tested end had begun to send a PUBLISH of QoS 1 or 2, and hadn't ended it.
         cuts_publish: bool,
+        /// Whether it had begun to send any packet, and hadn't ended it.
+        cuts_packet: bool,
     },
     /// The tested end is at rest.
     Rest,
@@ -97,6 +101,7 @@ impl Drop for ItemNote {
                 first: _,
                 rule: _,
                 at: _,
+                is_large: _,
             } => {}
             ItemNote::Lost => {}
         }

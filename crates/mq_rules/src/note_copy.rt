@@ -93,10 +93,16 @@ fn copy_item(alloc: Global, item: &ItemNote) -> Result<ItemNote, Memory>
                 fields,
             }))
         }
-        ItemNote::Bad { first, rule, at } => Ok(ItemNote::Bad {
+        ItemNote::Bad {
+            first,
+            rule,
+            at,
+            is_large,
+        } => Ok(ItemNote::Bad {
             first: *first,
             rule: *rule,
             at: *at,
+            is_large: *is_large,
         }),
         ItemNote::Lost => Ok(ItemNote::Lost),
     }
@@ -115,8 +121,12 @@ impl Note {
     {
         match self {
             Note::Open => Ok(Note::Open),
-            Note::Close { cuts_publish } => Ok(Note::Close {
+            Note::Close {
+                cuts_publish,
+                cuts_packet,
+            } => Ok(Note::Close {
                 cuts_publish: *cuts_publish,
+                cuts_packet: *cuts_packet,
             }),
             Note::Rest => Ok(Note::Rest),
             Note::Release(identifier) => Ok(Note::Release(*identifier)),

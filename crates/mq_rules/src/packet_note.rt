@@ -46,6 +46,8 @@ pub struct ConnectNote {
     pub topic_alias_maximum: Option<u16>,
     /// The Maximum Packet Size, in bytes; not 0.
     pub maximum_packet_size: Option<u32>,
+    /// The Keep Alive, in seconds; 0 switches it off.
+    pub keep_alive: u16,
     /// The Will, if there is one.
     pub will: Option<WillNote>,
     /// Whether it has an Authentication Method.
@@ -77,6 +79,8 @@ pub struct ConnackNote {
     pub shared_subscription_available: Option<u8>,
     /// The Maximum Packet Size, in bytes; not 0.
     pub maximum_packet_size: Option<u32>,
+    /// The Server Keep Alive, in seconds; 0 switches the Keep Alive off.
+    pub server_keep_alive: Option<u16>,
     /// Whether it has an Assigned Client Identifier.
     pub has_assigned_identifier: bool,
     /// Whether it has Response Information.

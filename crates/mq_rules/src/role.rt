@@ -13,6 +13,33 @@ pub enum Role {
     Server,
 }
 
+/// Which of the further statements are judged, beside those that always are.
+#[derive(Clone, Copy, Debug, PartialEq, Eq)]
+pub struct Further {
+    /// Those that need no times.
+    pub on_request: bool,
+    /// Those on times: the log's moments are microseconds.
+    pub with_times: bool,
+}
+
+impl Further {
+    /// None of them.
+    pub const NONE: Further = Further {
+        on_request: false,
+        with_times: false,
+    };
+    /// Those that need no times.
+    pub const ON_REQUEST: Further = Further {
+        on_request: true,
+        with_times: false,
+    };
+    /// All of them.
+    pub const WITH_TIMES: Further = Further {
+        on_request: true,
+        with_times: true,
+    };
+}
+
 /// The tested end, as the log's header names it, and which statements are judged.
 #[derive(Clone, Copy, Debug, PartialEq, Eq)]
 pub struct Tested {
@@ -20,13 +47,13 @@ pub struct Tested {
     pub role: Role,
     /// Whether the log records the releases of QoS 2 messages.
     pub releases: bool,
-    /// Whether the further statements are judged too, beside those that always are.
-    pub further: bool,
+    /// Which of the further statements are judged too.
+    pub further: Further,
 }
 
 impl Tested {
-    /// The end that a log's header names, judged by the further statements too or not.
-    pub fn of(header: Header, further: bool) -> Tested
+    /// The end that a log's header names, judged by these further statements too.
+    pub fn of(header: Header, further: Further) -> Tested
         ensures { result ≡ tested_as further header }
     {
         let role = if header.server {

@@ -216,6 +216,10 @@ pub enum Rule {
     /// AUTH and an accepting CONNACK have the Authentication Method of the CONNECT (MQTT 5.0,
     /// section 4.12).
     A03,
+    /// A client isn't silent for longer than the Keep Alive (MQTT 5.0, section 3.1.2.10).
+    K01,
+    /// A server closes the connection of a client that is silent (MQTT 5.0, section 3.1.2.10).
+    K02,
 }
 
 impl Rule {

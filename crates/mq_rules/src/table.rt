@@ -2,7 +2,7 @@
 ghost use Rattle.std.specs.Prelude.{◌≡◌, option_map};
 ghost use Rattle.std.specs.List.{find};
 ghost use Rattle.mq_rules.specs.Naming.{citation_of};
-ghost use Rattle.mq_rules.specs.Rules.{all_rules, found_line, line_view, lines_of, same_rule, code_of, cites, includes, is_met, is_further, line_of, binds, binds_end};
+ghost use Rattle.mq_rules.specs.Rules.{all_rules, found_line, line_view, lines_of, same_rule, code_of, cites, includes, is_met, is_further, is_on_times, line_of, binds, binds_end};
 
 use crate::role::{Role, Tested};
 use crate::rule::Rule;
@@ -30,6 +30,8 @@ pub enum Judged {
     WithReleases,
     /// If the further statements are asked for.
     OnRequest,
+    /// If those of them that are on times are asked for.
+    OnTimes,
 }
 
 /// A statement, its code, the ends that it binds, its citation of MQTT 5.0 for a client and for a
@@ -37,7 +39,7 @@ pub enum Judged {
 pub type Row = (Rule, &'static str, Ends, &'static str, &'static str, Judged);
 
 /// Each statement's row, in the order of reports.
-pub const TABLE: [Row; 92] = [
+pub const TABLE: [Row; 94] = [
     (W01, "W01", Both, "MQTT-2.1.3-1", "MQTT-2.1.3-1", Always),
     (W02, "W02", Both, "sec-2.1.2", "sec-2.1.2", Always),
     (W03, "W03", Both, "MQTT-1.5.5-1", "MQTT-1.5.5-1", Always),
@@ -186,10 +188,26 @@ pub const TABLE: [Row; 92] = [
         "MQTT-4.12.0-5",
         OnRequest,
     ),
+    (
+        K01,
+        "K01",
+        OnlyClient,
+        "MQTT-3.1.2-20,MQTT-3.2.2-21",
+        "",
+        OnTimes,
+    ),
+    (
+        K02,
+        "K02",
+        OnlyServer,
+        "",
+        "MQTT-3.1.2-22,MQTT-3.2.2-22",
+        OnTimes,
+    ),
 ];
 
 /// The statements, in the order of reports.
-const RULES: [Rule; 92] = [
+const RULES: [Rule; 94] = [
     Rule::W01,
     Rule::W02,
     Rule::W03,
@@ -282,6 +300,8 @@ const RULES: [Rule; 92] = [
     Rule::A01,
     Rule::A02,
     Rule::A03,
+    Rule::K01,
+    Rule::K02,
 ];
 
 // The row of a statement among these, if it has one.
@@ -344,7 +364,8 @@ impl Judged {
         match self {
             Judged::Always => true,
             Judged::WithReleases => tested.releases,
-            Judged::OnRequest => tested.further,
+            Judged::OnRequest => tested.further.on_request,
+            Judged::OnTimes => tested.further.with_times,
         }
     }
 }
@@ -406,11 +427,18 @@ impl Rule {
     pub fn is_further(self) -> bool
         ensures { result ≡ is_further self }
     {
-        matches!(self.judged(), OnRequest)
+        matches!(self.judged(), OnRequest | OnTimes)
+    }
+
+    /// Whether the statement is a further one on times.
+    pub fn is_on_times(self) -> bool
+        ensures { result ≡ is_on_times self }
+    {
+        matches!(self.judged(), OnTimes)
     }
 
     /// Whether the statement is judged for this end: it binds the end; if it needs releases the log
-    /// records them; and if it is a further one it is asked for.
+    /// records them; and if it is a further one, or one of those on times, these are asked for.
     pub fn is_judged(self, tested: Tested) -> bool
         ensures { result ≡ binds self tested }
     {

@@ -53,7 +53,7 @@ begun-before k u h same = let le = number-within k u.past h in let least = begun
 
 rest-no_open : (n : Note) → is_rest n ≡ true → is_open n ≡ false
 rest-no_open notes.Open h = absurd (cc)
-rest-no_open (notes.Close cuts) h = refl
+rest-no_open (notes.Close cuts part) h = refl
 rest-no_open notes.Rest h = refl
 rest-no_open (notes.Release identifier) h = refl
 rest-no_open (notes.Sent item) h = refl

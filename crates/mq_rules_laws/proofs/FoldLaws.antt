@@ -32,7 +32,7 @@ latest-folded test (m ∷ ms) = ap (latest_by test m) (latest-folded test ms)
 
 pub open-idle : (n : Note) → is_open n ≡ true → needs_session n ≡ false
 open-idle notes.Open h = refl
-open-idle (notes.Close cuts) h = absurd (cc)
+open-idle (notes.Close cuts part) h = absurd (cc)
 open-idle notes.Rest h = absurd (cc)
 open-idle (notes.Release identifier) h = absurd (cc)
 open-idle (notes.Sent item) h = absurd (cc)

@@ -1,9 +1,10 @@
 -- Wherever a statement is false, it is put to the test: a lemma for each statement, and one for all.
 use Rattle.std.proofs.Common.{◌≡◌, ℕ, ◌+◌, ◌<◌, ◌==◌, nat_le, nat_lt, arith, Bool, true, false, ◌&&◌, ◌||◌, not, List, [], ◌∷◌, length, Option, Some, None, is_some, refl, subst}
-use Rattle.std.specs.Prelude.{unwrap_or}
+use Rattle.std.specs.Prelude.{◌≤◌, max, unwrap_or}
 use Rattle.std.specs.Option.{option_and_then, option_or}
 use Rattle.std.specs.List.{list_any}
 use Rattle.std.proofs.lemmas.Bool.{eqb-true, le-leb, ltb-true}
+use Rattle.std.proofs.lemmas.Bool.Decides.{nat_tests}
 use Rattle.mq_packet.specs.declared.packet.Qos.{Qos}
 use Rattle.mq_packet.specs.declared.packet.Qos.TheVariants as quality
 use Rattle.mq_packet.specs.declared.packet.PacketType.{PacketType}
@@ -15,7 +16,7 @@ use Rattle.mq_rules.specs.declared.role.Role.TheVariants.{Client, Server}
 use Rattle.mq_rules.specs.declared.role.Tested.{Tested}
 use Rattle.mq_rules.specs.declared.fate.Fate.{Fate}
 use Rattle.mq_rules.specs.declared.rule.Rule.{Rule}
-use Rattle.mq_rules.specs.declared.rule.Rule.TheVariants.{W01, W02, W03, W04, W05, W06, W07, W08, W09, W10, W11, W12, W13, W14, W15, W16, W17, W18, W19, W20, W21, C01, C02, C03, C04, C05, C06, C07, C08, C09, C10, C11, C12, C13, C14, C15, C16, C17, C18, C19, C20, C21, C22, C23, S01, S02, S03, S04, S05, S06, S07, E1A, E1R, E1O, E2A, E2R, E2O, E3A, E3R, E3O, E4A, E4R, E5A, E5R, E6A, E6R, E7R, L1, L2, L3, B01, B02, B03, B04, B05, F01, F02, F03, F04, F05, F06, V03, V04, V06, C24, D01, D02, D03, D05, A01, A02, A03}
+use Rattle.mq_rules.specs.declared.rule.Rule.TheVariants.{W01, W02, W03, W04, W05, W06, W07, W08, W09, W10, W11, W12, W13, W14, W15, W16, W17, W18, W19, W20, W21, C01, C02, C03, C04, C05, C06, C07, C08, C09, C10, C11, C12, C13, C14, C15, C16, C17, C18, C19, C20, C21, C22, C23, S01, S02, S03, S04, S05, S06, S07, E1A, E1R, E1O, E2A, E2R, E2O, E3A, E3R, E3O, E4A, E4R, E5A, E5R, E6A, E6R, E7R, L1, L2, L3, B01, B02, B03, B04, B05, F01, F02, F03, F04, F05, F06, V03, V04, V06, C24, D01, D02, D03, D05, A01, A02, A03, K01, K02}
 use Rattle.mq_rules.specs.declared.note.Note.{Note}
 use Rattle.mq_rules.specs.declared.note.ItemNote.{ItemNote}
 use Rattle.mq_rules.specs.declared.note.Seen.{Seen}
@@ -30,6 +31,7 @@ use Rattle.mq_rules.specs.Notes.{is_close, is_rest, refuses, sent_packet, sent_p
 use Rattle.mq_rules.specs.Moments.{Moment, note, moments, is_same, is_after, some, since, those, count, some_stretch}
 use Rattle.mq_rules.specs.Connections.{begun, number, connection, fate, is_binding, latest_fate, resumed, session}
 use Rattle.mq_rules.specs.Pasts.{sends_typed, sends_or_closes, came_before, is_sent_disconnect, is_sent_refusal, says_session_present, accepts_so, connect_before, connack_before, is_alive, peer_maximum_packet_size, peer_topic_alias_maximum, peer_receive_maximum, knows_peer, set_alias, used_alias, is_last_sent, breaks_C01, breaks_C02, breaks_C03, breaks_C04, breaks_C05, breaks_C06, breaks_C07, breaks_C08, breaks_C09, breaks_C10, breaks_C11, breaks_C12, breaks_C13, breaks_C14, breaks_C15, breaks_C16, breaks_C17, breaks_C18, breaks_C19, breaks_C20, breaks_C21, breaks_C22, breaks_C23, applies_C01, applies_C02, applies_C03, applies_C04, applies_C05, applies_C06, applies_C07, applies_C08, applies_C09, applies_C10, applies_C11, applies_C12, applies_C13, applies_C14, applies_C15, applies_C16, applies_C17, applies_C18, applies_C19, applies_C20, applies_C21, applies_C22, applies_C23}
+use Rattle.mq_rules.specs.KeepAlive.{breaks_K01, breaks_K02, applies_K01, applies_K02, client_limit, cuts_packet, half, is_first_longer, is_heard, is_listened_to, is_longer, keep_alive, one_and_a_half, server_limit, silence, takes_time}
 use Rattle.mq_rules.specs.FurtherPasts.{breaks_F01, breaks_F02, breaks_F03, breaks_F04, breaks_F05, breaks_F06, breaks_V03, breaks_V04, breaks_V06, breaks_A01, breaks_A02, breaks_A03, applies_F01, applies_F02, applies_F03, applies_F04, applies_F05, applies_F06, applies_V03, applies_V04, applies_V06, applies_A01, applies_A02, applies_A03, has_to_name, is_authenticating, method_before, names_method, lacks_method, lacks_retain, lacks_wildcards, lacks_identifiers, lacks_shares, is_code_of_servers, is_code_of_clients, is_receipt_of_servers, will_in}
 use Rattle.mq_rules.specs.FurtherRests.{is_unrefused, leaves_unanswered, owes_C24, owes_D01, owes_D02, owes_D03, owes_D05, says_goodbye, shows_outcome, stays_open, shows_C24, shows_D01, shows_D02, shows_D03, shows_D05, applies_C24, applies_D01, applies_D02, applies_D03, applies_D05}
 use Rattle.mq_rules.specs.Identifiers.{opens_id, closes_id, delivers, session_before, is_open_at, latest_opener, awaits_suback, awaits_unsuback, may_be_discarded, is_busy_at, takes_some, is_any_busy_at, taken_by, was_sent_on_void, was_sent_before_session, was_cut_off, opens_exactly_once, sends_pubrel, comes_after, is_delivery, is_closer, counts, passes, is_waiting, came_on, was_open, was_sent_again, is_excused, breaks_S01, breaks_S02, breaks_S03, breaks_S04, breaks_S05, breaks_S07, shows_S06, applies_S01, applies_S02, applies_S03, applies_S04, applies_S05, applies_S06, applies_S07}
@@ -324,6 +326,40 @@ unfolding breaks_A03 applies_A03
 A03-applies role k h =
     let a = both_true (has_to_name role (note k)) (is_some_and (λ method. not (names_method (note k) method)) (method_before role k)) h in
     and_true (has_to_name role (note k)) (is_some (method_before role k)) a.0 (is_there (λ method. not (names_method (note k) method)) (method_before role k) a.1)
+
+-- ---- further statements on the Keep Alive
+
+-- what is longer than a limit is longer than a shorter one
+longer-sooner : (sooner later long : ℕ) → sooner ≤ later → nat_lt later long ≡ true → nat_lt sooner long ≡ true
+longer-sooner sooner later long le h = grind (arith, nat_tests)
+
+-- what comes for the first time comes
+first-longer : (limit : ℕ → ℕ) (role : Role) (k : Moment) (excused : Bool) → (is_first_longer limit role k && excused) ≡ true → is_longer limit role k ≡ true
+first-longer limit role k excused h =
+    (both_true (is_longer limit role k) (not (since (λ j. is_longer limit role j && not (is_heard role j)) (is_heard role) (connection k.past)))
+    (both_true (is_first_longer limit role k) excused h).0).0
+
+pub K01-applies : (k : Moment) → breaks_K01 k ≡ true → applies_K01 k ≡ true
+unfolding breaks_K01 applies_K01
+K01-applies k h =
+    let a = both_true (is_listened_to Client k) (is_first_longer client_limit Client k && not (takes_time (note k) || cuts_packet (note k))) h in
+    and_true (is_listened_to Client k) (is_longer half Client k) a.0
+    (longer-sooner (half (keep_alive Client k)) (client_limit (keep_alive Client k)) (silence Client k) (sooner (keep_alive Client k))
+    (first-longer client_limit Client k (not (takes_time (note k) || cuts_packet (note k))) a.1))
+  where
+    sooner : (n : ℕ) → half n ≤ client_limit n
+    sooner n = omega arith
+
+pub K02-applies : (k : Moment) → breaks_K02 k ≡ true → applies_K02 k ≡ true
+unfolding breaks_K02 applies_K02
+K02-applies k h =
+    let a = both_true (is_listened_to Server k) (is_first_longer server_limit Server k && not (takes_time (note k))) h in
+    and_true (is_listened_to Server k) (is_longer one_and_a_half Server k) a.0
+    (longer-sooner (one_and_a_half (keep_alive Server k)) (server_limit (keep_alive Server k)) (silence Server k) (sooner (one_and_a_half (keep_alive Server k)) (max (half (keep_alive Server k)) 5000000))
+    (first-longer server_limit Server k (not (takes_time (note k))) a.1))
+  where
+    sooner : (n m : ℕ) → n ≤ n + m
+    sooner n m = omega arith
 
 -- ---- identifiers
 
@@ -738,6 +774,8 @@ line-applies role D05 fates log k h by_bytes = wider-later role fates shows_D05 
 line-applies role A01 fates log k h by_bytes = wider-past role fates breaks_A01 applies_A01 A01-applies log k h
 line-applies role A02 fates log k h by_bytes = wider-past role fates (breaks_A02 role) (applies_A02 role) (A02-applies role) log k h
 line-applies role A03 fates log k h by_bytes = wider-past role fates (breaks_A03 role) (applies_A03 role) (A03-applies role) log k h
+line-applies role K01 fates log k h by_bytes = wider-past role fates breaks_K01 applies_K01 K01-applies log k h
+line-applies role K02 fates log k h by_bytes = wider-past role fates breaks_K02 applies_K02 K02-applies log k h
 
 -- what fails is put to the test
 pub fails-applies : (tested : Tested) (log : List Seen) (k : ℕ) (rule : Rule) → is_on_bytes tested rule ≡ false → fails tested log k rule ≡ true → applies tested log k rule ≡ true

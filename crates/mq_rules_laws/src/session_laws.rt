@@ -3,6 +3,7 @@
 ghost use Rattle.std.specs.Prelude.{◌≡◌, ◌<◌, ◌≤◌, ◌==◌, ◌∷◌, ◌++◌, ◌↔◌, [], ℕ, List, length, Option, Some, None, cond, is_some, Bool, true, false, ◌&&◌, not};
 ghost use Rattle.std.specs.Option.{option_or};
 ghost use Rattle.mq_log.specs.Refusals.{refused};
+ghost use Rattle.mq_rules.specs.declared.role.Further.{Further};
 ghost use Rattle.mq_rules.specs.declared.role.Role.{Role};
 ghost use Rattle.mq_rules.specs.declared.fate.Fate.{Fate};
 ghost use Rattle.mq_rules.specs.declared.note.Seen.{Seen};
@@ -65,8 +66,8 @@ pub fn alive_by_connections()
 /// nothing is sent or received, no REST and no CLOSE comes, but on an open connection.
 pub fn unrefused_logs_are_orderly()
     ensures placed { (limit : ℕ) (bytes : List ℕ) → refused limit bytes ≡ None → IsPlaced (seen_in bytes) }
-    ensures few { (limit : ℕ) (further : Bool) (bytes : List ℕ) → refused limit bytes ≡ None → latest_fate (tested_by further bytes).role (seen_in bytes) ≡ None → length (connection (seen_in bytes)) ≤ 4096 }
-    ensures in_turn { (limit : ℕ) (further : Bool) (bytes : List ℕ) → refused limit bytes ≡ None → IsInTurn (tested_by further bytes).role (seen_in bytes) }
+    ensures few { (limit : ℕ) (further : Further) (bytes : List ℕ) → refused limit bytes ≡ None → latest_fate (tested_by further bytes).role (seen_in bytes) ≡ None → length (connection (seen_in bytes)) ≤ 4096 }
+    ensures in_turn { (limit : ℕ) (further : Further) (bytes : List ℕ) → refused limit bytes ≡ None → IsInTurn (tested_by further bytes).role (seen_in bytes) }
     ensures on_connections { (limit : ℕ) (bytes : List ℕ) → refused limit bytes ≡ None → AreOnConnections (seen_in bytes) }
 {}
 

@@ -25,6 +25,7 @@ use Rattle.mq_judge.specs.Runner.{IsFaultless, RunsCoveredOver, RunsOver}
 use Rattle.mq_report.specs.Stopping.{IsJudged, default_limit, IsRefusedAt, IsRefusedNext, IsUnread}
 use Rattle.mq_report.specs.Display.{Shows}
 use Rattle.mq_trace.proofs.Exports.{appends-kept, appends-then}
+use Rattle.mq_command.specs.declared.scope.Scope.{Scope}
 use Rattle.mq_command.specs.declared.command_line.Task.{Task}
 use Rattle.mq_command.specs.declared.command_line.Task.TheVariants.{Check, Show, Packet, Rules, Explain}
 use Rattle.mq_host.specs.declared.failure.Obstacle.{Obstacle}
@@ -79,9 +80,9 @@ whole_is_begun old middle new text (Err e) a k = part-whole old new text (Append
 -- ---- what keeps a task from being done is what keeps its text from being written
 
 -- this holds for the statements that the words choose
-pub by_choice : (further : Bool) (statements : Option (String Global)) (choice : Chosen) (P : Chosen → Type 0) → choice_for further (option_map string_bytes statements) ≡ Ok choice → P choice
-    → ByChoice further statements P
-by_choice further statements choice P is h = subst (λ (r : Result Chosen (List ℕ)). IsOkAnd r P) (sym is) h
+pub by_choice : (scope : Scope) (statements : Option (String Global)) (choice : Chosen) (P : Chosen → Type 0) → choice_for scope (option_map string_bytes statements) ≡ Ok choice → P choice
+    → ByChoice scope statements P
+by_choice scope statements choice P is h = subst (λ (r : Result Chosen (List ℕ)). IsOkAnd r P) (sym is) h
 
 -- what was printed is there
 prints_some : (text old new : Option (List ℕ)) → Prints text old new → IsSome text
@@ -89,17 +90,17 @@ prints_some None old new h = absurd h
 prints_some (Some t) old new h = refl
 
 -- so the list that was printed is that of the statements that the words choose
-pub listed_passed : (further : Bool) (statements : Option (String Global)) (choice : Chosen) (word old new : Option (List ℕ)) (status : Result ℕ Obstacle)
-    → choice_for further (option_map string_bytes statements) ≡ Ok choice → OnOk status (Prints (listed_for choice.has word) old new)
-    → OnOk status (ByChoice further statements (λ c. IsSome (listed_for c.has word)))
-listed_passed further statements choice word old new (Ok s) is h = by_choice further statements choice (λ c. IsSome (listed_for c.has word)) is (prints_some (listed_for choice.has word) old new h)
-listed_passed further statements choice word old new (Err e) is h = tt
+pub listed_passed : (scope : Scope) (statements : Option (String Global)) (choice : Chosen) (word old new : Option (List ℕ)) (status : Result ℕ Obstacle)
+    → choice_for scope (option_map string_bytes statements) ≡ Ok choice → OnOk status (Prints (listed_for choice.has word) old new)
+    → OnOk status (ByChoice scope statements (λ c. IsSome (listed_for c.has word)))
+listed_passed scope statements choice word old new (Ok s) is h = by_choice scope statements choice (λ c. IsSome (listed_for c.has word)) is (prints_some (listed_for choice.has word) old new h)
+listed_passed scope statements choice word old new (Err e) is h = tt
 
-pub listed_reported : (further : Bool) (statements : Option (String Global)) (choice : Chosen) (word old new : Option (List ℕ)) (status : Result ℕ Obstacle)
-    → choice_for further (option_map string_bytes statements) ≡ Ok choice → OnOk status (Prints (listed_for choice.has word) old new)
-    → OnOk status (ByChoice further statements (λ c. Prints (listed_for c.has word) old new))
-listed_reported further statements choice word old new (Ok s) is h = by_choice further statements choice (λ c. Prints (listed_for c.has word) old new) is h
-listed_reported further statements choice word old new (Err e) is h = tt
+pub listed_reported : (scope : Scope) (statements : Option (String Global)) (choice : Chosen) (word old new : Option (List ℕ)) (status : Result ℕ Obstacle)
+    → choice_for scope (option_map string_bytes statements) ≡ Ok choice → OnOk status (Prints (listed_for choice.has word) old new)
+    → OnOk status (ByChoice scope statements (λ c. Prints (listed_for c.has word) old new))
+listed_reported scope statements choice word old new (Ok s) is h = by_choice scope statements choice (λ c. Prints (listed_for c.has word) old new) is h
+listed_reported scope statements choice word old new (Err e) is h = tt
 
 -- what keeps the list for one end from being written, where a word names it
 pub end_stops : (chosen : Rule → Bool) (word : List ℕ) (role : Role) (old new : Option (List ℕ)) (status : Result ℕ Obstacle) → Some role ≡ role_named word
@@ -122,39 +123,39 @@ word_stops chosen role word text old new status some same stops =
     subst (λ (r : Option (String Global)). IfErr status (StopsText (listed_for chosen (option_map string_bytes r)) (no_role_line (unwrap_or (option_map string_bytes r) [])) old new)) (sym some)
     (subst (λ (t : List ℕ). IfErr status (StopsText (listed_for chosen (Some t)) (no_role_line t) old new)) same stops)
 
-pub rules_stop : (role : Option (String Global)) (further : Bool) (statements : Option (String Global)) (choice : Chosen) (input left old new : Option (List ℕ)) (status : Result ℕ Obstacle)
-    → choice_for further (option_map string_bytes statements) ≡ Ok choice
+pub rules_stop : (role : Option (String Global)) (scope : Scope) (statements : Option (String Global)) (choice : Chosen) (input left old new : Option (List ℕ)) (status : Result ℕ Obstacle)
+    → choice_for scope (option_map string_bytes statements) ≡ Ok choice
     → IfErr status (StopsText (listed_for choice.has (option_map string_bytes role)) (no_role_line (unwrap_or (option_map string_bytes role) [])) old new)
-    → IfErr status (StopsAttempt (Rules role further statements) input left old new)
-rules_stop role further statements choice input left old new (Ok s) is h = tt
-rules_stop role further statements choice input left old new (Err (obstacles.Failed failure)) is h =
+    → IfErr status (StopsAttempt (Rules role scope statements) input left old new)
+rules_stop role scope statements choice input left old new (Ok s) is h = tt
+rules_stop role scope statements choice input left old new (Err (obstacles.Failed failure)) is h =
     subst (λ (r : Result Chosen (List ℕ)). MatchResult r (λ c. StopsPrinting failure (listed_for c.has (option_map string_bytes role)) old new) (λ line. LacksMessage failure old new)) (sym is) h
-rules_stop role further statements choice input left old new (Err (obstacles.Misused misuse)) is h = (
+rules_stop role scope statements choice input left old new (Err (obstacles.Misused misuse)) is h = (
   subst (λ (r : Result Chosen (List ℕ)). MatchResult r (λ c. (listed_for c.has (option_map string_bytes role) ≡ None) × (misuse_line misuse ≡ no_role_line (unwrap_or (option_map string_bytes role) [])))
       (λ why. misuse_line misuse ≡ why)) (sym is) (h.0, h.1),
   h.2,
 )
 
 -- the words choose none
-pub rules_misused : (role : Option (String Global)) (further : Bool) (statements : Option (String Global)) (misuse : Misuse) (input left old : Option (List ℕ))
-    → choice_for further (option_map string_bytes statements) ≡ Err (misuse_line misuse) → StopsAttempt (Rules role further statements) input left old old (obstacles.Misused misuse)
-rules_misused role further statements misuse input left old is = (
+pub rules_misused : (role : Option (String Global)) (scope : Scope) (statements : Option (String Global)) (misuse : Misuse) (input left old : Option (List ℕ))
+    → choice_for scope (option_map string_bytes statements) ≡ Err (misuse_line misuse) → StopsAttempt (Rules role scope statements) input left old old (obstacles.Misused misuse)
+rules_misused role scope statements misuse input left old is = (
   subst (λ (r : Result Chosen (List ℕ)). MatchResult r (λ c. (listed_for c.has (option_map string_bytes role) ≡ None) × (misuse_line misuse ≡ no_role_line (unwrap_or (option_map string_bytes role) [])))
       (λ why. misuse_line misuse ≡ why)) (sym is) refl,
   Keeps-refl old,
 )
 
-pub check_misused : (file : Option (String Global)) (form : AskedForm) (coverage further : Bool) (statements : Option (String Global)) (misuse : Misuse) (input left old : Option (List ℕ))
-    → choice_for further (option_map string_bytes statements) ≡ Err (misuse_line misuse) → StopsAttempt (Check file form coverage further statements) input left old old (obstacles.Misused misuse)
-check_misused file form coverage further statements misuse input left old is = (
+pub check_misused : (file : Option (String Global)) (form : AskedForm) (coverage : Bool) (scope : Scope) (statements : Option (String Global)) (misuse : Misuse) (input left old : Option (List ℕ))
+    → choice_for scope (option_map string_bytes statements) ≡ Err (misuse_line misuse) → StopsAttempt (Check file form coverage scope statements) input left old old (obstacles.Misused misuse)
+check_misused file form coverage scope statements misuse input left old is = (
   subst (λ (r : Result Chosen (List ℕ)). MatchResult r (λ c. ⊥) (λ why. misuse_line misuse ≡ why)) (sym is) refl,
   Keeps-refl old,
 )
 
-pub check_fails : (file : Option (String Global)) (form : AskedForm) (coverage further : Bool) (statements : Option (String Global)) (choice : Chosen) (failure : Failure) (input left old new : Option (List ℕ))
-    → choice_for further (option_map string_bytes statements) ≡ Ok choice → IfSome input (λ log. StopsCheck choice (form_of form) coverage failure log left old new)
-    → StopsAttempt (Check file form coverage further statements) input left old new (obstacles.Failed failure)
-check_fails file form coverage further statements choice failure input left old new is h =
+pub check_fails : (file : Option (String Global)) (form : AskedForm) (coverage : Bool) (scope : Scope) (statements : Option (String Global)) (choice : Chosen) (failure : Failure) (input left old new : Option (List ℕ))
+    → choice_for scope (option_map string_bytes statements) ≡ Ok choice → IfSome input (λ log. StopsCheck choice (form_of form) coverage failure log left old new)
+    → StopsAttempt (Check file form coverage scope statements) input left old new (obstacles.Failed failure)
+check_fails file form coverage scope statements choice failure input left old new is h =
     subst (λ (r : Result Chosen (List ℕ)). MatchResult r (λ c. IfSome input (λ log. StopsCheck c (form_of form) coverage failure log left old new)) (λ line. LacksMessage failure old new)) (sym is) h
 
 pub explanation_stops : (code : String Global) (input left old new : Option (List ℕ)) (status : Result ℕ Obstacle)
@@ -174,13 +175,13 @@ no_memory (Err why) P Q line old new f kept h = kept
 
 memory_stops : (task : Task) (input left old new : Option (List ℕ)) (line : List ℕ) → IsMisnamed task input line → Keeps old new
     → StopsTask failures.Memory task input left old new
-memory_stops (Check file form coverage further statements) input left old new line misnamed kept =
-    no_memory (choice_for further (option_map string_bytes statements)) (λ c. ⊥) (λ c. IfSome input (λ log. StopsCheck c (form_of form) coverage failures.Memory log left old new)) line old new
+memory_stops (Check file form coverage scope statements) input left old new line misnamed kept =
+    no_memory (choice_for scope (option_map string_bytes statements)) (λ c. ⊥) (λ c. IfSome input (λ log. StopsCheck c (form_of form) coverage failures.Memory log left old new)) line old new
     (λ c none. absurd none) kept misnamed
 memory_stops (Show file long) input left old new line misnamed kept = absurd misnamed
 memory_stops (Packet hex long) input left old new line misnamed kept = packet_lacks long (string_bytes hex) input old new kept
-memory_stops (Rules role further statements) input left old new line misnamed kept =
-    no_memory (choice_for further (option_map string_bytes statements)) (λ c. (listed_for c.has (option_map string_bytes role) ≡ None) × (line ≡ no_role_line (unwrap_or (option_map string_bytes role) [])))
+memory_stops (Rules role scope statements) input left old new line misnamed kept =
+    no_memory (choice_for scope (option_map string_bytes statements)) (λ c. (listed_for c.has (option_map string_bytes role) ≡ None) × (line ≡ no_role_line (unwrap_or (option_map string_bytes role) [])))
     (λ c. StopsPrinting failures.Memory (listed_for c.has (option_map string_bytes role)) old new) line old new (λ c named. kept) kept misnamed
 memory_stops (Explain code) input left old new line misnamed kept = kept
 

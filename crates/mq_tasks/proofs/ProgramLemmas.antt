@@ -40,10 +40,10 @@ known_words text (Some words) read slice P given same h = subst P (ap (map text)
 
 -- a task that names a path reads the log there
 pub path_reads : (task : Task) (path : Text) → path_of task ≡ Some path → reads_input task ≡ true
-path_reads (Check file form coverage further statements) path named = refl
+path_reads (Check file form coverage scope statements) path named = refl
 path_reads (Show file long) path named = refl
 path_reads (Packet hex long) path named = cc
-path_reads (Rules role further statements) path named = cc
+path_reads (Rules role scope statements) path named = cc
 path_reads (Explain code) path named = cc
 
 -- ---- what a reader gives of a log is the log
@@ -74,12 +74,12 @@ packet_stops_kept failures.Memory hex long log read old new k h = h
 
 -- the line on what is asked for in vain
 misnamed_kept : (task : Task) (log read : Option (List ℕ)) (line : List ℕ) → Keeps log read → IsMisnamed task read line → IsMisnamed task log line
-misnamed_kept (Check file form coverage further statements) log read line k h = h
+misnamed_kept (Check file form coverage scope statements) log read line k h = h
 misnamed_kept (Show file long) log read line k h = h
 misnamed_kept (Packet hex long) log read line k h =
     of_read (string_bytes hex) (IfSome read (λ text. IsMisread text line)) (IfSome log (λ text. IsMisread text line)) (IsMisspelled (string_bytes hex) line)
     (known_kept log read (λ text. IsMisread text line) k) h
-misnamed_kept (Rules role further statements) log read line k h = h
+misnamed_kept (Rules role scope statements) log read line k h = h
 misnamed_kept (Explain code) log read line k h = h
 
 -- whatever reader gives that input
@@ -97,13 +97,13 @@ misnamed_fails_kept task log read old new error k h = record {
 
 stops_kept : (failure : Failure) (task : Task) (log read left old new : Option (List ℕ)) → Keeps log read → StopsTask failure task read left old new
     → StopsTask failure task log left old new
-stops_kept failure (Check file form coverage further statements) log read left old new k h =
-    match_kept (choice_for further (option_map string_bytes statements)) (λ c. IfSome read (λ bytes. StopsCheck c (form_of form) coverage failure bytes left old new))
+stops_kept failure (Check file form coverage scope statements) log read left old new k h =
+    match_kept (choice_for scope (option_map string_bytes statements)) (λ c. IfSome read (λ bytes. StopsCheck c (form_of form) coverage failure bytes left old new))
     (λ c. IfSome log (λ bytes. StopsCheck c (form_of form) coverage failure bytes left old new)) (λ line. LacksMessage failure old new)
     (λ c. known_kept log read (λ bytes. StopsCheck c (form_of form) coverage failure bytes left old new) k) h
 stops_kept failure (Show file long) log read left old new k h = known_kept log read (λ bytes. StopsShow (text_for (is_timed bytes) long) failure bytes left old new) k h
 stops_kept failure (Packet hex long) log read left old new k h = packet_stops_kept failure hex long log read old new k h
-stops_kept failure (Rules role further statements) log read left old new k h = h
+stops_kept failure (Rules role scope statements) log read left old new k h = h
 stops_kept failure (Explain code) log read left old new k h = h
 
 pub fails_kept : (task : Task) (place : Text) (log read old new : Option (List ℕ)) (is_closed : Bool) (error : Stream) → Keeps log read
@@ -126,37 +126,37 @@ abbrev pub IsKept : (Option (List ℕ) → Type 0) → Type 0
 IsKept P = (log read : Option (List ℕ)) → Keeps log read → P read → P log
 
 pub passed_kept : (task : Task) → IsKept (HasPassed task)
-passed_kept (Check file form coverage further statements) log read k h =
-    choice_kept (choice_for further (option_map string_bytes statements)) (λ c. IfSome read (λ bytes. IsJudged bytes × IsFaultless c.has bytes)) (λ c. IfSome log (λ bytes. IsJudged bytes × IsFaultless c.has bytes))
+passed_kept (Check file form coverage scope statements) log read k h =
+    choice_kept (choice_for scope (option_map string_bytes statements)) (λ c. IfSome read (λ bytes. IsJudged bytes × IsFaultless c.has bytes)) (λ c. IfSome log (λ bytes. IsJudged bytes × IsFaultless c.has bytes))
     (λ c. known_kept log read (λ bytes. IsJudged bytes × IsFaultless c.has bytes) k) h
 passed_kept (Show file long) log read k h = known_kept log read _ k h
 passed_kept (Packet hex long) log read k h = digits_kept (string_bytes hex) log read SpellsPacket k h
-passed_kept (Rules role further statements) log read k h = h
+passed_kept (Rules role scope statements) log read k h = h
 passed_kept (Explain code) log read k h = h
 
 pub failed_kept : (task : Task) → IsKept (HasFailed task)
-failed_kept (Check file form coverage further statements) log read k h =
-    choice_kept (choice_for further (option_map string_bytes statements)) (λ c. IfSome read (λ bytes. IsJudged bytes × (¬ IsFaultless c.has bytes))) (λ c. IfSome log (λ bytes. IsJudged bytes × (¬ IsFaultless c.has bytes)))
+failed_kept (Check file form coverage scope statements) log read k h =
+    choice_kept (choice_for scope (option_map string_bytes statements)) (λ c. IfSome read (λ bytes. IsJudged bytes × (¬ IsFaultless c.has bytes))) (λ c. IfSome log (λ bytes. IsJudged bytes × (¬ IsFaultless c.has bytes)))
     (λ c. known_kept log read (λ bytes. IsJudged bytes × (¬ IsFaultless c.has bytes)) k) h
 failed_kept (Show file long) log read k h = h
 failed_kept (Packet hex long) log read k h = digits_kept (string_bytes hex) log read SpellsNoPacket k h
-failed_kept (Rules role further statements) log read k h = h
+failed_kept (Rules role scope statements) log read k h = h
 failed_kept (Explain code) log read k h = h
 
 pub reported_kept : (task : Task) (old new : Option (List ℕ)) → IsKept (λ log. IsReportedOn task log old new)
-reported_kept (Check file form coverage further statements) old new log read k h =
-    choice_kept (choice_for further (option_map string_bytes statements)) (λ c. IfSome read (λ bytes. Appends old new (report_for c (form_of form) coverage bytes))) (λ c. IfSome log (λ bytes. Appends old new (report_for c (form_of form) coverage bytes)))
+reported_kept (Check file form coverage scope statements) old new log read k h =
+    choice_kept (choice_for scope (option_map string_bytes statements)) (λ c. IfSome read (λ bytes. Appends old new (report_for c (form_of form) coverage bytes))) (λ c. IfSome log (λ bytes. Appends old new (report_for c (form_of form) coverage bytes)))
     (λ c. known_kept log read (λ bytes. Appends old new (report_for c (form_of form) coverage bytes)) k) h
 reported_kept (Show file long) old new log read k h = known_kept log read _ k h
 reported_kept (Packet hex long) old new log read k h = digits_kept (string_bytes hex) log read (λ text. AppendsReportOf long text old new) k h
-reported_kept (Rules role further statements) old new log read k h = h
+reported_kept (Rules role scope statements) old new log read k h = h
 reported_kept (Explain code) old new log read k h = h
 
 pub refused_kept : (task : Task) (old new : Option (List ℕ)) → IsKept (λ log. IsRefusedOn task log old new)
-refused_kept (Check file form coverage further statements) old new log read k h = known_kept log read _ k h
+refused_kept (Check file form coverage scope statements) old new log read k h = known_kept log read _ k h
 refused_kept (Show file long) old new log read k h = known_kept log read _ k h
 refused_kept (Packet hex long) old new log read k h = h
-refused_kept (Rules role further statements) old new log read k h = h
+refused_kept (Rules role scope statements) old new log read k h = h
 refused_kept (Explain code) old new log read k h = h
 
 pub misused_kept : (task : Task) (error_old error_new : Option (List ℕ)) → IsKept (λ log. MisusesTask task log error_old error_new)

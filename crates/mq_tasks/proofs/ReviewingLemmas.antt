@@ -10,6 +10,7 @@ use Rattle.std.specs.List.{list_all}
 use Rattle.std.specs.Result.{result_ok}
 use Rattle.std.specs.Str.Parse.{AllDigits, ParsesUnsigned, digits_value, without_leading_plus}
 use Rattle.mq_rules.specs.declared.role.Role.{Role}
+use Rattle.mq_rules.specs.declared.role.Further.{Further}
 use Rattle.mq_rules.specs.declared.role.Tested.{Tested}
 use Rattle.mq_rules.specs.declared.fault.Fault.{Fault}
 use Rattle.mq_rules.specs.declared.faults.FaultKey.{FaultKey}
@@ -126,7 +127,7 @@ those_found choice tested count faults None reasons found = tt
 those_found choice tested count faults (Some log) reasons found = inr found
 
 -- what was found for a verdict is what is shown
-shown_reasons : (further : Bool) (first second : List ℕ) (releases : Bool) (role : Role) (count : ℕ) (faults : FaultMap) (reasons : List Evidence) → IsVerdictOn (unlisted further) first role count faults
+shown_reasons : (further : Further) (first second : List ℕ) (releases : Bool) (role : Role) (count : ℕ) (faults : FaultMap) (reasons : List Evidence) → IsVerdictOn (unlisted further) first role count faults
     → AreFoundReasons (without_list further) (record { role = role; releases = releases; further = wants_further (unlisted further) }) count (map.entries faults) second reasons → releases ≡ (header_by first).releases → AreShownReasons further first second reasons
 shown_reasons further first second releases role count faults reasons v (inl none) is = inl (sym v.faults_are ∙ none.0, none.1)
 shown_reasons further first second releases role count faults reasons v (inr found) is = inr (again_if (without_list further) first second releases role count faults reasons v found.0 found.1 found.2 is)
@@ -164,7 +165,7 @@ text_is : (plan : Plan) (role : Role) (count : ℕ) (faults : FaultMap) (reasons
 text_is plan role count faults reasons log shown v = ap₂ (λ (r : Role) (f : List (FaultKey × Fault)). text_with plan r f reasons shown) v.role_is v.faults_are
 
 -- a verdict on a log, whose header says this of releases
-abbrev IsVerdictFor : (further releases : Bool) → Role → ℕ → FaultMap → List ℕ → Type 0
+abbrev IsVerdictFor : Further → (releases : Bool) → Role → ℕ → FaultMap → List ℕ → Type 0
 IsVerdictFor further releases role count faults log = IsVerdictOn (unlisted further) log role count faults × (releases ≡ (header_by log).releases)
 
 pub review_passes : {E : Type 0} (plan : Plan) (releases : Bool) (role : Role) (count : ℕ) (faults : FaultMap) (reasons : List Evidence) (judged again shown old new : Option (List ℕ)) (status : Result ℕ E)
@@ -268,16 +269,16 @@ never_lacks choice judged again shown R listed lacks =
 -- ---- the choice without a list
 
 -- a verdict by it is one without a list
-pub judged_without : (choice : Choice) (further : Bool) (judged : Option (List ℕ)) (role : Role) (count : ℕ) (faults : FaultMap) → in_choice choice ≡ unlisted further
+pub judged_without : (choice : Choice) (further : Further) (judged : Option (List ℕ)) (role : Role) (count : ℕ) (faults : FaultMap) → in_choice choice ≡ unlisted further
     → IfSome judged (λ log. IsVerdictOn (in_choice choice) log role count faults) → IfSome judged (λ log. IsVerdictOn (unlisted further) log role count faults)
 judged_without choice further judged role count faults has v = subst (λ (chosen : Rule → Bool). IfSome judged (λ log. IsVerdictOn chosen log role count faults)) has v
 
 -- and what is found by it is found without a list
-pub found_without : (P : Chosen → Tested → Type 0) (choice : Choice) (further releases wants : Bool) (role : Role) → in_choice choice ≡ unlisted further → is_listed choice ≡ false
+pub found_without : (P : Chosen → Tested → Type 0) (choice : Choice) (further : Further) (releases : Bool) (wants : Further) (role : Role) → in_choice choice ≡ unlisted further → is_listed choice ≡ false
     → wants ≡ wants_further (in_choice choice) → P (chosen_as choice) (record { role = role; releases = releases; further = wants })
     → P (without_list further) (record { role = role; releases = releases; further = wants_further (unlisted further) })
 found_without P choice further releases wants role has listed is found =
-    subst (λ (b : Bool). P (without_list further) (record { role = role; releases = releases; further = b })) (is ∙ ap wants_further has)
+    subst (λ (f : Further). P (without_list further) (record { role = role; releases = releases; further = f })) (is ∙ ap wants_further has)
     (subst (λ (l : Bool). P (record { has = unlisted further; listed = l }) (record { role = role; releases = releases; further = wants })) listed
     (subst (λ (chosen : Rule → Bool). P (record { has = chosen; listed = is_listed choice }) (record { role = role; releases = releases; further = wants })) has found))
 

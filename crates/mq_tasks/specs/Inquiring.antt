@@ -51,7 +51,7 @@ log_by (Ok choice) path = log_at choice path
 -- the log, if one is named that can be read twice, no other report is asked for too, and the words choose statements; else the message
 abbrev pub asked_of : Inquiry → Result Asked Text
 asked_of inquiry = if inquiry.coverage then Err two_reports_line
-    else log_by (choice_for inquiry.further (option_map string_bytes inquiry.statements)) (path_named (option_map string_bytes inquiry.file))
+    else log_by (choice_for inquiry.scope (option_map string_bytes inquiry.statements)) (path_named (option_map string_bytes inquiry.file))
 
 -- ---- what each status means for the log that was judged and the one that was read again: one log, unless its file changed between the two readings. Both are judged by the
 -- same choice of statements.

@@ -23,6 +23,7 @@ use Rattle.mq_command.specs.Digits.{OfDigits, by_operand, bytes_of, most_text, o
 use Rattle.mq_explain.specs.Listing.{listed_for}
 use Rattle.mq_command.specs.declared.command_line.Form.{Form as AskedForm}
 use Rattle.mq_command.specs.declared.command_line.Form.TheVariants as asked
+use Rattle.mq_command.specs.declared.scope.Scope.{Scope}
 use Rattle.mq_command.specs.declared.command_line.Task.{Task}
 use Rattle.mq_command.specs.declared.command_line.Task.TheVariants.{Check, Show, Packet, Rules, Explain}
 use Rattle.std.specs.declared.alloc.Global.{Global}
@@ -206,12 +207,12 @@ PrintsPart text old new = IsSomeAnd text (λ printed. AppendsPart old new printe
 -- ---- the choice of the words
 
 -- the words choose statements, and this holds for these
-abbrev pub ByChoice : (further : Bool) → Option (String Global) → (Chosen → Type 0) → Type 0
-ByChoice further statements P = IsOkAnd (choice_for further (option_map string_bytes statements)) P
+abbrev pub ByChoice : Scope → Option (String Global) → (Chosen → Type 0) → Type 0
+ByChoice scope statements P = IsOkAnd (choice_for scope (option_map string_bytes statements)) P
 
 -- they choose none, or this holds for those that they choose; this line says why
-abbrev pub IsMischosen : (further : Bool) → Option (String Global) → (line : List ℕ) → (Chosen → Type 0) → Type 0
-IsMischosen further statements line P = MatchResult (choice_for further (option_map string_bytes statements)) P (λ why. line ≡ why)
+abbrev pub IsMischosen : Scope → Option (String Global) → (line : List ℕ) → (Chosen → Type 0) → Type 0
+IsMischosen scope statements line P = MatchResult (choice_for scope (option_map string_bytes statements)) P (λ why. line ≡ why)
 
 -- there was no memory for a message, and nothing was written
 abbrev pub LacksMessage : Failure → (old new : Option (List ℕ)) → Type 0
@@ -220,50 +221,50 @@ LacksMessage failures.Write old new = ⊥
 LacksMessage failures.Memory old new = Keeps old new
 
 -- this holds for the statements that they choose, or they choose none and there was no memory to say so
-abbrev pub StopsByChoice : (further : Bool) → Option (String Global) → Failure → (old new : Option (List ℕ)) → (Chosen → Type 0) → Type 0
-StopsByChoice further statements failure old new P = MatchResult (choice_for further (option_map string_bytes statements)) P (λ line. LacksMessage failure old new)
+abbrev pub StopsByChoice : Scope → Option (String Global) → Failure → (old new : Option (List ℕ)) → (Chosen → Type 0) → Type 0
+StopsByChoice scope statements failure old new P = MatchResult (choice_for scope (option_map string_bytes statements)) P (λ line. LacksMessage failure old new)
 
 -- ---- what a status means for a task, whose input gives these bytes and then has these left, each if known
 
 -- 0: the log is judged and has no fault; the log that is shown can be judged; the bytes are one packet; the word names an end, or a statement
 abbrev pub HasPassed : Task → Option (List ℕ) → Type 0
-HasPassed (Check file form coverage further statements) input = ByChoice further statements (λ choice. IfSome input (λ log. IsJudged log × IsFaultless choice.has log))
+HasPassed (Check file form coverage scope statements) input = ByChoice scope statements (λ choice. IfSome input (λ log. IsJudged log × IsFaultless choice.has log))
 HasPassed (Show file long) input = IfSome input IsJudged
 HasPassed (Packet hex long) input = OfDigits (string_bytes hex) input SpellsPacket
-HasPassed (Rules role further statements) input = ByChoice further statements (λ choice. IsSome (listed_for choice.has (option_map string_bytes role)))
+HasPassed (Rules role scope statements) input = ByChoice scope statements (λ choice. IsSome (listed_for choice.has (option_map string_bytes role)))
 HasPassed (Explain code) input = IsSome (explained_for (string_bytes code))
 
 -- 1: the log is judged and has faults; the bytes aren't exactly one packet
 abbrev pub HasFailed : Task → Option (List ℕ) → Type 0
-HasFailed (Check file form coverage further statements) input = ByChoice further statements (λ choice. IfSome input (λ log. IsJudged log × (¬ IsFaultless choice.has log)))
+HasFailed (Check file form coverage scope statements) input = ByChoice scope statements (λ choice. IfSome input (λ log. IsJudged log × (¬ IsFaultless choice.has log)))
 HasFailed (Show file long) input = ⊥
 HasFailed (Packet hex long) input = OfDigits (string_bytes hex) input SpellsNoPacket
-HasFailed (Rules role further statements) input = ⊥
+HasFailed (Rules role scope statements) input = ⊥
 HasFailed (Explain code) input = ⊥
 
 -- 0 and 1: the report was written, or the lines of the log's events, the line on the packet, the lines of the statements, or the explanation of one, and nothing else
 abbrev pub IsReportedOn : Task → Option (List ℕ) → Option (List ℕ) → Option (List ℕ) → Type 0
-IsReportedOn (Check file form coverage further statements) input old new = ByChoice further statements (λ choice. IfSome input (λ log. Appends old new (report_for choice (form_of form) coverage log)))
+IsReportedOn (Check file form coverage scope statements) input old new = ByChoice scope statements (λ choice. IfSome input (λ log. Appends old new (report_for choice (form_of form) coverage log)))
 IsReportedOn (Show file long) input old new = IfSome input (λ log. Appends old new (text_for (is_timed log) long (events log)))
 IsReportedOn (Packet hex long) input old new = OfDigits (string_bytes hex) input (λ text. AppendsReportOf long text old new)
-IsReportedOn (Rules role further statements) input old new = ByChoice further statements (λ choice. Prints (listed_for choice.has (option_map string_bytes role)) old new)
+IsReportedOn (Rules role scope statements) input old new = ByChoice scope statements (λ choice. Prints (listed_for choice.has (option_map string_bytes role)) old new)
 IsReportedOn (Explain code) input old new = Prints (explained_for (string_bytes code)) old new
 
 -- 2: the log is refused, and the line that says so was written: alone by a check, after the lines of the preceding events if the log is shown
 abbrev pub IsRefusedOn : Task → (input old new : Option (List ℕ)) → Type 0
-IsRefusedOn (Check file form coverage further statements) input old new = IfSome input (λ log. RefusesCheck (form_of form) log old new)
+IsRefusedOn (Check file form coverage scope statements) input old new = IfSome input (λ log. RefusesCheck (form_of form) log old new)
 IsRefusedOn (Show file long) input old new = IfSome input (λ log. RefusesShow (text_for (is_timed log) long) log old new)
 IsRefusedOn (Packet hex long) input old new = ⊥
-IsRefusedOn (Rules role further statements) input old new = ⊥
+IsRefusedOn (Rules role scope statements) input old new = ⊥
 IsRefusedOn (Explain code) input old new = ⊥
 
 -- 3: the digits of a packet spell no bytes or are too many, the words choose no statements, or a word isn't an end, or is neither the code of a statement nor a citation; and this line says so
 abbrev pub IsMisnamed : Task → (input : Option (List ℕ)) → (line : List ℕ) → Type 0
-IsMisnamed (Check file form coverage further statements) input line = IsMischosen further statements line (λ choice. ⊥)
+IsMisnamed (Check file form coverage scope statements) input line = IsMischosen scope statements line (λ choice. ⊥)
 IsMisnamed (Show file long) input line = ⊥
 IsMisnamed (Packet hex long) input line = IsMisgiven (string_bytes hex) input line
-IsMisnamed (Rules role further statements) input line =
-    IsMischosen further statements line (λ choice. (listed_for choice.has (option_map string_bytes role) ≡ None) × (line ≡ no_role_line (unwrap_or (option_map string_bytes role) [])))
+IsMisnamed (Rules role scope statements) input line =
+    IsMischosen scope statements line (λ choice. (listed_for choice.has (option_map string_bytes role) ≡ None) × (line ≡ no_role_line (unwrap_or (option_map string_bytes role) [])))
 IsMisnamed (Explain code) input line = (explained_for (string_bytes code) ≡ None) × (line ≡ no_statement_line (string_bytes code))
 
 -- what keeps the report on these digits from being written: it couldn't be written or flushed, or memory ran out first, or they spell no bytes
@@ -297,12 +298,12 @@ StopsText text line old new (obstacles.Misused misuse) = (text ≡ None) × (mis
 
 -- 4: what failed, and what had been written
 abbrev pub StopsTask : Failure → Task → (input left old new : Option (List ℕ)) → Type 0
-StopsTask failure (Check file form coverage further statements) input left old new =
-    StopsByChoice further statements failure old new (λ choice. IfSome input (λ log. StopsCheck choice (form_of form) coverage failure log left old new))
+StopsTask failure (Check file form coverage scope statements) input left old new =
+    StopsByChoice scope statements failure old new (λ choice. IfSome input (λ log. StopsCheck choice (form_of form) coverage failure log left old new))
 StopsTask failure (Show file long) input left old new = IfSome input (λ log. StopsShow (text_for (is_timed log) long) failure log left old new)
 StopsTask failure (Packet hex long) input left old new = StopsGiven long (string_bytes hex) input old new (obstacles.Failed failure)
-StopsTask failure (Rules role further statements) input left old new =
-    StopsByChoice further statements failure old new (λ choice. StopsPrinting failure (listed_for choice.has (option_map string_bytes role)) old new)
+StopsTask failure (Rules role scope statements) input left old new =
+    StopsByChoice scope statements failure old new (λ choice. StopsPrinting failure (listed_for choice.has (option_map string_bytes role)) old new)
 StopsTask failure (Explain code) input left old new = StopsPrinting failure (explained_for (string_bytes code)) old new
 
 -- what keeps a task from being done: something failed, or its digits spell no bytes, or its word names nothing, and nothing was written

@@ -14,6 +14,7 @@ use Rattle.mq_choice.specs.Choices.{chosen_in, tested_for, unlisted}
 use Rattle.mq_report.specs.Stopping.{IsJudged, default_limit, IsRefusedAt}
 use Rattle.mq_report.specs.Display.{annotated, is_timed}
 use Rattle.mq_rules.specs.declared.role.Role.{Role}
+use Rattle.mq_rules.specs.declared.role.Further.{Further}
 use Rattle.mq_rules.specs.declared.role.Tested.{Tested}
 use Rattle.mq_rules.specs.declared.fault.Fault.{Fault}
 use Rattle.mq_rules.specs.declared.faults.FaultKey.{FaultKey}
@@ -27,7 +28,7 @@ use Rattle.mq_command.specs.CommandLine.{path_named}
 use Rattle.mq_tasks.specs.declared.lapse.Lapse.{Lapse}
 use Rattle.mq_tasks.specs.declared.lapse.Lapse.TheVariants.{Failed, Changed}
 use Rattle.mq_tasks.specs.Lapses.{AreVerdictReasons, StopsReading}
-use Rattle.mq_tasks.specs.Choosing.{Chosen, without_list}
+use Rattle.mq_tasks.specs.Choosing.{Chosen, further_of, without_list}
 use Rattle.mq_tasks.specs.Inquiring.{AreReasonsAgain, HasChanged}
 use Rattle.mq_tasks.specs.Messages.{IsRefusedBy, RefusesCheck, RefusesShow, StopsShow}
 use Rattle.mq_host.specs.Streams.{AppendsPart, no_faults_for_all_line, no_faults_line, no_file_line, no_number_line}
@@ -42,47 +43,47 @@ is_count digits = nat_lt 0 (length digits) && (list_all (λ digit. nat_lt (digit
 abbrev pub count_of : Text → Option ℕ
 count_of word = if is_count (without_leading_plus word) then Some (digits_value 10 (without_leading_plus word)) else None
 
--- What to show: the log at this path; all events, or only those at most `around` positions from a fault; in long lines or short ones; with faults of the further statements
--- too, or not.
+-- What to show: the log at this path; all events, or only those at most `around` positions from a fault; in long lines or short ones; with faults of these further statements
+-- too.
 pub record Plan : Type 0 where
   pub path : Text
   pub around : Option ℕ
   pub long : Bool
-  pub further : Bool
+  pub further : Further
 
 -- a plan as the source has it
 abbrev pub plan_view : SourcePlan → Plan
 plan_view plan = record { path = plan.path.now; around = plan.extent.around; long = plan.extent.long; further = plan.further }
 
 -- what to show of the log in a file, if a file is named that can be read more than once; else the message
-abbrev pub plan_on : (path : Option Text) → (around : Option ℕ) → (long further : Bool) → Result Plan Text
+abbrev pub plan_on : (path : Option Text) → (around : Option ℕ) → (long : Bool) → Further → Result Plan Text
 plan_on None around long further = Err no_file_line
 plan_on (Some path) around long further = Ok (record { path = path; around = around; long = long; further = further })
 
 -- the same, with the word after `--around` and the number that it is; else the message
-abbrev pub plan_near : (path : Option Text) → (word : Text) → Option ℕ → (long further : Bool) → Result Plan Text
+abbrev pub plan_near : (path : Option Text) → (word : Text) → Option ℕ → (long : Bool) → Further → Result Plan Text
 plan_near path word None long further = Err (no_number_line word)
 plan_near path word (Some count) long further = plan_on path (Some count) long further
 
 -- the same, with the word after `--around` if there is one
-abbrev pub plan_around : (path around : Option Text) → (long further : Bool) → Result Plan Text
+abbrev pub plan_around : (path around : Option Text) → (long : Bool) → Further → Result Plan Text
 plan_around path None long further = plan_on path None long further
 plan_around path (Some word) long further = plan_near path word (count_of word) long further
 
--- the message if no faults are asked for: on the word after `--around` if there is one, else on `--all`
+-- the message if no faults are asked for: on the word after `--around` if there is one, else on `--all` and `--times`
 abbrev pub unfaulty_line : (around : Option Text) → Text
 unfaulty_line None = no_faults_for_all_line
 unfaulty_line (Some word) = no_faults_line
 
 -- what to show, or the message if there is nothing to show
 abbrev pub plan_of : Review → Result Plan Text
-plan_of review = if review.faults then plan_around (path_named (option_map string_bytes review.file)) (option_map string_bytes review.around) review.long review.further
+plan_of review = if review.faults then plan_around (path_named (option_map string_bytes review.file)) (option_map string_bytes review.around) review.long (further_of review.scope)
     else Err (unfaulty_line (option_map string_bytes review.around))
 
 -- ---- what each status means for the log that was judged, the one that was read again and the one that was shown: one log, unless its file changed between the readings
 
 -- what is said of the faults of the log that was judged: nothing if it has none, else what they conflict with, by the log that is read again
-abbrev pub AreShownReasons : (further : Bool) → (judged again : List ℕ) → List Evidence → Type 0
+abbrev pub AreShownReasons : Further → (judged again : List ℕ) → List Evidence → Type 0
 AreShownReasons further judged again reasons = (IsFaultless (unlisted further) judged × (reasons ≡ [])) ⊎ AreReasonsAgain (without_list further) judged again reasons
 
 -- the text of events with these faults on this end, each with what it conflicts with, and with moments if the records of the log that is shown have them
@@ -102,7 +103,7 @@ pub record IsReviewed (plan : Plan) (judged again shown : List ℕ) (old new : O
   pub written : Appends old new (reviewed plan judged shown reasons (events shown))
 
 -- what is shown of the log that was judged, by this; and what its faults conflict with was found before
-abbrev pub IsShownBy : (further : Bool) → (judged again : List ℕ) → (List Evidence → Type 0) → Type 0
+abbrev pub IsShownBy : Further → (judged again : List ℕ) → (List Evidence → Type 0) → Type 0
 IsShownBy further judged again P = IsJudged judged × ((reasons : List Evidence) × AreShownReasons further judged again reasons × P reasons)
 
 -- 2: the log is refused while it is judged, and the line that says so was written and nothing else; or it is refused only while it is shown, and that line was
@@ -118,7 +119,7 @@ StopsJudging failures.Memory log left old new = (at : ℕ) × IsRefusedAt defaul
 StopsJudging failures.Write log left old new = (refusal : Refusal) × IsRefusedBy log refusal × AppendsPart old new (refused_line refusal)
 
 -- 4: reading the log again failed, or memory ran out, for a log that was judged and has faults, and nothing was written
-abbrev pub StopsRereading : (further : Bool) → Failure → (judged again : List ℕ) → (left old new : Option (List ℕ)) → Type 0
+abbrev pub StopsRereading : Further → Failure → (judged again : List ℕ) → (left old new : Option (List ℕ)) → Type 0
 StopsRereading further failure judged again left old new = IsJudged judged × (¬ IsFaultless (unlisted further) judged) × StopsReading failure again left × Keeps old new
 
 -- 4: why, while the log was judged, read again or shown, and what had been written; the three readers have these bytes left

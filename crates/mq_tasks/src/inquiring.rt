@@ -85,7 +85,7 @@ fn asked_of(asked: &Inquiry) -> Result<(&str, Choice), Misuse<'_>>
     if asked.coverage {
         return Err(Misuse::TwoReports);
     }
-    match choice_for(asked.further, &asked.statements) {
+    match choice_for(asked.scope, &asked.statements) {
         Ok(choice) => log_at(&asked.file, choice),
         Err(misuse) => Err(misuse),
     }
@@ -261,7 +261,7 @@ pub fn inquire_twice<R: Read, S: Read, W: Write>(
             let tested = Tested {
                 role,
                 releases,
-                further: wanted.choice.has_further(),
+                further: wanted.choice.further(),
             };
             explain(alloc, &verdict, tested, wanted, again, output)
         }

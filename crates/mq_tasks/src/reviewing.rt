@@ -16,6 +16,7 @@ ghost use Rattle.mq_tasks.specs.Reviewing.{AreFoundReasons, IfAll, IsReviewed, R
 ghost use Rattle.mq_host.specs.Streams.{IsTold, misuse_line, stream};
 ghost use Rattle.mq_host.specs.Troubles.{hint_line};
 
+use crate::choosing::further_of;
 use crate::inquiring::has_releases;
 use crate::lapse::{Lapse, explain_again, tell_of_change};
 use crate::tasks::{EventView, refuse, show_log};
@@ -27,7 +28,7 @@ use mq_host::{
     give_hint, read_start,
 };
 use mq_judge::{Extent, Form, RunFault, Verdict, judge_reader};
-use mq_rules::{Role, Tested};
+use mq_rules::{Further, Role, Tested};
 use std::alloc::Global;
 use std::io::{Read, Write};
 
@@ -38,8 +39,8 @@ pub struct Plan<'a> {
     pub path: &'a str,
     /// How much of it is shown.
     pub extent: Extent,
-    /// Whether the further statements are judged too.
-    pub further: bool,
+    /// Which of the further statements are judged too.
+    pub further: Further,
 }
 
 /// Shows a log with the faults at its events, and returns the status to exit with.
@@ -84,9 +85,10 @@ fn plan_of(asked: &Review) -> Result<Plan<'_>, Misuse<'_>>
     if !asked.faults {
         return Err(unfaulty(&asked.around));
     }
+    let further = further_of(asked.scope);
     match &asked.around {
-        None => plan_on(&asked.file, None, asked.long, asked.further),
-        Some(word) => plan_near(&asked.file, word.as_str(), asked.long, asked.further),
+        None => plan_on(&asked.file, None, asked.long, further),
+        Some(word) => plan_near(&asked.file, word.as_str(), asked.long, further),
     }
 }
 
@@ -106,7 +108,7 @@ fn plan_near<'a>(
     file: &'a Option<String>,
     word: &'a str,
     long: bool,
-    further: bool,
+    further: Further,
 ) -> Result<Plan<'a>, Misuse<'a>>
     ensures ok { IfOk result (λ plan. plan_near (path_named (option_map string_bytes file.now)) word.now (count_of word.now) long further ≡ Ok (plan_view plan)) }
     ensures err { IfErr result (λ why. plan_near (path_named (option_map string_bytes file.now)) word.now (count_of word.now) long further ≡ Err (misuse_line why)) }
@@ -122,7 +124,7 @@ fn plan_on<'a>(
     file: &'a Option<String>,
     around: Option<u32>,
     long: bool,
-    further: bool,
+    further: Further,
 ) -> Result<Plan<'a>, Misuse<'a>>
     ensures ok { IfOk result (λ plan. plan_on (path_named (option_map string_bytes file.now)) around long further ≡ Ok (plan_view plan)) }
     ensures err { IfErr result (λ why. plan_on (path_named (option_map string_bytes file.now)) around long further ≡ Err (misuse_line why)) }
@@ -299,7 +301,7 @@ pub fn show_reasoned<R: Read, S: Read, T: Read, W: Write>(
             let tested = Tested {
                 role,
                 releases,
-                further: choice.has_further(),
+                further: choice.further(),
             };
             match reasons_for(alloc, tested, choice, &verdict, again) {
                 Ok(reasons) => show_verdict(

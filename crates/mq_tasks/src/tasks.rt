@@ -26,7 +26,7 @@ ghost use Rattle.mq_trace.specs.Writing.{AppendsBeginning};
 use crate::choosing::choice_for;
 use hex::{FromHexError, decode};
 use mq_choice::Choice;
-use mq_command::{EarlyExit, Form as AskedForm, Task, first_oddity, is_dash, packed};
+use mq_command::{EarlyExit, Form as AskedForm, Scope, Task, first_oddity, is_dash, packed};
 use mq_explain::{explanation, explanations_cited, role_named, statement_list};
 use mq_host::{
     ErrorStream, FAILED, FAULTY, Failure, MISUSED, MOST_TEXT, Misuse, NoText, Obstacle, Output,
@@ -98,11 +98,11 @@ pub fn attempt<'a, R: Read, W: Write, P: Progress>(
         Task::Check {
             form,
             coverage,
-            further,
+            scope,
             statements,
             ..
         } => check_chosen(
-            alloc, *form, *coverage, *further, statements, input, output, progress,
+            alloc, *form, *coverage, *scope, statements, input, output, progress,
         ),
         Task::Show { long, .. } => match show_log(
             alloc,
@@ -116,9 +116,9 @@ pub fn attempt<'a, R: Read, W: Write, P: Progress>(
         Task::Packet { hex, long } => packet_given(alloc, hex.as_str(), *long, input, output),
         Task::Rules {
             role,
-            further,
+            scope,
             statements,
-        } => print_listed(alloc, role, *further, statements, output),
+        } => print_listed(alloc, role, *scope, statements, output),
         Task::Explain { code } => explain(alloc, code.as_str(), output),
     }
 }
@@ -140,25 +140,25 @@ fn check_chosen<'a, R: Read, W: Write, P: Progress>(
     alloc: Global,
     form: AskedForm,
     coverage: bool,
-    further: bool,
+    scope: Scope,
     statements: &'a Option<String>,
     input: &mut R,
     output: &mut W,
     progress: &mut P,
 ) -> Result<u8, Obstacle<'a>>
-    ensures passed { IfOk result (λ status. status ≡ PASSED → ByChoice further statements.now (λ choice. IfSome (R.remaining input.old)
+    ensures passed { IfOk result (λ status. status ≡ PASSED → ByChoice scope statements.now (λ choice. IfSome (R.remaining input.old)
         (λ log. IsJudged log × IsFaultless choice.has log))) }
-    ensures faulty { IfOk result (λ status. status ≡ FAULTY → ByChoice further statements.now (λ choice. IfSome (R.remaining input.old)
+    ensures faulty { IfOk result (λ status. status ≡ FAULTY → ByChoice scope statements.now (λ choice. IfSome (R.remaining input.old)
         (λ log. IsJudged log × (¬ IsFaultless choice.has log)))) }
-    ensures reported { IfOk result (λ status. status ≤ FAULTY → ByChoice further statements.now (λ choice. IfSome (R.remaining input.old)
+    ensures reported { IfOk result (λ status. status ≤ FAULTY → ByChoice scope statements.now (λ choice. IfSome (R.remaining input.old)
         (λ log. Appends (W.contents output.old) (W.contents output.new) (report_for choice (form_of form) coverage log)))) }
     ensures refused { IfOk result (λ status. status ≡ REFUSED → IfSome (R.remaining input.old)
         (λ log. RefusesCheck (form_of form) log (W.contents output.old) (W.contents output.new))) }
-    ensures stops { (file : Option (String Global)) → IfErr result (StopsAttempt (tasks.Check file form coverage further statements.now) (R.remaining input.old) (R.remaining input.new)
+    ensures stops { (file : Option (String Global)) → IfErr result (StopsAttempt (tasks.Check file form coverage scope statements.now) (R.remaining input.old) (R.remaining input.new)
         (W.contents output.old) (W.contents output.new)) }
     ensures statuses { IfOk result (λ status. status ≤ REFUSED) }
 {
-    match choice_for(further, statements) {
+    match choice_for(scope, statements) {
         Ok(choice) => match check(
             alloc,
             form_of(form),
@@ -413,18 +413,18 @@ fn write_report<W: Write>(bytes: &[u8], long: bool, output: &mut W) -> Result<bo
 fn print_listed<'a, W: Write>(
     alloc: Global,
     role: &'a Option<String>,
-    further: bool,
+    scope: Scope,
     statements: &'a Option<String>,
     output: &mut W,
 ) -> Result<u8, Obstacle<'a>>
-    ensures passed { OnOk result (ByChoice further statements.now (λ choice. IsSome (listed_for choice.has (option_map string_bytes role.now)))) }
-    ensures reported { OnOk result (ByChoice further statements.now (λ choice. Prints (listed_for choice.has (option_map string_bytes role.now))
+    ensures passed { OnOk result (ByChoice scope statements.now (λ choice. IsSome (listed_for choice.has (option_map string_bytes role.now)))) }
+    ensures reported { OnOk result (ByChoice scope statements.now (λ choice. Prints (listed_for choice.has (option_map string_bytes role.now))
         (W.contents output.old) (W.contents output.new))) }
-    ensures stops { (input left : Option (List ℕ)) → IfErr result (StopsAttempt (tasks.Rules role.now further statements.now) input left
+    ensures stops { (input left : Option (List ℕ)) → IfErr result (StopsAttempt (tasks.Rules role.now scope statements.now) input left
         (W.contents output.old) (W.contents output.new)) }
     ensures statuses { IfOk result (λ status. status ≡ PASSED) }
 {
-    match choice_for(further, statements) {
+    match choice_for(scope, statements) {
         Ok(choice) => print_chosen(alloc, role, choice, output),
         Err(misuse) => Err(Obstacle::Misused(misuse)),
     }

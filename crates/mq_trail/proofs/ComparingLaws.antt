@@ -14,8 +14,9 @@ use Rattle.mq_rules.specs.FaultKeys.{FaultMap, key_cmp, with_fault}
 use Rattle.mq_rules.specs.Rules.{same_rule}
 use Rattle.mq_rules.specs.declared.role.Role.{Role}
 use Rattle.mq_rules.specs.declared.role.Role.TheVariants.{Client, Server}
+use Rattle.mq_rules.specs.declared.role.Further.{Further}
 use Rattle.mq_rules.specs.declared.role.Tested.{Tested}
-use Rattle.mq_trail.specs.Comparing.{same_end, same_fault, same_flag, same_key, same_offset, same_role}
+use Rattle.mq_trail.specs.Comparing.{same_end, same_fault, same_flag, same_further, same_key, same_offset, same_role}
 use Rattle.mq_rules.proofs.FaultKeyLaws.{exact_keys, fault_at-with_fault, keys_total}
 
 -- ---- a copy
@@ -172,16 +173,25 @@ own_role : (a : Role) → same_role a a ≡ true
 own_role Client = refl
 own_role Server = refl
 
+own_further : (a : Further) → same_further a a ≡ true
+own_further a = rw (own_flag a.on_request, own_flag a.with_times) refl
+
+exact_further : (a b : Further) → same_further a b ≡ true → a ≡ b
+exact_further a b h =
+    let both : (same_flag a.on_request b.on_request ≡ true) × (same_flag a.with_times b.with_times ≡ true) =
+    both_true (same_flag a.on_request b.on_request) (same_flag a.with_times b.with_times) h in
+    ap₂ (λ r t. record { on_request = r; with_times = t }) (exact_flag a.on_request b.on_request both.0) (exact_flag a.with_times b.with_times both.1)
+
 own_end : (a : Tested) → same_end a a ≡ true
-own_end a = rw (own_role a.role, own_flag a.releases, own_flag a.further) refl
+own_end a = rw (own_role a.role, own_flag a.releases, own_further a.further) refl
 
 pub exact_end : (a b : Tested) → same_end a b ≡ true → a ≡ b
 exact_end a b h =
-    let both : (same_role a.role b.role ≡ true) × ((same_flag a.releases b.releases && same_flag a.further b.further) ≡ true) =
-    both_true (same_role a.role b.role) (same_flag a.releases b.releases && same_flag a.further b.further) h in
-    let flags : (same_flag a.releases b.releases ≡ true) × (same_flag a.further b.further ≡ true) = both_true (same_flag a.releases b.releases) (same_flag a.further b.further) both.1 in
+    let both : (same_role a.role b.role ≡ true) × ((same_flag a.releases b.releases && same_further a.further b.further) ≡ true) =
+    both_true (same_role a.role b.role) (same_flag a.releases b.releases && same_further a.further b.further) h in
+    let flags : (same_flag a.releases b.releases ≡ true) × (same_further a.further b.further ≡ true) = both_true (same_flag a.releases b.releases) (same_further a.further b.further) both.1 in
     ap₂ (λ r f. record { role = r; releases = f; further = a.further }) (exact_role a.role b.role both.0) (exact_flag a.releases b.releases flags.0)
-    ∙ ap (λ f. record { role = b.role; releases = b.releases; further = f }) (exact_flag a.further b.further flags.1)
+    ∙ ap (λ f. record { role = b.role; releases = b.releases; further = f }) (exact_further a.further b.further flags.1)
 
 pub other_end : (a b : Tested) → same_end a b ≡ false → a ≡ b → ⊥
 other_end a b h e = absurd (let bad : true ≡ false = sym (own_end a) ∙ ap (same_end a) e ∙ h in cc)

@@ -5,6 +5,7 @@ use Rattle.mq_log.specs.declared.refusal.Refusal.TheVariants as refusals
 use Rattle.std.specs.Prelude.{◌||◌, if◌then◌else◌}
 use Rattle.mq_log.specs.Framing.{header_by}
 use Rattle.mq_log.specs.Events.{Placed, events}
+use Rattle.mq_rules.specs.declared.role.Further.{Further}
 use Rattle.mq_rules.specs.declared.role.Tested.{Tested}
 use Rattle.mq_rules.specs.Notes.{tested_by}
 use Rattle.mq_log.specs.Refusals.{refused, is_cut_short}
@@ -66,7 +67,7 @@ module _ {F S : Type 0} (tracer : F → Traced) (agrees : S → List Placed → 
   unrefused f log traced within default = subst (λ l. refused l log ≡ None) (within ∙ default) traced.keeps.unrefused
 
   -- all was taken in, and the log isn't cut short
-  pub fed-whole : {first : ℕ} {x y : Option (List ℕ)} {f : F} {s : S} (further : Bool) (named : Tested) → FedAll Limit FollowsBoth first x y f s → first ≡ default_limit
+  pub fed-whole : {first : ℕ} {x y : Option (List ℕ)} {f : F} {s : S} (further : Further) (named : Tested) → FedAll Limit FollowsBoth first x y f s → first ≡ default_limit
       → ((log : List ℕ) → IsTracedTo (tracer f) log → EndsAs further log (Ok named)) → IfSome x (λ log. IsJudged log × (named ≡ tested_by further log) × agrees s (events log))
   fed-whole {first} {x} {y} {f} {s} further named took default whole =
       let log = took.log in

@@ -12,12 +12,13 @@ use Rattle.mq_rules.specs.contracts.rule.Rule.{the_type}
 use Rattle.mq_rules.specs.contracts.faults.FaultKeyOrd.TheImpl.Laws as laws
 use Rattle.mq_rules.specs.declared.role.Role.{Role}
 use Rattle.mq_rules.specs.declared.role.Role.TheVariants.{Client, Server}
+use Rattle.mq_rules.specs.declared.role.Further.{Further}
 use Rattle.mq_rules.specs.declared.role.Tested.{Tested}
 use Rattle.mq_rules.specs.declared.fault.Fault.{Fault}
 use Rattle.mq_rules.specs.declared.faults.FaultKey.{FaultKey}
 use Rattle.mq_rules.specs.declared.note.Seen.{Seen}
 use Rattle.mq_rules.specs.declared.rule.Rule.{Rule}
-use Rattle.mq_rules.specs.declared.rule.Rule.TheVariants.{W01, W02, W03, W04, W05, W06, W07, W08, W09, W10, W11, W12, W13, W14, W15, W16, W17, W18, W19, W20, W21, C01, C02, C03, C04, C05, C06, C07, C08, C09, C10, C11, C12, C13, C14, C15, C16, C17, C18, C19, C20, C21, C22, C23, F01, F02, F03, F04, F05, F06, V03, V04, V06, A01, A02, A03, E1R, E2R, E3R, E4R, E5R, E6R, S06, C24, D01, D02, D03, D05}
+use Rattle.mq_rules.specs.declared.rule.Rule.TheVariants.{W01, W02, W03, W04, W05, W06, W07, W08, W09, W10, W11, W12, W13, W14, W15, W16, W17, W18, W19, W20, W21, C01, C02, C03, C04, C05, C06, C07, C08, C09, C10, C11, C12, C13, C14, C15, C16, C17, C18, C19, C20, C21, C22, C23, F01, F02, F03, F04, F05, F06, V03, V04, V06, A01, A02, A03, E1R, E2R, E3R, E4R, E5R, E6R, S06, C24, D01, D02, D03, D05, K01, K02}
 use Rattle.mq_rules.specs.FaultKeys.{FaultMap, fault_at, key_cmp}
 use Rattle.mq_rules.specs.Rules.{binds, found_line, line_of, lines, same_rule}
 use Rattle.mq_rules.specs.Moments.{Moment, position, newest, moment}
@@ -36,7 +37,7 @@ use Rattle.mq_trail.specs.Sources.{is_silent}
 
 -- ---- nothing is to blame
 
-itself : (role : Role) (releases further : Bool) (r : Rule) → binds r (record { role = role; releases = releases; further = further }) ≡ true → is_on_connection role r ≡ false → is_found r ≡ false → is_silent r ≡ false → same_rule r S06 ≡ false
+itself : (role : Role) (releases : Bool) (further : Further) (r : Rule) → binds r (record { role = role; releases = releases; further = further }) ≡ true → is_on_connection role r ≡ false → is_found r ≡ false → is_silent r ≡ false → same_rule r S06 ≡ false
     → reason role r ≡ by_itself
 unfolding line_of found_line lines
 itself role releases further W01 bound on found silent resumed = refl
@@ -120,6 +121,10 @@ itself Client releases further A02 bound on found silent resumed = absurd (cc)
 itself Server releases further A02 bound on found silent resumed = absurd (cc)
 itself Client releases further A03 bound on found silent resumed = absurd (cc)
 itself Server releases further A03 bound on found silent resumed = absurd (cc)
+itself Client releases further K01 bound on found silent resumed = absurd (cc)
+itself Server releases further K01 bound on found silent resumed = absurd (cc)
+itself Client releases further K02 bound on found silent resumed = absurd (cc)
+itself Server releases further K02 bound on found silent resumed = absurd (cc)
 itself role releases further _ bound on found silent resumed = absurd (cc)
 
 silence : (role : Role) (r : Rule) → is_silent r ≡ true → reason role r ≡ by_silence

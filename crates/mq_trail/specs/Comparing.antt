@@ -2,6 +2,7 @@
 use Rattle.std.specs.Prelude.{ℕ, Bool, true, false, not, ◌==◌, ◌&&◌, Option, Some, None}
 use Rattle.mq_rules.specs.declared.role.Role.{Role}
 use Rattle.mq_rules.specs.declared.role.Role.TheVariants.{Client, Server}
+use Rattle.mq_rules.specs.declared.role.Further.{Further}
 use Rattle.mq_rules.specs.declared.role.Tested.{Tested}
 use Rattle.mq_rules.specs.declared.fault.Fault.{Fault}
 use Rattle.mq_rules.specs.declared.faults.FaultKey.{FaultKey}
@@ -34,6 +35,10 @@ abbrev pub same_flag : Bool → Bool → Bool
 same_flag true b = b
 same_flag false b = not b
 
--- one role, and both record releases or neither
+-- the same further statements are judged
+abbrev pub same_further : Further → Further → Bool
+same_further a b = same_flag a.on_request b.on_request && same_flag a.with_times b.with_times
+
+-- one role, both record releases or neither, and the same further statements are judged
 abbrev pub same_end : Tested → Tested → Bool
-same_end a b = same_role a.role b.role && (same_flag a.releases b.releases && same_flag a.further b.further)
+same_end a b = same_role a.role b.role && (same_flag a.releases b.releases && same_further a.further b.further)

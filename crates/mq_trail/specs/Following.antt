@@ -1,10 +1,11 @@
 -- A watcher that is driven over the events of a log.
-use Rattle.std.specs.Prelude.{◌≡◌, ◌∷◌, Bool, false, List, map, Option, Result, Ok, Err, ℕ}
+use Rattle.std.specs.Prelude.{◌≡◌, ◌∷◌, false, List, map, Option, Result, Ok, Err, ℕ}
 use Rattle.mq_log.specs.declared.place.Place3.{Place3}
 use Rattle.mq_log.specs.Events.{Placed}
 use Rattle.mq_log.specs.Reception.{AreEvents}
 use Rattle.mq_log.specs.Refusals.{is_cut_short}
 use Rattle.mq_log.specs.declared.refusal.Refusal.{Refusal}
+use Rattle.mq_rules.specs.declared.role.Further.{Further}
 use Rattle.mq_rules.specs.declared.role.Tested.{Tested}
 use Rattle.mq_rules.specs.declared.fate.Fate.{Fate}
 use Rattle.mq_rules.specs.declared.note.Note.{Note}
@@ -22,14 +23,14 @@ abbrev pub TakesIn : {W : Type 0} → (W → Tested → Option Fate → List See
 TakesIn agrees old new place n = (tested : Tested) (earlier : List Placed) (p : Placed) → p.place ≡ place → n ≡ note_of p.event → AreEvents (p ∷ earlier)
     → HasFollowed agrees tested old (map seen earlier) → HasFollowed agrees tested new (map seen (p ∷ earlier))
 
--- What ending a log returns of which nothing is refused so far: the end that its header names, judged by the further statements too or not, if the log is whole; else why
+-- What ending a log returns of which nothing is refused so far: the end that its header names, judged by these further statements too, if the log is whole; else why
 -- its end is refused.
-abbrev pub EndsAs : Bool → List ℕ → Result Tested Refusal → Type 0
+abbrev pub EndsAs : Further → List ℕ → Result Tested Refusal → Type 0
 EndsAs further log (Ok named) = (is_cut_short log ≡ false) × (named ≡ tested_by further log)
 EndsAs further log (Err refusal) = IsRefusedEnd log refusal
 
 -- The result of driving a watcher over this log, and what the reader has left: the watcher, which has taken in all events of the log, with the end that the log's
--- header names, judged by the further statements too or not; or why the log is refused.
-abbrev pub FollowsOver : {W : Type 0} → (W → Tested → Option Fate → List Seen → Type 0) → Bool → Tested → List ℕ → Option (List ℕ) → Result (W × Tested) Refusal → Type 0
+-- header names, judged by these further statements too; or why the log is refused.
+abbrev pub FollowsOver : {W : Type 0} → (W → Tested → Option Fate → List Seen → Type 0) → Further → Tested → List ℕ → Option (List ℕ) → Result (W × Tested) Refusal → Type 0
 FollowsOver agrees further tested log left (Ok answer) = IsJudged log × (answer.1 ≡ tested_by further log) × HasFollowed agrees tested answer.0 (seen_in log)
 FollowsOver agrees further tested log left (Err refusal) = IsRefusedAt default_limit log left refusal

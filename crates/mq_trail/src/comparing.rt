@@ -1,8 +1,8 @@
 //! Faults that were found twice, and tested ends.
 ghost use Rattle.std.specs.Prelude.{◌≡◌, ◌↔◌, true, IfOk};
-ghost use Rattle.mq_trail.specs.Comparing.{same_end, same_fault, same_flag, same_key, same_offset, same_role};
+ghost use Rattle.mq_trail.specs.Comparing.{same_end, same_fault, same_flag, same_further, same_key, same_offset, same_role};
 
-use mq_rules::{Fault, FaultKey, Faults, Memory, Role, Tested};
+use mq_rules::{Fault, FaultKey, Faults, Further, Memory, Role, Tested};
 use std::alloc::Global;
 
 /// Whether these are the same faults.
@@ -73,12 +73,13 @@ pub fn copy_of(alloc: Global, faults: &Faults) -> Result<Faults, Memory>
 }
 
 /// Whether these are one tested end, of which releases are recorded in both logs or in neither, and
-/// which is judged by the further statements both times or never.
+/// which is judged by the same further statements both times.
 pub fn same_end(tested: Tested, other: Tested) -> bool
     ensures { result ≡ same_end tested other }
 {
     same_role(tested.role, other.role)
-        && (same_flag(tested.releases, other.releases) && same_flag(tested.further, other.further))
+        && (same_flag(tested.releases, other.releases)
+            && same_further(tested.further, other.further))
 }
 
 // Whether this is one role.
@@ -89,6 +90,14 @@ fn same_role(role: Role, other: Role) -> bool
         Role::Client => matches!(other, Role::Client),
         Role::Server => matches!(other, Role::Server),
     }
+}
+
+// Whether the same further statements are judged.
+fn same_further(further: Further, other: Further) -> bool
+    ensures { result ≡ same_further further other }
+{
+    same_flag(further.on_request, other.on_request)
+        && same_flag(further.with_times, other.with_times)
 }
 
 // Whether both are true, or neither.

@@ -65,6 +65,7 @@ fn is_on_connection(role: Role, rule: Rule) -> bool
                 | Rule::A01
                 | Rule::A02
                 | Rule::A03
+                | Rule::K01
         ),
         Role::Server => matches!(
             rule,
@@ -84,6 +85,7 @@ fn is_on_connection(role: Role, rule: Rule) -> bool
                 | Rule::F06
                 | Rule::A02
                 | Rule::A03
+                | Rule::K02
         ),
     }
 }

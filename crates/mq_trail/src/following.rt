@@ -41,8 +41,9 @@ pub trait Watched {
 impl Watched for Brand {
     ghost use Rattle.std.specs.Prelude.{false};
     ghost use Rattle.mq_rules.specs.declared.role.Role.TheVariants.{Client};
+    ghost use Rattle.mq_rules.specs.Rules.{none_further};
 
-    ghost tested = { record { role = Client; releases = false; further = false } };
+    ghost tested = { record { role = Client; releases = false; further = none_further } };
 }
 
 /// A sink that drives a watcher, and drops the faults that it finds.

@@ -7,7 +7,7 @@ ghost use Rattle.mq_trail.specs.Following.{EndsAs, FollowsOver};
 use super::following::{Follower, Following, Watched};
 use mq_log::Refusal;
 use mq_report::{DEFAULT_LIMIT, feed_log};
-use mq_rules::Tested;
+use mq_rules::{Further, Tested};
 use mq_trace::{Feed, Tracer};
 use std::alloc::Global;
 use std::io::Read;
@@ -20,11 +20,11 @@ struct Rereading {
 }
 
 impl Rereading {
-    // Ends the log, and returns the end that its header names, judged by the further statements too
-    // or not.
+    // Ends the log, and returns the end that its header names, judged by these further statements
+    // too.
     //
     // Errors: `Cut` if the log is cut short.
-    fn end(&mut self, further: bool) -> Result<Tested, Refusal>
+    fn end(&mut self, further: Further) -> Result<Tested, Refusal>
         ensures { (log : List ℕ) → IsTracedTo self.old.tracer log → EndsAs further log result }
     {
         self.tracer.finish()?;

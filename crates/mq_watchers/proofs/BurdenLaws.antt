@@ -100,7 +100,7 @@ firsts-length (m ∷ ms) = go (sets_another m) (set_alias (note m)) (firsts-leng
 
 open-silent : (n : Note) → is_open n ≡ true → set_alias n ≡ None
 open-silent notes.Open h = refl
-open-silent (notes.Close cuts) h = absurd (cc)
+open-silent (notes.Close cuts part) h = absurd (cc)
 open-silent notes.Rest h = absurd (cc)
 open-silent (notes.Release identifier) h = absurd (cc)
 open-silent (notes.Sent item) h = absurd (cc)

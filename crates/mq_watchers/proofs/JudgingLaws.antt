@@ -15,8 +15,8 @@ use Rattle.mq_rules.specs.declared.note.Seen.{Seen}
 use Rattle.mq_rules.specs.Moments.{moment, IsPlaced}
 use Rattle.mq_rules.specs.Connections.{latest_fate, AreOnConnections}
 use Rattle.mq_rules.specs.Words.{is_some_and}
-use Rattle.mq_rules.specs.Statements.{Statement, on_bytes, on_past, in_session, at_release, at_rest, by_later, statement, is_by_bytes, is_by_past, is_by_later, is_on_bytes, is_on_past, is_on_further, is_on_later}
-use Rattle.mq_rules.specs.Rules.{is_further}
+use Rattle.mq_rules.specs.Statements.{Statement, on_bytes, on_past, in_session, at_release, at_rest, by_later, statement, is_by_bytes, is_by_past, is_by_later, is_on_bytes, is_on_past, is_on_clock, is_on_further, is_on_later}
+use Rattle.mq_rules.specs.Rules.{is_further, is_on_times}
 use Rattle.mq_rules.specs.Occasions.{places}
 use Rattle.mq_rules.specs.Steps.{turns}
 use Rattle.mq_rules.specs.FaultKeys.{FaultMap, fault_at}
@@ -77,29 +77,33 @@ sessions-whole tested e past k r = ap (λ b. b && turns_session tested e past k 
 -- what each watcher adds
 abbrev pub turns_by_all : Tested → Seen → List Seen → ℕ → Rule → Bool
 turns_by_all tested e past k r =
-    (is_on_bytes tested r && turns tested e past k r) || ((is_on_past tested r && turns tested e past k r) || ((is_on_further tested r && turns tested e past k r) || ((is_on_later tested r && turns tested e past k r) || (of_sessions r && turns_session tested e past k r))))
+    (is_on_bytes tested r && turns tested e past k r) || ((is_on_past tested r && turns tested e past k r) || ((is_on_further tested r && turns tested e past k r) || ((is_on_later tested r && turns tested e past k r) || ((is_on_clock tested r && turns tested e past k r) || (of_sessions r && turns_session tested e past k r)))))
 
--- each statement is watched by one of the five; f says whether it is a further one
-any_of : (s : Statement) (f t : Bool) → ((is_by_bytes s && t) || (((is_by_past s && not f) && t) || (((is_by_past s && f) && t) || ((is_by_later s && t) || (is_by_session s && t))))) ≡ t
-any_of (on_bytes rule) f true = refl
-any_of (on_bytes rule) f false = refl
-any_of (on_past breaks) true true = refl
-any_of (on_past breaks) true false = refl
-any_of (on_past breaks) false true = refl
-any_of (on_past breaks) false false = refl
-any_of (in_session breaks) f true = refl
-any_of (in_session breaks) f false = refl
-any_of (at_release breaks) f true = refl
-any_of (at_release breaks) f false = refl
-any_of (at_rest test) f true = refl
-any_of (at_rest test) f false = refl
-any_of (by_later test) f true = refl
-any_of (by_later test) f false = refl
+-- each statement is watched by one of the six; f says whether it is a further one, and o whether it is on times
+any_of : (s : Statement) (f o t : Bool) → ((is_by_bytes s && t) || (((is_by_past s && not f) && t) || (((is_by_past s && (f && not o)) && t) || ((is_by_later s && t) || (((is_by_past s && o) && t) || (is_by_session s && t)))))) ≡ t
+any_of (on_bytes rule) f o true = refl
+any_of (on_bytes rule) f o false = refl
+any_of (on_past breaks) true true true = refl
+any_of (on_past breaks) true true false = refl
+any_of (on_past breaks) true false true = refl
+any_of (on_past breaks) true false false = refl
+any_of (on_past breaks) false true true = refl
+any_of (on_past breaks) false true false = refl
+any_of (on_past breaks) false false true = refl
+any_of (on_past breaks) false false false = refl
+any_of (in_session breaks) f o true = refl
+any_of (in_session breaks) f o false = refl
+any_of (at_release breaks) f o true = refl
+any_of (at_release breaks) f o false = refl
+any_of (at_rest test) f o true = refl
+any_of (at_rest test) f o false = refl
+any_of (by_later test) f o true = refl
+any_of (by_later test) f o false = refl
 
 pub all-turns : (tested : Tested) (e : Seen) (past : List Seen) (k : ℕ) (r : Rule) → turns_by_all tested e past k r ≡ turns tested e past k r
 all-turns tested e past k r =
-    ap (λ b. (is_on_bytes tested r && turns tested e past k r) || ((is_on_past tested r && turns tested e past k r) || ((is_on_further tested r && turns tested e past k r) || ((is_on_later tested r && turns tested e past k r) || b)))) (sessions-whole tested e past k r)
-    ∙ any_of (statement tested.role r) (is_further r) (turns tested e past k r)
+    ap (λ b. (is_on_bytes tested r && turns tested e past k r) || ((is_on_past tested r && turns tested e past k r) || ((is_on_further tested r && turns tested e past k r) || ((is_on_later tested r && turns tested e past k r) || ((is_on_clock tested r && turns tested e past k r) || b))))) (sessions-whole tested e past k r)
+    ∙ any_of (statement tested.role r) (is_further r) (is_on_times r) (turns tested e past k r)
 
 -- what follows from what holds after an Ok, and from what holds after an error
 pub on_ok : {A E : Type 0} (r : Result A E) (P Q : Type 0) → (P → Q) → OnOk r P → OnOk r Q
@@ -125,18 +129,20 @@ pub counted-session : (tested : Tested) (r : Rule) (past : List Seen) (n : ℕ) 
 counted-session tested r past n on is =
     ap Some is ∙ ap (λ (b : Bool). cond b None (Some (places tested past r))) (sym (there (statement tested.role r) (sym (sessions-all tested.role r) ∙ on)))
 
-elsewhere : (s : Statement) (f : Bool) → is_by_session s ≡ false → (n : ℕ)
-    → option_or (cond (is_by_later s) (Some n) None) (option_or (cond (is_by_past s && f) (Some n) None) (cond (is_by_past s && not f) (Some n) None)) ≡ cond (is_by_bytes s) None (Some n)
-elsewhere (on_bytes rule) f h n = refl
-elsewhere (on_past breaks) true h n = refl
-elsewhere (on_past breaks) false h n = refl
-elsewhere (in_session breaks) f h n = absurd (cc)
-elsewhere (at_release breaks) f h n = absurd (cc)
-elsewhere (at_rest test) f h n = absurd (cc)
-elsewhere (by_later test) f h n = refl
+elsewhere : (s : Statement) (f o : Bool) → is_by_session s ≡ false → (n : ℕ)
+    → option_or (cond (is_by_later s) (Some n) None) (option_or (cond (is_by_past s && o) (Some n) None) (option_or (cond (is_by_past s && (f && not o)) (Some n) None) (cond (is_by_past s && not f) (Some n) None))) ≡ cond (is_by_bytes s) None (Some n)
+elsewhere (on_bytes rule) f o h n = refl
+elsewhere (on_past breaks) f true h n = refl
+elsewhere (on_past breaks) true false h n = refl
+elsewhere (on_past breaks) false false h n = refl
+elsewhere (in_session breaks) f o h n = absurd (cc)
+elsewhere (at_release breaks) f o h n = absurd (cc)
+elsewhere (at_rest test) f o h n = absurd (cc)
+elsewhere (by_later test) f o h n = refl
 
--- any other is one that a later event shows, or on the past of a connection, a further one or not, or on a packet's bytes
+-- any other is one that a later event shows, or on the past of a connection, a further one on times, a further one or not, or on a packet's bytes
 pub counted-past : (tested : Tested) (r : Rule) (past : List Seen) → of_sessions r ≡ false
-    → option_or (cond (is_on_later tested r) (Some (places tested past r)) None) (option_or (cond (is_on_further tested r) (Some (places tested past r)) None) (cond (is_on_past tested r) (Some (places tested past r)) None))
+    → option_or (cond (is_on_later tested r) (Some (places tested past r)) None)
+    (option_or (cond (is_on_clock tested r) (Some (places tested past r)) None) (option_or (cond (is_on_further tested r) (Some (places tested past r)) None) (cond (is_on_past tested r) (Some (places tested past r)) None)))
     ≡ cond (is_on_bytes tested r) None (Some (places tested past r))
-counted-past tested r past off = elsewhere (statement tested.role r) (is_further r) (sym (sessions-all tested.role r) ∙ off) (places tested past r)
+counted-past tested r past off = elsewhere (statement tested.role r) (is_further r) (is_on_times r) (sym (sessions-all tested.role r) ∙ off) (places tested past r)

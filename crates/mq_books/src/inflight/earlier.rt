@@ -28,7 +28,7 @@ fn is_cutting(note: &Note) -> bool
     ensures { result ≡ cuts note.now }
 {
     match note {
-        Note::Close { cuts_publish } => *cuts_publish,
+        Note::Close { cuts_publish, .. } => *cuts_publish,
         _ => false,
     }
 }

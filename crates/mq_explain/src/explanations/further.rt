@@ -1,5 +1,5 @@
 //! The texts of `explain` for the further statements (B05, F01 to F06, V03, V04, V06, C24, D01 to
-//! D03, D05, and A01 to A03), which are judged on request.
+//! D03, D05, A01 to A03, K01 and K02), which are judged on request.
 
 /// The text of `explain B05`.
 pub const B05: &str = "B05 server sec-3.9.3\n\
@@ -304,3 +304,55 @@ pub const A03: &str = "A03 both MQTT-4.12.0-5,MQTT-4.12.1-1;MQTT-4.12.0-5\n\
     to authenticate again. Write that of the CONNECT into each AUTH.\n\
     In a server: The same of its AUTHs, and of the CONNACK with which it accepts.\n\n\
     See: MQTT 5.0, sections 3.15.2.1, 4.12 and 4.12.1.\n";
+
+/// The text of `explain K01`.
+pub const K01: &str = "K01 client MQTT-3.1.2-20,MQTT-3.2.2-21\n\
+    A client isn't silent for longer than the Keep Alive.\n\n\
+    Why: A server takes a silent client for gone, and closes its connection. And a\n\
+    client that sends a PINGREQ in time learns in time that the server is gone.\n\n\
+    Judged: After the CONNACK of a connection that the server accepted, at the first\n\
+    event that comes when the client has sent nothing for longer than 1.25 times the\n\
+    Keep Alive and a second, since timers are late. The Keep Alive is the CONNACK's\n\
+    Server Keep Alive, or without one that of the CONNECT; if it is 0, nothing is\n\
+    judged. The silence begins at the client's last packet, whose bytes may break a\n\
+    rule, or at the CONNACK if that came later. Any event may show it, the CLOSE\n\
+    too, but neither a packet of more than 65,536 bytes nor a CLOSE that cuts off a\n\
+    packet of the client: these may have taken their time. Nothing is judged after a\n\
+    DISCONNECT of either end, nor after bytes of the client that can't be cut into\n\
+    packets. A silence after which nothing more is in the log passes. Decided at\n\
+    once. It is a further statement on times: it is judged with --times, if the\n\
+    log's moments are microseconds.\n\n\
+    To see it tested: Connect with a Keep Alive of a few seconds, and have nothing\n\
+    to send. The PINGREQ tests this, or whatever comes after half the Keep Alive.\n\n\
+    In a client: What it receives puts off the PINGREQ, which only what it sends may\n\
+    do; or it goes by its own Keep Alive where the CONNACK has another one. Send a\n\
+    PINGREQ when nothing was sent for the Keep Alive. If a large packet was being\n\
+    sent when something else came, the log doesn't tell.\n\n\
+    See: MQTT 5.0, sections 3.1.2.10, 3.2.2.3.14 and 3.12.\n";
+
+/// The text of `explain K02`.
+pub const K02: &str = "K02 server MQTT-3.1.2-22,MQTT-3.2.2-22\n\
+    A server closes the connection of a client that is silent.\n\n\
+    Why: A client may be gone without a CLOSE. Until the server closes the\n\
+    connection, it sends to nobody, and the client's Will isn't published.\n\n\
+    Judged: After the CONNACK of a connection that the server accepted, at the first\n\
+    event that comes when the client has sent nothing for longer than one and a half\n\
+    times the Keep Alive, and half of it or 5 seconds more, whichever is longer,\n\
+    since servers look now and then. The Keep Alive is the CONNACK's Server Keep\n\
+    Alive, or without one that of the CONNECT; if it is 0, nothing is judged. The\n\
+    silence begins at the client's last packet, whose bytes may break a rule, or at\n\
+    the CONNACK if that came later. Any event may show it, the CLOSE too, but not a\n\
+    packet of more than 65,536 bytes, which may have taken its time. Nothing is\n\
+    judged after a DISCONNECT of either end, nor after bytes of the client that\n\
+    can't be cut into packets. A silence after which nothing more is in the log\n\
+    passes. Decided at once. It is a further statement on times: it is judged with\n\
+    --times, if the log's moments are microseconds.\n\n\
+    To see it tested: Connect with a Keep Alive of a second, send nothing more, and\n\
+    wait until the server closes the connection. That CLOSE tests this, or whatever\n\
+    comes after one and a half times the Keep Alive.\n\n\
+    In a server: What it sends puts off the end, which only what it receives may do;\n\
+    or it looks at its connections too seldom. Close the connection after one and a\n\
+    half times the Keep Alive, and say why by a DISCONNECT of 0x8D (Keep Alive\n\
+    timeout). If each connection is given another time, say so by a Server Keep\n\
+    Alive.\n\n\
+    See: MQTT 5.0, sections 3.1.2.10, 3.2.2.3.14 and 4.13.1.\n";

@@ -28,7 +28,7 @@ impl NoteTest for CutsPublish {
 
     fn passes(&self, note: &Note) -> bool {
         match note {
-            Note::Close { cuts_publish } => *cuts_publish,
+            Note::Close { cuts_publish, .. } => *cuts_publish,
             _ => false,
         }
     }

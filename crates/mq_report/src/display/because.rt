@@ -175,6 +175,8 @@ fn event_words_on_two(rule: Rule) -> Option<OnTwo>
         Rule::E7R => Some(OnTwo { before: ": ", between: " asked, ", after: " answered" }),
         Rule::B02 => Some(OnTwo { before: ": QoS ", between: ", at most ", after: " granted" }),
         Rule::B03 | Rule::B04 => Some(OnTwo { before: ": ", between: " filters, ", after: " Reason Codes" }),
+        Rule::K01 => Some(OnTwo { before: ": nothing came from the client for ", between: " microseconds, and the limit is ", after: "" }),
+        Rule::K02 => Some(OnTwo { before: ": nothing came from the client for ", between: " microseconds, and the limit is ", after: "" }),
         _ => None,
     }
 }

@@ -11,7 +11,7 @@ ghost use Rattle.mq_rules.specs.Steps.{turns};
 ghost use Rattle.mq_books.specs.Burden.{burden};
 
 use mq_books::{Asks, Counting, Early, Sessions};
-use mq_connections::{CountingConn, CountingDuties, CountingManners, Shapes};
+use mq_connections::{CountingClocks, CountingConn, CountingDuties, CountingManners, Shapes};
 use mq_log::Place3;
 use mq_rules::{Bare, Both, Brisk, Fate, Faults, Memory, Note, Rule, Tested, Watch};
 use std::alloc::Global;
@@ -21,7 +21,13 @@ use std::alloc::Global;
 pub struct CountingWatchers {
     parts: Both<
         Shapes,
-        Both<CountingConn, Both<CountingManners, Both<CountingDuties, Early<Counting<Sessions>>>>>,
+        Both<
+            CountingConn,
+            Both<
+                CountingManners,
+                Both<CountingDuties, Both<CountingClocks, Early<Counting<Sessions>>>>,
+            >,
+        >,
     >,
 }
 
@@ -47,7 +53,14 @@ impl CountingWatchers {
                         CountingManners::new(alloc, tested),
                         Both::new(
                             CountingDuties::new(alloc, tested),
-                            Early::new(alloc, tested, Counting::new(Sessions::new(alloc, tested))),
+                            Both::new(
+                                CountingClocks::new(tested),
+                                Early::new(
+                                    alloc,
+                                    tested,
+                                    Counting::new(Sessions::new(alloc, tested)),
+                                ),
+                            ),
                         ),
                     ),
                 ),
@@ -61,31 +74,35 @@ impl CountingWatchers {
     {
         let later = &self.parts.b;
         let further = &later.b;
+        let timed = &further.b.b;
         if Sessions::tests(rule) {
-            return Some(further.b.b.places(rule));
+            return Some(timed.b.places(rule));
         }
         let duties = &further.b.a;
-        duties
-            .places(rule)
-            .or(further.a.places(rule).or(later.a.places(rule)))
+        let clocks = &timed.a;
+        duties.places(rule).or(
+            clocks
+                .places(rule)
+                .or(further.a.places(rule).or(later.a.places(rule))),
+        )
     }
 
     /// What becomes of the latest connection. None if it is undecided.
     pub fn latest_fate(&self) -> Option<Fate>
         ensures { (tested : TheTested) (taken : Option TheFate) (past : List TheSeen) → ⟦<CountingWatchers as Watch>⟧.agrees self.now tested taken past → result ≡ latest_fate tested.role past }
     {
-        self.parts.b.b.b.b.latest_fate()
+        self.parts.b.b.b.b.b.latest_fate()
     }
 }
 
 impl Watch for CountingWatchers {
-    ghost agrees = { λ s. ⟦<Both<Shapes, Both<CountingConn, Both<CountingManners, Both<CountingDuties, Early<Counting<Sessions>>>>>> as Watch>⟧.agrees s.parts };
+    ghost agrees = { λ s. ⟦<Both<Shapes, Both<CountingConn, Both<CountingManners, Both<CountingDuties, Both<CountingClocks, Early<Counting<Sessions>>>>>>> as Watch>⟧.agrees s.parts };
 
     ghost takes = { λ tested taken e past. IsOnConnection e past };
 
     ghost adds = { turns };
 
-    ghost weighs = { λ s. ⟦<Both<Shapes, Both<CountingConn, Both<CountingManners, Both<CountingDuties, Early<Counting<Sessions>>>>>> as Watch>⟧.weighs s.parts };
+    ghost weighs = { λ s. ⟦<Both<Shapes, Both<CountingConn, Both<CountingManners, Both<CountingDuties, Both<CountingClocks, Early<Counting<Sessions>>>>>>> as Watch>⟧.weighs s.parts };
 
     ghost bound = { λ tested taken past. 4 * burden tested past };
 

@@ -9,7 +9,7 @@ ghost use Rattle.mq_rules.specs.Steps.{turns};
 ghost use Rattle.mq_books.specs.Burden.{burden};
 
 use mq_books::{Early, Sessions};
-use mq_connections::{Conn, Duties, Manners, Shapes};
+use mq_connections::{Clocks, Conn, Duties, Manners, Shapes};
 use mq_log::Place3;
 use mq_rules::{Bare, Both, Brisk, Fate, Faults, Memory, Note, Tested, Watch};
 use std::alloc::Global;
@@ -17,7 +17,7 @@ use std::alloc::Global;
 /// Watches all statements, and counts nothing: W, C and the further statements as the events come,
 /// and those on sessions once their connection is decided.
 pub struct PlainWatchers {
-    parts: Both<Shapes, Both<Conn, Both<Manners, Both<Duties, Early<Sessions>>>>>,
+    parts: Both<Shapes, Both<Conn, Both<Manners, Both<Duties, Both<Clocks, Early<Sessions>>>>>>,
 }
 
 // As a derived one, but a call of its own: what is to be freed is much, and else each function that
@@ -43,7 +43,10 @@ impl PlainWatchers {
                         Manners::new(alloc, tested),
                         Both::new(
                             Duties::new(alloc, tested),
-                            Early::new(alloc, tested, Sessions::new(alloc, tested)),
+                            Both::new(
+                                Clocks::new(tested),
+                                Early::new(alloc, tested, Sessions::new(alloc, tested)),
+                            ),
                         ),
                     ),
                 ),
@@ -55,18 +58,18 @@ impl PlainWatchers {
     pub fn latest_fate(&self) -> Option<Fate>
         ensures { (tested : TheTested) (taken : Option TheFate) (past : List TheSeen) → ⟦<PlainWatchers as Watch>⟧.agrees self.now tested taken past → result ≡ latest_fate tested.role past }
     {
-        self.parts.b.b.b.b.latest_fate()
+        self.parts.b.b.b.b.b.latest_fate()
     }
 }
 
 impl Watch for PlainWatchers {
-    ghost agrees = { λ s. ⟦<Both<Shapes, Both<Conn, Both<Manners, Both<Duties, Early<Sessions>>>>> as Watch>⟧.agrees s.parts };
+    ghost agrees = { λ s. ⟦<Both<Shapes, Both<Conn, Both<Manners, Both<Duties, Both<Clocks, Early<Sessions>>>>>> as Watch>⟧.agrees s.parts };
 
     ghost takes = { λ tested taken e past. IsOnConnection e past };
 
     ghost adds = { turns };
 
-    ghost weighs = { λ s. ⟦<Both<Shapes, Both<Conn, Both<Manners, Both<Duties, Early<Sessions>>>>> as Watch>⟧.weighs s.parts };
+    ghost weighs = { λ s. ⟦<Both<Shapes, Both<Conn, Both<Manners, Both<Duties, Both<Clocks, Early<Sessions>>>>>> as Watch>⟧.weighs s.parts };
 
     ghost bound = { λ tested taken past. 4 * burden tested past };
 

@@ -15,7 +15,8 @@ returns-clause-app c =
     let with_coverage = c.in_ok-arg-4.ensures.shape c.flag-3.ensures.local ∙ ap₂ with_rule with_summary c.flag-3.ensures.rule in
     let with_why = c.in_ok-arg-5.ensures.shape c.flag-4.ensures.local ∙ ap₂ with_rule with_coverage c.flag-4.ensures.rule in
     let with_all = c.in_ok-arg-6.ensures.shape c.flag-5.ensures.local ∙ ap₂ with_rule with_why c.flag-5.ensures.rule in
-    IfOk-weaker c.arg-7.result _ _ (λ r h. h.shape c.statements_option.ensures.local ∙ ap₂ with_rule with_all c.statements_option.ensures.rule) c.arg-7.ensures
+    let with_times = c.in_ok-arg-7.ensures.shape c.flag-6.ensures.local ∙ ap₂ with_rule with_all c.flag-6.ensures.rule in
+    IfOk-weaker c.arg-8.result _ _ (λ r h. h.shape c.statements_option.ensures.local ∙ ap₂ with_rule with_times c.statements_option.ensures.rule) c.arg-8.ensures
 
 pub returns-clause-local : goal.returns-clause-local
 returns-clause-local c =
@@ -26,4 +27,5 @@ returns-clause-local c =
     let with_coverage = c.in_ok-arg-4.ensures.globals ∙ ap₂ (λ x y. x || y) with_summary c.flag-3.ensures.local in
     let with_why = c.in_ok-arg-5.ensures.globals ∙ ap₂ (λ x y. x || y) with_coverage c.flag-4.ensures.local in
     let with_all = c.in_ok-arg-6.ensures.globals ∙ ap₂ (λ x y. x || y) with_why c.flag-5.ensures.local in
-    IfOk-weaker c.arg-7.result _ _ (λ r h. h.globals ∙ ap₂ (λ x y. x || y) with_all c.statements_option.ensures.local) c.arg-7.ensures
+    let with_times = c.in_ok-arg-7.ensures.globals ∙ ap₂ (λ x y. x || y) with_all c.flag-6.ensures.local in
+    IfOk-weaker c.arg-8.result _ _ (λ r h. h.globals ∙ ap₂ (λ x y. x || y) with_times c.statements_option.ensures.local) c.arg-8.ensures

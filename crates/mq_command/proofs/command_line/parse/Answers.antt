@@ -1,4 +1,4 @@
-use Rattle.std.proofs.Common.{ap, map, refl, sym, true≢false, Some, List, Option, ◌∙◌, inl, inr}
+use Rattle.std.proofs.Common.{ap, map, refl, sym, true≢false, Some, Option, ◌∙◌, inl, inr}
 use Rattle.std.proofs.lemmas.Result.{IfOk-weaker}
 use Rattle.clap.specs.Words.{Text}
 use Rattle.mq_command.specs.CommandLine.{explain_request, is_true}
@@ -23,9 +23,8 @@ returns-in-Some-clause-work g c =
     let asked = request_is_check words c.in-Ok.matches c.in-Some.check.now c.in-Ok.ensures.met (c.in-Some.ensures.found.0 refl) c.in-Some.ensures.rows in
     let coverage = c.is_true.ensures ∙ ap is_true c.get_str-in-Some.ensures in
     let why = c.is_true-in-Some.ensures ∙ ap is_true c.get_str-in-Some-2.ensures in
-    let further = c.is_true-in-Some-2.ensures ∙ ap is_true c.get_str-in-Some-3.ensures in
-    let list = c.get_str-in-Some-4.ensures in
-    IfOk-weaker c.check_task.result _ _ (λ work h. asked ∙ same_check (sym c.get_str.ensures) (sym c.form_in.ensures) (sym coverage) (sym why) (sym further) (sym list) ∙ ap Some (sym h)) c.check_task.ensures.work
+    let list = c.get_str-in-Some-3.ensures in
+    IfOk-weaker c.check_task.result _ _ (λ work h. asked ∙ same_check (sym c.get_str.ensures) (sym c.form_in.ensures) (sym coverage) (sym why) (sym c.scope_in.ensures) (sym list) ∙ ap Some (sym h)) c.check_task.ensures.work
 
 pub returns-in-Some-subcommand_matches-clause-work : goal.returns-in-Some-subcommand_matches-clause-work
 returns-in-Some-subcommand_matches-clause-work g c =
@@ -35,9 +34,8 @@ returns-in-Some-subcommand_matches-clause-work g c =
     let long = c.is_true-in-Some-subcommand_matches.ensures ∙ ap is_true c.get_str-in-Some-subcommand_matches-2.ensures in
     let faults = c.is_true-in-Some-subcommand_matches-2.ensures ∙ ap is_true c.get_str-in-Some-subcommand_matches-3.ensures in
     let around = c.get_str-in-Some-subcommand_matches-4.ensures in
-    let further = c.is_true-in-Some-subcommand_matches-3.ensures ∙ ap is_true c.get_str-in-Some-subcommand_matches-5.ensures in
     let asked = request_is_show words c.in-Ok.matches met.show.now c.in-Ok.ensures.met (met.ensures.found.0 refl) met.ensures.rows in
-    IfOk-weaker c.show_task.result _ _ (λ work h. asked ∙ same_show (sym given) (sym long) (sym faults) (sym around) (sym further) ∙ ap Some (sym h)) c.show_task.ensures.work
+    IfOk-weaker c.show_task.result _ _ (λ work h. asked ∙ same_show (sym given) (sym long) (sym faults) (sym around) (sym c.scope_in-in-Some-subcommand_matches.ensures) ∙ ap Some (sym h)) c.show_task.ensures.work
 
 pub returns-in-Some-subcommand_matches-2-clause-work : goal.returns-in-Some-subcommand_matches-2-clause-work
 returns-in-Some-subcommand_matches-2-clause-work g c =
@@ -53,10 +51,9 @@ returns-in-Some-subcommand_matches-3-clause-work g c =
     let words = map g.S.AsStr.text c.args.words.now in
     let met = c.in-Some-subcommand_matches-3 in
     let given = c.get_str-in-Some-subcommand_matches-3-2.ensures in
-    let further = c.is_true-in-Some-subcommand_matches-3-2.ensures ∙ ap is_true c.get_str-in-Some-subcommand_matches-3-3.ensures in
     let asked = request_is_rules words c.in-Ok.matches met.rules.now c.in-Ok.ensures.met (met.ensures.found.0 refl) met.ensures.rows in
-    let list = c.get_str-in-Some-subcommand_matches-3-4.ensures in
-    IfOk-weaker c.rules_task.result _ _ (λ work h. asked ∙ same_rules (sym given) (sym further) (sym list) ∙ ap Some (sym h)) c.rules_task.ensures.work
+    let list = c.get_str-in-Some-subcommand_matches-3-3.ensures in
+    IfOk-weaker c.rules_task.result _ _ (λ work h. asked ∙ same_rules (sym given) (sym c.scope_in-in-Some-subcommand_matches-3.ensures) (sym list) ∙ ap Some (sym h)) c.rules_task.ensures.work
 
 pub returns-in-Some-subcommand_matches-4-clause-work : goal.returns-in-Some-subcommand_matches-4-clause-work
 returns-in-Some-subcommand_matches-4-clause-work g c =
@@ -70,9 +67,9 @@ pub returns-in-Some-subcommand_matches-5-clause-work : goal.returns-in-Some-subc
 returns-in-Some-subcommand_matches-5-clause-work g c =
     let words = map g.S.AsStr.text c.args.words.now in
     let met = c.in-Some-subcommand_matches-5 in
-    let log = c.get_str-in-Some-subcommand_matches-5-2.ensures in
-    let made = c.get_str-in-Some-subcommand_matches-5-3.ensures in
-    let force = c.is_true-in-Some-subcommand_matches-5.ensures ∙ ap is_true c.get_str-in-Some-subcommand_matches-5-4.ensures in
+    let log = c.get_str-in-Some-subcommand_matches-5.ensures in
+    let made = c.get_str-in-Some-subcommand_matches-5-2.ensures in
+    let force = c.is_true-in-Some-subcommand_matches-5.ensures ∙ ap is_true c.get_str-in-Some-subcommand_matches-5-3.ensures in
     let asked = request_is_convert words c.in-Ok.matches met.convert.now c.in-Ok.ensures.met (met.ensures.found.0 refl) met.ensures.rows in
     IfOk-weaker c.convert_task.result _ _ (λ work h. asked ∙ same_convert (sym log) (sym made) (sym force) ∙ ap Some (sym h)) c.convert_task.ensures.work
 

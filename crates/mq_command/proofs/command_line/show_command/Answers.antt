@@ -13,7 +13,8 @@ returns-clause-app c =
     let with_long = c.in_ok-arg-2.ensures.shape c.flag.ensures.local ∙ ap₂ with_rule with_file c.flag.ensures.rule in
     let with_faults = c.in_ok-arg-3.ensures.shape c.flag-2.ensures.local ∙ ap₂ with_rule with_long c.flag-2.ensures.rule in
     let with_around = c.in_ok-arg-4.ensures.shape c.around_option.ensures.local ∙ ap₂ with_rule with_faults c.around_option.ensures.rule in
-    IfOk-weaker c.arg-5.result _ _ (λ r h. h.shape c.flag-3.ensures.local ∙ ap₂ with_rule with_around c.flag-3.ensures.rule) c.arg-5.ensures
+    let with_all = c.in_ok-arg-5.ensures.shape c.flag-3.ensures.local ∙ ap₂ with_rule with_around c.flag-3.ensures.rule in
+    IfOk-weaker c.arg-6.result _ _ (λ r h. h.shape c.flag-4.ensures.local ∙ ap₂ with_rule with_all c.flag-4.ensures.rule) c.arg-6.ensures
 
 pub returns-clause-local : goal.returns-clause-local
 returns-clause-local c =
@@ -22,4 +23,5 @@ returns-clause-local c =
     let with_long = c.in_ok-arg-2.ensures.globals ∙ ap₂ (λ x y. x || y) with_file c.flag.ensures.local in
     let with_faults = c.in_ok-arg-3.ensures.globals ∙ ap₂ (λ x y. x || y) with_long c.flag-2.ensures.local in
     let with_around = c.in_ok-arg-4.ensures.globals ∙ ap₂ (λ x y. x || y) with_faults c.around_option.ensures.local in
-    IfOk-weaker c.arg-5.result _ _ (λ r h. h.globals ∙ ap₂ (λ x y. x || y) with_around c.flag-3.ensures.local) c.arg-5.ensures
+    let with_all = c.in_ok-arg-5.ensures.globals ∙ ap₂ (λ x y. x || y) with_around c.flag-3.ensures.local in
+    IfOk-weaker c.arg-6.result _ _ (λ r h. h.globals ∙ ap₂ (λ x y. x || y) with_all c.flag-4.ensures.local) c.arg-6.ensures

@@ -1,6 +1,7 @@
 use Rattle.std.specs.Prelude.{IfOk, IfSome}
-use Rattle.std.proofs.Common.{◌≡◌, ℕ, Bool, List, [], ◌∙◌, ap, subst, sym}
+use Rattle.std.proofs.Common.{◌≡◌, ℕ, List, [], ◌∙◌, ap, subst, sym}
 use Rattle.std.proofs.lemmas.Result.{err_from_is_err_and}
+use Rattle.mq_rules.specs.declared.role.Further.{Further}
 use Rattle.mq_rules.specs.Notes.{tested_by}
 use Rattle.mq_choice.specs.Choices.{in_choice, wants_further}
 use Rattle.mq_judge.specs.declared.judge.Judge.{Judge}
@@ -22,7 +23,7 @@ feed_log-requires-clause-follows g c = (
   subst (λ (judge : Judge). Follows judge []) (sym c.new-telling.ensures) c.counting-judge.ensures.follows,
   told-nothing g.K.Before.further g.K.Before.told (g.P.Progress.told c.args.progress.now) c.requires.told,
   ap is_counting c.new-telling.ensures ∙ c.counting-judge.ensures.counts ∙ sym c.requires.counting,
-  ap (λ (judge : Judge). judge.further) c.new-telling.ensures ∙ c.counting-judge.ensures.further ∙ c.options.ensures.further ∙ c.has_further.ensures ∙ sym c.requires.further,
+  ap (λ (judge : Judge). judge.further) c.new-telling.ensures ∙ c.counting-judge.ensures.further ∙ c.options.ensures.further ∙ c.further.ensures ∙ sym c.requires.further,
 )
 
 pub returns-in_err-feed_log-clause-judges : goal.returns-in_err-feed_log-clause-judges
@@ -78,5 +79,5 @@ returns-clause-gaps g c =
     let found = c.finish_covered.ensures.gaps took.log (ap is_counting c.into_judge-judge.ensures ∙ counts ∙ c.requires.counting)
     (subst (λ (judge : Judge). Follows judge took.log) (sym c.into_judge-judge.ensures) took.followed.0) in
     whole-taken _ _ took.log (λ log. IfOk c.finish_covered.result (λ answer. IfSome answer.0.gaps (λ gaps. gaps.items ≡ unjudged_of (wants_further (in_choice c.args.choice)) log))) took.consumed took.ended
-    (subst (λ (b : Bool). IfOk c.finish_covered.result (λ answer. IfSome answer.0.gaps (λ gaps. gaps.items ≡ unjudged_of b took.log)))
+    (subst (λ (b : Further). IfOk c.finish_covered.result (λ answer. IfSome answer.0.gaps (λ gaps. gaps.items ≡ unjudged_of b took.log)))
     (ap (λ (judge : Judge). judge.further) c.into_judge-judge.ensures ∙ further ∙ c.requires.further) found)

@@ -19,7 +19,7 @@ feed_log-requires-clause-follows g c = (
   subst (λ (judge : Judge). Follows judge []) (sym c.new-telling.ensures) c.new-judge.ensures.follows,
   told-nothing g.K.Before.further g.K.Before.told (g.P.Progress.told c.args.progress.now) c.requires.told,
   ap is_counting c.new-telling.ensures ∙ c.new-judge.ensures.counts ∙ sym c.requires.counting,
-  ap (λ (judge : Judge). judge.further) c.new-telling.ensures ∙ c.new-judge.ensures.further ∙ c.options.ensures.further ∙ c.has_further.ensures ∙ sym c.requires.further,
+  ap (λ (judge : Judge). judge.further) c.new-telling.ensures ∙ c.new-judge.ensures.further ∙ c.options.ensures.further ∙ c.further.ensures ∙ sym c.requires.further,
 )
 
 pub returns-in_err-feed_log-clause-judges : goal.returns-in_err-feed_log-clause-judges

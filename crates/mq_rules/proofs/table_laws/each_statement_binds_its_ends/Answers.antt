@@ -1,4 +1,4 @@
-use Rattle.mq_rules.proofs.TableLaws.{client_bound, server_bound, ends_cited, releases_needed, further_on_request}
+use Rattle.mq_rules.proofs.TableLaws.{client_bound, server_bound, ends_cited, releases_needed, further_on_request, timed_on_times}
 use Rattle.mq_rules.proofs.table_laws.each_statement_binds_its_ends.Goals as goal
 
 pub returns-clause-client : goal.returns-clause-client
@@ -15,3 +15,6 @@ returns-clause-released c = releases_needed
 
 pub returns-clause-further : goal.returns-clause-further
 returns-clause-further c = further_on_request
+
+pub returns-clause-timed : goal.returns-clause-timed
+returns-clause-timed c = timed_on_times

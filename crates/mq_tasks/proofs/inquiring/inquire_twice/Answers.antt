@@ -1,5 +1,6 @@
-use Rattle.std.proofs.Common.{Bool, IfErr, IfSome, OnOk, subst, sym, ◌∙◌}
+use Rattle.std.proofs.Common.{IfErr, IfSome, OnOk, subst, sym, ◌∙◌}
 use Rattle.std.specs.FinMap as map
+use Rattle.mq_rules.specs.declared.role.Further.{Further}
 use Rattle.mq_tasks.specs.Inquiring.{IsExplained, StopsExplaining}
 use Rattle.mq_tasks.specs.Choosing.{chosen_as}
 use Rattle.mq_tasks.proofs.InquiringLemmas.{explaining_stops, inquiry_passes, inquiry_reasons, lacks_verdict, never_by_first, pass_stops, refusing_stops}
@@ -23,9 +24,9 @@ returns-else-is_empty-clause-faulty g c =
     inquiry_reasons (chosen_as c.args.wanted.choice) c.args.wanted.form c.args.releases c.in-Ok.role c.in-Ok.verdict.events c.in-Ok.verdict.faults (g.R.Read.remaining c.args.judged.now) (g.S.Read.remaining c.args.again.now)
     (g.W.Write.contents c.args.output.now) (g.W.Write.contents c.explain.new.output) c.explain.result (sym c.is_empty.ensures ∙ c.if-is_empty.false)
     c.in-Ok.ensures
-    (subst (λ (b : Bool). OnOk c.explain.result (IfSome (g.S.Read.remaining c.args.again.now) (λ log. IsExplained (chosen_as c.args.wanted.choice) c.args.wanted.form
-    (record { role = c.in-Ok.role; releases = c.args.releases; further = b }) c.in-Ok.verdict.events (map.entries c.in-Ok.verdict.faults) log
-    (g.W.Write.contents c.args.output.now) (g.W.Write.contents c.explain.new.output)))) c.has_further.ensures c.explain.ensures.faulty)
+    (subst (λ (f : Further). OnOk c.explain.result (IfSome (g.S.Read.remaining c.args.again.now) (λ log. IsExplained (chosen_as c.args.wanted.choice) c.args.wanted.form
+    (record { role = c.in-Ok.role; releases = c.args.releases; further = f }) c.in-Ok.verdict.events (map.entries c.in-Ok.verdict.faults) log
+    (g.W.Write.contents c.args.output.now) (g.W.Write.contents c.explain.new.output)))) c.further.ensures c.explain.ensures.faulty)
 
 pub returns-else-is_empty-clause-stops : goal.returns-else-is_empty-clause-stops
 returns-else-is_empty-clause-stops g c =
@@ -33,9 +34,9 @@ returns-else-is_empty-clause-stops g c =
     (g.R.Read.remaining c.judge_reader.new.reader) (g.S.Read.remaining c.explain.new.again)
     (g.W.Write.contents c.args.output.now) (g.W.Write.contents c.explain.new.output) c.explain.result (sym c.is_empty.ensures ∙ c.if-is_empty.false)
     c.in-Ok.ensures
-    (subst (λ (b : Bool). IfErr c.explain.result (λ lapse. IfSome (g.S.Read.remaining c.args.again.now) (λ log. StopsExplaining (chosen_as c.args.wanted.choice) c.args.wanted.form
-    (record { role = c.in-Ok.role; releases = c.args.releases; further = b }) c.in-Ok.verdict.events (map.entries c.in-Ok.verdict.faults) lapse log (g.S.Read.remaining c.explain.new.again)
-    (g.W.Write.contents c.args.output.now) (g.W.Write.contents c.explain.new.output)))) c.has_further.ensures c.explain.ensures.stops)
+    (subst (λ (f : Further). IfErr c.explain.result (λ lapse. IfSome (g.S.Read.remaining c.args.again.now) (λ log. StopsExplaining (chosen_as c.args.wanted.choice) c.args.wanted.form
+    (record { role = c.in-Ok.role; releases = c.args.releases; further = f }) c.in-Ok.verdict.events (map.entries c.in-Ok.verdict.faults) lapse log (g.S.Read.remaining c.explain.new.again)
+    (g.W.Write.contents c.args.output.now) (g.W.Write.contents c.explain.new.output)))) c.further.ensures c.explain.ensures.stops)
 
 pub returns-in-Err-clause-stops : goal.returns-in-Err-clause-stops
 returns-in-Err-clause-stops g c =

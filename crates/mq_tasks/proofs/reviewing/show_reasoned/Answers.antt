@@ -16,7 +16,7 @@ returns-in-Ok-reasons_for-clause-passed g c =
     (judged_without c.by-choice.result c.args.plan.further (g.R.Read.remaining c.args.judged.now) c.in-Ok.role c.in-Ok.verdict.events c.in-Ok.verdict.faults c.by-choice.ensures.chosen c.in-Ok.ensures)
     (rw c.as_slice.ensures.value (found_without (λ (choice : Chosen) (tested : Tested). IfSome (g.S.Read.remaining c.args.again.now)
     (λ log. AreFoundReasons choice tested c.in-Ok.verdict.events (map.entries c.in-Ok.verdict.faults) log c.in-Ok-reasons_for.reasons.items))
-    c.by-choice.result c.args.plan.further c.args.releases c.has_further.result c.in-Ok.role c.by-choice.ensures.chosen c.by-choice.ensures.unlisted c.has_further.ensures c.in-Ok-reasons_for.ensures.found)) c.show_verdict.ensures.passed
+    c.by-choice.result c.args.plan.further c.args.releases c.further.result c.in-Ok.role c.by-choice.ensures.chosen c.by-choice.ensures.unlisted c.further.ensures c.in-Ok-reasons_for.ensures.found)) c.show_verdict.ensures.passed
 
 pub returns-in-Ok-reasons_for-clause-refused : goal.returns-in-Ok-reasons_for-clause-refused
 returns-in-Ok-reasons_for-clause-refused g c =
@@ -26,7 +26,7 @@ returns-in-Ok-reasons_for-clause-refused g c =
     (judged_without c.by-choice.result c.args.plan.further (g.R.Read.remaining c.args.judged.now) c.in-Ok.role c.in-Ok.verdict.events c.in-Ok.verdict.faults c.by-choice.ensures.chosen c.in-Ok.ensures)
     (rw c.as_slice.ensures.value (found_without (λ (choice : Chosen) (tested : Tested). IfSome (g.S.Read.remaining c.args.again.now)
     (λ log. AreFoundReasons choice tested c.in-Ok.verdict.events (map.entries c.in-Ok.verdict.faults) log c.in-Ok-reasons_for.reasons.items))
-    c.by-choice.result c.args.plan.further c.args.releases c.has_further.result c.in-Ok.role c.by-choice.ensures.chosen c.by-choice.ensures.unlisted c.has_further.ensures c.in-Ok-reasons_for.ensures.found)) c.show_verdict.ensures.refused
+    c.by-choice.result c.args.plan.further c.args.releases c.further.result c.in-Ok.role c.by-choice.ensures.chosen c.by-choice.ensures.unlisted c.further.ensures c.in-Ok-reasons_for.ensures.found)) c.show_verdict.ensures.refused
 
 pub returns-in-Ok-reasons_for-clause-stops : goal.returns-in-Ok-reasons_for-clause-stops
 returns-in-Ok-reasons_for-clause-stops g c =
@@ -37,7 +37,7 @@ returns-in-Ok-reasons_for-clause-stops g c =
     (judged_without c.by-choice.result c.args.plan.further (g.R.Read.remaining c.args.judged.now) c.in-Ok.role c.in-Ok.verdict.events c.in-Ok.verdict.faults c.by-choice.ensures.chosen c.in-Ok.ensures)
     (rw c.as_slice.ensures.value (found_without (λ (choice : Chosen) (tested : Tested). IfSome (g.S.Read.remaining c.args.again.now)
     (λ log. AreFoundReasons choice tested c.in-Ok.verdict.events (map.entries c.in-Ok.verdict.faults) log c.in-Ok-reasons_for.reasons.items))
-    c.by-choice.result c.args.plan.further c.args.releases c.has_further.result c.in-Ok.role c.by-choice.ensures.chosen c.by-choice.ensures.unlisted c.has_further.ensures c.in-Ok-reasons_for.ensures.found)) c.show_verdict.ensures.stops
+    c.by-choice.result c.args.plan.further c.args.releases c.further.result c.in-Ok.role c.by-choice.ensures.chosen c.by-choice.ensures.unlisted c.further.ensures c.in-Ok-reasons_for.ensures.found)) c.show_verdict.ensures.stops
 
 pub returns-in-Ok-clause-stops : goal.returns-in-Ok-clause-stops
 returns-in-Ok-clause-stops g c = λ is.
@@ -48,7 +48,7 @@ returns-in-Ok-clause-stops g c = λ is.
     (judged_without c.by-choice.result c.args.plan.further (g.R.Read.remaining c.args.judged.now) c.in-Ok.role c.in-Ok.verdict.events c.in-Ok.verdict.faults c.by-choice.ensures.chosen c.in-Ok.ensures)
     (found_without (λ (choice : Chosen) (tested : Tested). IfSome (g.S.Read.remaining c.args.again.now)
     (λ log. LacksReasons choice tested c.in-Ok.verdict.events (map.entries c.in-Ok.verdict.faults) c.in-Err.lapse log (g.S.Read.remaining c.reasons_for.new.again)))
-    c.by-choice.result c.args.plan.further c.args.releases c.has_further.result c.in-Ok.role c.by-choice.ensures.chosen c.by-choice.ensures.unlisted c.has_further.ensures c.in-Err.ensures.lacking) is
+    c.by-choice.result c.args.plan.further c.args.releases c.further.result c.in-Ok.role c.by-choice.ensures.chosen c.by-choice.ensures.unlisted c.further.ensures c.in-Err.ensures.lacking) is
 
 pub returns-in-Err-Refused-clause-stops : goal.returns-in-Err-Refused-clause-stops
 returns-in-Err-Refused-clause-stops g c = λ _.
@@ -64,4 +64,4 @@ returns-in-Err-Memory-clause-stops g c = λ _.
     (rw c.in-Err-Memory.field-0-is at c.in-Err-Memory.ensures)
 
 pub reasons_for-requires : goal.reasons_for-requires
-reasons_for-requires g c = c.has_further.ensures
+reasons_for-requires g c = c.further.ensures

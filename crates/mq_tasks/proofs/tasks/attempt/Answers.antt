@@ -40,14 +40,14 @@ returns-in-Packet-clause-stops g c =
 
 pub returns-in-Rules-clause-stops : goal.returns-in-Rules-clause-stops
 returns-in-Rules-clause-stops g c =
-    let asked : c.args.task.now ≡ Rules c.in-Rules.role c.in-Rules.further c.in-Rules.statements = search rules in
+    let asked : c.args.task.now ≡ Rules c.in-Rules.role c.in-Rules.scope c.in-Rules.statements = search rules in
     let input = g.R.Read.remaining c.args.input.now in
     let P : Task → Type 0 = λ task. IfErr c.print_listed.result (StopsAttempt task input input (g.W.Write.contents c.args.output.now) (g.W.Write.contents c.print_listed.new.output)) in
     subst P (sym asked) (c.print_listed.ensures.stops input input)
 
 pub returns-in-Check-clause-stops : goal.returns-in-Check-clause-stops
 returns-in-Check-clause-stops g c =
-    let asked : c.args.task.now ≡ Check c.in-Check.file c.in-Check.form c.in-Check.coverage c.in-Check.further c.in-Check.statements = search rules in
+    let asked : c.args.task.now ≡ Check c.in-Check.file c.in-Check.form c.in-Check.coverage c.in-Check.scope c.in-Check.statements = search rules in
     let P : Task → Type 0 = λ task. IfErr c.check_chosen.result (StopsAttempt task (g.R.Read.remaining c.args.input.now) (g.R.Read.remaining c.check_chosen.new.input)
     (g.W.Write.contents c.args.output.now) (g.W.Write.contents c.check_chosen.new.output)) in
     subst P (sym asked) (c.check_chosen.ensures.stops c.in-Check.file)

@@ -10,12 +10,12 @@ use Rattle.mq_tasks.proofs.tasks.check_chosen.Goals as goal
 
 pub returns-in-Ok-check-clause-passed : goal.returns-in-Ok-check-clause-passed
 returns-in-Ok-check-clause-passed g c = λ is.
-    by_choice c.args.further c.args.statements.now (chosen_as c.in-Ok.choice) (λ choice. IfSome (g.R.Read.remaining c.args.input.now) (λ log. IsJudged log × IsFaultless choice.has log))
+    by_choice c.args.scope c.args.statements.now (chosen_as c.in-Ok.choice) (λ choice. IfSome (g.R.Read.remaining c.args.input.now) (λ log. IsJudged log × IsFaultless choice.has log))
     c.in-Ok.ensures.ok (c.in-Ok-check.ensures.passed is)
 
 pub returns-in-Ok-check-clause-faulty : goal.returns-in-Ok-check-clause-faulty
 returns-in-Ok-check-clause-faulty g c = λ is.
-    by_choice c.args.further c.args.statements.now (chosen_as c.in-Ok.choice) (λ choice. IfSome (g.R.Read.remaining c.args.input.now) (λ log. IsJudged log × (¬ IsFaultless choice.has log)))
+    by_choice c.args.scope c.args.statements.now (chosen_as c.in-Ok.choice) (λ choice. IfSome (g.R.Read.remaining c.args.input.now) (λ log. IsJudged log × (¬ IsFaultless choice.has log)))
     c.in-Ok.ensures.ok (c.in-Ok-check.ensures.faulty is)
 
 pub returns-in-Ok-check-clause-reported : goal.returns-in-Ok-check-clause-reported
@@ -23,7 +23,7 @@ returns-in-Ok-check-clause-reported g c = λ is.
     let old = g.W.Write.contents c.args.output.now in
     let new = g.W.Write.contents c.check.new.output in
     let P : Form → Type 0 = λ form. IfSome (g.R.Read.remaining c.args.input.now) (λ log. Appends old new (report_for (chosen_as c.in-Ok.choice) form c.args.coverage log)) in
-    by_choice c.args.further c.args.statements.now (chosen_as c.in-Ok.choice)
+    by_choice c.args.scope c.args.statements.now (chosen_as c.in-Ok.choice)
     (λ choice. IfSome (g.R.Read.remaining c.args.input.now) (λ log. Appends old new (report_for choice (form_of c.args.form) c.args.coverage log)))
     c.in-Ok.ensures.ok (subst P c.form_of.ensures (c.in-Ok-check.ensures.reported is))
 
@@ -34,10 +34,10 @@ returns-in-Err-check-clause-stops g c = λ file.
     let new = g.W.Write.contents c.check.new.output in
     let P : Form → Type 0 = λ form. IfSome (g.R.Read.remaining c.args.input.now)
     (λ log. StopsCheck (chosen_as c.in-Ok.choice) form c.args.coverage c.in-Err-check.failure log left old new) in
-    check_fails file c.args.form c.args.coverage c.args.further c.args.statements.now (chosen_as c.in-Ok.choice) c.in-Err-check.failure (g.R.Read.remaining c.args.input.now)
+    check_fails file c.args.form c.args.coverage c.args.scope c.args.statements.now (chosen_as c.in-Ok.choice) c.in-Err-check.failure (g.R.Read.remaining c.args.input.now)
     left old new c.in-Ok.ensures.ok (subst P c.form_of.ensures c.in-Err-check.ensures.stops)
 
 pub returns-in-Err-clause-stops : goal.returns-in-Err-clause-stops
 returns-in-Err-clause-stops g c = λ file.
-    check_misused file c.args.form c.args.coverage c.args.further c.args.statements.now c.in-Err.misuse (g.R.Read.remaining c.args.input.now) (g.R.Read.remaining c.args.input.now)
+    check_misused file c.args.form c.args.coverage c.args.scope c.args.statements.now c.in-Err.misuse (g.R.Read.remaining c.args.input.now) (g.R.Read.remaining c.args.input.now)
     (g.W.Write.contents c.args.output.now) c.in-Err.ensures.err

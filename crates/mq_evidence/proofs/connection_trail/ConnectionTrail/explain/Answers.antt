@@ -25,7 +25,7 @@ loop-key-preserved c = λ tested past trail k r.
     let ev : Rule → Evidence = λ rule. found (reason tested.role rule) None None (newest (seen c.args.at c.args.note.now) past) in
     let f : FaultKey × Fault = (c.in-Some.key.now, c.in-Some.field-0-1.now) in
     explained-rest (is_on_connection tested.role) ev f c.next.new.self (found_at c.loop-key.findings k r) (found_at c.loop-key.findings k r) k r
-    (explained-none (is_on_connection tested.role) ev f (found_at c.loop-key.findings k r) k r (sym c.in_default.is ∙ c.find.ensures tested c.args.at past trail))
+    (explained-none (is_on_connection tested.role) ev f (found_at c.loop-key.findings k r) k r (sym c.in_default.is ∙ c.find.ensures tested past trail))
     ∙ ap (λ fs. option_or (only (list_any (is_explained (is_on_connection tested.role) k r) fs) (Some (ev r))) (found_at c.loop-key.findings k r)) (sym c.in-Some.ensures.steps)
     ∙ c.loop-key.invariant tested past trail k r
 
@@ -34,7 +34,7 @@ loop-key-preserved-in-Continue-1 c = λ tested past trail k r.
     let ev : Rule → Evidence = λ rule. found (reason tested.role rule) None None (newest (seen c.args.at c.args.note.now) past) in
     let f : FaultKey × Fault = (c.in-Some.key.now, c.in-Some.field-0-1.now) in
     explained-rest (is_on_connection tested.role) ev f c.next.new.self (found_at c.loop-key.findings k r) (found_at c.add.new.self k r) k r
-    (c.in_ok-add.ensures k r ∙ explained-more (is_on_connection tested.role) ev f c.in-Some-find.evidence (found_at c.loop-key.findings k r) k r (sym c.in-Some-find.is ∙ c.find.ensures tested c.args.at past trail))
+    (c.in_ok-add.ensures k r ∙ explained-more (is_on_connection tested.role) ev f c.in-Some-find.evidence (found_at c.loop-key.findings k r) k r (sym c.in-Some-find.is ∙ c.find.ensures tested past trail))
     ∙ ap (λ fs. option_or (only (list_any (is_explained (is_on_connection tested.role) k r) fs) (Some (ev r))) (found_at c.loop-key.findings k r)) (sym c.in-Some.ensures.steps)
     ∙ c.loop-key.invariant tested past trail k r
 

@@ -18,4 +18,5 @@ returns c = λ tested past is trail.
       same_role = trail.same_role;
       handshake_is = subst (λ t. IsHandshake c.take.new.self tested.role t) turned (c.take.ensures tested.role m s comes trail.handshake_is);
       accepted_is = c.take-2.ensures tested.role m comes trail.accepted_is;
+      hearing_is = c.take-3.ensures tested.role past is trail.hearing_is;
     }

@@ -8,17 +8,17 @@ use Rattle.mq_watchers.proofs.JudgingLaws.{all-turns, turns_by_all}
 use Rattle.mq_watchers.proofs.watchers.counting.CountingWatchersBrisk.step_bare.Goals as goal
 
 pub returns-clause-agrees : goal.returns-clause-agrees
-returns-clause-agrees c = λ tested taken past follows here agrees. c.in_ok-step_bare.ensures.agrees tested taken past follows (tt, (here, (tt, (here, tt)))) agrees
+returns-clause-agrees c = λ tested taken past follows here agrees. c.in_ok-step_bare.ensures.agrees tested taken past follows (tt, (here, (tt, (here, (tt, tt))))) agrees
 
 pub returns-clause-grows : goal.returns-clause-grows
 returns-clause-grows c = λ tested taken past follows here agrees.
     let e = seen c.args.at (note_of_bare c.args.bare) in
     gains_same (turns_by_all tested e past) (turns tested e past) tested (e ∷ past) (length past + 1) c.args.faults.now c.step_bare.new.faults (all-turns tested e past)
-    (c.in_ok-step_bare.ensures.grows tested taken past follows (tt, (here, (tt, (here, tt)))) agrees)
+    (c.in_ok-step_bare.ensures.grows tested taken past follows (tt, (here, (tt, (here, (tt, tt))))) agrees)
 
 pub returns-in_err-step_bare-clause-memory : goal.returns-in_err-step_bare-clause-memory
 returns-in_err-step_bare-clause-memory c =
     on_err c.from_residual.result _ (λ tested taken past follows here agrees.
     let e = seen c.args.at (note_of_bare c.args.bare) in
     within_same (turns_by_all tested e past) (turns tested e past) tested (e ∷ past) (length past + 1) c.args.faults.now c.step_bare.new.faults (all-turns tested e past)
-    (c.in_err-step_bare.ensures.memory tested taken past follows (tt, (here, (tt, (here, tt)))) agrees))
+    (c.in_err-step_bare.ensures.memory tested taken past follows (tt, (here, (tt, (here, (tt, tt))))) agrees))

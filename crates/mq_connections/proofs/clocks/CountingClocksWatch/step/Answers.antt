@@ -1,0 +1,32 @@
+use Rattle.std.proofs.Common.{◌∷◌, sym, ◌∙◌}
+use Rattle.mq_rules.specs.Connections.{latest_fate}
+use Rattle.mq_rules.specs.Under.{seen}
+use Rattle.mq_rules.proofs.Exports.{on_err}
+use Rattle.mq_connections.proofs.ClocksLaws.{clock-gains, clock-within, clocks-next, counts-next, counts-untimed, untimed-gains, untimed-stays}
+use Rattle.mq_connections.proofs.clocks.CountingClocksWatch.step.Goals as goal
+
+pub returns-then-not-self-clause-agrees : goal.returns-then-not-self-clause-agrees
+returns-then-not-self-clause-agrees c = λ tested taken past follows takes here.
+    let e = seen c.args.at c.args.note.now in
+    let off = c.if-not-self.true in
+    (untimed-stays c.args.self.now.clocks tested taken (latest_fate tested.role (e ∷ past)) e past off here.0, counts-untimed c.args.self.now.places tested e past (sym here.0.same_times ∙ off) here.1)
+
+pub returns-then-not-self-clause-grows : goal.returns-then-not-self-clause-grows
+returns-then-not-self-clause-grows c = λ tested taken past follows takes here.
+    untimed-gains tested (seen c.args.at c.args.note.now) past c.args.faults.now (sym here.0.same_times ∙ c.if-not-self.true)
+
+pub returns-in_err-take-clause-memory : goal.returns-in_err-take-clause-memory
+returns-in_err-take-clause-memory c =
+    on_err c.from_residual.result _ (λ tested taken past follows takes here.
+    clock-within c.args.self.now.clocks tested taken (seen c.args.at c.args.note.now) past c.args.faults.now c.take.new.faults c.if-not-self.false follows here.0 c.in_err-take.ensures.memory)
+
+pub returns-clause-agrees : goal.returns-clause-agrees
+returns-clause-agrees c = λ tested taken past follows takes here.
+    let e = seen c.args.at c.args.note.now in (
+      clocks-next c.args.self.now.clocks c.take.new.self tested taken (latest_fate tested.role (e ∷ past)) e past here.0 c.in_ok-take.ensures.kept,
+      counts-next c.args.self.now.clocks c.args.self.now.places c.count.new.self tested taken e past c.if-not-self.false follows here.0 here.1 (record { k01 = c.count.ensures.k01; k02 = c.count.ensures.k02 }),
+    )
+
+pub returns-clause-grows : goal.returns-clause-grows
+returns-clause-grows c = λ tested taken past follows takes here.
+    clock-gains c.args.self.now.clocks tested taken (seen c.args.at c.args.note.now) past c.args.faults.now c.take.new.faults c.if-not-self.false follows here.0 c.in_ok-take.ensures.ok
