@@ -48,6 +48,31 @@ fn explains_each_statement(rt: HostRuntime) {
     }
 }
 
+// Whether a statement's text says by which option it is judged, if that isn't always done.
+fn says_how_it_is_asked_for(rule: Rule) -> bool {
+    let text = explanation(rule);
+    let is_on_request = rule.is_further() && !rule.is_on_times();
+    text.contains("--all") == is_on_request && text.contains("--times") == rule.is_on_times()
+}
+
+#[test]
+fn says_how_further_statements_are_asked_for(rt: HostRuntime) {
+    for rule in Rule::all() {
+        assert!(rt; says_how_it_is_asked_for(*rule), "{rule:?}");
+    }
+}
+
+// Two ends of a connection that is silent for too long.
+#[test]
+fn explains_the_keep_alive_to_both_ends(rt: HostRuntime) {
+    let client =
+        "K01 client MQTT-3.1.2-20,MQTT-3.2.2-21\nA client isn't silent for longer than the Keep Alive.\n\nWhy: ";
+    let server =
+        "K02 server MQTT-3.1.2-22,MQTT-3.2.2-22\nA server closes the connection of a client that is silent.\n\nWhy: ";
+    assert!(rt; explanation(Rule::K01).starts_with(client));
+    assert!(rt; explanation(Rule::K02).starts_with(server));
+}
+
 // Two statements that are easily taken for one another.
 #[test]
 fn explains_resends_on_a_connection_and_after_a_pubrel(rt: HostRuntime) {

@@ -3,4 +3,5 @@
 mod converting;
 mod coverage;
 mod programs;
+mod times;
 mod troubles;

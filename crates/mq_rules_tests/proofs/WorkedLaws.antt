@@ -11,7 +11,7 @@ use Rattle.mq_rules.specs.declared.note.Seen.{Seen}
 use Rattle.mq_rules.specs.declared.packet_note.PacketFields.{PacketFields}
 use Rattle.mq_rules.specs.declared.packet_note.PacketFields.TheVariants as fields
 use Rattle.mq_rules.specs.Statements.{fails}
-use Rattle.mq_rules.specs.Rules.{found_line, lines, line_of}
+use Rattle.mq_rules.specs.Rules.{found_line, lines, line_of, none_further}
 use Rattle.mq_rules.specs.Identifiers.{breaks_S01}
 use Rattle.mq_rules.specs.Exchanges.{shows_R}
 use Rattle.mq_rules.specs.Connections.{is_binding, gives_fate}
@@ -23,10 +23,10 @@ abbrev pub gets : PacketFields → Note
 gets f = notes.Recv (items.Packet (record { size = 9; has_reason_string = false; has_user_property = false; fields = f }))
 
 abbrev pub connect : PacketFields
-connect = fields.Connect (record { clean_start = true; is_unnamed = false; session_expiry = Some 60; request_problem_information = None; request_response_information = None; receive_maximum = None; topic_alias_maximum = None; maximum_packet_size = None; will = None; has_authentication_method = false }) None
+connect = fields.Connect (record { clean_start = true; is_unnamed = false; session_expiry = Some 60; request_problem_information = None; request_response_information = None; receive_maximum = None; topic_alias_maximum = None; maximum_packet_size = None; keep_alive = 0; will = None; has_authentication_method = false }) None
 
 abbrev pub connack : Bool → PacketFields
-connack present = fields.Connack (record { session_present = present; code = 0; session_expiry = None; receive_maximum = None; topic_alias_maximum = None; maximum_qos = None; retain_available = None; wildcard_subscription_available = None; subscription_identifier_available = None; shared_subscription_available = None; maximum_packet_size = None; has_assigned_identifier = false; has_response_information = false; has_authentication_method = false }) None
+connack present = fields.Connack (record { session_present = present; code = 0; session_expiry = None; receive_maximum = None; topic_alias_maximum = None; maximum_qos = None; retain_available = None; wildcard_subscription_available = None; subscription_identifier_available = None; shared_subscription_available = None; maximum_packet_size = None; server_keep_alive = None; has_assigned_identifier = false; has_response_information = false; has_authentication_method = false }) None
 
 abbrev pub publish : Bool → ℕ → PacketFields
 publish dup i = fields.Publish (record { identifier = Some i; qos = quality.AtLeastOnce; duplicate = dup; retain = false; topic = 97 ∷ []; topic_alias = None; uses_alias = false; has_message_expiry = false; has_subscription_identifier = false })
@@ -37,7 +37,7 @@ placed k [] = []
 placed k (n ∷ ns) = record { place = record { position = k; record_no = k; moment = 0 }; note = n } ∷ placed (k - 1) ns
 
 abbrev pub client : Tested
-client = record { role = Client; releases = true; further = false }
+client = record { role = Client; releases = true; further = none_further }
 
 -- two openers under one identifier
 abbrev pub twice : List Seen

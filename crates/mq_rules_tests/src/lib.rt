@@ -10,3 +10,4 @@ mod counted_by_identifier;
 mod worked;
 mod worked_filters;
 mod worked_places;
+mod worked_times;

@@ -7,3 +7,4 @@ mod memory;
 mod plain;
 mod statements;
 mod suite;
+mod times;

@@ -1,5 +1,5 @@
 //! The words of each task, of help, and of misuse.
-use mq_command::{EarlyExit, Form, Inquiry, Review, Task, Work, parse};
+use mq_command::{EarlyExit, Form, Inquiry, Review, Scope, Task, Work, parse};
 use std::alloc::Global;
 use std::process::Abort;
 use std::test::Fail;
@@ -17,33 +17,33 @@ fn task_of(alloc: Global, words: &[&str]) -> Result<Task, EarlyExit> {
 }
 
 // Whether these words ask for a check of this file, or of the input, with a report in this form,
-// with coverage or without, and with the further statements or without.
+// with coverage or without, and by these statements.
 fn is_check_with(
     alloc: Global,
     words: &[&str],
     wanted: Option<&str>,
-    report: (Form, bool, bool),
+    report: (Form, bool, Scope),
 ) -> Result<bool, EarlyExit> {
     let Task::Check {
         file,
         form,
         coverage,
-        further,
+        scope,
         statements: None,
     } = task_of(alloc, words)?
     else {
         return Ok(false);
     };
     let path = file.as_ref().map(|path| path.as_str());
-    Ok(path == wanted && (form, coverage, further) == report)
+    Ok(path == wanted && (form, coverage, scope) == report)
 }
 
-// The words of a check, its file, and its report: its form, and whether it has coverage and the
-// further statements.
+// The words of a check, its file, and its report: its form, whether it has coverage, and by which
+// statements it is.
 type Check = (
     &'static [&'static str],
     Option<&'static str>,
-    (Form, bool, bool),
+    (Form, bool, Scope),
 );
 
 // Asserts that the words of each row ask for its check.
@@ -58,46 +58,50 @@ fn assert_checks(rt: &(impl Abort + AllocGlobal), rows: &[Check]) -> Result<(), 
 }
 
 static CHECKS: [Check; 9] = [
-    (&["mqjudge", "check"], None, (Form::Text, false, false)),
+    (
+        &["mqjudge", "check"],
+        None,
+        (Form::Text, false, Scope::Usual),
+    ),
     (
         &["mqjudge", "check", "a.log"],
         Some("a.log"),
-        (Form::Text, false, false),
+        (Form::Text, false, Scope::Usual),
     ),
     (
         &["mqjudge", "check", "--", "--help"],
         Some("--help"),
-        (Form::Text, false, false),
+        (Form::Text, false, Scope::Usual),
     ),
     (
         &["mqjudge", "check", "--json"],
         None,
-        (Form::Json, false, false),
+        (Form::Json, false, Scope::Usual),
     ),
     (
         &["mqjudge", "check", "--summary", "a.log"],
         Some("a.log"),
-        (Form::Summary, false, false),
+        (Form::Summary, false, Scope::Usual),
     ),
     (
         &["mqjudge", "check", "--summary", "a.log", "--json"],
         Some("a.log"),
-        (Form::Json, false, false),
+        (Form::Json, false, Scope::Usual),
     ),
     (
         &["mqjudge", "check", "--coverage"],
         None,
-        (Form::Text, true, false),
+        (Form::Text, true, Scope::Usual),
     ),
     (
         &["mqjudge", "check", "a.log", "--coverage", "--json"],
         Some("a.log"),
-        (Form::Json, true, false),
+        (Form::Json, true, Scope::Usual),
     ),
     (
         &["mqjudge", "check", "--coverage", "--summary", "-"],
         Some("-"),
-        (Form::Summary, true, false),
+        (Form::Summary, true, Scope::Usual),
     ),
 ];
 
@@ -106,26 +110,46 @@ fn reads_the_words_of_a_check(rt: HostRuntime) -> Result<(), Fail> {
     assert_checks(&rt, &CHECKS)
 }
 
-static CHECKS_OF_ALL: [Check; 4] = [
+static CHECKS_OF_ALL: [Check; 8] = [
     (
         &["mqjudge", "check", "--all"],
         None,
-        (Form::Text, false, true),
+        (Form::Text, false, Scope::All),
     ),
     (
         &["mqjudge", "check", "--all", "a.log", "--json"],
         Some("a.log"),
-        (Form::Json, false, true),
+        (Form::Json, false, Scope::All),
     ),
     (
         &["mqjudge", "check", "--coverage", "--summary", "--all", "-"],
         Some("-"),
-        (Form::Summary, true, true),
+        (Form::Summary, true, Scope::All),
     ),
     (
         &["mqjudge", "check", "--", "--all"],
         Some("--all"),
-        (Form::Text, false, false),
+        (Form::Text, false, Scope::Usual),
+    ),
+    (
+        &["mqjudge", "check", "--times", "a.log"],
+        Some("a.log"),
+        (Form::Text, false, Scope::Timed),
+    ),
+    (
+        &["mqjudge", "check", "--all", "--times", "--coverage"],
+        None,
+        (Form::Text, true, Scope::Timed),
+    ),
+    (
+        &["mqjudge", "check", "--times", "--json", "--all"],
+        None,
+        (Form::Json, false, Scope::Timed),
+    ),
+    (
+        &["mqjudge", "check", "--", "--times"],
+        Some("--times"),
+        (Form::Text, false, Scope::Usual),
     ),
 ];
 
@@ -134,45 +158,50 @@ fn reads_whether_a_check_is_of_all_statements(rt: HostRuntime) -> Result<(), Fai
     assert_checks(&rt, &CHECKS_OF_ALL)
 }
 
-// Whether these words ask for the statements that bind this end, or all, with the further ones or
-// without.
+// Whether these words ask for those of these statements that bind this end, or for all of them.
 fn is_rules_of(
     alloc: Global,
     words: &[&str],
     wanted: Option<&str>,
-    is_all: bool,
+    asked: Scope,
 ) -> Result<bool, EarlyExit> {
     match task_of(alloc, words)? {
         Task::Rules {
             role,
-            further,
+            scope,
             statements: None,
-        } => { Ok(role.as_ref().map(|role| role.as_str()) == wanted && further == is_all) }
+        } => { Ok(role.as_ref().map(|role| role.as_str()) == wanted && scope == asked) }
         _ => Ok(false),
     }
 }
 
-// The words of a list of statements, its end, and whether it has the further ones.
-static LISTS: [(&[&str], Option<&str>, bool); 4] = [
-    (&["mqjudge", "rules"], None, false),
-    (&["mqjudge", "rules", "--all"], None, true),
+// The words of a list of statements, its end, and which statements it is of.
+static LISTS: [(&[&str], Option<&str>, Scope); 6] = [
+    (&["mqjudge", "rules"], None, Scope::Usual),
+    (&["mqjudge", "rules", "--all"], None, Scope::All),
     (
         &["mqjudge", "rules", "--role", "client"],
         Some("client"),
-        false,
+        Scope::Usual,
     ),
     (
         &["mqjudge", "rules", "--all", "--role", "server"],
         Some("server"),
-        true,
+        Scope::All,
+    ),
+    (&["mqjudge", "rules", "--times"], None, Scope::Timed),
+    (
+        &["mqjudge", "rules", "--times", "--role", "client", "--all"],
+        Some("client"),
+        Scope::Timed,
     ),
 ];
 
 #[test]
 fn reads_the_words_of_a_list_of_statements(rt: HostRuntime) -> Result<(), Fail> {
-    for (words, wanted, is_all) in &LISTS {
+    for (words, wanted, asked) in &LISTS {
         assert!(rt;
-            is_rules_of(rt.alloc(), words, *wanted, *is_all)?,
+            is_rules_of(rt.alloc(), words, *wanted, *asked)?,
             "{words:?}"
         );
     }
@@ -255,6 +284,30 @@ fn says_in_help_what_each_status_means(rt: HostRuntime) {
     assert_help(&rt, &STATUSES);
 }
 
+// In the help of each task that takes it `--times` stands after `--all`.
+static TIMES: [Answered; 3] = [
+    (
+        &["mqjudge", "check", "--help"],
+        "      --all                Judge the further statements too\n      \
+        --times              Judge those on times too: moments are microseconds\n",
+    ),
+    (
+        &["mqjudge", "show", "--help"],
+        "      --all         With --faults: judge the further statements too\n      \
+        --times       With --faults: as --all, and by those on times\n",
+    ),
+    (
+        &["mqjudge", "rules", "--help"],
+        "      --all                List the further statements too\n      \
+        --times              List those on times too\n",
+    ),
+];
+
+#[test]
+fn says_in_help_that_there_are_statements_on_times(rt: HostRuntime) {
+    assert_help(&rt, &TIMES);
+}
+
 // Whether these words are refused, with a text that has this part.
 fn is_misuse(alloc: Global, words: &[&str], part: &str) -> bool {
     match parse(alloc, words) {
@@ -295,6 +348,30 @@ static MISUSES: [Answered; 7] = [
 #[test]
 fn refuses_other_words(rt: HostRuntime) {
     assert_misuses(&rt, &MISUSES);
+}
+
+static TIMELESS: [Answered; 4] = [
+    (
+        &["mqjudge", "check", "--times", "--times"],
+        "the argument '--times' cannot be used multiple times",
+    ),
+    (
+        &["mqjudge", "check", "--times=3"],
+        "unexpected value '3' for '--times' found",
+    ),
+    (
+        &["mqjudge", "packet", "--times", "c000"],
+        "unexpected argument '--times' found",
+    ),
+    (
+        &["mqjudge", "explain", "--times", "K01"],
+        "unexpected argument '--times' found",
+    ),
+];
+
+#[test]
+fn takes_the_option_on_times_once_and_where_statements_are_chosen(rt: HostRuntime) {
+    assert_misuses(&rt, &TIMELESS);
 }
 
 // Words that are refused, and whether it is for several logs.
@@ -350,13 +427,13 @@ fn reads_the_words_of_a_packet(rt: HostRuntime) -> Result<(), Fail> {
 }
 
 // Whether these words ask for a review of this file with its faults, near to them by this number of
-// positions, with long lines or not, and with the further statements or not.
+// positions, with long lines or not, and by these statements.
 fn is_review_of(
     alloc: Global,
     words: &[&str],
     path: Option<&str>,
     number: Option<&str>,
-    (is_long, is_all): (bool, bool),
+    (is_long, asked): (bool, Scope),
 ) -> Result<bool, EarlyExit> {
     let Work::Again(
         Review {
@@ -364,7 +441,7 @@ fn is_review_of(
             faults,
             around,
             long,
-            further,
+            scope,
         },
     ) = parse(alloc, words)?
     else {
@@ -372,29 +449,35 @@ fn is_review_of(
     };
     let file = file.as_ref().map(|path| path.as_str());
     let around = around.as_ref().map(|number| number.as_str());
-    Ok(faults && long == is_long && further == is_all && file == path && around == number)
+    Ok(faults && long == is_long && scope == asked && file == path && around == number)
 }
 
-// The words of a review, its file, its number, and whether lines are long and the further
-// statements are asked for.
-static REVIEWS: [(&[&str], Option<&str>, Option<&str>, (bool, bool)); 3] = [
+// The words of a review, its file, its number, whether lines are long, and by which statements it
+// is.
+static REVIEWS: [(&[&str], Option<&str>, Option<&str>, (bool, Scope)); 4] = [
     (
         &["mqjudge", "show", "--around", "3", "--faults", "a.log"],
         Some("a.log"),
         Some("3"),
-        (false, false),
+        (false, Scope::Usual),
     ),
     (
         &["mqjudge", "show", "--faults", "--long"],
         None,
         None,
-        (true, false),
+        (true, Scope::Usual),
     ),
     (
         &["mqjudge", "show", "--all", "--faults", "a.log"],
         Some("a.log"),
         None,
-        (false, true),
+        (false, Scope::All),
+    ),
+    (
+        &["mqjudge", "show", "--faults", "--all", "--times", "a.log"],
+        Some("a.log"),
+        None,
+        (false, Scope::Timed),
     ),
 ];
 
@@ -410,19 +493,19 @@ fn reads_the_words_of_a_review(rt: HostRuntime) -> Result<(), Fail> {
 }
 
 // Whether these words ask for a check of this file with what its faults conflict with, in this
-// form, for coverage too or not, and for the further statements or not.
+// form, for coverage too or not, and by these statements.
 fn is_inquiry_of(
     alloc: Global,
     words: &[&str],
     path: Option<&str>,
-    report: (Form, bool, bool),
+    report: (Form, bool, Scope),
 ) -> Result<bool, EarlyExit> {
     let Work::Why(
         Inquiry {
             file,
             form,
             coverage,
-            further,
+            scope,
             statements: None,
         },
     ) = parse(alloc, words)?
@@ -430,29 +513,34 @@ fn is_inquiry_of(
         return Ok(false);
     };
     let file = file.as_ref().map(|path| path.as_str());
-    Ok(file == path && (form, coverage, further) == report)
+    Ok(file == path && (form, coverage, scope) == report)
 }
 
-static INQUIRIES: [(&[&str], Option<&str>, (Form, bool, bool)); 4] = [
+static INQUIRIES: [(&[&str], Option<&str>, (Form, bool, Scope)); 5] = [
     (
         &["mqjudge", "check", "--why", "a.log"],
         Some("a.log"),
-        (Form::Text, false, false),
+        (Form::Text, false, Scope::Usual),
     ),
     (
         &["mqjudge", "check", "a.log", "--json", "--why"],
         Some("a.log"),
-        (Form::Json, false, false),
+        (Form::Json, false, Scope::Usual),
     ),
     (
         &["mqjudge", "check", "--all", "a.log", "--why"],
         Some("a.log"),
-        (Form::Text, false, true),
+        (Form::Text, false, Scope::All),
     ),
     (
         &["mqjudge", "check", "--why", "--coverage", "--summary"],
         None,
-        (Form::Summary, true, false),
+        (Form::Summary, true, Scope::Usual),
+    ),
+    (
+        &["mqjudge", "check", "--why", "--times", "a.log"],
+        Some("a.log"),
+        (Form::Text, false, Scope::Timed),
     ),
 ];
 
@@ -461,6 +549,31 @@ fn reads_the_words_of_an_inquiry(rt: HostRuntime) -> Result<(), Fail> {
     for (words, path, report) in &INQUIRIES {
         assert!(rt;
             is_inquiry_of(rt.alloc(), words, *path, *report)?,
+            "{words:?}"
+        );
+    }
+    Ok(())
+}
+
+// Whether these words ask for a review without faults, which is refused later.
+fn is_faultless_review(alloc: Global, words: &[&str], asked: Scope) -> Result<bool, EarlyExit> {
+    match parse(alloc, words)? {
+        Work::Again(Review { faults, scope, .. }) => Ok(!faults && scope == asked),
+        _ => Ok(false),
+    }
+}
+
+static FAULTLESS: [(&[&str], Scope); 3] = [
+    (&["mqjudge", "show", "--all"], Scope::All),
+    (&["mqjudge", "show", "--times", "a.log"], Scope::Timed),
+    (&["mqjudge", "show", "--around", "1"], Scope::Usual),
+];
+
+#[test]
+fn reads_what_needs_faults(rt: HostRuntime) -> Result<(), Fail> {
+    for (words, asked) in &FAULTLESS {
+        assert!(rt;
+            is_faultless_review(rt.alloc(), words, *asked)?,
             "{words:?}"
         );
     }
@@ -512,7 +625,7 @@ fn is_list_of(alloc: Global, words: &[&str], wanted: Option<&str>) -> Result<boo
 }
 
 // Words, and the list of statements in them.
-static CHOICES: [(&[&str], Option<&str>); 8] = [
+static CHOICES: [(&[&str], Option<&str>); 9] = [
     (&["mqjudge", "check"], None),
     (&["mqjudge", "check", "--statements", "W13"], Some("W13")),
     (
@@ -531,6 +644,10 @@ static CHOICES: [(&[&str], Option<&str>); 8] = [
     (
         &["mqjudge", "rules", "--statements", "all,-F"],
         Some("all,-F"),
+    ),
+    (
+        &["mqjudge", "check", "--times", "--statements", "K"],
+        Some("K"),
     ),
     (&["mqjudge", "rules", "--role", "client"], None),
 ];

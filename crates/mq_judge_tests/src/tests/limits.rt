@@ -1,5 +1,5 @@
 //! Judges that take packets up to a size.
-use mq_judge::{Judge, Options, Refusal};
+use mq_judge::{Further, Judge, Options, Refusal};
 use std::alloc::Global;
 
 // A client's connection, on which it sends the fixed header of a PUBLISH of the largest size,
@@ -17,7 +17,7 @@ fn is_judged(alloc: Global, limit: u32, log: &[u8], answer: Result<u32, Refusal>
         alloc,
         Options {
             limit,
-            further: false,
+            further: Further::NONE,
         },
     );
     let fed = judge.feed(log);

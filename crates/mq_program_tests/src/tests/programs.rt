@@ -96,7 +96,7 @@ static ROWS: [Row; 36] = [
         input: GOOD,
         status: 3,
         output: "",
-        error: "mqjudge: --all and --statements both choose statements: give one of them\n",
+        error: "mqjudge: --all, --times and --statements choose statements: give one of them\n",
     },
     Row {
         words: &["mqjudge", "rules", "--statements", "B,-B01,-B03,-B04,-B05"],
@@ -361,7 +361,7 @@ static REVIEWS: [Row; 19] = [
         input: GOOD,
         status: 3,
         output: "",
-        error: "mqjudge: --all needs --faults\n",
+        error: "mqjudge: --all and --times need --faults\n",
     },
     Row {
         words: &["mqjudge", "show", "--all", "--around", "1", "a.log"],

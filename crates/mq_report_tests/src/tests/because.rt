@@ -249,7 +249,7 @@ fn assert_compared(rt: &(impl Abort + AllocGlobal), rows: &[Compared], because: 
 }
 
 // What is said of numbers, and of event 3.
-static COMPARED: [Compared; 10] = [
+static COMPARED: [Compared; 12] = [
     (
         Rule::C14,
         Numbers::Two(300, 128),
@@ -299,6 +299,16 @@ static COMPARED: [Compared; 10] = [
         Rule::B04,
         Numbers::Two(3, 2),
         " (because of event 3: 3 filters, 2 Reason Codes)",
+    ),
+    (
+        Rule::K01,
+        Numbers::Two(13_600_000, 13_500_000),
+        " (because of event 3: nothing came from the client for 13600000 microseconds, and the limit is 13500000)",
+    ),
+    (
+        Rule::K02,
+        Numbers::Two(18_446_744_073_709_551_615, 6_500_000),
+        " (because of event 3: nothing came from the client for 18446744073709551615 microseconds, and the limit is 6500000)",
     ),
 ];
 

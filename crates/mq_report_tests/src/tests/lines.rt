@@ -15,7 +15,8 @@ pub fn role_of(rule: Rule) -> Role {
         | Rule::S05
         | Rule::E1O
         | Rule::E2O
-        | Rule::E3O => Role::Client,
+        | Rule::E3O
+        | Rule::K01 => Role::Client,
         _ => Role::Server,
     }
 }
@@ -98,6 +99,8 @@ pub fn line_of(rule: Rule) -> &'static str {
         Rule::B02 => "B02 MQTT-3.8.4-8 A PUBLISH from the server isn't at a QoS above what was granted.",
         Rule::B03 => "B03 MQTT-3.8.4-6 A SUBACK has a Reason Code for each filter.",
         Rule::B04 => "B04 sec-3.11.3 An UNSUBACK has a Reason Code for each filter.",
+        Rule::K01 => "K01 MQTT-3.1.2-20,MQTT-3.2.2-21 A client isn't silent for longer than the Keep Alive.",
+        Rule::K02 => "K02 MQTT-3.1.2-22,MQTT-3.2.2-22 A server closes the connection of a client that is silent.",
         _ => "",
     }
 }

@@ -27,6 +27,12 @@ fn lists_the_statements(rt: HostRuntime) -> Result<(), Fail> {
         (&["mqjudge", "rules", "--role", "server"][..], 64),
         (&["mqjudge", "rules", "--all", "--role", "client"][..], 64),
         (&["mqjudge", "rules", "--all", "--role", "server"][..], 75),
+        (&["mqjudge", "rules", "--times"][..], 94),
+        (&["mqjudge", "rules", "--times", "--role", "client"][..], 65),
+        (
+            &["mqjudge", "rules", "--all", "--times", "--role", "server"][..],
+            76,
+        ),
     ] {
         assert!(rt; lists(rt.alloc(), words, lines, first)?, "{words:?}");
     }

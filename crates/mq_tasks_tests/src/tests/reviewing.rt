@@ -1,6 +1,7 @@
 //! `show --faults`.
 use mq_host::{Failure, PASSED, REFUSED};
 use mq_judge::Extent;
+use mq_rules::Further;
 use mq_tasks::{Lapse, Plan, show_reasoned};
 use mq_tasks_harness::{CONNECTED, CONNECTED_LINES, NESTED, Narrow, Trickle, add_record};
 use std::alloc::{AllocError, Global};
@@ -85,7 +86,7 @@ fn plan(around: Option<u32>, long: bool) -> Plan<'static> {
     Plan {
         path: "a.log",
         extent: Extent { around, long },
-        further: false,
+        further: Further::NONE,
     }
 }
 

@@ -1,8 +1,8 @@
 //! Logs that put further statements to the test. The judge and the plain evaluators find the same
-//! faults in each, with all statements chosen.
+//! faults in each, with all statements chosen that need no times.
 use super::plain::{are_further_faults_alike, plain_further_faults_in};
 use super::statements::log_of;
-use mq_rules::{FaultKey, Faults, Rule};
+use mq_rules::{FaultKey, Faults, Further, Rule};
 use std::alloc::Global;
 use std::test::Fail;
 
@@ -169,13 +169,13 @@ fn is_found_broken(
     words: &'static str,
 ) -> Result<bool, Fail> {
     let log = log_of(alloc, &[], words)?;
-    let Some(faults) = plain_further_faults_in(alloc, &log)? else {
+    let Some(faults) = plain_further_faults_in(alloc, &log, Further::ON_REQUEST)? else {
         return Ok(false);
     };
     let Some(fault) = faults.get(FaultKey { position, rule }) else {
         return Ok(false);
     };
-    Ok(fault.decided == decided && are_further_faults_alike(alloc, &log)?)
+    Ok(fault.decided == decided && are_further_faults_alike(alloc, &log, Further::ON_REQUEST)?)
 }
 
 // Whether none of these faults is of a further statement.
@@ -187,10 +187,10 @@ fn has_no_further(faults: &Faults) -> bool {
 // none of a further statement.
 fn is_found_kept(alloc: Global, words: &'static str) -> Result<bool, Fail> {
     let log = log_of(alloc, &[], words)?;
-    let Some(faults) = plain_further_faults_in(alloc, &log)? else {
+    let Some(faults) = plain_further_faults_in(alloc, &log, Further::ON_REQUEST)? else {
         return Ok(false);
     };
-    Ok(has_no_further(&faults) && are_further_faults_alike(alloc, &log)?)
+    Ok(has_no_further(&faults) && are_further_faults_alike(alloc, &log, Further::ON_REQUEST)?)
 }
 
 #[test]

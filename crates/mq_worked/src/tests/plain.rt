@@ -3,7 +3,7 @@ use mq_connections::{plain_c, plain_connections, plain_w};
 use mq_judge::{Judge, Options};
 use mq_log::{Event, Place3, Refusal};
 use mq_plain::{plain_further, plain_lb, plain_se, plain_sessions};
-use mq_rules::{Fault, FaultKey, Faults, Memory, Note, Rule, Seen, Tested};
+use mq_rules::{Fault, FaultKey, Faults, Further, Memory, Note, Rule, Seen, Tested};
 use mq_trace::{Sink, Tracer};
 use mq_watchers::watch_sessions;
 use std::alloc::Global;
@@ -59,9 +59,13 @@ fn watched_faults(alloc: Global, tested: Tested, seen: &[Seen]) -> Result<Faults
     Ok(faults)
 }
 
-// The tested end and the events of a log; `None` if it is refused, or its header isn't whole. The
-// further statements are asked for or not.
-fn noted(alloc: Global, log: &[u8], further: bool) -> Result<Option<(Tested, Vec<Seen>)>, Memory> {
+// The tested end and the events of a log; `None` if it is refused, or its header isn't whole. These
+// further statements are asked for.
+fn noted(
+    alloc: Global,
+    log: &[u8],
+    further: Further,
+) -> Result<Option<(Tested, Vec<Seen>)>, Memory> {
     let mut tracer = Tracer::new(alloc, Options::default().limit);
     let mut notes = Notes {
         alloc,
@@ -97,7 +101,7 @@ fn agreed_faults(alloc: Global, tested: Tested, seen: &[Seen]) -> Result<Option<
 ///
 /// `Memory` if there is none.
 pub fn plain_faults_in(alloc: Global, log: &[u8]) -> Result<Option<Faults>, Memory> {
-    match noted(alloc, log, false)? {
+    match noted(alloc, log, Further::NONE)? {
         Some((tested, seen)) => agreed_faults(alloc, tested, seen.as_slice()),
         None => Ok(None),
     }
@@ -125,14 +129,18 @@ pub fn are_faults_alike(alloc: Global, log: &[u8]) -> Result<bool, Memory> {
     }
 }
 
-/// The faults that the plain evaluators find in a log, those of the further statements too; `None`
+/// The faults that the plain evaluators find in a log, those of these further statements too; `None`
 /// if it is refused, or its header isn't whole.
 ///
 /// # Errors
 ///
 /// `Memory` if there is none.
-pub fn plain_further_faults_in(alloc: Global, log: &[u8]) -> Result<Option<Faults>, Memory> {
-    match noted(alloc, log, true)? {
+pub fn plain_further_faults_in(
+    alloc: Global,
+    log: &[u8],
+    further: Further,
+) -> Result<Option<Faults>, Memory> {
+    match noted(alloc, log, further)? {
         Some((tested, seen)) => {
             let mut faults = plain_faults(alloc, tested, seen.as_slice())?;
             plain_further(alloc, tested, seen.as_slice(), &mut faults)?;
@@ -144,7 +152,7 @@ pub fn plain_further_faults_in(alloc: Global, log: &[u8]) -> Result<Option<Fault
 
 // Whether no plain evaluator judges a statement.
 fn is_without_evaluator(rule: Rule) -> bool {
-    matches!(rule, Rule::B05 | Rule::D03 | Rule::D05)
+    matches!(rule, Rule::B05)
 }
 
 // Whether a fault is among these, if a plain evaluator judges its statement.
@@ -159,20 +167,24 @@ fn are_all_found(these: &Faults, those: &Faults) -> bool {
         .all(|(key, fault)| is_found(those, *key, *fault))
 }
 
-/// Whether the judge and the plain evaluators find the same faults in a log if the further
+/// Whether the judge and the plain evaluators find the same faults in a log if these further
 /// statements are asked for, but for those that have no plain evaluator; or both refuse it.
 ///
 /// # Errors
 ///
 /// `Memory` if there is none.
-pub fn are_further_faults_alike(alloc: Global, log: &[u8]) -> Result<bool, Memory> {
+pub fn are_further_faults_alike(
+    alloc: Global,
+    log: &[u8],
+    further: Further,
+) -> Result<bool, Memory> {
     let options = Options {
-        further: true,
+        further,
         ..Options::default()
     };
     let mut judge = Judge::new(alloc, options);
     let judged = judge.feed(log);
-    match plain_further_faults_in(alloc, log)? {
+    match plain_further_faults_in(alloc, log, further)? {
         Some(faults) => Ok(
             judged.is_ok()
                 && are_all_found(judge.known(), &faults)

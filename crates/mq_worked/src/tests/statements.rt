@@ -31,6 +31,7 @@ mod worked;
 use super::plain::{are_faults_alike, are_further_faults_alike};
 use mq_harness::{FAULTY, PASSED, REFUSED, add_timed_record, is_reported, weight_of};
 use mq_judge::Outcome;
+use mq_rules::Further;
 use packets::PACKETS;
 use std::alloc::{AllocError, Global};
 use std::str;
@@ -148,7 +149,8 @@ pub fn report_of(alloc: Global, lines: &'static str) -> Result<String, AllocErro
 fn is_judged_so(alloc: Global, words: &'static str, lines: &'static str) -> Result<bool, Fail> {
     let log = log_of(alloc, &[], words)?;
     let report = report_of(alloc, lines)?;
-    let alike = are_faults_alike(alloc, &log)? && are_further_faults_alike(alloc, &log)?;
+    let alike = are_faults_alike(alloc, &log)?
+        && are_further_faults_alike(alloc, &log, Further::ON_REQUEST)?;
     Ok(alike && is_reported(alloc, &log, outcome_of(report.as_str()), report.as_str())?)
 }
 
