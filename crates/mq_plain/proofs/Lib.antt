@@ -25,3 +25,4 @@ pub mod GrowthLaws
 pub mod PassedOverLaws
 pub mod OwedLaws
 pub mod FurtherLaws
+pub mod SilenceLaws

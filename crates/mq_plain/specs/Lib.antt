@@ -14,3 +14,4 @@ pub mod Deliveries
 pub mod Events
 pub mod Waiting
 pub mod Owed
+pub mod Silences

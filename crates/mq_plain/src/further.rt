@@ -13,6 +13,7 @@ mod limits;
 mod moments;
 mod packets;
 mod showing;
+mod silences;
 
 use authentication::{AskedAuthentication, SameMethod, WaitsForConnack};
 use duties::{AnsweredConnect, ClosedMalformed, ClosedReconnect};
@@ -20,6 +21,7 @@ use evaluator::{Also, OnLater, OnPasts, judge_events};
 use limits::{NoIdentifiers, NoShares, NoWildcards, RetainedNothing, WillQos, WillRetain};
 use mq_rules::{Faults, Memory, Seen, Tested};
 use packets::{LocalShares, NamedShares, OwnCodes};
+use silences::{ClosedInTime, HeardInTime};
 use std::alloc::Global;
 
 // F01 to F06.
@@ -47,15 +49,18 @@ type Obligations<Others> = Also<
 >;
 
 // A01 to A03.
-type Authentication = Also<
+type Authentication<Others> = Also<
     OnPasts<WaitsForConnack>,
-    Also<OnPasts<AskedAuthentication>, OnPasts<SameMethod>>,
+    Also<OnPasts<AskedAuthentication>, Also<OnPasts<SameMethod>, Others>>,
 >;
 
+// K01 and K02.
+type Silences = Also<OnPasts<HeardInTime>, OnPasts<ClosedInTime>>;
+
 /// Judges each event of a list, the oldest first, by the further statements on connections: on one
-/// packet and on what came before it (F01 to F06, V03, V04, V06, A01 to A03), and on what a server
-/// owes for what it received (C24, D01, D02). A pair that already has a fault keeps it. Where the
-/// further statements aren't asked for, none of them binds the tested end.
+/// packet and on what came before it (F01 to F06, V03, V04, V06, A01 to A03), on what a server owes
+/// for what it received (C24, D01, D02), and on the Keep Alive (K01, K02). A pair that already has a
+/// fault keeps it. Those that aren't asked for don't bind the tested end.
 ///
 /// # Errors
 ///
@@ -70,5 +75,7 @@ pub fn plain_further(
     ensures ok { IsPlaced (reverse seen.now) → OnOk result (Grows is_plain_further tested (reverse seen.now) faults.old faults.new) }
     ensures memory { IsPlaced (reverse seen.now) → OnErr result (GrowsWithin is_plain_further tested (reverse seen.now) faults.old faults.new) }
 {
-    judge_events::<Limits<Packets<Obligations<Authentication>>>>(alloc, tested, seen, faults)
+    judge_events::<Limits<Packets<Obligations<Authentication<Silences>>>>>(
+        alloc, tested, seen, faults,
+    )
 }

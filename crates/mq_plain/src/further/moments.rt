@@ -1,9 +1,11 @@
 //! Tests on an event with what comes before it, and looking back over a connection with them.
 ghost use Rattle.std.specs.Prelude.{◌≡◌, reverse};
-ghost use Rattle.mq_rules.specs.Moments.{newest, some};
+ghost use Rattle.mq_rules.specs.Moments.{latest, newest, since, some};
 ghost use Rattle.mq_rules.specs.Connections.{connection};
 ghost use Rattle.mq_rules.specs.FurtherRests.{is_first_of};
+ghost use Rattle.mq_plain.specs.Finding.{moment_in};
 
+use crate::earliest::Found;
 use mq_rules::Seen;
 
 /// A test on an event and on what comes before it.
@@ -41,4 +43,44 @@ fn some_moment<T: MomentTest>(test: &T, before: &[Seen]) -> bool
         earlier = rest;
     }
     false
+}
+
+/// Whether on the latest connection some event passes the first test, and no later one the second.
+pub fn since_moment<S: MomentTest, E: MomentTest>(starts: &S, ends: &E, before: &[Seen]) -> bool
+    ensures { result ≡ since (S.test starts.now) (E.test ends.now) (connection (reverse before.now)) }
+{
+    let mut earlier = before;
+    while let Some((event, rest)) = earlier.split_last() {
+        if starts.passes(event, rest) {
+            return true;
+        }
+        if ends.passes(event, rest) {
+            return false;
+        }
+        if event.note.is_open() {
+            return false;
+        }
+        earlier = rest;
+    }
+    false
+}
+
+/// The latest event of the latest connection that passes the test.
+pub fn latest_moment<'a, T: MomentTest>(test: &T, before: &'a [Seen]) -> Option<Found<'a>>
+    ensures { moment_in result ≡ latest (T.test test.now) (connection (reverse before.now)) }
+{
+    let mut earlier = before;
+    while let Some((event, rest)) = earlier.split_last() {
+        if test.passes(event, rest) {
+            return Some(Found {
+                event,
+                before: rest,
+            });
+        }
+        if event.note.is_open() {
+            return None;
+        }
+        earlier = rest;
+    }
+    None
 }

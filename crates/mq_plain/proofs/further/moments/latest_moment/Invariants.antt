@@ -1,0 +1,12 @@
+use Rattle.std.proofs.Common.{◌≡◌, length}
+use Rattle.std.specs.Prelude.{reverse}
+use Rattle.mq_rules.specs.Moments.{latest}
+use Rattle.mq_rules.specs.Connections.{connection}
+use Rattle.mq_plain.proofs.further.moments.latest_moment.Given as goal
+
+-- what is left to look at decides
+abbrev pub invariant-loop-event : goal.invariant-loop-event
+invariant-loop-event g l = latest (g.T.MomentTest.test l.test) (connection (reverse l.earlier)) ≡ latest (g.T.MomentTest.test l.test) (connection (reverse l.before))
+
+abbrev pub decreases-loop-event : goal.decreases-loop-event
+decreases-loop-event g l = length l.earlier
