@@ -15,3 +15,4 @@ pub mod Events
 pub mod Waiting
 pub mod Owed
 pub mod Silences
+pub mod Terms

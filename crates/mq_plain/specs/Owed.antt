@@ -4,7 +4,7 @@ use Rattle.mq_rules.specs.Notes.{is_rest}
 use Rattle.mq_rules.specs.Moments.{Moment, note}
 use Rattle.mq_rules.specs.Connections.{number}
 use Rattle.mq_rules.specs.Pasts.{came_before}
-use Rattle.mq_rules.specs.FurtherRests.{says_goodbye, settles_connect, waits_for_auth, owes_C24, shows_C24, owes_D01, shows_D01, owes_D02, shows_D02}
+use Rattle.mq_rules.specs.FurtherRests.{says_goodbye, settles_connect, waits_for_auth, owes_C24, shows_C24, owes_D01, shows_D01, owes_D02, shows_D02, owes_D03, shows_D03}
 
 -- the moment is on the connection of this number, and something comes to be owed with it
 abbrev pub owed_on : (Moment → Bool) → ℕ → Moment → Bool
@@ -30,3 +30,7 @@ D01_parts t m = refl
 pub D02_parts : (t m : Moment) → shows_D02 t m ≡ (owes_D02 m && (is_rest (note t) && is_unclosed t))
 unfolding shows_D02
 D02_parts t m = refl
+
+pub D03_parts : (t m : Moment) → shows_D03 t m ≡ (owes_D03 m && (is_rest (note t) && is_unclosed t))
+unfolding shows_D03
+D03_parts t m = refl

@@ -7,6 +7,7 @@ ghost use Rattle.mq_plain.specs.Chosen.{is_plain_further};
 
 mod authentication;
 mod duties;
+mod errors;
 mod evaluator;
 mod judging;
 mod limits;
@@ -17,6 +18,7 @@ mod silences;
 
 use authentication::{AskedAuthentication, SameMethod, WaitsForConnack};
 use duties::{AnsweredConnect, ClosedMalformed, ClosedReconnect};
+use errors::ClosedMistaken;
 use evaluator::{Also, OnLater, OnPasts, judge_events};
 use limits::{NoIdentifiers, NoShares, NoWildcards, RetainedNothing, WillQos, WillRetain};
 use mq_rules::{Faults, Memory, Seen, Tested};
@@ -42,10 +44,13 @@ type Packets<Others> = Also<
     Also<OnPasts<LocalShares>, Also<OnPasts<OwnCodes>, Others>>,
 >;
 
-// C24, D01 and D02.
+// C24 and D01 to D03.
 type Obligations<Others> = Also<
     OnLater<AnsweredConnect>,
-    Also<OnLater<ClosedMalformed>, Also<OnLater<ClosedReconnect>, Others>>,
+    Also<
+        OnLater<ClosedMalformed>,
+        Also<OnLater<ClosedReconnect>, Also<OnLater<ClosedMistaken>, Others>>,
+    >,
 >;
 
 // A01 to A03.
@@ -59,7 +64,7 @@ type Silences = Also<OnPasts<HeardInTime>, OnPasts<ClosedInTime>>;
 
 /// Judges each event of a list, the oldest first, by the further statements on connections: on one
 /// packet and on what came before it (F01 to F06, V03, V04, V06, A01 to A03), on what a server owes
-/// for what it received (C24, D01, D02), and on the Keep Alive (K01, K02). A pair that already has a
+/// for what it received (C24, D01 to D03), and on the Keep Alive (K01, K02). A pair that already has a
 /// fault keeps it. Those that aren't asked for don't bind the tested end.
 ///
 /// # Errors

@@ -156,8 +156,8 @@ fn has_method(before: &[Seen]) -> bool
     }
 }
 
-// Whether there is a CONNECT on the latest connection, and it has no Authentication Method.
-fn lacks_method(role: Role, before: &[Seen]) -> bool
+/// Whether there is a CONNECT on the latest connection, and it has no Authentication Method.
+pub fn lacks_method(role: Role, before: &[Seen]) -> bool
     ensures { result ≡ pasts.lacks_method (first_connect role (connection (reverse before.now))) }
 {
     match handshake_of(role, before).connect {

@@ -36,7 +36,7 @@ impl NoteTest for Sends {
 
 /// What is received of a type, likewise.
 #[derive(Drop)]
-struct Receives(PacketType);
+pub struct Receives(pub PacketType);
 
 impl NoteTest for Receives {
     ghost use Rattle.mq_rules.specs.Notes.{receives_type};
@@ -67,7 +67,7 @@ impl NoteTest for SettlesConnect {
 
 /// What either end sends before it closes the connection.
 #[derive(Drop)]
-struct EndsTalk;
+pub struct EndsTalk;
 
 impl NoteTest for EndsTalk {
     ghost use Rattle.mq_rules.specs.FurtherRests.{ends_talk};
@@ -81,7 +81,7 @@ impl NoteTest for EndsTalk {
 
 /// What the server sends before it closes the connection.
 #[derive(Drop)]
-struct SaysGoodbye;
+pub struct SaysGoodbye;
 
 impl NoteTest for SaysGoodbye {
     ghost use Rattle.mq_rules.specs.FurtherRests.{says_goodbye};
