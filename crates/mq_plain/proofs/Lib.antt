@@ -26,3 +26,4 @@ pub mod PassedOverLaws
 pub mod OwedLaws
 pub mod FurtherLaws
 pub mod SilenceLaws
+pub mod ExcessLaws

@@ -16,3 +16,4 @@ pub mod Waiting
 pub mod Owed
 pub mod Silences
 pub mod Terms
+pub mod Excess

@@ -9,6 +9,7 @@ mod authentication;
 mod duties;
 mod errors;
 mod evaluator;
+mod excess;
 mod judging;
 mod limits;
 mod moments;
@@ -20,6 +21,7 @@ use authentication::{AskedAuthentication, SameMethod, WaitsForConnack};
 use duties::{AnsweredConnect, ClosedMalformed, ClosedReconnect};
 use errors::ClosedMistaken;
 use evaluator::{Also, OnLater, OnPasts, judge_events};
+use excess::ClosedExceeding;
 use limits::{NoIdentifiers, NoShares, NoWildcards, RetainedNothing, WillQos, WillRetain};
 use mq_rules::{Faults, Memory, Seen, Tested};
 use packets::{LocalShares, NamedShares, OwnCodes};
@@ -44,12 +46,15 @@ type Packets<Others> = Also<
     Also<OnPasts<LocalShares>, Also<OnPasts<OwnCodes>, Others>>,
 >;
 
-// C24 and D01 to D03.
+// C24, D01 to D03, and D05.
 type Obligations<Others> = Also<
     OnLater<AnsweredConnect>,
     Also<
         OnLater<ClosedMalformed>,
-        Also<OnLater<ClosedReconnect>, Also<OnLater<ClosedMistaken>, Others>>,
+        Also<
+            OnLater<ClosedReconnect>,
+            Also<OnLater<ClosedMistaken>, Also<OnLater<ClosedExceeding>, Others>>,
+        >,
     >,
 >;
 
@@ -64,8 +69,8 @@ type Silences = Also<OnPasts<HeardInTime>, OnPasts<ClosedInTime>>;
 
 /// Judges each event of a list, the oldest first, by the further statements on connections: on one
 /// packet and on what came before it (F01 to F06, V03, V04, V06, A01 to A03), on what a server owes
-/// for what it received (C24, D01 to D03), and on the Keep Alive (K01, K02). A pair that already has a
-/// fault keeps it. Those that aren't asked for don't bind the tested end.
+/// for what it received (C24, D01 to D03, D05), and on the Keep Alive (K01, K02). A pair that
+/// already has a fault keeps it. Those that aren't asked for don't bind the tested end.
 ///
 /// # Errors
 ///

@@ -189,7 +189,7 @@ fn ends_session(connect: Option<ConnectNote>) -> bool
 
 // ---- errors by what the CONNACK announced
 
-// Whether there is a CONNACK that accepts the connection, and it is an error by what that announced.
+// Whether a CONNACK accepts the connection, and it is an error by what that announced.
 fn breaks_terms(packet: &PacketNote, connack: Option<ConnackNote>, before: &[Seen]) -> bool
     ensures { result ≡ errors.breaks_terms (terms.was_set (reverse before.now)) connack packet.now }
 {
